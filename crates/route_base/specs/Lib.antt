@@ -1,0 +1,16 @@
+pub mod Counts
+pub mod Digits
+pub mod Files
+pub mod Front
+pub mod Holding
+pub mod Itinerary
+pub mod Landing
+pub mod Legs
+pub mod Net
+pub mod Open
+pub mod Reading
+pub mod Replay
+pub mod Runs
+pub mod Setting
+pub mod Statuses
+pub mod Time

@@ -1,0 +1,77 @@
+-- A timed net as data, and the setting that it is.
+use Rattle.std.specs.Prelude.{◌≡◌, ℕ, ◌^◌, ◌≤◌, ◌<◌, zero, suc, Option, Some, None, List, [], length, slice_get, All, unwrap_or}
+use Rattle.std.specs.Option.{option_map}
+use Rattle.route_base.specs.Runs.{any_has, AreRuns}
+use Rattle.route_base.specs.Time.{last_instant}
+use Rattle.route_base.specs.Setting.{Setting, Road}
+use Rattle.route_base.specs.declared.types.TimedArc.{TimedArc}
+use Rattle.route_base.specs.declared.types.Run.{Run}
+use Rattle.route_base.specs.declared.types.Request.{Request}
+
+-- nodes from 1 to nodes, arcs and weights by number; an arc names its list of closed runs by place
+pub record Net : Type 0 where
+  pub nodes : ℕ
+  pub arcs : List TimedArc
+  pub closed : List (List Run)
+  pub weights : List (Option ℕ)
+
+-- the arc without its closures
+abbrev pub road_of : TimedArc → Road
+road_of a = record { tail = a.tail.0; head = a.head.0; minutes = a.minutes; cost = a.cost }
+
+-- the item at a place that is counted from 1
+abbrev pub at_number : {A : Type 0} → List A → ℕ → Option A
+at_number xs zero = None
+at_number xs (suc k) = slice_get xs k
+
+-- the runs in which the arc is closed
+abbrev pub runs_of : Net → TimedArc → List Run
+runs_of net a = unwrap_or (slice_get net.closed a.closed) []
+
+-- the runs in which the arc of this number is closed, if there is one
+abbrev pub runs_by : Net → Option TimedArc → List Run
+runs_by net None = []
+runs_by net (Some a) = runs_of net a
+
+abbrev pub runs_at : Net → ℕ → List Run
+runs_at net a = runs_by net (at_number net.arcs a)
+
+-- the value inside, where there is one
+abbrev pub joined : {A : Type 0} → Option (Option A) → Option A
+joined None = None
+joined (Some o) = o
+
+-- the setting that the net is
+abbrev pub setting_of : Net → Setting
+setting_of net = record {
+  nodes = net.nodes;
+  arcs = length net.arcs;
+  road = λ a. option_map road_of (at_number net.arcs a);
+  shut = λ a t. any_has (runs_at net a) t;
+  weight = λ v. joined (at_number net.weights v);
+}
+
+-- what each arc of a net keeps
+pub record IsGoodArc (net : Net) (a : TimedArc) : Type 0 where
+  pub tail : (1 ≤ a.tail.0) × (a.tail.0 ≤ net.nodes)
+  pub head : (1 ≤ a.head.0) × (a.head.0 ≤ net.nodes)
+  pub minutes : (1 ≤ a.minutes) × (a.minutes ≤ 10080)
+  pub cost : a.cost ≤ 10000000000
+  pub closed : a.closed < length net.closed
+
+-- what each net keeps
+pub record IsGoodNet (net : Net) : Type 0 where
+  pub nodes : net.nodes ≤ 40000000
+  pub arcs : length net.arcs < 2 ^ 32
+  pub closed : length net.closed < 2 ^ 32
+  pub weights : length net.weights ≡ net.nodes
+  pub each_arc : All (IsGoodArc net) net.arcs
+  pub each_runs : All AreRuns net.closed
+  pub each_weight : (v w : ℕ) → joined (at_number net.weights v) ≡ Some w → w ≤ 100000
+
+-- what is asked of a request
+pub record IsGoodRequest (net : Net) (r : Request) : Type 0 where
+  pub origin : (1 ≤ r.origin.0) × (r.origin.0 ≤ net.nodes)
+  pub goal : (1 ≤ r.goal.0) × (r.goal.0 ≤ net.nodes)
+  pub depart : r.depart ≤ last_instant
+  pub until : r.until ≤ last_instant

@@ -1,0 +1,68 @@
+// A list type: one for all items, so that each named list is an alias of it.
+ghost use Rattle.std.specs.Prelude.{◌≡◌, ◌∷◌, ◌++◌, [], List, ℕ, length, slice_get, option_copied, OnOk, OnErr};
+
+use crate::OutOfMemory;
+use std::alloc::Global;
+use std::marker::Model;
+
+/// A list, which contracts see as the list of its items.
+#[derive(Drop)]
+pub struct Listing<T> {
+    held: Vec<T>,
+}
+
+impl<T> Model for Listing<T> {
+    ghost Value = { List T };
+
+    ghost view = { λ a. a.held.items };
+}
+
+impl<T> Listing<T> {
+    /// The empty list.
+    pub fn new(alloc: Global) -> Self
+        ensures { result ≡ [] }
+    {
+        Listing {
+            held: Vec::new(alloc),
+        }
+    }
+
+    /// The vector's items, at no cost.
+    pub fn from_vec(items: Vec<T>) -> Self
+        ensures { result ≡ items.items }
+    {
+        Listing { held: items }
+    }
+
+    /// The number of items.
+    pub fn len(&self) -> usize
+        ensures { result ≡ length self.now }
+    {
+        self.held.len()
+    }
+
+    /// The item at place i from 0; `None` exactly where i isn't below the length.
+    pub fn get(&self, i: usize) -> Option<&T>
+        ensures { option_copied result ≡ slice_get self.now i }
+    {
+        self.held.get(i)
+    }
+
+    /// All items, at no cost.
+    pub fn as_slice(&self) -> &[T]
+        ensures { result.now ≡ self.now }
+    {
+        self.held.as_slice()
+    }
+}
+
+impl<T: Drop> Listing<T> {
+    /// Appends the item, in constant time on average.
+    pub fn push(&mut self, item: T) -> Result<(), OutOfMemory>
+        ensures ok { OnOk result (self.new ≡ self.old ++ item ∷ []) }
+        ensures err { OnErr result (self.new ≡ self.old) }
+    {
+        self.held.push(item)?;
+        Ok(())
+    }
+}

@@ -1,0 +1,56 @@
+// Whole files.
+ghost use Rattle.std.specs.Prelude.{◌≡◌, ◌≤◌, ◌<◌, ◌^◌, length, IfOk, IfSome};
+ghost use Rattle.route_base.specs.Reading.{IsWhole};
+ghost use Rattle.route_base.specs.Counts.{Rose};
+
+use crate::{Folder, PartError};
+use std::alloc::Global;
+
+/// Why a whole file can't be had.
+#[derive(Clone, Copy, Debug, PartialEq, Eq)]
+pub enum ReadAllFault {
+    Missing,
+    TooLong,
+    Failed,
+    OutOfMemory,
+}
+
+// How much is asked for at once.
+const PART: usize = 65536;
+
+/// Reads a file of at most `limit` bytes to its end. Linear in its length.
+pub fn read_all<F: Folder>(
+    alloc: Global,
+    folder: &mut F,
+    name: &str,
+    limit: u64,
+) -> Result<Vec<u8>, ReadAllFault>
+    ensures whole { IfSome (F.contents folder.old) (λ held. IsWhole (held name.now) limit result) }
+    ensures within { IfOk result (λ v. length v.items ≤ limit) }
+    ensures same { F.contents folder.new ≡ F.contents folder.old }
+    ensures missing_count { F.missing folder.old ≤ F.missing folder.new }
+    ensures read_count { F.read_faults folder.old ≤ F.read_faults folder.new }
+    ensures write_count { F.write_faults folder.old ≤ F.write_faults folder.new }
+    ensures missing { result ≡ Err ReadAllFault.Missing → Rose (F.missing folder.old) (F.missing folder.new) }
+    ensures failed { result ≡ Err ReadAllFault.Failed → Rose (F.read_faults folder.old) (F.read_faults folder.new) }
+{
+    let mut all: Vec<u8> = Vec::new(alloc);
+    let mut buf = [0u8; PART];
+    'reading: while all.len() as u64 <= limit {
+        match folder.read_part(name, all.len() as u64, &mut buf) {
+            Ok(count) => {
+                if count == 0 {
+                    return Ok(all);
+                }
+                match all.extend_from_slice(&buf[..count]) {
+                    Ok(()) => {}
+                    Err(_) => return Err(ReadAllFault::OutOfMemory),
+                }
+            }
+            Err(PartError::Missing) => return Err(ReadAllFault::Missing),
+            Err(PartError::Failed) => return Err(ReadAllFault::Failed),
+            Err(PartError::OutOfMemory) => return Err(ReadAllFault::OutOfMemory),
+        }
+    }
+    Err(ReadAllFault::TooLong)
+}

@@ -1,0 +1,20 @@
+// Rising runs of minutes, looked up by halving.
+ghost use Rattle.std.specs.Prelude.{◌≡◌, ◌↔◌, ◌+◌, ◌<◌, ◌≤◌, ◌^◌, ℕ, false, length, IsTrue, slice_index_or};
+ghost use Rattle.std.specs.List.{HoldsAt};
+ghost use Rattle.route_base.specs.Runs.{any_has, AreRuns, IsFree};
+
+use crate::{Minute, Run};
+
+// Whether none of the minutes from t on, as many as these, is in a run.
+pub fn is_free(runs: &[Run], t: Minute, minutes: u64) -> bool
+    requires rising { AreRuns runs.now }
+    requires some { 1 ≤ minutes }
+    requires small { t + minutes < 2 ^ 64 }
+    ensures { IsTrue result ↔ IsFree runs.now t minutes }
+{
+    let later = runs.partition_point(|r| r.hi <= t);
+    match runs.get(later) {
+        Some(run) => t + minutes <= run.lo,
+        None => true,
+    }
+}

@@ -1,0 +1,76 @@
+// The words that all crates share.
+use crate::Listing;
+
+/// A Unix minute in UTC.
+pub type Minute = u64;
+
+/// A cost in thousandths.
+pub type Cost = u64;
+
+/// A node, counted from 1.
+#[derive(Clone, Copy, Debug, PartialEq, Eq, PartialOrd, Ord, Hash)]
+pub struct NodeId(pub u32);
+
+/// An arc, counted from 1 in the order of the graph file.
+#[derive(Clone, Copy, Debug, PartialEq, Eq, PartialOrd, Ord, Hash)]
+pub struct ArcId(pub u32);
+
+/// The minutes t with `lo <= t < hi`.
+#[derive(Clone, Copy, Debug, PartialEq, Eq)]
+pub struct Run {
+    pub lo: Minute,
+    pub hi: Minute,
+}
+
+/// A part of an itinerary: an arc to drive, or a number of minutes to wait.
+#[derive(Clone, Copy, Debug, PartialEq, Eq)]
+pub enum Leg {
+    Drive(ArcId),
+    Wait(u64),
+}
+
+/// When an itinerary arrives, and what it costs.
+#[derive(Clone, Copy, Debug, PartialEq, Eq)]
+pub struct Pair {
+    pub arrival: Minute,
+    pub cost: Cost,
+}
+
+/// Legs in the order in which they are travelled.
+pub type Legs = Listing<Leg>;
+
+/// A pair with legs that have it.
+#[derive(Drop)]
+pub struct Route {
+    pub pair: Pair,
+    pub legs: Legs,
+}
+
+/// Routes by rising arrival.
+pub type Routes = Listing<Route>;
+
+/// A trip: from `origin` at minute `depart` to `goal`, with an arrival at `until` at the latest.
+#[derive(Clone, Copy, Debug, PartialEq, Eq)]
+pub struct Request {
+    pub origin: NodeId,
+    pub goal: NodeId,
+    pub depart: Minute,
+    pub until: Minute,
+}
+
+/// An arc with its minutes, its cost in thousandths, and the place from 0 of its list of closed runs.
+#[derive(Clone, Copy, Debug, PartialEq, Eq)]
+pub struct TimedArc {
+    pub tail: NodeId,
+    pub head: NodeId,
+    pub minutes: u64,
+    pub cost: Cost,
+    pub closed: u32,
+}
+
+/// The least minutes and, by itself, the least cost from a node to a goal.
+#[derive(Clone, Copy, Debug, PartialEq, Eq)]
+pub struct Bound {
+    pub minutes: u64,
+    pub cost: Cost,
+}
