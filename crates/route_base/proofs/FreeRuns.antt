@@ -1,6 +1,6 @@
 -- Where the runs that end after a minute begin.
-use Rattle.std.proofs.Common.{◌≡◌, ◌⊎◌, inl, inr, ⊎_elim, ℕ, ◌+◌, ◌≤◌, ◌<◌, true, false, leb, ltb, List, length, get_or, refl, sym, ◌∙◌, ap, subst, max, arith}
-use Rattle.std.specs.List.{AllWithin, list_any}
+use Rattle.std.proofs.Common.{◌≡◌, ⊎_elim, ℕ, ◌+◌, ◌≤◌, ◌<◌, true, false, leb, List, length, get_or, ◌∙◌, ap, arith}
+use Rattle.std.specs.List.{AllWithin}
 use Rattle.std.specs.List.Sorted.{IsNonDecreasingBy}
 use Rattle.std.proofs.lemmas.List.Folds.{list_any_none, list_any_at}
 use Rattle.std.proofs.lemmas.List.{get_or_default}

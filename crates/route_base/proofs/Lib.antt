@@ -1,3 +1,4 @@
+pub mod Costs
 pub mod Covering
 pub mod FreeRuns
 pub mod Fronts

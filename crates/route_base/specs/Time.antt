@@ -1,5 +1,5 @@
 -- Minutes of Unix time.
-use Rattle.std.specs.Prelude.{ℕ, ◌≤◌, ◌<◌}
+use Rattle.std.specs.Prelude.{ℕ, ◌≤◌}
 
 -- 1971-01-01T00:00Z
 abbrev pub first_instant : ℕ

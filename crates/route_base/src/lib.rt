@@ -23,6 +23,7 @@ mod search;
 mod sinks;
 mod status;
 mod text;
+mod threads;
 mod types;
 
 pub use bounds::Bounds;

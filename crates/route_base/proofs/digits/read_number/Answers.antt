@@ -1,4 +1,4 @@
-use Rattle.std.proofs.Common.{◌≤◌, ◌^◌, zero, ◌<◌, arith}
+use Rattle.std.proofs.Common.{◌≤◌, ◌^◌, ◌<◌, arith}
 use Rattle.std.proofs.Math.Nat.{pow-le-pow_right}
 use Rattle.route_base.proofs.digits.read_number.Goals as goal
 

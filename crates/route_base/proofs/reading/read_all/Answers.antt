@@ -1,7 +1,7 @@
-use Rattle.std.proofs.Common.{◌≡◌, rules, arith, ap, sym, ◌∙◌, subst, List, ℕ, length, ◌++◌, take, Option}
+use Rattle.std.proofs.Common.{◌≡◌, rules, subst, ℕ, length, Option}
 use Rattle.std.specs.Prelude.{IfSome}
 use Rattle.route_base.specs.Holding.{Holding, GivesPart}
-use Rattle.route_base.proofs.SoFar.{HasRead, reads_on}
+use Rattle.route_base.proofs.SoFar.{reads_on}
 use Rattle.route_base.proofs.reading.read_all.Goals as goal
 
 pub reading-preserved : goal.reading-preserved
