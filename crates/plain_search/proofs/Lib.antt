@@ -1,0 +1,10 @@
+pub mod Backward
+pub mod Chaining
+pub mod Cheapness
+pub mod Founding
+pub mod Lowering
+pub mod NetFacts
+pub mod Reading
+pub mod Sounding
+pub mod Staying
+pub mod Tidying

@@ -1,0 +1,82 @@
+// A worked case: a wait until an arc opens, against a longer way that is never closed.
+ghost use Rattle.std.specs.Prelude.{◌≡◌, ◌<◌, IfOk};
+ghost use Rattle.plain_search.specs.Small.{arc_of, small};
+
+use crate::TableEngine;
+use route_base::{
+    ArcId, FrontSearch, Leg, NodeId, OutOfMemory, Pair, Request, Run, TimedArc, TimedNet,
+};
+use std::alloc::Global;
+use std::test::Fail;
+
+const ALWAYS_OPEN: u32 = 0;
+
+const CLOSED_AT_FIRST: u32 = 1;
+
+fn arc(tail: u32, head: u32, minutes: u64, closed: u32) -> TimedArc
+    requires { minutes < 1000 }
+    ensures { result ≡ arc_of tail head minutes closed }
+{
+    TimedArc {
+        tail: NodeId(tail),
+        head: NodeId(head),
+        minutes,
+        cost: 1000 * minutes,
+        closed,
+    }
+}
+
+fn small_net(alloc: Global) -> Result<TimedNet, OutOfMemory>
+    ensures { IfOk result (λ net. net ≡ small) }
+{
+    let arcs = vec![in alloc;
+        arc(1, 2, 60, ALWAYS_OPEN),
+        arc(2, 3, 60, CLOSED_AT_FIRST),
+        arc(1, 3, 300, ALWAYS_OPEN),
+    ]?;
+    let mut closed = Vec::new(alloc);
+    closed.push(Vec::new(alloc))?;
+    closed.push(vec![in alloc;
+        Run {
+            lo: 26563740,
+            hi: 26563860
+        },
+    ]?)?;
+    let weights = vec![in alloc; None, Some(2000), None]?;
+    Ok(TimedNet::new(3, arcs, closed, weights))
+}
+
+#[test]
+fn waits_for_an_arc_or_goes_round(rt: HostRuntime) -> Result<(), Fail> {
+    let alloc = rt.alloc();
+    let net = small_net(alloc)?;
+    let request = Request {
+        origin: NodeId(1),
+        goal: NodeId(3),
+        depart: 26563680,
+        until: 26564080,
+    };
+    let routes = TableEngine.front(alloc, &net, request)?;
+    let wants = [
+        (
+            Pair {
+                arrival: 26563920,
+                cost: 360000,
+            },
+            [Leg::Drive(ArcId(1)), Leg::Wait(120), Leg::Drive(ArcId(2))].as_slice(),
+        ),
+        (
+            Pair {
+                arrival: 26563980,
+                cost: 300000,
+            },
+            [Leg::Drive(ArcId(3))].as_slice(),
+        ),
+    ];
+    assert_eq!(rt; routes.len(), wants.len());
+    for (route, (pair, legs)) in routes.as_slice().iter().zip(&wants) {
+        assert_eq!(rt; route.pair, *pair);
+        assert_eq!(rt; route.legs.as_slice(), *legs);
+    }
+    Ok(())
+}
