@@ -1,0 +1,56 @@
+//! The program `lorry_plan`: `front_desk::run` over the real files, the real standard output and the command line's words.
+//!
+//! What it prints and why it refuses is the contract of `run`. This crate adds the trusted edge, in `real_folder` and
+//! `real_out`, whose faults are counted as the traits of `route_base` want it; and the tests that cross crates.
+#![tactic(auto)]
+
+mod real_folder;
+mod real_out;
+#[cfg(test)]
+mod tests;
+
+use crate::real_folder::RealFolder;
+use crate::real_out::RealOut;
+use front_desk::run;
+use route_base::{Status, Text};
+use std::env;
+use std::io::ErrorKind;
+use std::process::ExitCode;
+
+// The words behind the program's name; without them the status with which the program ends.
+fn words_of(rt: &HostRuntime) -> Result<Vec<Text>, Status> {
+    let args = match env::args(rt) {
+        Ok(args) => args,
+        Err(error) => {
+            return Err(if error.kind() == ErrorKind::OutOfMemory {
+                Status::NoMemory
+            } else {
+                Status::Usage
+            });
+        }
+    };
+    let mut words = Vec::new(rt.alloc());
+    for word in args.skip(1) {
+        let Ok(text) = Text::of(rt.alloc(), word.as_str()) else {
+            return Err(Status::NoMemory);
+        };
+        if words.push(text).is_err() {
+            return Err(Status::NoMemory);
+        }
+    }
+    Ok(words)
+}
+
+fn main(rt: HostRuntime) -> ExitCode {
+    let status = match words_of(&rt) {
+        Ok(words) => run(
+            &rt,
+            rt.alloc(),
+            words.as_slice(),
+            &mut RealFolder::new(&rt),
+            &mut RealOut::new(&rt),
+        ),
+        Err(status) => status,
+    };
+    ExitCode::from(status.code())
+}

@@ -1,0 +1,86 @@
+// The files of the system. What they hold isn't told, so nothing is proved of it: this is the trusted edge.
+ghost use Rattle.std.specs.Prelude.{◌≡◌, ◌≤◌, None, length, IfOk};
+
+use route_base::{Folder, PartError, WriteError};
+use std::fs;
+use std::io::{self, ErrorKind, Read, Seek, SeekFrom, Write};
+use std::rt::Files;
+
+/// Files by their paths.
+#[derive(Drop)]
+pub struct RealFolder<'a, R: Files> {
+    files: &'a R,
+    missing: u64,
+    read_faults: u64,
+    write_faults: u64,
+}
+
+impl<'a, R: Files> RealFolder<'a, R> {
+    /// The files, with no fault so far.
+    pub fn new(files: &'a R) -> Self {
+        RealFolder {
+            files,
+            missing: 0,
+            read_faults: 0,
+            write_faults: 0,
+        }
+    }
+}
+
+// One read from a place on. An interrupted call is an error like any other.
+fn read_at<R: Files>(files: &R, name: &str, at: u64, buf: &mut [u8]) -> io::Result<usize>
+    ensures { IfOk result (λ k. k ≤ length buf.new) }
+{
+    let mut file = fs::open(files, name)?;
+    file.seek(SeekFrom::Start(at))?;
+    file.read(buf)
+}
+
+// The whole of the bytes as a new file. A write that takes nothing is an error.
+fn write_whole<R: Files>(files: &R, name: &str, bytes: &[u8]) -> io::Result<()> {
+    let mut file = fs::create(files, name)?;
+    let mut rest = bytes;
+    'writing: while !rest.is_empty() {
+        let count = file.write(rest)?;
+        if count == 0 {
+            return Err(io::Error::from(ErrorKind::WriteZero));
+        }
+        rest = &rest[count..];
+    }
+    Ok(())
+}
+
+impl<R: Files> Folder for RealFolder<'_, R> {
+    ghost contents = { λ _. None };
+
+    ghost missing = { λ s. s.missing };
+
+    ghost read_faults = { λ s. s.read_faults };
+
+    ghost write_faults = { λ s. s.write_faults };
+
+    fn read_part(&mut self, name: &str, at: u64, buf: &mut [u8]) -> Result<usize, PartError> {
+        match read_at(self.files, name, at, buf) {
+            Ok(count) => Ok(count),
+            Err(error) => {
+                if error.kind() == ErrorKind::NotFound {
+                    self.missing = self.missing.saturating_add(1);
+                    Err(PartError::Missing)
+                } else {
+                    self.read_faults = self.read_faults.saturating_add(1);
+                    Err(PartError::Failed)
+                }
+            }
+        }
+    }
+
+    fn write_file(&mut self, name: &str, bytes: &[u8]) -> Result<(), WriteError> {
+        match write_whole(self.files, name, bytes) {
+            Ok(()) => Ok(()),
+            Err(_) => {
+                self.write_faults = self.write_faults.saturating_add(1);
+                Err(WriteError::Failed)
+            }
+        }
+    }
+}

@@ -1,0 +1,95 @@
+// Legs over a triangle whose second arc is closed for two hours, and at whose second node lorries can wait.
+ghost use Rattle.std.specs.Prelude.{◌≡◌, ◌*◌, ◌≤◌, IfOk};
+
+use route_base::{
+    ArcId, Leg, NodeId, NotLawful, OutOfMemory, Pair, Request, Run, TimedArc, TimedNet, replay,
+};
+use std::alloc::Global;
+use std::test::Fail;
+
+// An arc whose minutes cost 1,000 thousandths each, closed in the runs of the list at this place.
+fn arc(tail: u32, head: u32, minutes: u64, closed: u32) -> TimedArc
+    requires { minutes ≤ 10080 }
+    ensures tail { result.tail.0 ≡ tail }
+    ensures head { result.head.0 ≡ head }
+    ensures minutes { result.minutes ≡ minutes }
+    ensures cost { result.cost ≡ 1000 * minutes }
+    ensures closed { result.closed ≡ closed }
+{
+    TimedArc {
+        tail: NodeId(tail),
+        head: NodeId(head),
+        minutes,
+        cost: 1000 * minutes,
+        closed,
+    }
+}
+
+const FIRST: Leg = Leg::Drive(ArcId(1));
+
+const SECOND: Leg = Leg::Drive(ArcId(2));
+
+const STRAIGHT: Leg = Leg::Drive(ArcId(3));
+
+const FOURTH: Leg = Leg::Drive(ArcId(4));
+
+// The triangle.
+fn triangle(alloc: Global) -> Result<TimedNet, OutOfMemory>
+    ensures { IfOk result (λ net. net.nodes ≡ 3) }
+{
+    let arcs = Vec::from_array(
+        alloc,
+        [arc(1, 2, 60, 0), arc(2, 3, 60, 1), arc(1, 3, 300, 0)],
+    )?;
+    let run = Run {
+        lo: 26_563_740,
+        hi: 26_563_860,
+    };
+    let never = Vec::new(alloc);
+    let at_night = Vec::from_array(alloc, [run])?;
+    let closed = Vec::from_array(alloc, [never, at_night])?;
+    let weights = Vec::from_array(alloc, [None, Some(2000), None])?;
+    Ok(TimedNet::new(3, arcs, closed, weights))
+}
+
+#[test]
+fn replays_legs(rt: HostRuntime) -> Result<(), Fail> {
+    let net = triangle(rt.alloc())?;
+    let request = Request {
+        origin: NodeId(1),
+        goal: NodeId(3),
+        depart: 26_563_680,
+        until: 26_563_980,
+    };
+    let waited = Pair {
+        arrival: 26_563_920,
+        cost: 360_000,
+    };
+    let direct = Pair {
+        arrival: 26_563_980,
+        cost: 300_000,
+    };
+    let cases: [(&[Leg], Result<Pair, NotLawful>); 11] = [
+        (&[FIRST, Leg::Wait(120), SECOND], Ok(waited)),
+        (&[STRAIGHT], Ok(direct)),
+        (&[FIRST, SECOND], Err(NotLawful { index: 1 })),
+        (
+            &[FIRST, Leg::Wait(119), SECOND],
+            Err(NotLawful { index: 2 }),
+        ),
+        (
+            &[FIRST, Leg::Wait(181), SECOND],
+            Err(NotLawful { index: 2 }),
+        ),
+        (&[FIRST, Leg::Wait(0), SECOND], Err(NotLawful { index: 1 })),
+        (&[Leg::Wait(1), STRAIGHT], Err(NotLawful { index: 0 })),
+        (&[SECOND], Err(NotLawful { index: 0 })),
+        (&[FOURTH], Err(NotLawful { index: 0 })),
+        (&[FIRST], Err(NotLawful { index: 1 })),
+        (&[], Err(NotLawful { index: 0 })),
+    ];
+    for (legs, want) in cases {
+        assert_eq!(rt; replay(&net, request, legs), want, "{legs:?}");
+    }
+    Ok(())
+}
