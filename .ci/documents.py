@@ -1,0 +1,58 @@
+#!/usr/bin/env python3
+"""Runs the commands that the documents show, and compares what they print.
+
+A document shows a command in a fenced block of the kind `console`: a line that begins with `$ ` is a command, and the
+lines below it, up to the next command or the block's end, are its whole standard output. A last line `[status N]` says
+that it ends with status N, otherwise it ends with 0. Each command runs at the top of the repository."""
+import glob
+import os
+import re
+import subprocess
+import sys
+
+TOP = os.path.dirname(os.path.dirname(os.path.abspath(__file__)))
+BLOCK = re.compile(r"^```console\n(.*?)^```$", re.M | re.S)
+STATUS = re.compile(r"^\[status (\d+)\]\n", re.M)
+
+
+def documents():
+    names = ["README.md"]
+    for pattern in ("docs/*.md", "examples/**/*.md"):
+        names += glob.glob(pattern, root_dir=TOP, recursive=True)
+    return sorted(names)
+
+
+def commands(text):
+    """The commands of a document, each with the output and the status that it shows."""
+    for block in BLOCK.findall(text):
+        for part in re.split(r"^\$ ", block, flags=re.M)[1:]:
+            command, shown = part.split("\n", 1)
+            status = STATUS.search(shown)
+            yield command, STATUS.sub("", shown), int(status.group(1)) if status else 0
+
+
+def differs(command, shown, status):
+    """How the command differs from what the document shows; None where it doesn't."""
+    done = subprocess.run(["bash", "-c", command], cwd=TOP, stdout=subprocess.PIPE, stdin=subprocess.DEVNULL)
+    printed = done.stdout.decode("utf-8", "replace")
+    if done.returncode != status:
+        return f"status {done.returncode} in place of {status}"
+    return None if printed == shown else f"printed {printed!r} in place of {shown!r}"
+
+
+def main():
+    passed = failed = 0
+    for name in documents():
+        with open(os.path.join(TOP, name), encoding="utf-8") as document:
+            for command, shown, status in commands(document.read()):
+                difference = differs(command, shown, status)
+                if difference is None:
+                    passed += 1
+                else:
+                    failed += 1
+                    print(f"{name}: {command}: {difference}")
+    print(f"documents: {passed} passed, {failed} failed")
+    return 1 if failed or not passed else 0
+
+
+sys.exit(main())
