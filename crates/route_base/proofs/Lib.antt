@@ -1,9 +1,12 @@
 pub mod Costs
 pub mod Covering
+pub mod Cuts
 pub mod FreeRuns
 pub mod Fronts
+pub mod FormRows
 pub mod LegLists
 pub mod Numbered
+pub mod ShortNumbers
 pub mod SoFar
 pub mod Waiting
 pub mod Walking

@@ -1,6 +1,7 @@
 pub mod Counts
 pub mod Digits
 pub mod Files
+pub mod Forms
 pub mod Front
 pub mod Holding
 pub mod Itinerary

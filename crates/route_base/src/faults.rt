@@ -1,4 +1,6 @@
 // Why an input or a request is refused.
+ghost use Rattle.std.specs.Prelude.{◌≡◌};
+
 use std::alloc::{AllocError, AllocFailed};
 
 /// What is wrong with a file, or with one of its lines or rows.
@@ -73,5 +75,44 @@ impl From<AllocError> for OutOfMemory {
 impl<T: Drop> From<AllocFailed<T>> for OutOfMemory {
     fn from(_: AllocFailed<T>) -> Self {
         OutOfMemory
+    }
+}
+
+/// Why a table isn't read.
+#[derive(Clone, Copy, Debug, PartialEq, Eq)]
+pub enum TableFault {
+    /// A row's fault; the rows count from 1, and row 0 is the file as a whole.
+    BadRow { row: u64, cause: Cause },
+    /// Want of memory.
+    OutOfMemory,
+}
+
+impl From<AllocError> for TableFault {
+    ghost use Rattle.route_base.specs.declared.faults.TableFault.TheVariants.{OutOfMemory};
+
+    ghost from_gives = { λ _ e. e ≡ OutOfMemory };
+
+    fn from(_: AllocError) -> Self {
+        TableFault::OutOfMemory
+    }
+}
+
+impl<T: Drop> From<AllocFailed<T>> for TableFault {
+    ghost use Rattle.route_base.specs.declared.faults.TableFault.TheVariants.{OutOfMemory};
+
+    ghost from_gives = { λ _ e. e ≡ OutOfMemory };
+
+    fn from(_: AllocFailed<T>) -> Self {
+        TableFault::OutOfMemory
+    }
+}
+
+impl From<OutOfMemory> for TableFault {
+    ghost use Rattle.route_base.specs.declared.faults.TableFault.TheVariants.{OutOfMemory};
+
+    ghost from_gives = { λ _ e. e ≡ OutOfMemory };
+
+    fn from(_: OutOfMemory) -> Self {
+        TableFault::OutOfMemory
     }
 }

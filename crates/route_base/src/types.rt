@@ -49,6 +49,21 @@ pub struct Route {
 /// Routes by rising arrival.
 pub type Routes = Listing<Route>;
 
+/// The bytes of a file.
+pub type FileBytes = Listing<u8>;
+
+/// The text of one job's answer.
+pub type JobText = Listing<u8>;
+
+/// The form in which an answer is written.
+#[derive(Clone, Copy, Debug, PartialEq, Eq)]
+pub enum Form {
+    Plain,
+    Table,
+    Csv,
+    Json,
+}
+
 /// A trip: from `origin` at minute `depart` to `goal`, with an arrival at `until` at the latest.
 #[derive(Clone, Copy, Debug, PartialEq, Eq)]
 pub struct Request {
