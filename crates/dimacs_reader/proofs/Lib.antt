@@ -1,5 +1,5 @@
 pub mod Cuts
-pub mod Fields
-pub mod PlainLines
 pub mod ReadSoFar
 pub mod Rows
+pub mod Says
+pub mod Tokens

@@ -1,12 +1,11 @@
 -- Worked files: what the definitions say of them, by computing.
-use Rattle.std.proofs.Common.{◌≡◌, ℕ, List, [], ◌∷◌, Some, None, true, false, refl}
+use Rattle.std.proofs.Common.{◌≡◌, ℕ, List, [], ◌∷◌, Some, None, refl}
 use Rattle.std.specs.Prelude.{codes}
 use Rattle.route_base.specs.declared.faults.Cause.TheVariants.{NodeRange, ArcCount, BadForm, NoProblemLine, SecondProblemLine, SizeLimit, WeightRange}
 use Rattle.dimacs_reader.specs.Lines.{lines_in, line_of, tokens_of}
 use Rattle.dimacs_reader.specs.Stated.{stated_in, arc_with}
 use Rattle.dimacs_reader.specs.Faults.{fault_of, first_fault, cause_of, cause_at_end}
 use Rattle.dimacs_reader.specs.Table.{graph_of}
-use Rattle.dimacs_reader.specs.Plain.{is_plain, is_plain_line}
 
 abbrev triangle : List ℕ
 triangle = codes "p sp 3 3\na 1 2 60\na 2 3 60\na 1 3 300\n"
@@ -18,10 +17,6 @@ triangle_graph = refl
 triangle_faultless : fault_of triangle ≡ None
 unfolding fault_of first_fault cause_of cause_at_end stated_in lines_in line_of tokens_of
 triangle_faultless = refl
-
-triangle_plain : is_plain triangle ≡ true
-unfolding is_plain is_plain_line line_of tokens_of
-triangle_plain = refl
 
 node_range : fault_of (codes "p sp 3 2\na 1 2 60\na 1 4 60\n") ≡ Some (3, NodeRange)
 unfolding fault_of first_fault cause_of cause_at_end stated_in lines_in line_of tokens_of
@@ -71,44 +66,46 @@ loose_graph : graph_of loose ≡ record { nodes = 3; arcs = arc_with 1 2 60 ∷ 
 unfolding graph_of stated_in lines_in line_of tokens_of
 loose_graph = refl
 
-loose_not_plain : is_plain loose ≡ false
-unfolding is_plain is_plain_line line_of tokens_of
-loose_not_plain = refl
-
 -- a carriage return that stands before no line feed is a byte of its line
 return_at_end : fault_of (codes "p sp 1 0\r") ≡ Some (1, BadForm)
 unfolding fault_of first_fault cause_of cause_at_end stated_in lines_in line_of tokens_of
 return_at_end = refl
 
-return_not_plain : is_plain (codes "p sp 1 0\r\n") ≡ false
-unfolding is_plain is_plain_line line_of tokens_of
-return_not_plain = refl
+empty_file : fault_of (codes "") ≡ Some (1, NoProblemLine)
+unfolding fault_of first_fault cause_of cause_at_end stated_in lines_in line_of tokens_of
+empty_file = refl
 
--- leading zeros are plain; other blanks are not
-zeros_plain : is_plain (codes "p sp 001 0\n") ≡ true
-unfolding is_plain is_plain_line line_of tokens_of
-zeros_plain = refl
+-- comments and empty lines are passed over, and count as lines
+comment_counts : fault_of (codes "c one\np sp 3 1\n c two\na 1 4 60\n") ≡ Some (4, NodeRange)
+unfolding fault_of first_fault cause_of cause_at_end stated_in lines_in line_of tokens_of
+comment_counts = refl
 
-two_spaces_not_plain : is_plain (codes "p sp  1 0\n") ≡ false
-unfolding is_plain is_plain_line line_of tokens_of
-two_spaces_not_plain = refl
+arcs_missing_after_comments : fault_of (codes "p sp 3 2\n\na 1 2 60\nc end") ≡ Some (5, ArcCount)
+unfolding fault_of first_fault cause_of cause_at_end stated_in lines_in line_of tokens_of
+arcs_missing_after_comments = refl
 
-blank_at_end_not_plain : is_plain (codes "p sp 1 0 \n") ≡ false
-unfolding is_plain is_plain_line line_of tokens_of
-blank_at_end_not_plain = refl
+-- the first of two faults
+first_of_two : fault_of (codes "p sp 3 1\na 1 2 0\nx\n") ≡ Some (2, WeightRange)
+unfolding fault_of first_fault cause_of cause_at_end stated_in lines_in line_of tokens_of
+first_of_two = refl
 
-tab_not_plain : is_plain (codes "p sp 1\t0\n") ≡ false
-unfolding is_plain is_plain_line line_of tokens_of
-tab_not_plain = refl
+form_before_range : fault_of (codes "a 9 9\n") ≡ Some (1, BadForm)
+unfolding fault_of first_fault cause_of cause_at_end stated_in lines_in line_of tokens_of
+form_before_range = refl
 
-no_feed_not_plain : is_plain (codes "p sp 1 0") ≡ false
-unfolding is_plain is_plain_line line_of tokens_of
-no_feed_not_plain = refl
+range_before_weight : fault_of (codes "p sp 3 0\na 1 4 0\n") ≡ Some (2, NodeRange)
+unfolding fault_of first_fault cause_of cause_at_end stated_in lines_in line_of tokens_of
+range_before_weight = refl
 
-empty_line_not_plain : is_plain (codes "p sp 1 0\n\n") ≡ false
-unfolding is_plain is_plain_line line_of tokens_of
-empty_line_not_plain = refl
+weight_before_count : fault_of (codes "p sp 3 0\na 1 2 0\n") ≡ Some (2, WeightRange)
+unfolding fault_of first_fault cause_of cause_at_end stated_in lines_in line_of tokens_of
+weight_before_count = refl
 
-comment_not_plain : is_plain (codes "c\np sp 1 0\n") ≡ false
-unfolding is_plain is_plain_line line_of tokens_of
-comment_not_plain = refl
+five_tokens : fault_of (codes "p sp 1 0 0\n") ≡ Some (1, BadForm)
+unfolding fault_of first_fault cause_of cause_at_end stated_in lines_in line_of tokens_of
+five_tokens = refl
+
+-- only one carriage return, right before the line feed, belongs to the line end
+two_returns : fault_of (codes "p sp 1 0\r\r\n") ≡ Some (1, BadForm)
+unfolding fault_of first_fault cause_of cause_at_end stated_in lines_in line_of tokens_of
+two_returns = refl

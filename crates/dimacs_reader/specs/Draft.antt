@@ -1,10 +1,6 @@
 -- What the lines so far state, and how the next adds to it.
-use Rattle.std.specs.Prelude.{◌≡◌, ◌≤◌, Option, Some, None, IsSome, List, [], ◌∷◌, ◌++◌, length, All}
-use Rattle.route_base.specs.declared.faults.Cause.{Cause}
-use Rattle.route_base.specs.declared.faults.Cause.TheVariants.{BadForm}
+use Rattle.std.specs.Prelude.{◌≡◌, ◌≤◌, Option, Some, None, List, [], ◌∷◌, ◌++◌, length, All}
 use Rattle.dimacs_reader.specs.declared.draft.Sizes.{Sizes}
-use Rattle.dimacs_reader.specs.declared.faults.GraphFault.{GraphFault}
-use Rattle.dimacs_reader.specs.declared.faults.GraphFault.TheVariants.{BadLine, OutOfMemory}
 use Rattle.dimacs_reader.specs.declared.graph.GraphArc.{GraphArc}
 use Rattle.dimacs_reader.specs.declared.lines.Line.{Line}
 use Rattle.dimacs_reader.specs.declared.lines.Line.TheVariants.{Passed, Problem, Arc, Bad}
@@ -33,8 +29,3 @@ after stated Passed = stated
 after stated (Problem n m) = record stated { sizes = Some (record { nodes = n; arcs = m }) }
 after stated (Arc u v w) = record stated { arcs = stated.arcs ++ arc_with u v w ∷ [] }
 after stated Bad = stated
-
--- want of memory, or the refusal of a whole file for such a cause
-abbrev pub IsRefused : Option Cause → GraphFault → Type 0
-IsRefused cause OutOfMemory = Unit {0}
-IsRefused cause (BadLine line why) = (line ≡ 0) × (why ≡ BadForm) × IsSome cause

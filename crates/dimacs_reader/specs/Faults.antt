@@ -1,9 +1,11 @@
 -- The first fault of a graph file, and its cause.
-use Rattle.std.specs.Prelude.{ℕ, ◌+◌, ◌&&◌, Bool, nat_le, nat_lt, Option, Some, None, List, [], ◌∷◌, ◌++◌, length, if◌then◌else◌}
+use Rattle.std.specs.Prelude.{◌≡◌, ℕ, ◌+◌, ◌&&◌, Bool, nat_le, nat_lt, Option, Some, None, List, [], ◌∷◌, ◌++◌, length, if◌then◌else◌}
 use Rattle.std.specs.Option.{option_map, option_or}
 use Rattle.route_base.specs.declared.faults.Cause.{Cause}
 use Rattle.route_base.specs.declared.faults.Cause.TheVariants.{NoProblemLine, SecondProblemLine, BadForm, NodeRange, WeightRange, ArcCount, SizeLimit}
 use Rattle.dimacs_reader.specs.declared.draft.Sizes.{Sizes}
+use Rattle.dimacs_reader.specs.declared.faults.GraphFault.{GraphFault}
+use Rattle.dimacs_reader.specs.declared.faults.GraphFault.TheVariants.{BadLine, OutOfMemory}
 use Rattle.dimacs_reader.specs.declared.lines.Line.{Line}
 use Rattle.dimacs_reader.specs.declared.lines.Line.TheVariants.{Passed, Problem, Arc, Bad}
 use Rattle.dimacs_reader.specs.Lines.{lines_in}
@@ -60,3 +62,8 @@ first_fault lines = fault_from [] lines
 -- the first fault of a file
 unfoldable pub fault_of : List ℕ → Option (ℕ × Cause)
 fault_of bytes = first_fault (lines_in bytes)
+
+-- the first fault itself, with its line and cause; or want of memory
+abbrev pub IsRefusal : Option (ℕ × Cause) → GraphFault → Type 0
+IsRefusal fault (BadLine line cause) = fault ≡ Some (line, cause)
+IsRefusal fault OutOfMemory = Unit {0}

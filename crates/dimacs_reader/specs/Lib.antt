@@ -1,7 +1,6 @@
 pub mod Draft
 pub mod Faults
 pub mod Lines
-pub mod Plain
 pub mod Stated
 pub mod Table
 pub use Rattle.route_base.specs.Digits

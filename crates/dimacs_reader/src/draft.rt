@@ -1,8 +1,8 @@
 // What the lines so far state.
-ghost use Rattle.std.specs.Prelude.{◌≡◌, ◌<◌, ◌⊎◌, [], IfOk, IfErr, OnOk, IsSome, length, Option};
+ghost use Rattle.std.specs.Prelude.{◌≡◌, [], IfOk, IfErr, OnOk, OnErr, Option};
 ghost use Rattle.dimacs_reader.specs.Faults.{cause_in, cause_of_problem, cause_of_arc, end_cause_in};
 ghost use Rattle.dimacs_reader.specs.Table.{graph_in};
-ghost use Rattle.dimacs_reader.specs.Draft.{after, IsRefused};
+ghost use Rattle.dimacs_reader.specs.Draft.{after};
 
 use crate::lines::Line;
 use crate::{Graph, GraphArc, GraphFault};
@@ -62,13 +62,11 @@ impl Draft {
 
     /// Adds what the next line states. In constant time on average.
     pub fn add(&mut self, line: Line) -> Result<(), GraphFault>
-        ensures faultless { OnOk result (cause_in self.old line ≡ Option.None) }
+        requires faultless { cause_in self.old line ≡ Option.None }
         ensures added { OnOk result (self.new ≡ after self.old line) }
-        ensures refused { IfErr result (IsRefused (cause_in self.old line)) }
+        ensures kept { OnErr result (self.new ≡ self.old) }
+        ensures only { IfErr result (λ e. e ≡ GraphFault.OutOfMemory) }
     {
-        if self.cause(line).is_some() {
-            return Err(NOT_PLAIN);
-        }
         match line {
             Line::Problem(nodes, arcs) => self.sizes = Some(Sizes { nodes, arcs }),
             Line::Arc(tail, head, minutes) => self.arcs.push(GraphArc {
@@ -81,30 +79,21 @@ impl Draft {
         Ok(())
     }
 
-    /// The graph, once all lines were added.
-    pub fn finish(self) -> Result<Graph, GraphFault>
+    /// The graph, once all lines were added; or why the file can't end here.
+    pub fn finish(self) -> Result<Graph, Cause>
         ensures faultless { OnOk result (end_cause_in self ≡ Option.None) }
         ensures graph { IfOk result (λ g. g ≡ graph_in self) }
-        ensures refused { IfErr result (IsRefused (end_cause_in self)) }
+        ensures cause { IfErr result (λ why. end_cause_in self ≡ Option.Some why) }
     {
-        let Draft { sizes, arcs } = self;
-        match sizes {
-            Some(sizes) => {
-                if (arcs.len() as u64) < sizes.arcs {
-                    return Err(NOT_PLAIN);
-                }
-                Ok(Graph::new(sizes.nodes as u32, arcs))
-            }
-            None => Err(NOT_PLAIN),
+        let Some(sizes) = self.sizes else {
+            return Err(Cause::NoProblemLine);
+        };
+        if (self.arcs.len() as u64) < sizes.arcs {
+            return Err(Cause::ArcCount);
         }
+        Ok(Graph::new(sizes.nodes as u32, self.arcs))
     }
 }
-
-/// The fault of a file that isn't plain or has a fault.
-pub const NOT_PLAIN: GraphFault = GraphFault::BadLine {
-    line: 0,
-    cause: Cause::BadForm,
-};
 
 fn problem_cause(before: Option<Sizes>, nodes: u64, arcs: u64) -> Option<Cause>
     ensures { result ≡ cause_of_problem before nodes arcs }

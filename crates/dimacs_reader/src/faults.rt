@@ -5,8 +5,8 @@ ghost use Rattle.dimacs_reader.specs.declared.faults.GraphFault.TheVariants.{Out
 use route_base::Cause;
 use std::alloc::{AllocError, AllocFailed};
 
-/// Why a graph file is refused: the number of the line from 1 and its cause, with line 0 for the file as a whole; or want
-/// of memory.
+/// Why a graph file is refused: its first fault, by the number of the line from 1 and the cause, where the end counts as
+/// the line after the last; or want of memory.
 #[derive(Clone, Copy, Debug, PartialEq, Eq)]
 pub enum GraphFault {
     BadLine { line: u64, cause: Cause },

@@ -1,9 +1,10 @@
 //! Reads a road graph in the text form of DIMACS (9th Implementation Challenge, shortest paths): one problem line
 //! `p sp n m` and then m arcs `a u v w`, here with whole minutes.
 //!
-//! The law is in `specs/`: `Lines` (the lines of a file, and what a line says), `Faults` (the first fault of a file and
-//! its cause), `Table` (the graph that the lines state, and what each graph keeps) and `Plain` (a file of plain lines). It
-//! is met by `read_graph`, which so far takes plain files alone.
+//! The law is in `specs/`: `Lines` (the lines of a file, and what a line says), `Stated` (what lines state together),
+//! `Faults` (the first fault of a file, with its line and cause) and `Table` (the graph that the lines state, and what each
+//! graph keeps). `read_graph` meets it for every list of bytes: it gives the graph of a file without a fault, and refuses any
+//! other with its first fault. Only want of memory can take the place of either.
 #![tactic(auto)]
 
 mod draft;

@@ -1,15 +1,15 @@
-// One line of a graph file.
-ghost use Rattle.std.specs.Prelude.{◌≡◌, ◌<◌, ◌∷◌, ◌==◌, [], IfSome, IfNone, length};
-ghost use Rattle.std.specs.List.{slice_split, position};
-ghost use Rattle.dimacs_reader.specs.Lines.{line_of_four, problem_of, arc_of};
-ghost use Rattle.dimacs_reader.specs.Plain.{plain_line_of};
+// The lines of a graph file, one after another.
+ghost use Rattle.std.specs.Prelude.{◌≡◌, ◌≢◌, ◌<◌, ◌∷◌, ◌==◌, [], IfSome, IfNone, length, not};
+ghost use Rattle.std.specs.List.{position};
+ghost use Rattle.std.specs.Str.Lines.{strip_carriage_return};
+ghost use Rattle.dimacs_reader.specs.Lines.{lines_of, line_of, tokens_of, is_blank, is_comment, line_of_four, problem_of, arc_of};
 
 use route_base::read_number;
 
 /// What a line of a graph file says.
 #[derive(Clone, Copy, Debug, PartialEq, Eq)]
 pub enum Line {
-    /// Nothing: it is empty, or a comment.
+    /// Nothing: it has no tokens, or is a comment.
     Passed,
     /// That there are so many nodes and so many arcs.
     Problem(u64, u64),
@@ -19,25 +19,71 @@ pub enum Line {
     Bad,
 }
 
-/// What a plain line says; `Bad` for any other. Linear in its bytes.
-pub fn read_plain_line(line: &[u8]) -> Line
-    ensures { result ≡ plain_line_of line.now }
+/// What a line says, without its line end. Linear in its bytes.
+pub fn read_line(line: &[u8]) -> Line
+    ensures { result ≡ line_of line.now }
 {
-    match four_fields(line) {
-        Some((first, second, third, fourth)) => line_of_fields(first, second, third, fourth),
+    let Some((first, rest)) = next_token(line) else {
+        return Line::Passed;
+    };
+    if is_comment(first) {
+        return Line::Passed;
+    }
+    match three_tokens(rest) {
+        Some((second, third, fourth)) => line_of_fields(first, second, third, fourth),
         None => Line::Bad,
     }
 }
 
-// The first three fields between spaces, and what follows the third space.
-fn four_fields(line: &[u8]) -> Option<(&[u8], &[u8], &[u8], &[u8])>
-    ensures cut { IfSome result (λ f. slice_split (λ b. b == 32) line.now ≡ f.0.now ∷ f.1.now ∷ f.2.now ∷ slice_split (λ b. b == 32) f.3.now) }
-    ensures few { IfNone result (length (slice_split (λ b. b == 32) line.now) < 4) }
+// The tokens, where there are just three.
+fn three_tokens(line: &[u8]) -> Option<(&[u8], &[u8], &[u8])>
+    ensures three { IfSome result (λ t. tokens_of line.now ≡ t.0.now ∷ t.1.now ∷ t.2.now ∷ []) }
+    ensures others { IfNone result (length (tokens_of line.now) ≢ 3) }
 {
-    let (first, rest) = cut(line, b' ')?;
-    let (second, rest) = cut(rest, b' ')?;
-    let (third, fourth) = cut(rest, b' ')?;
-    Some((first, second, third, fourth))
+    let (first, rest) = next_token(line)?;
+    let (second, rest) = next_token(rest)?;
+    let (third, rest) = next_token(rest)?;
+    if next_token(rest).is_some() {
+        return None;
+    }
+    Some((first, second, third))
+}
+
+// The first token and what follows it; `None` exactly where there is no token.
+fn next_token(line: &[u8]) -> Option<(&[u8], &[u8])>
+    ensures cut { IfSome result (λ t. tokens_of line.now ≡ t.0.now ∷ tokens_of t.1.now) }
+    ensures none { IfNone result (tokens_of line.now ≡ []) }
+{
+    let line = &line[place_of_text(line)?..];
+    let end = place_of_blank(line).unwrap_or(line.len());
+    Some(line.split_at(end))
+}
+
+fn place_of_text(line: &[u8]) -> Option<usize>
+    ensures { result ≡ position (λ b. not (is_blank b)) line.now }
+{
+    line.iter().position(|b| !is_blank(*b))
+}
+
+fn place_of_blank(line: &[u8]) -> Option<usize>
+    ensures { result ≡ position is_blank line.now }
+{
+    line.iter().position(|b| is_blank(*b))
+}
+
+fn is_blank(b: u8) -> bool
+    ensures { result ≡ is_blank b }
+{
+    b == b' ' || b == b'\t'
+}
+
+fn is_comment(token: &[u8]) -> bool
+    ensures { result ≡ is_comment token.now }
+{
+    match token {
+        [first, ..] => *first == b'c',
+        [] => false,
+    }
 }
 
 fn line_of_fields(first: &[u8], second: &[u8], third: &[u8], fourth: &[u8]) -> Line
@@ -70,19 +116,33 @@ fn arc(tail: &[u8], head: &[u8], minutes: &[u8]) -> Line
     }
 }
 
-/// What stands before the first byte `mark` and what stands after it; `None` exactly where there is none. Linear in what
-/// stands before it.
-pub fn cut(bytes: &[u8], mark: u8) -> Option<(&[u8], &[u8])>
-    ensures parts { IfSome result (λ p. slice_split (λ b. b == mark) bytes.now ≡ p.0.now ∷ slice_split (λ b. b == mark) p.1.now) }
-    ensures less { IfSome result (λ p. length p.1.now < length bytes.now) }
-    ensures none { IfNone result (slice_split (λ b. b == mark) bytes.now ≡ bytes.now ∷ []) }
+/// The first line, without its line end, and what follows it; `None` exactly where no bytes are left. Linear in the line.
+pub fn next_line(bytes: &[u8]) -> Option<(&[u8], &[u8])>
+    ensures cut { IfSome result (λ l. lines_of bytes.now ≡ l.0.now ∷ lines_of l.1.now) }
+    ensures less { IfSome result (λ l. length l.1.now < length bytes.now) }
+    ensures none { IfNone result (bytes.now ≡ []) }
 {
-    let place = place_of(bytes, mark)?;
-    Some((&bytes[..place], &bytes[place + 1..]))
+    if bytes.is_empty() {
+        return None;
+    }
+    match place_of_feed(bytes) {
+        Some(place) => Some((without_return(&bytes[..place]), &bytes[place + 1..])),
+        None => Some((bytes, &[])),
+    }
 }
 
-fn place_of(bytes: &[u8], mark: u8) -> Option<usize>
-    ensures { result ≡ position (λ b. b == mark) bytes.now }
+fn place_of_feed(bytes: &[u8]) -> Option<usize>
+    ensures { result ≡ position (λ b. b == 10) bytes.now }
 {
-    bytes.iter().position(|b| *b == mark)
+    bytes.iter().position(|b| *b == b'\n')
+}
+
+// A carriage return right before the line feed belongs to the line end.
+fn without_return(line: &[u8]) -> &[u8]
+    ensures { result.now ≡ strip_carriage_return line.now }
+{
+    match line {
+        [front @ .., b'\r'] => front,
+        _ => line,
+    }
 }

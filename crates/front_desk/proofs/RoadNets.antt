@@ -1,77 +1,107 @@
--- The timed net of a graph is good, stands for its road setting, and has no dear minute.
-use Rattle.std.proofs.Common.{◌≡◌, ℕ, zero, suc, ◌*◌, ◌≤◌, ◌<◌, false, Some, None, Option, List, [], ◌∷◌, replicate, get_or, refl, sym, ◌∙◌, ap, subst, arith}
-use Rattle.std.specs.Prelude.{slice_get}
+-- The timed net of a network is good, stands for its road setting, and has no dear minute.
+use Rattle.std.proofs.Common.{◌≡◌, ⊎_elim, ℕ, zero, suc, ◌*◌, ◌≤◌, ◌<◌, Some, None, Option, List, [], length, get_or, refl, sym, ◌∙◌, ap, subst, arith, add-one}
+use Rattle.std.specs.Prelude.{unwrap_or}
 use Rattle.std.specs.Option.{option_map}
-use Rattle.std.proofs.lemmas.List.{length-map, length-replicate}
-use Rattle.std.proofs.lemmas.List.Elements.{All-map}
+use Rattle.std.proofs.lemmas.Bool.{cases_lt}
+use Rattle.std.proofs.lemmas.Option.{slice_get-get_or, slice_get_past, unwrap_or-slice_get}
 use mathlib.Core.Path.{fun_ext}
-use Rattle.route_base.specs.Net.{Net, IsGoodNet, IsGoodArc, setting_of, at_number, joined, road_of, runs_by}
-use Rattle.route_base.specs.Runs.{AreRuns, any_has}
+use Rattle.route_base.specs.Net.{Net, IsGoodNet, IsGoodArc, setting_of, at_number, joined, road_of, runs_at, runs_by}
+use Rattle.route_base.specs.Runs.{any_has}
 use Rattle.route_base.specs.Setting.{Road}
 use Rattle.route_base.specs.declared.types.Run.{Run}
 use Rattle.route_base.specs.declared.types.TimedArc.{TimedArc}
-use Rattle.route_base.proofs.Numbered.{at_number-map}
+use Rattle.route_base.proofs.Numbered.{at_number-all}
 use Rattle.route_base.proofs.Costs.{IsCheap}
-use Rattle.dimacs_reader.specs.Table.{GraphTable, IsGoodGraph}
+use Rattle.dimacs_reader.specs.Table.{IsGoodGraph}
 use Rattle.dimacs_reader.specs.declared.graph.GraphArc.{GraphArc}
-use Rattle.front_desk.specs.Road.{road_setting, road_over, timed_over, net_over}
+use Rattle.network_tables.specs.Stated.{NetworkTable, closures_of, IsGoodNetwork, IsSmall}
+use Rattle.front_desk.specs.Road.{road_setting, road_over, IsTimed, AreTimed}
 
--- the same parts make the same net
-pub same_net : (n m : Net) → n.nodes ≡ m.nodes → n.arcs ≡ m.arcs → n.closed ≡ m.closed → n.weights ≡ m.weights → n ≡ m
-same_net n m nodes arcs closed weights = λ i. record { nodes = nodes i; arcs = arcs i; closed = closed i; weights = weights i }
+-- an arc that nothing has
+pub no_graph_arc : GraphArc
+no_graph_arc = record { tail = record { 0 = 0 }; head = record { 0 = 0 }; minutes = 0 }
 
--- no node of these has a weight
-none_rated : (n v : ℕ) → joined (at_number (replicate {A = Option ℕ} n None) v) ≡ None
-none_rated n zero = refl
-none_rated n (suc k) = none_at n k
-  where
-    none_at : (n k : ℕ) → joined (slice_get (replicate {A = Option ℕ} n None) k) ≡ None
-    none_at zero k = refl
-    none_at (suc n) zero = refl
-    none_at (suc n) (suc k) = none_at n k
+no_timed_arc : TimedArc
+no_timed_arc = record { tail = record { 0 = 0 }; head = record { 0 = 0 }; minutes = 0; cost = 0; closed = 0 }
 
-pub good_net : (graph : GraphTable) → IsGoodGraph graph → IsGoodNet (net_over graph)
-good_net graph good = record {
-  nodes = omega (arith, good.nodes);
-  arcs = omega (arith, good.arcs, length-map graph.arcs timed_over);
-  closed = omega arith;
-  weights = length-replicate graph.nodes None;
-  each_arc = All-map (IsGoodArc (net_over graph)) timed_over graph.arcs (λ k d within.
-      let arc = good.each_arc k d within in
-      record { tail = arc.tail; head = arc.head; minutes = arc.minutes; cost = omega (arith, arc.minutes.1); closed = omega arith });
-  each_runs = λ k d within. one_list k d within;
-  each_weight = λ v w is. absurd (none_is v w (sym (none_rated graph.nodes v) ∙ is));
-}
-  where
-    one_list : (k : ℕ) (d : List Run) → k < 1 → AreRuns (get_or ([] ∷ []) k d)
-    one_list zero d within = record { filled = λ i e before. absurd (omega (arith, before)); apart = λ i j e before after. absurd (omega (arith, after)) }
-    one_list (suc k) d within = absurd (omega (arith, within))
+-- the weight of a node is small
+joined-small : (o : Option (Option ℕ)) (w : ℕ) → ((x : Option ℕ) → o ≡ Some x → IsSmall x) → joined o ≡ Some w → w ≤ 100000
+joined-small None w small is = absurd (cc)
+joined-small (Some x) w small is = small x refl w is
 
-    none_is : (v w : ℕ) → None ≡ Some w → ⊥
-    none_is v w is = cc
+pub small_weight : (net : NetworkTable) → IsGoodNetwork net → (v w : ℕ) → joined (at_number net.weights v) ≡ Some w → w ≤ 100000
+small_weight net good v w is = joined-small (at_number net.weights v) w (λ x at. at_number-all IsSmall net.weights v x good.small at) is
 
-road_of-timed : (o : Option GraphArc) → option_map road_of (option_map timed_over o) ≡ option_map road_over o
-road_of-timed None = refl
-road_of-timed (Some arc) = refl
+module _ (net : NetworkTable) (good : IsGoodNetwork net) (graph : IsGoodGraph net.graph) (arcs : List TimedArc) (closed : List (List Run)) (all : AreTimed net closed arcs (length net.graph.arcs)) where
+  made : Net
+  made = record { nodes = net.graph.nodes; arcs = arcs; closed = closed; weights = net.weights }
 
-never_shut : (graph : GraphTable) (o : Option GraphArc) (t : ℕ) → any_has (runs_by (net_over graph) (option_map timed_over o)) t ≡ false
-never_shut graph None t = refl
-never_shut graph (Some arc) t = refl
+  good_arc : (arc : TimedArc) (k : ℕ) → k < length net.graph.arcs → IsTimed net closed k (get_or net.graph.arcs k no_graph_arc) arc → IsGoodArc made arc
+  unfolding made
+  good_arc arc k within timed =
+      let named = graph.each_arc k no_graph_arc within in
+      subst (IsGoodArc made) (sym timed.is) (record {
+        tail = named.tail;
+        head = named.head;
+        minutes = named.minutes;
+        cost = omega (arith, named.minutes.1);
+        closed = timed.within;
+      })
 
-pub setting_of-net_over : (graph : GraphTable) → setting_of (net_over graph) ≡ road_setting graph
-setting_of-net_over graph = λ i. record {
-  nodes = graph.nodes;
-  arcs = length-map graph.arcs timed_over i;
-  road = fun_ext (λ a. ap (option_map road_of) (at_number-map timed_over graph.arcs a) ∙ road_of-timed (at_number graph.arcs a)) i;
-  shut = fun_ext (λ a. fun_ext (λ t. ap (λ (o : Option TimedArc). any_has (runs_by (net_over graph) o) t) (at_number-map timed_over graph.arcs a) ∙ never_shut graph (at_number graph.arcs a) t)) i;
-  weight = fun_ext (λ v. none_rated graph.nodes v) i;
-}
+  pub good_net : IsGoodNet (record { nodes = net.graph.nodes; arcs = arcs; closed = closed; weights = net.weights })
+  unfolding made
+  good_net = record {
+    nodes = omega (arith, graph.nodes);
+    arcs = omega (arith, graph.arcs, all.counted);
+    closed = omega (arith, graph.arcs, all.lists);
+    weights = good.weights;
+    each_arc = λ k d within. good_arc (get_or arcs k d) k (omega (arith, within, all.counted)) (all.each k no_graph_arc d (omega (arith, within, all.counted)));
+    each_runs = all.runs;
+    each_weight = small_weight net good;
+  }
 
--- each minute of driving costs 1,000
-pub cheap : (graph : GraphTable) → IsCheap (road_setting graph)
-cheap graph = record {
-  each_road = λ a road is. at (at_number graph.arcs a) road is;
-  each_weight = λ v weight is. absurd (none_is weight is);
+  same_road : (a : ℕ) → option_map road_of (at_number arcs a) ≡ option_map road_over (at_number net.graph.arcs a)
+  same_road zero = refl
+  same_road (suc k) =
+      ⊎_elim
+      (λ (within : k < length net.graph.arcs).
+      ap (option_map road_of) (slice_get-get_or arcs k no_timed_arc (omega (arith, within, all.counted)))
+      ∙ ap (λ (arc : TimedArc). Some (road_of arc)) (all.each k no_graph_arc no_timed_arc within).is
+      ∙ sym (ap (option_map road_over) (slice_get-get_or net.graph.arcs k no_graph_arc within)))
+      (λ (past : length net.graph.arcs ≤ k).
+      ap (option_map road_of) (slice_get_past arcs k (omega (arith, past, all.counted))) ∙ sym (ap (option_map road_over) (slice_get_past net.graph.arcs k past)))
+      (cases_lt k (length net.graph.arcs))
+
+  same_shut : (a t : ℕ) → any_has (runs_at made a) t ≡ any_has (closures_of net a) t
+  unfolding made
+  same_shut zero t = refl
+  same_shut (suc k) t =
+      ⊎_elim
+      (λ (within : k < length net.graph.arcs).
+      let timed = all.each k no_graph_arc no_timed_arc within in
+      ap (λ (o : Option TimedArc). any_has (runs_by made o) t) (slice_get-get_or arcs k no_timed_arc (omega (arith, within, all.counted)))
+      ∙ ap (λ (runs : List Run). any_has runs t) (unwrap_or-slice_get closed (get_or arcs k no_timed_arc).closed [])
+      ∙ timed.minutes t ∙ ap (λ (n : ℕ). any_has (closures_of net n) t) (add-one k))
+      (λ (past : length net.graph.arcs ≤ k).
+      ap (λ (o : Option TimedArc). any_has (runs_by made o) t) (slice_get_past arcs k (omega (arith, past, all.counted)))
+      ∙ sym (ap (λ (o : Option (List Run)). any_has (unwrap_or o []) t) (slice_get_past net.closures k (omega (arith, past, good.closures)))))
+      (cases_lt k (length net.graph.arcs))
+
+  pub stands_for : setting_of (record { nodes = net.graph.nodes; arcs = arcs; closed = closed; weights = net.weights }) ≡ road_setting net
+  unfolding made
+  stands_for = λ i. record {
+    nodes = net.graph.nodes;
+    arcs = all.counted i;
+    road = fun_ext same_road i;
+    shut = fun_ext (λ a. fun_ext (same_shut a)) i;
+    weight = λ v. joined (at_number net.weights v);
+  }
+
+-- no minute of driving or waiting is dear
+pub cheap : (net : NetworkTable) → IsGoodNetwork net → IsCheap (road_setting net)
+cheap net good = record {
+  each_road = λ a road is. at (at_number net.graph.arcs a) road is;
+  each_weight = small_weight net good;
 }
   where
     at : (o : Option GraphArc) (road : Road) → option_map road_over o ≡ Some road → road.cost ≤ 100000 * road.minutes
@@ -79,6 +109,3 @@ cheap graph = record {
     at (Some arc) road is =
         let same : road_over arc ≡ road = cc in
         subst (λ (r : Road). r.cost ≤ 100000 * r.minutes) same (omega arith)
-
-    none_is : (w : ℕ) → None ≡ Some w → ⊥
-    none_is w is = cc

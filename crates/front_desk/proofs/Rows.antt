@@ -5,19 +5,16 @@ use Rattle.std.specs.Str.{bytes_eq}
 use Rattle.std.specs.Fmt.{digits}
 use Rattle.route_base.specs.declared.types.Leg.TheVariants.{Drive}
 use Rattle.route_base.specs.declared.faults.FileKind.TheVariants.{Graph, Zones}
-use Rattle.route_base.specs.declared.faults.Cause.TheVariants.{Missing, BadForm, NotBuilt}
+use Rattle.route_base.specs.declared.faults.Cause.TheVariants.{Missing, NotBuilt}
 use Rattle.route_base.specs.declared.faults.RequestFault.{RequestFault}
 use Rattle.route_base.specs.declared.faults.RequestFault.TheVariants.{OriginRange, GoalRange, UntilBeforeDepart, HorizonTooLong}
 use Rattle.front_desk.specs.declared.texts.Refusal.TheVariants.{Usage, Input, Request}
-use Rattle.front_desk.specs.Words.{plan_of, is_folder_name, node_of, instant_of}
+use Rattle.front_desk.specs.Words.{plan_of, is_folder_name, node_of}
+use Rattle.route_base.specs.Forms.{minute_of}
 use Rattle.front_desk.specs.Texts.{thousandths_of, plain_text_of, refusal_text_of}
 use Rattle.front_desk.specs.Requests.{first_failing}
-use Rattle.front_desk.specs.Network.{first_fault, network_of}
-use Rattle.dimacs_reader.specs.Faults.{fault_of, first_fault as first_fault', cause_of, cause_at_end}
-use Rattle.dimacs_reader.specs.Lines.{lines_in, line_of, tokens_of}
-use Rattle.dimacs_reader.specs.Plain.{is_plain, is_plain_line}
-use Rattle.dimacs_reader.specs.Stated.{stated_in}
-use Rattle.dimacs_reader.specs.Table.{graph_of}
+use Rattle.front_desk.specs.Files.{first_unreadable, reading_fault}
+use Rattle.front_desk.specs.Network.{first_fault}
 
 -- the words of a plan from `d`, with these for FROM, TO, DEPART and UNTIL
 abbrev words_with : List ℕ → List ℕ → List ℕ → List ℕ → List (List ℕ)
@@ -38,10 +35,10 @@ eighth_word_refused = refl
 pub before_first_instant : plan_of (words_with (codes "1") (codes "3") (codes "525599") (codes "26564080")) ≡ None
 before_first_instant = refl
 
-pub first_instant_read : instant_of (codes "525600") ≡ Some 525600
+pub first_instant_read : minute_of (codes "525600") ≡ Some 525600
 first_instant_read = refl
 
-pub last_instant_read : instant_of (codes "120968639") ≡ Some 120968639
+pub last_instant_read : minute_of (codes "120968639") ≡ Some 120968639
 last_instant_read = refl
 
 pub after_last_instant : plan_of (words_with (codes "1") (codes "3") (codes "26563680") (codes "120968640")) ≡ None
@@ -109,29 +106,24 @@ a_minute_more = refl
 
 -- an empty folder lacks its graph
 no_graph : first_fault (λ name. None) (codes "d") ≡ Some (record { file = Graph; row = 0; cause = Missing })
+unfolding first_unreadable
 no_graph = refl
 
--- two towns, and a file of zones if any
-towns : List ℕ → Option (List ℕ) → List ℕ → Option (List ℕ)
-towns graph zones name = if bytes_eq name (codes "d/graph.gr") then Some graph else if bytes_eq name (codes "d/zones.csv") then zones else None
-
-two_towns : first_fault (towns (codes "p sp 2 1\na 1 2 60\n") None) (codes "d") ≡ None
-unfolding towns is_plain is_plain_line fault_of first_fault' cause_of cause_at_end stated_in lines_in line_of tokens_of
-two_towns = refl
-
-two_towns_and_zones : first_fault (towns (codes "p sp 2 1\na 1 2 60\n") (Some [])) (codes "d") ≡ None
-unfolding towns is_plain is_plain_line fault_of first_fault' cause_of cause_at_end stated_in lines_in line_of tokens_of
-two_towns_and_zones = refl
+-- a graph that isn't one, and another file
+beside : List ℕ → List ℕ → List ℕ → Option (List ℕ)
+beside other bytes name = if bytes_eq name (codes "d/graph.gr") then Some (codes "x\n") else if bytes_eq name other then Some bytes else None
 
 -- a file that can't be read yet comes before what the graph holds
-zones_first : first_fault (towns (codes "x\n") (Some (codes "x"))) (codes "d") ≡ Some (record { file = Zones; row = 0; cause = NotBuilt })
-unfolding towns
+zones_first : first_fault (beside (codes "d/zones.csv") (codes "x")) (codes "d") ≡ Some (record { file = Zones; row = 0; cause = NotBuilt })
+unfolding beside first_unreadable
 zones_first = refl
 
-bad_graph : first_fault (towns (codes "p sp 2 1\na 1 3 60\n") None) (codes "d") ≡ Some (record { file = Graph; row = 0; cause = BadForm })
-unfolding towns is_plain is_plain_line fault_of first_fault' cause_of cause_at_end stated_in lines_in line_of tokens_of
-bad_graph = refl
+-- an empty one is none
+no_zones : reading_fault (beside (codes "d/zones.csv") []) (codes "d") ≡ None
+unfolding beside first_unreadable
+no_zones = refl
 
-two_towns_stated : (network_of (towns (codes "p sp 2 1\na 1 2 60\n") None) (codes "d")).nodes ≡ 2
-unfolding towns graph_of stated_in lines_in line_of tokens_of
-two_towns_stated = refl
+-- what a table holds comes after what the graph holds
+tables_read : reading_fault (beside (codes "d/parking.csv") (codes "x")) (codes "d") ≡ None
+unfolding beside first_unreadable
+tables_read = refl

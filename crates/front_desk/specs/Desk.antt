@@ -27,7 +27,7 @@ pub record IsFrontText (s : Setting) (request : Request) (text : List ℕ) : Typ
 -- the files of the folder have no fault, the trip passes the tests, and the text is that of its front over the road setting
 pub record ReportsFront (held : Holding) (plan : Plan) (text : List ℕ) : Type 0 where
   pub faultless : first_fault held plan.dir ≡ None
-  pub good : first_failing (network_of held plan.dir).nodes plan ≡ None
+  pub good : first_failing (network_of held plan.dir).graph.nodes plan ≡ None
   pub front : IsFrontText (road_setting (network_of held plan.dir)) (request_of_plan plan) text
 
 -- the words plan a trip, and where the folder tells what it holds, the text reports the front of that trip
@@ -56,7 +56,7 @@ pub record RefusesRequest (words : List (List ℕ)) (told : Option Holding) (tex
   pub is_plan : plan_of words ≡ Some plan
   pub fault : RequestFault
   pub faultless : (held : Holding) → told ≡ Some held → first_fault held plan.dir ≡ None
-  pub first : (held : Holding) → told ≡ Some held → first_failing (network_of held plan.dir).nodes plan ≡ Some fault
+  pub first : (held : Holding) → told ≡ Some held → first_failing (network_of held plan.dir).graph.nodes plan ≡ Some fault
   pub is_text : text ≡ refusal_text_of (RequestRefusal fault)
 
 -- the text that is due with a status

@@ -20,7 +20,7 @@ pub record IsFirstFault (dir : List ℕ) (told : Option Holding) (missing missin
 -- the first test that fails, where the folder tells what it holds
 pub record IsFirstTest (plan : Plan) (told : Option Holding) (fault : RequestFault) : Type 0 where
   pub faultless : (held : Holding) → told ≡ Some held → first_fault held plan.dir ≡ None
-  pub first : (held : Holding) → told ≡ Some held → first_failing (network_of held plan.dir).nodes plan ≡ Some fault
+  pub first : (held : Holding) → told ≡ Some held → first_failing (network_of held plan.dir).graph.nodes plan ≡ Some fault
 
 -- why there is no network
 abbrev pub StopsReading : List ℕ → Option Holding → ℕ → ℕ → ℕ → ℕ → Halt → Type 0

@@ -1,8 +1,10 @@
 pub mod Desk
 pub mod Files
 pub mod Halting
+pub mod Needs
 pub mod Network
 pub mod Requests
 pub mod Road
 pub mod Texts
+pub mod Timing
 pub mod Words

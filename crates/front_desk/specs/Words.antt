@@ -1,7 +1,7 @@
 -- The words of the command that plans a trip.
-use Rattle.std.specs.Prelude.{ℕ, ◌==◌, ◌&&◌, Bool, false, not, nat_le, Option, Some, None, List, [], ◌∷◌, length, codes, if◌then◌else◌, option_and_then, option_map, bytes_eq}
+use Rattle.std.specs.Prelude.{ℕ, ◌==◌, ◌&&◌, Bool, false, not, nat_le, Option, None, List, [], ◌∷◌, length, codes, if◌then◌else◌, option_and_then, option_map, bytes_eq}
 use Rattle.route_base.specs.Digits.{plain_number_of}
-use Rattle.route_base.specs.Time.{first_instant, last_instant}
+use Rattle.route_base.specs.Forms.{at_most, minute_of}
 use Rattle.front_desk.specs.declared.words.PlanWords.{PlanWords}
 
 -- a trip from a node at a minute to a node, by a minute at the latest, over the files of a folder
@@ -17,24 +17,16 @@ abbrev pub is_folder_name : List ℕ → Bool
 is_folder_name [] = false
 is_folder_name (b ∷ bs) = not (b == 45) && nat_le (length (b ∷ bs)) 4096
 
--- the number that a word gives, where it passes a test
-abbrev pub tested_number : (ℕ → Bool) → List ℕ → Option ℕ
-tested_number test word = option_and_then (λ n. if test n then Some n else None) (plain_number_of word)
-
 -- a number of 32 bits without a leading zero
 abbrev pub node_of : List ℕ → Option ℕ
-node_of word = tested_number (λ n. nat_le n 4294967295) word
-
--- an instant without a leading zero
-abbrev pub instant_of : List ℕ → Option ℕ
-instant_of word = tested_number (λ t. nat_le first_instant t && nat_le t last_instant) word
+node_of word = at_most 4294967295 (plain_number_of word)
 
 -- the trip over a folder's files that two nodes' words and two instants' words give
 abbrev pub trip_of : List ℕ → List ℕ → List ℕ → List ℕ → List ℕ → Option Plan
 trip_of dir from to start end =
     option_and_then (λ o. option_and_then (λ g. option_and_then (λ d. option_map
     (λ u. record { dir = dir; origin = o; goal = g; depart = d; until = u })
-    (instant_of end)) (instant_of start)) (node_of to)) (node_of from)
+    (minute_of end)) (minute_of start)) (node_of to)) (node_of from)
 
 -- the trip of the words `plan DIR any FROM TO DEPART UNTIL`, and nothing for any other words
 abbrev pub plan_of : List (List ℕ) → Option Plan

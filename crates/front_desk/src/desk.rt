@@ -19,12 +19,9 @@ use crate::network::net_of;
 use crate::requests::{first_failing_test, request_of};
 use crate::texts::{Refusal, plain_text, refusal_text};
 use crate::words::{PlanWords, read_words};
-use dimacs_reader::{Graph, GraphFault, read_graph};
+use network_tables::{Network, NetworkFault, read_network};
 use plain_search::TableEngine;
-use route_base::{
-    BadInput, Cause, FileKind, Folder, FrontSearch, OutOfMemory, Request, Sink, Status, Text,
-    WriteError,
-};
+use route_base::{Folder, FrontSearch, OutOfMemory, Request, Sink, Status, Text, WriteError};
 use std::alloc::Global;
 use std::thread::Threads;
 
@@ -47,38 +44,34 @@ impl From<OutOfMemory> for Halt {
 }
 
 // The network of the folder's files.
-fn read_network<F: Folder>(alloc: Global, folder: &mut F, dir: &str) -> Result<Graph, Halt>
-    ensures found { IfOk result (λ graph. (held : Holding) → F.contents folder.old ≡ Some held → (first_fault held dir.now ≡ None) × (graph ≡ network_of held dir.now)) }
+fn load_network<F: Folder>(alloc: Global, folder: &mut F, dir: &str) -> Result<Network, Halt>
+    ensures found { IfOk result (λ network. (held : Holding) → F.contents folder.old ≡ Some held → (first_fault held dir.now ≡ None) × (network ≡ network_of held dir.now)) }
     ensures halted { IfErr result (StopsReading dir.now (F.contents folder.old) (F.missing folder.old) (F.missing folder.new) (F.read_faults folder.old) (F.read_faults folder.new)) }
     ensures same { F.contents folder.new ≡ F.contents folder.old }
     ensures missing_count { F.missing folder.old ≤ F.missing folder.new }
     ensures read_count { F.read_faults folder.old ≤ F.read_faults folder.new }
 {
-    let bytes = match read_files(alloc, folder, dir) {
-        Ok(bytes) => bytes,
+    let files = match read_files(alloc, folder, dir) {
+        Ok(files) => files,
         Err(Interruption::Bad(fault)) => return Err(Halt::Refused(Refusal::Input(fault))),
         Err(Interruption::Failed) => return Err(Halt::ReadFault),
         Err(Interruption::OutOfMemory) => return Err(Halt::NoMemory),
     };
-    match read_graph(alloc, bytes.as_slice()) {
-        Ok(graph) => Ok(graph),
-        Err(GraphFault::BadLine { line, cause }) => Err(Halt::Refused(Refusal::Input(BadInput {
-            file: FileKind::Graph,
-            row: line,
-            cause,
-        }))),
-        Err(GraphFault::OutOfMemory) => Err(Halt::NoMemory),
+    match read_network(alloc, &files) {
+        Ok(network) => Ok(network),
+        Err(NetworkFault::Bad(fault)) => Err(Halt::Refused(Refusal::Input(fault))),
+        Err(NetworkFault::OutOfMemory) => Err(Halt::NoMemory),
     }
 }
 
 // The report of a trip that passes the tests.
-fn front_text(alloc: Global, graph: &Graph, plan: PlanWords<'_>) -> Result<Vec<u8>, OutOfMemory>
-    requires passes { Passes graph.now.nodes (plan_in plan) }
+fn front_text(alloc: Global, network: &Network, plan: PlanWords<'_>) -> Result<Vec<u8>, OutOfMemory>
+    requires passes { Passes network.now.graph.nodes (plan_in plan) }
     requires depart { IsInstant plan.depart }
     requires until { IsInstant plan.until }
-    ensures { IfOk result (λ text. IsFrontText (road_setting graph.now) (request_of_plan (plan_in plan.entry)) text.items) }
+    ensures { IfOk result (λ text. IsFrontText (road_setting network.now) (request_of_plan (plan_in plan.entry)) text.items) }
 {
-    let net = net_of(alloc, graph)?;
+    let net = net_of(alloc, network)?;
     let routes = TableEngine.front(alloc, &net, request_of(plan))?;
     plain_text(alloc, &routes)
 }
@@ -93,13 +86,13 @@ fn plan_trip<F: Folder>(alloc: Global, folder: &mut F, plan: PlanWords<'_>) -> R
     ensures missing_count { F.missing folder.old ≤ F.missing folder.new }
     ensures read_count { F.read_faults folder.old ≤ F.read_faults folder.new }
 {
-    let graph = match read_network(alloc, folder, plan.dir) {
-        Ok(graph) => graph,
+    let network = match load_network(alloc, folder, plan.dir) {
+        Ok(network) => network,
         Err(halt) => return Err(halt),
     };
-    match first_failing_test(graph.node_count(), plan) {
+    match first_failing_test(network.graph().node_count(), plan) {
         Some(fault) => Err(Halt::Refused(Refusal::Request(fault))),
-        None => match front_text(alloc, &graph, plan) {
+        None => match front_text(alloc, &network, plan) {
             Ok(text) => Ok(text),
             Err(OutOfMemory) => Err(Halt::NoMemory),
         },
@@ -167,9 +160,9 @@ pub fn run<R: Threads + Sync, F: Folder, S: Sink>(
     ensures bad_input_due { (held : Holding) (plan : Plan) (fault : BadInput) → F.contents folder.old ≡ Some held → plan_of words.now ≡ Some plan
         → first_fault held plan.dir ≡ Some fault → (result ≡ Status.BadInput) ⊎ HasFailed result }
     ensures bad_request_due { (held : Holding) (plan : Plan) (fault : RequestFault) → F.contents folder.old ≡ Some held → plan_of words.now ≡ Some plan
-        → first_fault held plan.dir ≡ None → first_failing (network_of held plan.dir).nodes plan ≡ Some fault → (result ≡ Status.BadRequest) ⊎ HasFailed result }
+        → first_fault held plan.dir ≡ None → first_failing (network_of held plan.dir).graph.nodes plan ≡ Some fault → (result ≡ Status.BadRequest) ⊎ HasFailed result }
     ensures complete { (held : Holding) (plan : Plan) → F.contents folder.old ≡ Some held → plan_of words.now ≡ Some plan
-        → first_fault held plan.dir ≡ None → first_failing (network_of held plan.dir).nodes plan ≡ None
+        → first_fault held plan.dir ≡ None → first_failing (network_of held plan.dir).graph.nodes plan ≡ None
         → (Rose (F.read_faults folder.old) (F.read_faults folder.new) → ⊥) → (Rose (S.faults out.old) (S.faults out.new) → ⊥)
         → (result ≡ Status.Done) ⊎ (result ≡ Status.NoMemory) }
 

@@ -1,13 +1,16 @@
 // The files of a folder, one after another.
-ghost use Rattle.std.specs.Prelude.{◌≡◌, ◌≢◌, ◌≤◌, Some, None, IfOk, IfErr, string_bytes};
+ghost use Rattle.std.specs.Prelude.{◌≡◌, ◌≤◌, Some, None, [], IfOk, IfErr, string_bytes};
 ghost use Rattle.route_base.specs.Counts.{Rose};
 ghost use Rattle.route_base.specs.Holding.{Holding};
-ghost use Rattle.front_desk.specs.Files.{path_of, HoldsGraph, IfBad, reading_fault, unbuilt_fault, first_unbuilt, fault_of_graph};
+ghost use Rattle.front_desk.specs.Files.{path_of, fault_by, whole_fault, reading_fault, files_of, HasBuiltAlone, IsRead, IfBad};
+ghost use Rattle.front_desk.specs.Needs.{Required, Optional, Unbuilt};
 ghost use Rattle.route_base.specs.declared.faults.Cause.TheVariants.{Missing};
-ghost use Rattle.route_base.specs.declared.faults.FileKind.TheVariants.{Graph};
 
 use crate::texts::file_name;
-use route_base::{BadInput, Cause, FileKind, Folder, OutOfMemory, ReadAllFault, read_all};
+use network_tables::Files;
+use route_base::{
+    BadInput, Cause, FileBytes, FileKind, Folder, OutOfMemory, ReadAllFault, read_all,
+};
 use std::alloc::Global;
 
 /// Why reading ends early.
@@ -31,19 +34,6 @@ impl From<OutOfMemory> for Interruption {
 // The most bytes that a file may have.
 const FILE_LIMIT: u64 = 268_435_456;
 
-// The files whose reading isn't built yet.
-const LATER_FILES: [FileKind; 9] = [
-    FileKind::Zones,
-    FileKind::Areas,
-    FileKind::Roads,
-    FileKind::Vehicles,
-    FileKind::Rules,
-    FileKind::Closures,
-    FileKind::Ratings,
-    FileKind::Parking,
-    FileKind::Holidays,
-];
-
 // The name under which the folder is asked for a file of dir.
 fn path_to(alloc: Global, dir: &str, file: FileKind) -> Result<String, OutOfMemory>
     ensures { IfOk result (λ path. string_bytes path ≡ path_of dir.now file) }
@@ -54,47 +44,81 @@ fn path_to(alloc: Global, dir: &str, file: FileKind) -> Result<String, OutOfMemo
     Ok(path)
 }
 
-// The bytes of the graph, which has to be there.
-fn read_graph_file<F: Folder>(
+// A fault of a file as a whole.
+fn whole_fault(file: FileKind, cause: Cause) -> BadInput
+    ensures { result ≡ whole_fault file cause }
+{
+    BadInput {
+        file,
+        row: 0,
+        cause,
+    }
+}
+
+// The bytes of a file that has to be there.
+fn read_required<F: Folder>(
     alloc: Global,
     folder: &mut F,
     dir: &str,
-) -> Result<Vec<u8>, Interruption>
-    ensures whole { IfOk result (λ bytes. (held : Holding) → F.contents folder.old ≡ Some held → HoldsGraph held dir.now bytes.items) }
+    file: FileKind,
+) -> Result<FileBytes, Interruption>
+    ensures whole { IfOk result (λ bytes. (held : Holding) → F.contents folder.old ≡ Some held → IsRead Required held dir.now file bytes) }
     ensures bad { IfErr result (λ e. IfBad e (λ fault. (held : Holding) → F.contents folder.old ≡ Some held
-        → fault_of_graph (held (path_of dir.now Graph)) ≡ Some fault)) }
+        → fault_by Required file (held (path_of dir.now file)) ≡ Some fault)) }
     ensures missing { IfErr result (λ e. IfBad e (λ fault. fault.cause ≡ Missing → Rose (F.missing folder.old) (F.missing folder.new))) }
     ensures failed { result ≡ Err Interruption.Failed → Rose (F.read_faults folder.old) (F.read_faults folder.new) }
     ensures same { F.contents folder.new ≡ F.contents folder.old }
     ensures missing_count { F.missing folder.old ≤ F.missing folder.new }
     ensures read_count { F.read_faults folder.old ≤ F.read_faults folder.new }
 {
-    let path = path_to(alloc, dir, FileKind::Graph)?;
-    let cause = match read_all(alloc, folder, path.as_str(), FILE_LIMIT) {
-        Ok(bytes) => return Ok(bytes),
-        Err(ReadAllFault::Missing) => Cause::Missing,
-        Err(ReadAllFault::TooLong) => Cause::TooLong,
-        Err(ReadAllFault::Failed) => return Err(Interruption::Failed),
-        Err(ReadAllFault::OutOfMemory) => return Err(Interruption::OutOfMemory),
-    };
-    Err(Interruption::Bad(BadInput {
-        file: FileKind::Graph,
-        row: 0,
-        cause,
-    }))
+    let path = path_to(alloc, dir, file)?;
+    match read_all(alloc, folder, path.as_str(), FILE_LIMIT) {
+        Ok(bytes) => Ok(FileBytes::from_vec(bytes)),
+        Err(ReadAllFault::Missing) => Err(Interruption::Bad(whole_fault(file, Cause::Missing))),
+        Err(ReadAllFault::TooLong) => Err(Interruption::Bad(whole_fault(file, Cause::TooLong))),
+        Err(ReadAllFault::Failed) => Err(Interruption::Failed),
+        Err(ReadAllFault::OutOfMemory) => Err(Interruption::OutOfMemory),
+    }
 }
 
-// Sees that a file that can't be read yet is empty or not there.
-fn pass_over<F: Folder>(
+// The bytes of a file that may be there.
+fn read_optional<F: Folder>(
     alloc: Global,
     folder: &mut F,
     dir: &str,
     file: FileKind,
-) -> Result<(), Interruption>
-    ensures empty { IfOk result (λ _. (held : Holding) → F.contents folder.old ≡ Some held → unbuilt_fault file (held (path_of dir.now file)) ≡ None) }
+) -> Result<FileBytes, Interruption>
+    ensures whole { IfOk result (λ bytes. (held : Holding) → F.contents folder.old ≡ Some held → IsRead Optional held dir.now file bytes) }
     ensures bad { IfErr result (λ e. IfBad e (λ fault. (held : Holding) → F.contents folder.old ≡ Some held
-        → unbuilt_fault file (held (path_of dir.now file)) ≡ Some fault)) }
-    ensures missing { IfErr result (λ e. IfBad e (λ fault. fault.cause ≢ Missing)) }
+        → fault_by Optional file (held (path_of dir.now file)) ≡ Some fault)) }
+    ensures missing { IfErr result (λ e. IfBad e (λ fault. fault.cause ≡ Missing → Rose (F.missing folder.old) (F.missing folder.new))) }
+    ensures failed { result ≡ Err Interruption.Failed → Rose (F.read_faults folder.old) (F.read_faults folder.new) }
+    ensures same { F.contents folder.new ≡ F.contents folder.old }
+    ensures missing_count { F.missing folder.old ≤ F.missing folder.new }
+    ensures read_count { F.read_faults folder.old ≤ F.read_faults folder.new }
+{
+    let path = path_to(alloc, dir, file)?;
+    match read_all(alloc, folder, path.as_str(), FILE_LIMIT) {
+        Ok(bytes) => Ok(FileBytes::from_vec(bytes)),
+        Err(ReadAllFault::Missing) => Ok(FileBytes::new(alloc)),
+        Err(ReadAllFault::TooLong) => Err(Interruption::Bad(whole_fault(file, Cause::TooLong))),
+        Err(ReadAllFault::Failed) => Err(Interruption::Failed),
+        Err(ReadAllFault::OutOfMemory) => Err(Interruption::OutOfMemory),
+    }
+}
+
+// The bytes of a file that can't be read yet: none.
+fn read_unbuilt<F: Folder>(
+    alloc: Global,
+    folder: &mut F,
+    dir: &str,
+    file: FileKind,
+) -> Result<FileBytes, Interruption>
+    ensures whole { IfOk result (λ bytes. (held : Holding) → F.contents folder.old ≡ Some held → IsRead Unbuilt held dir.now file bytes) }
+    ensures none { IfOk result (λ bytes. bytes ≡ []) }
+    ensures bad { IfErr result (λ e. IfBad e (λ fault. (held : Holding) → F.contents folder.old ≡ Some held
+        → fault_by Unbuilt file (held (path_of dir.now file)) ≡ Some fault)) }
+    ensures missing { IfErr result (λ e. IfBad e (λ fault. fault.cause ≡ Missing → Rose (F.missing folder.old) (F.missing folder.new))) }
     ensures failed { result ≡ Err Interruption.Failed → Rose (F.read_faults folder.old) (F.read_faults folder.new) }
     ensures same { F.contents folder.new ≡ F.contents folder.old }
     ensures missing_count { F.missing folder.old ≤ F.missing folder.new }
@@ -102,47 +126,23 @@ fn pass_over<F: Folder>(
 {
     let path = path_to(alloc, dir, file)?;
     match read_all(alloc, folder, path.as_str(), 0) {
-        Ok(_) | Err(ReadAllFault::Missing) => Ok(()),
-        Err(ReadAllFault::TooLong) => Err(Interruption::Bad(BadInput {
-            file,
-            row: 0,
-            cause: Cause::NotBuilt,
-        })),
+        Ok(bytes) => Ok(FileBytes::from_vec(bytes)),
+        Err(ReadAllFault::Missing) => Ok(FileBytes::new(alloc)),
+        Err(ReadAllFault::TooLong) => Err(Interruption::Bad(whole_fault(file, Cause::NotBuilt))),
         Err(ReadAllFault::Failed) => Err(Interruption::Failed),
         Err(ReadAllFault::OutOfMemory) => Err(Interruption::OutOfMemory),
     }
 }
 
-// Sees that none of these files, which can't be read yet, has a byte.
-fn pass_over_all<F: Folder>(
-    alloc: Global,
-    folder: &mut F,
-    dir: &str,
-    files: &[FileKind],
-) -> Result<(), Interruption>
-    ensures empty { IfOk result (λ _. (held : Holding) → F.contents folder.old ≡ Some held → first_unbuilt held dir.now files.now ≡ None) }
-    ensures bad { IfErr result (λ e. IfBad e (λ fault. (held : Holding) → F.contents folder.old ≡ Some held
-        → first_unbuilt held dir.now files.now ≡ Some fault)) }
-    ensures missing { IfErr result (λ e. IfBad e (λ fault. fault.cause ≢ Missing)) }
-    ensures failed { result ≡ Err Interruption.Failed → Rose (F.read_faults folder.old) (F.read_faults folder.new) }
-    ensures same { F.contents folder.new ≡ F.contents folder.old }
-    ensures missing_count { F.missing folder.old ≤ F.missing folder.new }
-    ensures read_count { F.read_faults folder.old ≤ F.read_faults folder.new }
-{
-    for file in files {
-        pass_over(alloc, folder, dir, *file)?;
-    }
-    Ok(())
-}
-
-/// The bytes of the graph, where all that has to be there can be read. Linear in the bytes.
+/// The files of dir, where each can be read, one after another in the order of `FileKind`. Linear in the bytes.
 pub fn read_files<F: Folder>(
     alloc: Global,
     folder: &mut F,
     dir: &str,
-) -> Result<Vec<u8>, Interruption>
-    ensures graph { IfOk result (λ bytes. (held : Holding) → F.contents folder.old ≡ Some held → HoldsGraph held dir.now bytes.items) }
-    ensures readable { IfOk result (λ bytes. (held : Holding) → F.contents folder.old ≡ Some held → reading_fault held dir.now ≡ None) }
+) -> Result<Files, Interruption>
+    ensures whole { IfOk result (λ files. (held : Holding) → F.contents folder.old ≡ Some held → files ≡ files_of held dir.now) }
+    ensures readable { IfOk result (λ files. (held : Holding) → F.contents folder.old ≡ Some held → reading_fault held dir.now ≡ None) }
+    ensures unbuilt { IfOk result HasBuiltAlone }
     ensures bad { IfErr result (λ e. IfBad e (λ fault. (held : Holding) → F.contents folder.old ≡ Some held
         → reading_fault held dir.now ≡ Some fault)) }
     ensures missing { IfErr result (λ e. IfBad e (λ fault. fault.cause ≡ Missing → Rose (F.missing folder.old) (F.missing folder.new))) }
@@ -151,7 +151,26 @@ pub fn read_files<F: Folder>(
     ensures missing_count { F.missing folder.old ≤ F.missing folder.new }
     ensures read_count { F.read_faults folder.old ≤ F.read_faults folder.new }
 {
-    let graph = read_graph_file(alloc, folder, dir)?;
-    pass_over_all(alloc, folder, dir, &LATER_FILES)?;
-    Ok(graph)
+    let graph = read_required(alloc, folder, dir, FileKind::Graph)?;
+    let zones = read_unbuilt(alloc, folder, dir, FileKind::Zones)?;
+    let areas = read_unbuilt(alloc, folder, dir, FileKind::Areas)?;
+    let roads = read_unbuilt(alloc, folder, dir, FileKind::Roads)?;
+    let vehicles = read_unbuilt(alloc, folder, dir, FileKind::Vehicles)?;
+    let rules = read_unbuilt(alloc, folder, dir, FileKind::Rules)?;
+    let closures = read_optional(alloc, folder, dir, FileKind::Closures)?;
+    let ratings = read_optional(alloc, folder, dir, FileKind::Ratings)?;
+    let parking = read_optional(alloc, folder, dir, FileKind::Parking)?;
+    let holidays = read_unbuilt(alloc, folder, dir, FileKind::Holidays)?;
+    Ok(Files {
+        graph,
+        zones,
+        areas,
+        roads,
+        vehicles,
+        rules,
+        closures,
+        ratings,
+        parking,
+        holidays,
+    })
 }

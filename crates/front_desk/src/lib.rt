@@ -4,7 +4,7 @@
 //! tests the trip, `texts` writes the report or the line of a refusal, and `desk` has the top call, `run`, over them.
 //!
 //! The law of `run` is in `specs/Desk` (what a run owes), over `Words` (the trip that words plan), `Files` and `Network` (the first
-//! fault of a folder's files, and the graph that they state), `Requests` (the first test that fails), `Road` (the setting that is
+//! fault of a folder's files, and the network that they state), `Requests` (the first test that fails), `Road` (the setting that is
 //! planned over) and `Texts`. It is proved on `run`, in `desk`; each other call answers exactly what its definition says.
 #![tactic(auto)]
 

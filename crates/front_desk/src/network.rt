@@ -1,63 +1,118 @@
-// A graph as the net that trips are planned over.
-ghost use Rattle.std.specs.Prelude.{◌≡◌, ◌≤◌, ◌∷◌, [], None, IfOk, map, replicate};
+// A network as the net that trips are planned over.
+ghost use Rattle.std.specs.Prelude.{◌≡◌, ◌+◌, ◌≤◌, ◌<◌, ◌∷◌, [], ℕ, None, IfOk, OnOk, map, length};
 ghost use Rattle.route_base.specs.Net.{setting_of};
+ghost use Rattle.route_base.specs.Runs.{any_has, AreRuns};
+ghost use Rattle.dimacs_reader.specs.Table.{IsGoodGraph};
+ghost use Rattle.network_tables.specs.Stated.{closures_of, IsGoodNetwork};
 ghost use Rattle.front_desk.specs.Road.{road_setting, timed_over};
+ghost use Rattle.front_desk.specs.Timing.{IsTimedBy};
 
-use dimacs_reader::{Graph, GraphArc};
-use route_base::{ArcId, Cost, OutOfMemory, Run, TimedArc, TimedNet};
+use dimacs_reader::GraphArc;
+use minute_sets::MinuteSet;
+use network_tables::Network;
+use route_base::{ArcId, Cost, NodeId, OutOfMemory, Run, TimedArc, TimedNet};
 use std::alloc::Global;
 
 // What a minute of driving costs, in thousandths.
 const COST_OF_MINUTE: Cost = 1000;
 
-fn timed(arc: GraphArc) -> TimedArc
+/// Arcs so far, and the lists of closed runs that they name by place; the first list is empty.
+#[derive(Drop)]
+pub struct Timing {
+    pub arcs: Vec<TimedArc>,
+    pub closed: Vec<Vec<Run>>,
+}
+
+fn timed(arc: GraphArc, place: u32) -> TimedArc
     requires { arc.minutes ≤ 10080 }
-    ensures { result ≡ timed_over arc }
+    ensures { result ≡ timed_over place arc }
 {
     TimedArc {
         tail: arc.tail,
         head: arc.head,
         minutes: arc.minutes,
         cost: COST_OF_MINUTE * arc.minutes,
-        closed: 0,
+        closed: place,
     }
 }
 
-fn timed_arcs(alloc: Global, graph: &Graph) -> Result<Vec<TimedArc>, OutOfMemory>
-    ensures { IfOk result (λ arcs. arcs.items ≡ map timed_over graph.now.arcs) }
+// The minutes of the arc's closures, as runs.
+fn closed_runs(alloc: Global, network: &Network, a: ArcId) -> Result<Vec<Run>, OutOfMemory>
+    requires low { 1 ≤ a.0 }
+    requires high { a.0 ≤ length network.now.graph.arcs }
+    ensures minutes { IfOk result (λ runs. (t : ℕ) → any_has runs.items t ≡ any_has (closures_of network.now a.0) t) }
+    ensures runs { IfOk result (λ runs. AreRuns runs.items) }
 {
-    let mut arcs = Vec::with_capacity(alloc, graph.arc_count() as usize)?;
-    for a in 0..graph.arc_count() {
-        let arc = graph.arc(ArcId(a + 1)).unwrap();
-        arcs.push(timed(arc))?;
+    let count = network.closure_count(a);
+    let mut runs = Vec::with_capacity(alloc, count)?;
+    for k in 0..count {
+        runs.push(network.closure(a, k))?;
     }
-    Ok(arcs)
+    Ok(MinuteSet::from_runs(alloc, runs.as_slice())?.into_runs())
 }
 
-// One list without runs.
-fn never_closed(alloc: Global) -> Result<Vec<Vec<Run>>, OutOfMemory>
-    ensures { IfOk result (λ closed. map (λ v. v.items) closed.items ≡ [] ∷ []) }
-{
-    let mut closed = Vec::with_capacity(alloc, 1)?;
-    closed.push(Vec::new(alloc))?;
-    Ok(closed)
+impl Timing {
+    fn new(alloc: Global) -> Result<Timing, OutOfMemory>
+        ensures { IfOk result (λ timing. (timing.arcs.items ≡ []) × (map (λ v. v.items) timing.closed.items ≡ [] ∷ [])) }
+    {
+        let mut closed = Vec::with_capacity(alloc, 1)?;
+        closed.push(Vec::new(alloc))?;
+        Ok(Timing {
+            arcs: Vec::new(alloc),
+            closed,
+        })
+    }
+
+    // Adds the next arc of the network, which has this place from 0.
+    fn add(&mut self, alloc: Global, network: &Network, k: u32) -> Result<(), OutOfMemory>
+        requires within { k < length network.now.graph.arcs }
+        requires graph { IsGoodGraph network.now.graph }
+        requires timed { IsTimedBy network.now k self.old }
+        ensures { OnOk result (IsTimedBy network.now (k + 1) self.new) }
+    {
+        let a = ArcId(k + 1);
+        let arc = network.graph().arc(a).unwrap();
+        if network.closure_count(a) == 0 {
+            self.arcs.push(timed(arc, 0))?;
+        } else {
+            let place = self.closed.len() as u32;
+            self.closed.push(closed_runs(alloc, network, a)?)?;
+            self.arcs.push(timed(arc, place))?;
+        }
+        Ok(())
+    }
 }
 
-// No weight for any of so many nodes.
-fn no_weights(alloc: Global, nodes: u32) -> Result<Vec<Option<Cost>>, OutOfMemory>
-    ensures { IfOk result (λ weights. weights.items ≡ replicate nodes None) }
+fn timing_of(alloc: Global, network: &Network) -> Result<Timing, OutOfMemory>
+    ensures { IfOk result (IsTimedBy network.now (length network.now.graph.arcs)) }
 {
-    Ok(vec![in alloc; None; nodes as usize]?)
+    let mut timing = Timing::new(alloc)?;
+    for k in 0..network.graph().arc_count() {
+        timing.add(alloc, network, k)?;
+    }
+    Ok(timing)
 }
 
-/// The graph as a net: each minute of driving costs 1,000 thousandths, nothing is closed, and no node is rated. Linear in
-/// nodes and arcs.
-pub fn net_of(alloc: Global, graph: &Graph) -> Result<TimedNet, OutOfMemory>
-    ensures { IfOk result (λ net. setting_of net ≡ road_setting graph.now) }
+// The weight of each node where one may wait.
+fn weights_of(alloc: Global, network: &Network) -> Result<Vec<Option<Cost>>, OutOfMemory>
+    ensures { IfOk result (λ weights. weights.items ≡ network.now.weights) }
 {
-    let arcs = timed_arcs(alloc, graph)?;
-    let closed = never_closed(alloc)?;
-    let nodes = graph.node_count();
-    let weights = no_weights(alloc, nodes)?;
+    let mut weights = Vec::with_capacity(alloc, network.graph().node_count() as usize)?;
+    for v in 0..network.graph().node_count() {
+        weights.push(network.weight(NodeId(v + 1)))?;
+    }
+    Ok(weights)
+}
+
+/// The network as a net: each minute of driving costs 1,000 thousandths, an arc is closed in the minutes of its closures, and
+/// one may wait at the nodes with a weight. Linear in nodes and arcs, and n log n in the closures of an arc.
+pub fn net_of(alloc: Global, network: &Network) -> Result<TimedNet, OutOfMemory>
+    ensures setting { IfOk result (λ net. setting_of net ≡ road_setting network.now) }
+    ensures good { IsGoodNetwork network.now }
+{
+    let nodes = network.graph().node_count();
+    let timing = timing_of(alloc, network)?;
+    let weights = weights_of(alloc, network)?;
+    let Timing { arcs, closed } = timing;
     Ok(TimedNet::new(nodes, arcs, closed, weights))
 }

@@ -1,9 +1,9 @@
 // The words of the command that plans a trip.
 ghost use Rattle.std.specs.Prelude.{◌≡◌, IfSome, option_map};
 ghost use Rattle.route_base.specs.Time.{IsInstant};
-ghost use Rattle.front_desk.specs.Words.{is_folder_name, node_of, instant_of, trip_of, plan_of, plan_in};
+ghost use Rattle.front_desk.specs.Words.{is_folder_name, node_of, trip_of, plan_of, plan_in};
 
-use route_base::{Minute, Text, read_plain_number};
+use route_base::{Minute, Text, read_minute, read_plain_number};
 
 /// The words of a plan, read: a trip from node `origin` at `depart` to node `goal`, by `until` at the latest, over the files
 /// of the folder `dir`. The nodes aren't tested against a graph, and the minutes not against each other.
@@ -17,10 +17,6 @@ pub struct PlanWords<'a> {
 }
 
 const LONGEST_FOLDER: usize = 4096;
-
-const FIRST_INSTANT: Minute = 525_600;
-
-const LAST_INSTANT: Minute = 120_968_639;
 
 // Whether a word names a folder.
 fn is_folder_word(word: &str) -> bool
@@ -44,19 +40,6 @@ fn node_word(word: &str) -> Option<u32>
     }
 }
 
-// A minute from 1971 to 2199.
-fn instant_word(word: &str) -> Option<Minute>
-    ensures value { result ≡ instant_of word.now }
-    ensures instant { IfSome result IsInstant }
-{
-    let minute = read_plain_number(word.as_bytes())?;
-    if FIRST_INSTANT <= minute && minute <= LAST_INSTANT {
-        Some(minute)
-    } else {
-        None
-    }
-}
-
 // The trip of four words.
 fn trip_words<'a>(
     dir: &'a str,
@@ -72,8 +55,8 @@ fn trip_words<'a>(
         dir,
         origin: node_word(origin)?,
         goal: node_word(goal)?,
-        depart: instant_word(depart)?,
-        until: instant_word(until)?,
+        depart: read_minute(depart.as_bytes())?,
+        until: read_minute(until.as_bytes())?,
     })
 }
 

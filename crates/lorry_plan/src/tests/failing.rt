@@ -1,5 +1,5 @@
 // Runs in which a call of the folder or of the sink fails.
-use super::{ONE_PAIR, TRIANGLE, TRIP, expect_whole, words_of};
+use super::{CLOSED, ONE_PAIR, PARKED, RATED, TRIANGLE, TRIP, TWO_PAIRS, expect_whole, words_of};
 use front_desk::run;
 use route_base::{
     FileList, Folder, MemFolder, MemSink, Ordinals, OutOfMemory, ReadAllFault, Status, WriteError,
@@ -16,24 +16,38 @@ fn just(alloc: Global, ordinal: u64) -> Result<Ordinals, OutOfMemory> {
     Ok(ordinals)
 }
 
-// The triangle alone, in a folder of which one call fails.
-fn triangle_folder(alloc: Global, failing: u64) -> Result<MemFolder, OutOfMemory> {
-    let mut files = FileList::new(alloc);
-    files.push("d/graph.gr", TRIANGLE.as_bytes())?;
-    Ok(MemFolder::new(files, just(alloc, failing)?))
+// A folder with these files, of which the call of this ordinal fails, counted after they are written.
+fn failing_folder(
+    alloc: Global,
+    files: &[(&str, &str)],
+    failing: u64,
+) -> Result<MemFolder, OutOfMemory> {
+    let written = files.len() as u64;
+    let ordinal = if failing == 0 {
+        0
+    } else {
+        written.saturating_add(failing)
+    };
+    let mut folder = MemFolder::new(FileList::new(alloc), just(alloc, ordinal)?);
+    for (name, text) in files {
+        if folder.write_file(name, text.as_bytes()).is_err() {
+            return Err(OutOfMemory);
+        }
+    }
+    Ok(folder)
 }
 
-// Runs the words over the triangle, where the calls of these ordinals fail, and compares the status and the whole text.
+// Runs the words over the files, where the calls of these ordinals fail, and compares the status and the whole text.
 fn expect_failing<R: Abort + Threads + Sync + AllocGlobal>(
     rt: &R,
-    read: u64,
-    write: u64,
+    files: &[(&str, &str)],
+    (read, write): (u64, u64),
     line: &str,
     status: Status,
     text: &str,
 ) -> Result<(), Fail> {
     let words = words_of(rt.alloc(), line)?;
-    let mut folder = triangle_folder(rt.alloc(), read)?;
+    let mut folder = failing_folder(rt.alloc(), files, read)?;
     let mut sink = MemSink::new(rt.alloc(), just(rt.alloc(), write)?);
     let ended = run(rt, rt.alloc(), words.as_slice(), &mut folder, &mut sink);
     assert_eq!(rt; ended, status, "{line:?}, failing at {read} and {write}");
@@ -45,50 +59,58 @@ fn expect_failing<R: Abort + Threads + Sync + AllocGlobal>(
     Ok(())
 }
 
+// That reading ends after so many calls: each of them can fail, whatever becomes of writing, and none comes after.
+fn expect_calls<R: Abort + Threads + Sync + AllocGlobal>(
+    rt: &R,
+    files: &[(&str, &str)],
+    calls: u8,
+    line: &str,
+    status: Status,
+    text: &str,
+) -> Result<(), Fail> {
+    let calls = calls as u64;
+    for read in 1..=calls {
+        expect_failing(rt, files, (read, 0), line, Status::ReadFault, "")?;
+        expect_failing(rt, files, (read, 1), line, Status::ReadFault, "")?;
+    }
+    let after = calls + 1;
+    expect_failing(rt, files, (after, 0), line, status, text)?;
+    expect_failing(rt, files, (after, 1), line, Status::WriteFault, "")?;
+    expect_failing(rt, files, (0, 1), line, Status::WriteFault, "")?;
+    expect_failing(rt, files, (0, 2), line, status, text)
+}
+
 #[test]
 fn tells_faults_of_reading_and_writing(rt: HostRuntime) -> Result<(), Fail> {
-    // The graph is read in two parts, and nine names aren't there.
-    for read in 1..=11u64 {
-        expect_failing(&rt, read, 0, TRIP, Status::ReadFault, "")?;
-        expect_failing(&rt, read, 1, TRIP, Status::ReadFault, "")?;
-    }
-    let refused = "plan d any 0 3 26563680 26564080";
-    let elsewhere = "plan e any 1 3 26563680 26564080";
-    let cases = [
-        (12, 0, TRIP, Status::Done, ONE_PAIR),
-        (0, 2, TRIP, Status::Done, ONE_PAIR),
-        (0, 1, TRIP, Status::WriteFault, ""),
-        (12, 1, TRIP, Status::WriteFault, ""),
-        (11, 0, refused, Status::ReadFault, ""),
-        (
-            12,
-            0,
-            refused,
-            Status::BadRequest,
-            "refused request OriginRange\n",
-        ),
-        (0, 1, refused, Status::WriteFault, ""),
-        (1, 0, elsewhere, Status::ReadFault, ""),
-        (
-            2,
-            0,
-            elsewhere,
-            Status::BadInput,
-            "refused input graph.gr 0 Missing\n",
-        ),
-        (0, 1, elsewhere, Status::WriteFault, ""),
-        (1, 0, "plan", Status::Usage, "refused usage\n"),
-        (1, 1, "plan", Status::WriteFault, ""),
+    // A file that is there is read in two calls, and one that isn't in one.
+    let alone = [("d/graph.gr", TRIANGLE)];
+    let network = [
+        ("d/graph.gr", TRIANGLE),
+        ("d/closures.csv", CLOSED),
+        ("d/ratings.csv", RATED),
+        ("d/parking.csv", PARKED),
     ];
-    for (read, write, line, status, text) in cases {
-        expect_failing(&rt, read, write, line, status, text)?;
-    }
-    Ok(())
+    let elsewhere = [("e/graph.gr", TRIANGLE)];
+    let faulty = [("d/graph.gr", TRIANGLE), ("d/closures.csv", "x")];
+    let unbuilt = [("d/graph.gr", TRIANGLE), ("d/zones.csv", "x")];
+    let refused = "plan d any 0 3 26563680 26564080";
+    let origin = "refused request OriginRange\n";
+    let missing = "refused input graph.gr 0 Missing\n";
+    let header = "refused input closures.csv 1 BadHeader\n";
+    let zones = "refused input zones.csv 0 NotBuilt\n";
+    let usage = "refused usage\n";
+    expect_calls(&rt, &alone, 11, TRIP, Status::Done, ONE_PAIR)?;
+    expect_calls(&rt, &network, 14, TRIP, Status::Done, TWO_PAIRS)?;
+    expect_calls(&rt, &network, 14, refused, Status::BadRequest, origin)?;
+    expect_calls(&rt, &elsewhere, 1, TRIP, Status::BadInput, missing)?;
+    expect_calls(&rt, &faulty, 12, TRIP, Status::BadInput, header)?;
+    expect_calls(&rt, &unbuilt, 3, TRIP, Status::BadInput, zones)?;
+    expect_calls(&rt, &network, 0, "plan", Status::Usage, usage)
 }
 
 #[test]
 fn counts_calls_over_reading_and_writing(rt: HostRuntime) -> Result<(), Fail> {
-    let mut folder = triangle_folder(rt.alloc(), 3)?;
+    let mut folder = failing_folder(rt.alloc(), &[("d/graph.gr", TRIANGLE)], 3)?;
     expect_whole(&rt, &mut folder, "new", 3, Err(ReadAllFault::Missing));
     assert_eq!(rt; folder.write_file("new", b"abc"), Ok(()));
     assert_eq!(rt; folder.write_file("new", b"other"), Err(WriteError::Failed));

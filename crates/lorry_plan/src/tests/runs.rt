@@ -1,27 +1,7 @@
 // Whole runs over a folder and a sink that never fail.
-use super::{ONE_PAIR, TRIANGLE, TRIP, sure_folder, words_of};
-use front_desk::run;
-use route_base::{Status, SureSink};
-use std::process::Abort;
+use super::{ONE_PAIR, TRIANGLE, TRIP, expect_refused, expect_run};
+use route_base::Status;
 use std::test::Fail;
-use std::thread::Threads;
-
-// Runs the words over the files, and compares the status and the whole text.
-fn expect_run<R: Abort + Threads + Sync + AllocGlobal>(
-    rt: &R,
-    files: &[(&str, &str)],
-    line: &str,
-    status: Status,
-    text: &str,
-) -> Result<(), Fail> {
-    let words = words_of(rt.alloc(), line)?;
-    let mut folder = sure_folder(rt, files);
-    let mut sink = SureSink::new(rt.alloc());
-    let ended = run(rt, rt.alloc(), words.as_slice(), &mut folder, &mut sink);
-    assert_eq!(rt; ended, status, "{line:?} over {files:?}");
-    assert_eq!(rt; sink.written(), text.as_bytes(), "{line:?} over {files:?}");
-    Ok(())
-}
 
 #[test]
 fn plans_trips_over_a_graph_alone(rt: HostRuntime) -> Result<(), Fail> {
@@ -121,57 +101,89 @@ fn refuses_words_and_requests(rt: HostRuntime) -> Result<(), Fail> {
 }
 
 #[test]
-fn refuses_graphs_that_are_not_plain_or_have_a_fault(rt: HostRuntime) -> Result<(), Fail> {
+fn reads_graphs_in_any_lawful_form(rt: HostRuntime) -> Result<(), Fail> {
     let graphs = [
-        "",
-        "x\n",
         "c x\np sp 3 3\na 1 2 60\na 2 3 60\na 1 3 300\n",
+        " cx\n\tc\ncp sp 1 0\np sp 3 3\na 1 2 60\nc\na 2 3 60\na 1 3 300\nc p sp 3 3\n",
         "p sp 3 3\na 1 2 60\na 2 3 60\na 1 3 300\n\n",
-        "p sp 3 3\n\na 1 2 60\na 2 3 60\na 1 3 300\n",
-        "p  sp 3 3\na 1 2 60\na 2 3 60\na 1 3 300\n",
-        "p sp 3 3 \na 1 2 60\na 2 3 60\na 1 3 300\n",
-        " p sp 3 3\na 1 2 60\na 2 3 60\na 1 3 300\n",
-        "p\tsp 3 3\na 1 2 60\na 2 3 60\na 1 3 300\n",
+        "\n \t\n\r\np sp 3 3\n\na 1 2 60\na 2 3 60\n\n\na 1 3 300\n",
+        "p  sp 3 3\na 1   2 60\na 2 3 60\na 1 3 300\n",
+        "p sp 3 3 \na 1 2 60\t\na 2 3 60\na 1 3 300  \n",
+        " p sp 3 3\n\ta 1 2 60\na 2 3 60\n \t a 1 3 300\n",
+        "p\tsp 3 3\na\t1\t2\t60\na 2 \t3 60\na 1 3 300\n",
         "p sp 3 3\r\na 1 2 60\r\na 2 3 60\r\na 1 3 300\r\n",
         "p sp 3 3\na 1 2 60\na 2 3 60\na 1 3 300",
-        "p sp 3 3\na 1 2 60\na 2 3 60\na 1 3 300\np sp 3 3\n",
-        "p sp 3 2\na 1 2 60\na 1 4 60\n",
-        "p sp 3 2\na 0 2 60\na 1 3 60\n",
-        "p sp 3 2\na 1 2 60\n",
-        "p sp 3 2\na 1 2 60\na 2 3 60\na 1 3 300\n",
-        "p sp 3 2\na 1 2 60\na 1 3\n",
-        "p sp 3 2\na 1 2 60\na 1 3 60 60\n",
-        "p sp 3 1\na 1 2 0\n",
-        "p sp 3 1\na 1 2 10081\n",
-        "p sp 0 0\n",
-        "p sp 500001 0\n",
-        "p sp 3 1000001\n",
-        "a 1 2 60\np sp 3 1\n",
+        "p sp 03 000000000000000003\na 01 2 060\na 2 3 000000000000000060\na 1 3 300\n",
     ];
     for graph in graphs {
-        let refusal = "refused input graph.gr 0 BadForm\n";
-        expect_run(
-            &rt,
-            &[("d/graph.gr", graph)],
-            TRIP,
-            Status::BadInput,
-            refusal,
-        )?;
+        expect_run(&rt, &[("d/graph.gr", graph)], TRIP, Status::Done, ONE_PAIR)?;
     }
     Ok(())
 }
 
 #[test]
-fn reads_the_files_in_their_order(rt: HostRuntime) -> Result<(), Fail> {
+fn refuses_graphs_with_their_first_fault(rt: HostRuntime) -> Result<(), Fail> {
+    let cases = [
+        ("", "1 NoProblemLine"),
+        ("c x\n\n", "3 NoProblemLine"),
+        ("a 1 2 60\np sp 3 1\n", "1 NoProblemLine"),
+        ("a 0 2 0\n", "1 NoProblemLine"),
+        ("x\n", "1 BadForm"),
+        ("\u{FEFF}p sp 3 0\n", "1 BadForm"),
+        ("a 1 2\np sp 3 1\n", "1 BadForm"),
+        ("p sp 3 ", "1 BadForm"),
+        ("p sp 3 3 3\n", "1 BadForm"),
+        ("p max 3 0\n", "1 BadForm"),
+        ("P sp 3 0\n", "1 BadForm"),
+        ("p sp 0 x\n", "1 BadForm"),
+        ("p sp 3 0000000000000000000\n", "1 BadForm"),
+        ("p sp 3 0\r", "1 BadForm"),
+        ("p sp 3 2\na 1 2 60\na 1 3\n", "3 BadForm"),
+        ("p sp 3 2\na 1 2 60\na 1 3 60 60\n", "3 BadForm"),
+        ("p sp 3 2\na 1 2 60\na", "3 BadForm"),
+        ("p sp 3 1\na 1 2 -60\n", "2 BadForm"),
+        ("p sp 3 1\na 1 2 6.0\n", "2 BadForm"),
+        ("p sp 3 1\na 0 9 0000000000000000060\n", "2 BadForm"),
+        ("p sp 3 1\nA 1 2 60\n", "2 BadForm"),
+        ("p sp 3 3\np sp 0 x\n", "2 BadForm"),
+        ("p sp 3 3\np sp 0 0\n", "2 SecondProblemLine"),
+        (
+            "p sp 3 3\na 1 2 60\na 2 3 60\na 1 3 300\np sp 3 3\n",
+            "5 SecondProblemLine",
+        ),
+        ("p sp 0 0\n", "1 SizeLimit"),
+        ("p sp 500001 0\n", "1 SizeLimit"),
+        ("p sp 3 1000001\n", "1 SizeLimit"),
+        ("c\np sp 999999999999999999 0\nx\n", "2 SizeLimit"),
+        ("p sp 3 2\na 1 2 60\na 1 4 60\n", "3 NodeRange"),
+        ("p sp 3 2\na 0 2 60\na 1 3 60\n", "2 NodeRange"),
+        ("p sp 3 2\na 1 0 60\na 1 3 60\n", "2 NodeRange"),
+        ("c\n\np sp 3 1\nc\na 4 1 0\n", "5 NodeRange"),
+        ("p sp 3 0\na 4294967297 1 60\n", "2 NodeRange"),
+        ("p sp 3 1\na 1 2 0\n", "2 WeightRange"),
+        ("p sp 3 1\na 1 2 10081\n", "2 WeightRange"),
+        ("p sp 3 0\na 1 2 0\n", "2 WeightRange"),
+        ("p sp 3 2\na 1 2 60\na 2 3 60\na 1 3 300\nx\n", "4 ArcCount"),
+        ("p sp 3 2\na 1 2 60\n", "3 ArcCount"),
+        ("p sp 3 2\na 1 2 60", "3 ArcCount"),
+        ("p sp 3 3", "2 ArcCount"),
+        ("p sp 3 3\n\n \n", "4 ArcCount"),
+    ];
+    for (graph, fault) in cases {
+        let fault = format!(in rt.alloc(); "graph.gr {fault}")?;
+        expect_refused(&rt, graph, ("", "", ""), fault.as_str())?;
+    }
+    Ok(())
+}
+
+#[test]
+fn tells_files_that_are_not_built_before_any_other_fault(rt: HostRuntime) -> Result<(), Fail> {
     let later = [
         "zones.csv",
         "areas.csv",
         "roads.csv",
         "vehicles.csv",
         "rules.csv",
-        "closures.csv",
-        "ratings.csv",
-        "parking.csv",
         "holidays.csv",
     ];
     for name in later {
@@ -181,8 +193,18 @@ fn reads_the_files_in_their_order(rt: HostRuntime) -> Result<(), Fail> {
         expect_run(&rt, &empty, TRIP, Status::Done, ONE_PAIR)?;
         let filled = [("d/graph.gr", TRIANGLE), (path.as_str(), "x")];
         expect_run(&rt, &filled, TRIP, Status::BadInput, refusal.as_str())?;
-        let before_graph = [("d/graph.gr", "x\n"), (path.as_str(), "x")];
-        expect_run(&rt, &before_graph, TRIP, Status::BadInput, refusal.as_str())?;
+        let before_faults = [
+            ("d/graph.gr", "x\n"),
+            ("d/closures.csv", "x"),
+            (path.as_str(), "x"),
+        ];
+        expect_run(
+            &rt,
+            &before_faults,
+            TRIP,
+            Status::BadInput,
+            refusal.as_str(),
+        )?;
         let missing = [(path.as_str(), "x")];
         let no_graph = "refused input graph.gr 0 Missing\n";
         expect_run(&rt, &missing, TRIP, Status::BadInput, no_graph)?;

@@ -1,45 +1,28 @@
-use Rattle.std.proofs.Common.{◌≡◌, ◌∙◌, rules, sym, subst, length}
-use Rattle.std.proofs.lemmas.Result.{err_from_is_err_and, on_ok_weaker, IfOk-weaker, IfErr-at_err}
-use Rattle.route_base.specs.declared.faults.Cause.TheVariants.{BadForm}
-use Rattle.dimacs_reader.specs.declared.faults.GraphFault.TheVariants.{BadLine}
-use Rattle.dimacs_reader.specs.Draft.{IsRefused}
-use Rattle.dimacs_reader.specs.Faults.{end_cause_in}
+use Rattle.std.proofs.Common.{◌∙◌, ◌+◌, sym, subst, arith}
 use Rattle.dimacs_reader.specs.Stated.{Stated}
-use Rattle.dimacs_reader.specs.Table.{graph_in, graph_of}
-use Rattle.dimacs_reader.proofs.ReadSoFar.{HasRead, read_none, reads_on, refused_line, left_unfit, end_unfit, end_plain, end_faultless, end_graph}
+use Rattle.dimacs_reader.proofs.ReadSoFar.{HasRead, read_none, read_more, line_refused, end_refused, end_faultless, end_graph}
 use Rattle.dimacs_reader.proofs.reading.read_graph.Goals as goal
 
 pub lines-init : goal.lines-init
-lines-init c = subst (λ (s : Stated). HasRead c.args.bytes.now c.args.bytes.now s) (sym c.new-draft.ensures) (read_none c.args.bytes.now)
-
-pub returns-in_err-add-clause-refused : goal.returns-in_err-add-clause-refused
-returns-in_err-add-clause-refused c = λ e.
-    let p = err_from_is_err_and c.from_residual.result c.from_residual.ensures.1 in
-    let same : c.in_err-add.field-0.0 ≡ BadLine 0 BadForm = let a = p.1 in let b = p.2 in cc in
-    refused_line c.args.bytes.now c.lines.rest.now c.in-Some.line.now c.in-Some.more.now c.lines.draft c.read_plain_line.result c.in_err-add.field-0.0 c.lines.invariant c.in-Some.ensures.parts c.read_plain_line.ensures c.in_err-add.ensures.refused same
+lines-init c = subst (λ (s : Stated). HasRead c.args.bytes.now c.args.bytes.now 1 s) (sym c.new-draft.ensures) (read_none c.args.bytes.now)
 
 pub lines-preserved : goal.lines-preserved
-lines-preserved c = reads_on c.args.bytes.now c.lines.rest.now c.in-Some.line.now c.in-Some.more.now c.lines.draft c.add.new.self c.read_plain_line.result c.lines.invariant c.in-Some.ensures.parts c.read_plain_line.ensures c.in_ok-add.ensures.faultless c.in_ok-add.ensures.added
+lines-preserved c =
+    subst (λ (s : Stated). HasRead c.args.bytes.now c.in-Some.more.now (c.lines.number + 1) s) (sym c.in_ok-add.ensures.added)
+    (read_more c.args.bytes.now c.lines.rest.now c.in-Some.text.now c.in-Some.more.now c.lines.number c.lines.draft c.read_line-line.result c.lines.invariant c.in-Some.ensures.cut c.in-Some.ensures.less c.read_line-line.ensures (sym c.cause.ensures ∙ c.in_default-cause.is))
 
-pub returns-then-not-is_empty-clause-refused : goal.returns-then-not-is_empty-clause-refused
-returns-then-not-is_empty-clause-refused c = λ e. left_unfit c.args.bytes.now c.lines.rest.now c.lines.draft c.lines.invariant c.in_default.ensures.none (search rules)
+pub returns-in-Some-cause-clause-refused : goal.returns-in-Some-cause-clause-refused
+returns-in-Some-cause-clause-refused c =
+    line_refused c.args.bytes.now c.lines.rest.now c.in-Some.text.now c.in-Some.more.now c.lines.number c.lines.draft c.read_line-line.result c.in-Some-cause.cause c.lines.invariant c.in-Some.ensures.cut c.read_line-line.ensures (sym c.cause.ensures ∙ c.in-Some-cause.is)
 
-pub returns-clause-plain : goal.returns-clause-plain
-returns-clause-plain c =
-    let none : length c.lines.rest.now ≡ 0 = search rules in
-    on_ok_weaker c.finish.result (λ _. end_plain c.args.bytes.now c.lines.rest.now c.lines.draft c.lines.invariant none) c.finish.ensures.faultless
+pub overflow_add-number : goal.overflow_add-number
+overflow_add-number c = omega arith
 
-pub returns-clause-faultless : goal.returns-clause-faultless
-returns-clause-faultless c =
-    let none : length c.lines.rest.now ≡ 0 = search rules in
-    on_ok_weaker c.finish.result (λ f. end_faultless c.args.bytes.now c.lines.rest.now c.lines.draft c.lines.invariant none f) c.finish.ensures.faultless
+pub returns-in-Ok-clause-faultless : goal.returns-in-Ok-clause-faultless
+returns-in-Ok-clause-faultless c = end_faultless c.args.bytes.now c.lines.rest.now c.lines.number c.lines.draft c.lines.invariant c.in_default.ensures.none c.in-Ok.ensures.faultless
 
-pub returns-clause-found : goal.returns-clause-found
-returns-clause-found c =
-    let none : length c.lines.rest.now ≡ 0 = search rules in
-    IfOk-weaker c.finish.result (λ g. g ≡ graph_in c.lines.draft) (λ g. g ≡ graph_of c.args.bytes.now) (λ g same. same ∙ end_graph c.args.bytes.now c.lines.rest.now c.lines.draft c.lines.invariant none) c.finish.ensures.graph
+pub returns-in-Ok-clause-found : goal.returns-in-Ok-clause-found
+returns-in-Ok-clause-found c = c.in-Ok.ensures.graph ∙ end_graph c.args.bytes.now c.lines.rest.now c.lines.number c.lines.draft c.lines.invariant c.in_default.ensures.none
 
-pub returns-clause-refused : goal.returns-clause-refused
-returns-clause-refused c = λ e.
-    let none : length c.lines.rest.now ≡ 0 = search rules in
-    end_unfit c.args.bytes.now c.lines.rest.now c.lines.draft c.lines.invariant none (IfErr-at_err (IsRefused (end_cause_in c.lines.draft)) e c.finish.ensures.refused).2
+pub returns-in-Err-clause-refused : goal.returns-in-Err-clause-refused
+returns-in-Err-clause-refused c = end_refused c.args.bytes.now c.lines.rest.now c.lines.number c.lines.draft c.in-Err.cause c.lines.invariant c.in_default.ensures.none c.in-Err.ensures.cause

@@ -14,4 +14,4 @@ pub front-requires-clause-fit : goal.front-requires-clause-fit
 front-requires-clause-fit c =
     let request = request_of_plan (plan_in c.args.plan) in
     subst (λ (r : Request). CostsFit (setting_of c.in_ok-net.net) r) (sym c.request_of.ensures)
-    (subst (λ (s : Setting). CostsFit s request) (sym c.in_ok-net.ensures) (fits (road_setting c.args.graph.now) request (cheap c.args.graph.now) c.requires.passes.in_order c.requires.passes.short))
+    (subst (λ (s : Setting). CostsFit s request) (sym c.in_ok-net.ensures.setting) (fits (road_setting c.args.network.now) request (cheap c.args.network.now c.net_of.ensures.good) c.requires.passes.in_order c.requires.passes.short))

@@ -1,15 +1,33 @@
-use Rattle.std.proofs.Common.{ℕ, Option, None, map, replicate, sym, ◌∙◌, ap, subst}
+use Rattle.std.proofs.Common.{◌≡◌, ℕ, Option, List, map, ap, sym, ◌∙◌, subst}
 use Rattle.route_base.specs.Net.{Net, IsGoodNet, setting_of}
-use Rattle.front_desk.specs.Road.{net_over}
-use Rattle.front_desk.proofs.RoadNets.{same_net, good_net, setting_of-net_over}
+use Rattle.route_base.specs.declared.types.Run.{Run}
+use Rattle.route_base.specs.declared.types.TimedArc.{TimedArc}
+use Rattle.dimacs_reader.specs.Table.{GraphTable, IsGoodGraph}
+use Rattle.front_desk.proofs.RoadNets.{good_net, stands_for}
 use Rattle.front_desk.proofs.network.net_of.Goals as goal
+
+abbrev net_with : ℕ → List TimedArc → List (List Run) → List (Option ℕ) → Net
+net_with n arcs closed weights = record { nodes = n; arcs = arcs; closed = closed; weights = weights }
+
+same_net : {n m : ℕ} (arcs : List TimedArc) (closed : List (List Run)) {ws vs : List (Option ℕ)} → n ≡ m → ws ≡ vs → net_with n arcs closed ws ≡ net_with m arcs closed vs
+same_net arcs closed nodes weights = λ i. net_with (nodes i) arcs closed (weights i)
 
 pub new-requires : goal.new-requires
 new-requires c =
-    let made : Net = record { nodes = c.node_count-nodes.result; arcs = c.in_ok-arcs.arcs.items; closed = map (λ v. v.items) c.in_ok-closed.closed.items; weights = c.in_ok-weights.weights.items } in
-    subst IsGoodNet (sym (same_net made (net_over c.args.graph.now) c.node_count-nodes.ensures.value c.in_ok-arcs.ensures c.in_ok-closed.ensures (c.in_ok-weights.ensures ∙ ap (λ n. replicate {A = Option ℕ} n None) c.node_count-nodes.ensures.value))) (good_net c.args.graph.now c.node_count-nodes.ensures.good)
+    let net = c.args.network.now in
+    let graph = subst IsGoodGraph c.graph.ensures.value c.node_count-nodes.ensures.good in
+    let nodes = c.node_count-nodes.ensures.value ∙ ap (λ (g : GraphTable). g.nodes) c.graph.ensures.value in
+    let arcs = c.in_ok-timing.timing.arcs.items in
+    let closed : List (List Run) = map (λ v. v.items) c.in_ok-timing.timing.closed.items in
+    subst IsGoodNet (sym (same_net arcs closed nodes c.in_ok-weights.ensures))
+    (good_net net c.graph.ensures.good graph arcs closed c.in_ok-timing.ensures)
 
-pub returns : goal.returns
-returns c =
-    let made : Net = record { nodes = c.node_count-nodes.result; arcs = c.in_ok-arcs.arcs.items; closed = map (λ v. v.items) c.in_ok-closed.closed.items; weights = c.in_ok-weights.weights.items } in
-    ap setting_of (c.new.ensures ∙ same_net made (net_over c.args.graph.now) c.node_count-nodes.ensures.value c.in_ok-arcs.ensures c.in_ok-closed.ensures (c.in_ok-weights.ensures ∙ ap (λ n. replicate {A = Option ℕ} n None) c.node_count-nodes.ensures.value)) ∙ setting_of-net_over c.args.graph.now
+pub returns-clause-setting : goal.returns-clause-setting
+returns-clause-setting c =
+    let net = c.args.network.now in
+    let graph = subst IsGoodGraph c.graph.ensures.value c.node_count-nodes.ensures.good in
+    let nodes = c.node_count-nodes.ensures.value ∙ ap (λ (g : GraphTable). g.nodes) c.graph.ensures.value in
+    let arcs = c.in_ok-timing.timing.arcs.items in
+    let closed : List (List Run) = map (λ v. v.items) c.in_ok-timing.timing.closed.items in
+    ap setting_of c.new.ensures ∙ ap setting_of (same_net arcs closed nodes c.in_ok-weights.ensures)
+    ∙ stands_for net c.graph.ensures.good graph arcs closed c.in_ok-timing.ensures

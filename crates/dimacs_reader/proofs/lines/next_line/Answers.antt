@@ -1,0 +1,9 @@
+use Rattle.std.proofs.Common.{sym}
+use Rattle.dimacs_reader.proofs.Cuts.{line_cut, last_line}
+use Rattle.dimacs_reader.proofs.lines.next_line.Goals as goal
+
+pub returns-in-Some-clause-cut : goal.returns-in-Some-clause-cut
+returns-in-Some-clause-cut c = let cut = line_cut c.args.bytes.now c.in-Some.place c.in-Some.ensures in let e = c.without_return.ensures in cc
+
+pub returns-in-None-clause-cut : goal.returns-in-None-clause-cut
+returns-in-None-clause-cut c = last_line c.args.bytes.now c.in-None.ensures (sym c.if-is_empty.ensures)

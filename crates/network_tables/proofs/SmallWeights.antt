@@ -1,0 +1,63 @@
+-- No weight that the tables state is above 100.000.
+use Rattle.std.proofs.Common.{◌≡◌, ⊎_elim, ℕ, ◌≤◌, true, leb, Some, None, Option, cond, List, [], ◌∷◌, get_or, refl, sym, ◌∙◌, subst, arith}
+use Rattle.std.specs.Prelude.{All}
+use Rattle.std.specs.List.{cons_option, range_with_len}
+use Rattle.std.specs.Map.{lookup}
+use Rattle.std.specs.Option.{option_map}
+use Rattle.std.specs.Str.{bytes_eq}
+use Rattle.std.proofs.lemmas.Bool.{leb-true, cases_Bool, cond-true, cond-false}
+use Rattle.std.proofs.lemmas.List.Elements.{All-map}
+use Rattle.std.proofs.lemmas.Option.{cond_some, option_and_then_some}
+use Rattle.std.specs.List.{slice_split}
+use Rattle.std.specs.Prelude.{◌==◌}
+use Rattle.route_base.specs.Forms.{at_most, is_name, weight_of, thousandths_in}
+use Rattle.network_tables.specs.Parking.{Parked, weight_at, rating_at, weights_by_node}
+use Rattle.network_tables.specs.Ratings.{Rating, rating_of, ratings_in, weight_named}
+use Rattle.network_tables.specs.Records.{Record}
+use Rattle.network_tables.specs.Stated.{IsSmall}
+
+at_most-small : (o : Option ℕ) → IsSmall (at_most 100000 o)
+at_most-small o w is = option_and_then_some (λ n. cond (leb n 100000) (Some n) None) o w is (λ n _ within.
+    let e : (leb n 100000 ≡ true) × (n ≡ w) = cond_some (leb n 100000) n w within in
+    omega (arith, leb-true n 100000 e.0, e.1))
+
+rating_of-small : (row : Record) (r : Rating) → rating_of row ≡ Some r → r.1 ≤ 100000
+rating_of-small (name ∷ weight ∷ []) r is =
+    ⊎_elim
+    (λ yes. mapped (weight_of weight) (at_most-small (thousandths_in (slice_split (λ b. b == 46) weight))) (sym (cond-true _ _ _ yes) ∙ is))
+    (λ no. absurd (none (sym (cond-false _ _ _ no) ∙ is)))
+    (cases_Bool (is_name name))
+  where
+    mapped : (o : Option ℕ) → IsSmall o → option_map (λ w. (name, w)) o ≡ Some r → r.1 ≤ 100000
+    mapped None small same = absurd (cc)
+    mapped (Some w) small same =
+        let e : (name, w) ≡ r = cc in
+        subst (λ (q : Rating). q.1 ≤ 100000) e (small w refl)
+
+    none : None ≡ Some r → ⊥
+    none same = cc
+rating_of-small [] r is = absurd (cc)
+rating_of-small (name ∷ []) r is = absurd (cc)
+rating_of-small (name ∷ weight ∷ more ∷ rest) r is = absurd (cc)
+
+weight_named-small : (rows : List Record) (name : List ℕ) → IsSmall (weight_named (ratings_in rows) name)
+weight_named-small [] name w is = absurd (cc)
+weight_named-small (row ∷ rows) name w is = by_row (weight_named-small rows name w) (rating_of row) (rating_of-small row) is
+  where
+    by_row : (weight_named (ratings_in rows) name ≡ Some w → w ≤ 100000) → (o : Option Rating) → ((r : Rating) → o ≡ Some r → r.1 ≤ 100000) → lookup (bytes_eq name) (cons_option o (ratings_in rows)) ≡ Some w → w ≤ 100000
+    by_row more None small same = more same
+    by_row more (Some r) small same =
+        ⊎_elim
+        (λ yes.
+        let e : Some r.1 ≡ Some w = sym (cond-true _ _ _ yes) ∙ same in
+        let here : r.1 ≡ w = cc in
+        omega (arith, small r refl, here))
+        (λ no. more (sym (cond-false _ _ _ no) ∙ same))
+        (cases_Bool (bytes_eq name r.0))
+
+weight_at-small : (rows : List Record) (parked : List Parked) (v : ℕ) → IsSmall (weight_at (ratings_in rows) parked v)
+weight_at-small rows parked v w is = option_and_then_some (weight_named (ratings_in rows)) (rating_at parked v) w is (λ name _ found. weight_named-small rows name w found)
+
+pub weights_by_node-small : (nodes : ℕ) (rows : List Record) (parked : List Parked) → All IsSmall (weights_by_node nodes (ratings_in rows) parked)
+unfolding weights_by_node
+weights_by_node-small nodes rows parked = All-map IsSmall (weight_at (ratings_in rows) parked) (range_with_len 1 nodes) (λ k d _. weight_at-small rows parked (get_or (range_with_len 1 nodes) k d))

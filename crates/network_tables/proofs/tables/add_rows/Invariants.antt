@@ -1,0 +1,12 @@
+use Rattle.std.proofs.Common.{◌≡◌, ◌≤◌, ◌^◌, [], map, take, drop}
+use Rattle.csv.specs.Records.{fields_of}
+use Rattle.network_tables.specs.Laws.{row_fault_from}
+use Rattle.network_tables.proofs.tables.add_rows.Given as goal
+
+abbrev pub invariant-loop-count : goal.invariant-loop-count
+invariant-loop-count g l = record {
+  stated : g.T.Table.becomes l.fn.table l.table (map fields_of (take l.count l.rows));
+  same : g.T.Table.law l.table ≡ g.T.Table.law l.fn.table;
+  left : row_fault_from (g.T.Table.law l.fn.table) (map fields_of (take l.count l.rows)) (map fields_of (drop l.count l.rows)) ≡ row_fault_from (g.T.Table.law l.fn.table) [] (map fields_of l.rows);
+  few : l.count ≤ 2 ^ 32;
+}

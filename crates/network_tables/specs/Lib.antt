@@ -1,0 +1,10 @@
+pub mod Closures
+pub mod Faulty
+pub mod Laws
+pub mod Network
+pub mod Parking
+pub mod Rated
+pub mod Ratings
+pub mod Records
+pub mod Stated
+pub mod Weighted

@@ -1,0 +1,80 @@
+// The network that tables state.
+ghost use Rattle.std.specs.Prelude.{◌≡◌, ◌≤◌, ◌<◌, Some, All, length, map, slice_get};
+ghost use Rattle.route_base.specs.Net.{at_number, joined};
+ghost use Rattle.network_tables.specs.Stated.{NetworkTable, closures_of, IsGoodNetwork, IsSmall};
+
+use dimacs_reader::Graph;
+use route_base::{ArcId, Cost, NodeId, Run};
+use std::marker::Model;
+
+/// A road network: a graph, the closed minutes of each arc, and the weights of the nodes where one may wait.
+#[derive(Drop)]
+pub struct Network {
+    graph: Graph,
+    closures: Vec<Vec<Run>>,
+    weights: Vec<Option<Cost>>,
+}
+
+impl Model for Network {
+    ghost use Rattle.std.specs.Prelude.{map};
+    ghost use Rattle.network_tables.specs.Stated.{NetworkTable, IsGoodNetwork};
+
+    ghost Value = { NetworkTable };
+
+    ghost view = { λ n. record { graph = n.graph; closures = map (λ v. v.items) n.closures.items; weights = n.weights.items } };
+
+    ghost invariant = { λ n. IsGoodNetwork (record { graph = n.graph; closures = map (λ v. v.items) n.closures.items; weights = n.weights.items }) };
+}
+
+impl Network {
+    // The network of these parts.
+    pub(crate) fn new(graph: Graph, closures: Vec<Vec<Run>>, weights: Vec<Option<Cost>>) -> Network
+        requires arcs { length closures.items ≡ length graph.arcs }
+        requires nodes { length weights.items ≡ graph.nodes }
+        requires small { All IsSmall weights.items }
+        ensures { result ≡ record { graph = graph; closures = map (λ v. v.items) closures.items; weights = weights.items } }
+    {
+        Network {
+            graph,
+            closures,
+            weights,
+        }
+    }
+
+    /// The graph, at no cost.
+    pub fn graph(&self) -> &Graph
+        ensures value { result.now ≡ self.now.graph }
+        ensures good { IsGoodNetwork self.now }
+    {
+        &self.graph
+    }
+
+    /// The cost in thousandths of a minute of waiting at the node; `None` exactly where one may not wait. In constant time.
+    pub fn weight(&self, v: NodeId) -> Option<Cost>
+        requires low { 1 ≤ v.0 }
+        requires high { v.0 ≤ self.now.graph.nodes }
+        ensures value { result ≡ joined (at_number self.now.weights v.0) }
+        ensures good { IsGoodNetwork self.now }
+    {
+        self.weights[v.0 as usize - 1]
+    }
+
+    /// How many times the arc is closed. In constant time.
+    pub fn closure_count(&self, a: ArcId) -> usize
+        requires low { 1 ≤ a.0 }
+        requires high { a.0 ≤ length self.now.graph.arcs }
+        ensures { result ≡ length (closures_of self.now a.0) }
+    {
+        self.closures[a.0 as usize - 1].len()
+    }
+
+    /// The minutes in which the arc is closed for the k-th time, from 0 in the order of its rows. In constant time.
+    pub fn closure(&self, a: ArcId, k: usize) -> Run
+        requires low { 1 ≤ a.0 }
+        requires high { a.0 ≤ length self.now.graph.arcs }
+        requires there { k < length (closures_of self.now a.0) }
+        ensures { slice_get (closures_of self.now a.0) k ≡ Some result }
+    {
+        self.closures[a.0 as usize - 1][k]
+    }
+}

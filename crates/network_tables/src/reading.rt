@@ -1,0 +1,116 @@
+// A whole network.
+ghost use Rattle.std.specs.Prelude.{◌≡◌, [], None, Some, IfOk, IfErr, OnOk, map, length};
+ghost use Rattle.dimacs_reader.specs.Faults.{fault_of};
+ghost use Rattle.dimacs_reader.specs.Table.{graph_of};
+ghost use Rattle.network_tables.specs.Closures.{closures_law, closures_in, runs_by_arc};
+ghost use Rattle.network_tables.specs.Faulty.{IfBad};
+ghost use Rattle.network_tables.specs.Laws.{first_table_fault};
+ghost use Rattle.network_tables.specs.Network.{fault_in, contents_fault, network_of};
+ghost use Rattle.network_tables.specs.Parking.{parking_law, parked_in, weights_by_node};
+ghost use Rattle.network_tables.specs.Ratings.{ratings_law, ratings_in};
+ghost use Rattle.network_tables.specs.Records.{records_of, rows_in};
+ghost use Rattle.route_base.specs.declared.faults.FileKind.TheVariants.{Graph, Closures, Ratings, Parking};
+
+use crate::closures::ClosureTable;
+use crate::parking::ParkingTable;
+use crate::ratings::RatingTable;
+use crate::tables::{Table, read_table};
+use crate::{Files, Network, NetworkFault};
+use dimacs_reader::{GraphFault, read_graph};
+use route_base::{BadInput, Cost, FileBytes, FileKind, Run, TableFault};
+use std::alloc::Global;
+
+// A table with the rows of its file.
+fn read_file<T: Table>(
+    alloc: Global,
+    file: FileKind,
+    bytes: &FileBytes,
+    table: T,
+) -> Result<T, NetworkFault>
+    requires { T.becomes table table [] }
+    ensures faultless { OnOk result (fault_in file (first_table_fault (T.law table) (records_of bytes.now)) ≡ None) }
+    ensures stated { IfOk result (λ read. T.becomes table read (rows_in (records_of bytes.now))) }
+    ensures refused { IfErr result (λ e. IfBad e (λ fault. fault_in file (first_table_fault (T.law table) (records_of bytes.now)) ≡ Some fault)) }
+{
+    match read_table(alloc, bytes.as_slice(), table) {
+        Ok(table) => Ok(table),
+        Err(TableFault::BadRow { row, cause }) => {
+            Err(NetworkFault::Bad(BadInput { file, row, cause }))
+        }
+        Err(TableFault::OutOfMemory) => Err(NetworkFault::OutOfMemory),
+    }
+}
+
+// The graph of a file.
+fn read_graph_file(alloc: Global, bytes: &FileBytes) -> Result<dimacs_reader::Graph, NetworkFault>
+    ensures faultless { OnOk result (fault_in Graph (fault_of bytes.now) ≡ None) }
+    ensures stated { IfOk result (λ graph. graph ≡ graph_of bytes.now) }
+    ensures refused { IfErr result (λ e. IfBad e (λ fault. fault_in Graph (fault_of bytes.now) ≡ Some fault)) }
+{
+    match read_graph(alloc, bytes.as_slice()) {
+        Ok(graph) => Ok(graph),
+        Err(GraphFault::BadLine { line, cause }) => Err(NetworkFault::Bad(BadInput {
+            file: FileKind::Graph,
+            row: line,
+            cause,
+        })),
+        Err(GraphFault::OutOfMemory) => Err(NetworkFault::OutOfMemory),
+    }
+}
+
+// The closed minutes of each arc.
+fn read_closures(alloc: Global, bytes: &FileBytes, arcs: u32) -> Result<Vec<Vec<Run>>, NetworkFault>
+    ensures faultless { OnOk result (fault_in Closures (first_table_fault (closures_law arcs) (records_of bytes.now)) ≡ None) }
+    ensures stated { IfOk result (λ lists. map (λ v. v.items) lists.items ≡ runs_by_arc arcs (closures_in (rows_in (records_of bytes.now)))) }
+    ensures refused { IfErr result (λ e. IfBad e (λ fault. fault_in Closures (first_table_fault (closures_law arcs) (records_of bytes.now)) ≡ Some fault)) }
+{
+    let table = ClosureTable::new(alloc, arcs)?;
+    Ok(read_file(alloc, FileKind::Closures, bytes, table)?.into_lists())
+}
+
+// The ratings by name.
+fn read_ratings(alloc: Global, bytes: &FileBytes) -> Result<RatingTable, NetworkFault>
+    ensures faultless { OnOk result (fault_in Ratings (first_table_fault ratings_law (records_of bytes.now)) ≡ None) }
+    ensures stated { IfOk result (λ ratings. ratings ≡ ratings_in (rows_in (records_of bytes.now))) }
+    ensures refused { IfErr result (λ e. IfBad e (λ fault. fault_in Ratings (first_table_fault ratings_law (records_of bytes.now)) ≡ Some fault)) }
+{
+    read_file(alloc, FileKind::Ratings, bytes, RatingTable::new(alloc))
+}
+
+// The weight of each node where one may wait.
+fn read_weights(
+    alloc: Global,
+    bytes: &FileBytes,
+    nodes: u32,
+    ratings: RatingTable,
+) -> Result<Vec<Option<Cost>>, NetworkFault>
+    ensures faultless { OnOk result (fault_in Parking (first_table_fault (parking_law nodes ratings) (records_of bytes.now)) ≡ None) }
+    ensures stated { IfOk result (λ weights. weights.items ≡ weights_by_node nodes ratings (parked_in (rows_in (records_of bytes.now)))) }
+    ensures refused { IfErr result (λ e. IfBad e (λ fault. fault_in Parking (first_table_fault (parking_law nodes ratings) (records_of bytes.now)) ≡ Some fault)) }
+{
+    let table = ParkingTable::new(alloc, nodes, ratings)?;
+    Ok(read_file(alloc, FileKind::Parking, bytes, table)?.into_weights())
+}
+
+/// Reads the network that the files state: the graph, then closures, ratings and parking. Linear in the bytes.
+///
+/// `Bad` is the first fault of their contents; `OutOfMemory` comes where a list can't grow. The other files can't be read yet
+/// and have to be empty.
+#[tactic(auto, unfolding(crate::specs::Network::contents_fault, crate::specs::Network::network_of))]
+pub fn read_network(alloc: Global, files: &Files) -> Result<Network, NetworkFault>
+    requires zones { files.now.zones ≡ [] }
+    requires areas { files.now.areas ≡ [] }
+    requires roads { files.now.roads ≡ [] }
+    requires vehicles { files.now.vehicles ≡ [] }
+    requires rules { files.now.rules ≡ [] }
+    requires holidays { files.now.holidays ≡ [] }
+    ensures faultless { OnOk result (contents_fault files.now ≡ None) }
+    ensures found { IfOk result (λ network. network ≡ network_of files.now) }
+    ensures refused { IfErr result (λ e. IfBad e (λ fault. contents_fault files.now ≡ Some fault)) }
+{
+    let graph = read_graph_file(alloc, &files.graph)?;
+    let closures = read_closures(alloc, &files.closures, graph.arc_count())?;
+    let ratings = read_ratings(alloc, &files.ratings)?;
+    let weights = read_weights(alloc, &files.parking, graph.node_count(), ratings)?;
+    Ok(Network::new(graph, closures, weights))
+}
