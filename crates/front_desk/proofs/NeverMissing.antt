@@ -1,13 +1,13 @@
 -- What is wrong with the contents of files is never that one is missing.
 use Rattle.std.proofs.Common.{◌≡◌, ◌≢◌, ℕ, ◌+◌, Bool, true, false, cond, Some, None, Option, List, [], ◌∷◌, ◌++◌, ◌&&◌, length, refl, sym, ◌∙◌, ap}
 use Rattle.std.specs.Prelude.{nat_lt, is_some, ◌==◌}
+use Rattle.std.specs.List.{last_or}
 use Rattle.std.specs.Option.{option_map, option_or}
 use Rattle.std.proofs.lemmas.Bool.{both_ways}
 use Rattle.route_base.specs.declared.faults.BadInput.{BadInput}
 use Rattle.route_base.specs.declared.faults.Cause.{Cause}
-use Rattle.route_base.specs.declared.faults.Cause.TheVariants.{Missing, BadHeader, ArcCount, WeightRange, NodeRange, FieldCount, SizeLimit, Duplicate, Unknown}
+use Rattle.route_base.specs.declared.faults.Cause.TheVariants.{Missing, BadHeader, ArcCount, WeightRange, NodeRange, FieldCount, SizeLimit, Duplicate, Unknown, NotRising}
 use Rattle.route_base.specs.declared.faults.FileKind.{FileKind}
-use Rattle.route_base.specs.declared.faults.FileKind.TheVariants.{Graph, Closures, Ratings, Parking}
 use Rattle.route_base.specs.Forms.{is_from_to}
 use Rattle.dimacs_reader.specs.Faults.{is_from_to as graph_range, cause_of_problem, cause_of_arc, cause_in, end_cause_from, cause_of, cause_at_end, fault_from, first_fault, fault_of}
 use Rattle.dimacs_reader.specs.Lines.{lines_in}
@@ -15,12 +15,17 @@ use Rattle.dimacs_reader.specs.Stated.{Stated, stated_in}
 use Rattle.dimacs_reader.specs.declared.draft.Sizes.{Sizes}
 use Rattle.dimacs_reader.specs.declared.lines.Line.{Line}
 use Rattle.dimacs_reader.specs.declared.lines.Line.TheVariants.{Passed, Problem, Arc, Bad}
+use Rattle.network_tables.specs.Areas.{AreaEntry, areas_law, areas_in, area_of_record, cause_of_area}
 use Rattle.network_tables.specs.Closures.{closures_law, closure_of, cause_of_closure}
 use Rattle.network_tables.specs.Laws.{Law, cause_after, row_fault_from, first_table_fault}
-use Rattle.network_tables.specs.Network.{contents_fault, fault_in, arcs_in, nodes_in, ratings_of}
-use Rattle.network_tables.specs.Parking.{parking_law, rating_at, Parked, parked_of, parked_in, cause_of_parked}
+use Rattle.network_tables.specs.Names.{value_of, names_of}
+use Rattle.network_tables.specs.Network.{contents_fault, area_files_fault, fault_in, first_some, arcs_in, nodes_in, zones_of, areas_of, ratings_of}
+use Rattle.network_tables.specs.Numbered.{Numbered, numbered_of, numbered_in, name_at, cause_of_numbered}
+use Rattle.network_tables.specs.Parking.{parking_law}
 use Rattle.network_tables.specs.Ratings.{ratings_law, weight_named, Rating, rating_of, ratings_in, cause_of_rating}
 use Rattle.network_tables.specs.Records.{Record, records_of, record_eq}
+use Rattle.network_tables.specs.Roads.{roads_law}
+use Rattle.network_tables.specs.Zones.{ZoneEntry, zones_law, zone_entry_of, zone_entries_in, cause_of_entry}
 use Rattle.network_tables.specs.declared.closures.Closure.{Closure}
 use Rattle.network_tables.specs.declared.files.Files.{Files}
 
@@ -67,6 +72,9 @@ or_at (Some fault) p here there = here
 or_input : (o p : Option BadInput) → IsOtherInput o → IsOtherInput p → IsOtherInput (option_or o p)
 or_input None p here there = there
 or_input (Some fault) p here there = here
+
+nothing : IsOtherInput None
+nothing = record { is = refl }
 
 in_file : (file : FileKind) (o : Option (ℕ × Cause)) → IsOtherAt o → IsOtherInput (fault_in file o)
 in_file file None other = record { is = refl }
@@ -134,20 +142,38 @@ rating : (before : List Rating) (o : Option Rating) → IsOther (cause_of_rating
 rating before None = other _ refl
 rating before (Some r) = by_test _ _ _ (other _ refl) no_cause
 
-parked : (nodes : ℕ) (ratings : List Rating) (before : List Parked) (o : Option Parked) → IsOther (cause_of_parked nodes ratings before o)
-parked nodes ratings before None = other _ refl
-parked nodes ratings before (Some p) =
-    by_test (is_from_to 1 nodes p.0) _ _
-    (by_test (is_some (weight_named ratings p.1)) _ _ (by_test (is_some (rating_at before p.0)) _ _ (other Duplicate refl) no_cause) (other Unknown refl))
+zone : (before : List ZoneEntry) (o : Option ZoneEntry) → IsOther (cause_of_entry before o)
+zone before None = other _ refl
+zone before (Some e) = by_test _ _ _ no_cause (other NotRising refl)
+
+area : {Z : Type 0} (zones : List ℕ → Option Z) (before : List AreaEntry) (o : Option AreaEntry) → IsOther (cause_of_area zones before o)
+area zones before None = other _ refl
+area zones before (Some a) = by_test _ _ _ (by_test _ _ _ (other Duplicate refl) no_cause) (other Unknown refl)
+
+numbered : {X : Type 0} (count : ℕ) (named : List ℕ → Option X) (before : List Numbered) (o : Option Numbered) → IsOther (cause_of_numbered count named before o)
+numbered count named before None = other _ refl
+numbered count named before (Some r) =
+    by_test (is_from_to 1 count r.0) _ _
+    (by_test (is_some (named r.1)) _ _ (by_test (is_some (name_at before r.0)) _ _ (other Duplicate refl) no_cause) (other Unknown refl))
     (other Unknown refl)
+
+areas : (files : Files) → IsOtherInput (area_files_fault files)
+unfolding area_files_fault
+areas files =
+    or_input _ _ (in_file _ _ (table zones_law (λ before row. zone (zone_entries_in before) (zone_entry_of row)) (records_of files.zones)))
+    (or_input _ _ (in_file _ _ (table (areas_law (zones_of files)) (λ before row. area (zones_of files) (areas_in before) (area_of_record row)) (records_of files.areas)))
+    (or_input _ _ (in_file _ _ (table (roads_law (arcs_in files) (names_of (areas_of files))) (λ before row. numbered _ _ (numbered_in before) (numbered_of row)) (records_of files.roads)))
+    nothing))
 
 contents : (files : Files) → IsOtherInput (contents_fault files)
 unfolding contents_fault
 contents files =
-    or_input _ _ (in_file Graph _ (graph files.graph))
-    (or_input _ _ (in_file Closures _ (table (closures_law (arcs_in files)) (λ before row. closure (arcs_in files) (closure_of row)) (records_of files.closures)))
-    (or_input _ _ (in_file Ratings _ (table ratings_law (λ before row. rating (ratings_in before) (rating_of row)) (records_of files.ratings)))
-    (in_file Parking _ (table (parking_law (nodes_in files) (ratings_of files)) (λ before row. parked (nodes_in files) (ratings_of files) (parked_in before) (parked_of row)) (records_of files.parking)))))
+    or_input _ _ (in_file _ _ (graph files.graph))
+    (or_input _ _ (areas files)
+    (or_input _ _ (in_file _ _ (table (closures_law (arcs_in files)) (λ before row. closure (arcs_in files) (closure_of row)) (records_of files.closures)))
+    (or_input _ _ (in_file _ _ (table ratings_law (λ before row. rating (ratings_in before) (rating_of row)) (records_of files.ratings)))
+    (or_input _ _ (in_file _ _ (table (parking_law (nodes_in files) (ratings_of files)) (λ before row. numbered _ _ (numbered_in before) (numbered_of row)) (records_of files.parking)))
+    nothing))))
 
 pub never_missing : (files : Files) (fault : BadInput) → contents_fault files ≡ Some fault → fault.cause ≢ Missing
 never_missing files fault is missing = both_ways (is_missing fault.cause) (sym (ap missing_input is) ∙ (contents files).is) (ap is_missing missing)

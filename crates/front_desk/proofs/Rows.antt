@@ -4,13 +4,15 @@ use Rattle.std.specs.Prelude.{if◌then◌else◌}
 use Rattle.std.specs.Str.{bytes_eq}
 use Rattle.std.specs.Fmt.{digits}
 use Rattle.route_base.specs.declared.types.Leg.TheVariants.{Drive}
-use Rattle.route_base.specs.declared.faults.FileKind.TheVariants.{Graph, Zones}
+use Rattle.route_base.specs.declared.faults.FileKind.TheVariants.{Graph, Vehicles}
 use Rattle.route_base.specs.declared.faults.Cause.TheVariants.{Missing, NotBuilt}
 use Rattle.route_base.specs.declared.faults.RequestFault.{RequestFault}
 use Rattle.route_base.specs.declared.faults.RequestFault.TheVariants.{OriginRange, GoalRange, UntilBeforeDepart, HorizonTooLong}
 use Rattle.front_desk.specs.declared.texts.Refusal.TheVariants.{Usage, Input, Request}
 use Rattle.front_desk.specs.Words.{plan_of, is_folder_name, node_of}
 use Rattle.route_base.specs.Forms.{minute_of}
+use Rattle.calendar_days.specs.Days.{days_of_years, days_of_months}
+use Rattle.calendar_days.specs.Texts.{instant_of, day_of_text, clock_of}
 use Rattle.front_desk.specs.Texts.{thousandths_of, plain_text_of, refusal_text_of}
 use Rattle.front_desk.specs.Requests.{first_failing}
 use Rattle.front_desk.specs.Files.{first_unreadable, reading_fault}
@@ -21,7 +23,17 @@ abbrev words_with : List ℕ → List ℕ → List ℕ → List ℕ → List (Li
 words_with from to start end = codes "plan" ∷ codes "d" ∷ codes "any" ∷ from ∷ to ∷ start ∷ end ∷ []
 
 pub plan_read : plan_of (words_with (codes "1") (codes "3") (codes "26563680") (codes "26564080")) ≡ Some (record { dir = codes "d"; origin = 1; goal = 3; depart = 26563680; until = 26564080 })
+unfolding instant_of
 plan_read = refl
+
+-- the same trip, its instants as texts
+pub texts_read : plan_of (words_with (codes "1") (codes "3") (codes "2020-07-04T00:00Z") (codes "2020-07-04T06:40:00Z")) ≡ Some (record { dir = codes "d"; origin = 1; goal = 3; depart = 26563680; until = 26564080 })
+unfolding instant_of day_of_text clock_of days_of_years days_of_months
+texts_read = refl
+
+pub no_such_day_refused : plan_of (words_with (codes "1") (codes "3") (codes "2020-02-30T00:00Z") (codes "2020-07-04T06:40Z")) ≡ None
+unfolding instant_of day_of_text clock_of days_of_years days_of_months
+no_such_day_refused = refl
 
 pub leading_zero_refused : plan_of (words_with (codes "01") (codes "3") (codes "26563680") (codes "26564080")) ≡ None
 leading_zero_refused = refl
@@ -33,6 +45,7 @@ pub eighth_word_refused : plan_of (words_with (codes "1") (codes "3") (codes "26
 eighth_word_refused = refl
 
 pub before_first_instant : plan_of (words_with (codes "1") (codes "3") (codes "525599") (codes "26564080")) ≡ None
+unfolding instant_of day_of_text
 before_first_instant = refl
 
 pub first_instant_read : minute_of (codes "525600") ≡ Some 525600
@@ -42,6 +55,7 @@ pub last_instant_read : minute_of (codes "120968639") ≡ Some 120968639
 last_instant_read = refl
 
 pub after_last_instant : plan_of (words_with (codes "1") (codes "3") (codes "26563680") (codes "120968640")) ≡ None
+unfolding instant_of day_of_text
 after_last_instant = refl
 
 pub zero_node_read : node_of (codes "0") ≡ Some 0
@@ -114,14 +128,14 @@ beside : List ℕ → List ℕ → List ℕ → Option (List ℕ)
 beside other bytes name = if bytes_eq name (codes "d/graph.gr") then Some (codes "x\n") else if bytes_eq name other then Some bytes else None
 
 -- a file that can't be read yet comes before what the graph holds
-zones_first : first_fault (beside (codes "d/zones.csv") (codes "x")) (codes "d") ≡ Some (record { file = Zones; row = 0; cause = NotBuilt })
+vehicles_first : first_fault (beside (codes "d/vehicles.csv") (codes "x")) (codes "d") ≡ Some (record { file = Vehicles; row = 0; cause = NotBuilt })
 unfolding beside first_unreadable
-zones_first = refl
+vehicles_first = refl
 
 -- an empty one is none
-no_zones : reading_fault (beside (codes "d/zones.csv") []) (codes "d") ≡ None
+no_vehicles : reading_fault (beside (codes "d/vehicles.csv") []) (codes "d") ≡ None
 unfolding beside first_unreadable
-no_zones = refl
+no_vehicles = refl
 
 -- what a table holds comes after what the graph holds
 tables_read : reading_fault (beside (codes "d/parking.csv") (codes "x")) (codes "d") ≡ None

@@ -4,58 +4,27 @@ use Rattle.std.specs.Option.{option_or}
 use Rattle.route_base.specs.Holding.{Holding}
 use Rattle.route_base.specs.declared.faults.BadInput.{BadInput}
 use Rattle.route_base.specs.declared.faults.Cause.{Cause}
-use Rattle.route_base.specs.declared.faults.Cause.TheVariants.{Missing, TooLong, NotBuilt}
+use Rattle.route_base.specs.declared.faults.Cause.TheVariants.{Missing}
 use Rattle.route_base.specs.declared.faults.FileKind.{FileKind}
-use Rattle.route_base.specs.declared.faults.FileKind.TheVariants.{Graph, Zones, Areas, Roads, Vehicles, Rules, Closures, Ratings, Parking, Holidays, Jobs, Certificate}
+use Rattle.route_base.specs.declared.faults.FileKind.TheVariants.{Graph, Zones, Areas, Roads, Vehicles, Rules, Closures, Ratings, Parking, Holidays}
 use Rattle.network_tables.specs.declared.files.Files.{Files}
 use Rattle.front_desk.specs.Texts.{file_name_of}
 use Rattle.front_desk.specs.declared.files.Interruption.{Interruption}
 use Rattle.front_desk.specs.declared.files.Interruption.TheVariants.{Bad, Failed, OutOfMemory}
-use Rattle.front_desk.specs.Needs.{Need, Required, Optional, Unbuilt}
+use Rattle.front_desk.specs.Needs.{need_of, is_required, limit_of, cause_beyond}
 
 -- the name under which a file of dir is held
 abbrev pub path_of : List ℕ → FileKind → List ℕ
 path_of dir file = dir ++ codes "/" ++ file_name_of file
 
--- the most bytes that a file may have
-abbrev pub file_limit : ℕ
-file_limit = 268435456
-
--- which of these each file is
-abbrev pub need_of : FileKind → Need
-need_of Graph = Required
-need_of Zones = Unbuilt
-need_of Areas = Unbuilt
-need_of Roads = Unbuilt
-need_of Vehicles = Unbuilt
-need_of Rules = Unbuilt
-need_of Closures = Optional
-need_of Ratings = Optional
-need_of Parking = Optional
-need_of Holidays = Unbuilt
-need_of Jobs = Required
-need_of Certificate = Required
-
 -- a fault of a file as a whole
 abbrev pub whole_fault : FileKind → Cause → BadInput
 whole_fault file cause = record { file = file; row = 0; cause = cause }
 
-abbrev pub fault_of_length : FileKind → List ℕ → Option BadInput
-fault_of_length file bytes = if nat_lt file_limit (length bytes) then Some (whole_fault file TooLong) else None
-
--- a file that has to be there isn't, one is too long, or one that can't be read yet has a byte
-abbrev pub fault_by : Need → FileKind → Option (List ℕ) → Option BadInput
-fault_by Required file None = Some (whole_fault file Missing)
-fault_by Required file (Some bytes) = fault_of_length file bytes
-fault_by Optional file None = None
-fault_by Optional file (Some bytes) = fault_of_length file bytes
-fault_by Unbuilt file None = None
-fault_by Unbuilt file (Some []) = None
-fault_by Unbuilt file (Some (b ∷ bytes)) = Some (whole_fault file NotBuilt)
-
--- the fault of a file as a whole
+-- a file that has to be there isn't, or one has more bytes than it may have
 abbrev pub file_fault : FileKind → Option (List ℕ) → Option BadInput
-file_fault file held = fault_by (need_of file) file held
+file_fault file None = if is_required (need_of file) then Some (whole_fault file Missing) else None
+file_fault file (Some bytes) = if nat_lt (limit_of (need_of file)) (length bytes) then Some (whole_fault file (cause_beyond (need_of file))) else None
 
 -- the first of these files of dir that can't be read
 unfoldable pub first_unreadable : Holding → List ℕ → List FileKind → Option BadInput
@@ -95,9 +64,9 @@ files_of held dir = record {
 }
 
 -- these are the bytes of a file that can be read
-pub record IsRead (need : Need) (held : Holding) (dir : List ℕ) (file : FileKind) (bytes : List ℕ) : Type 0 where
+pub record IsRead (held : Holding) (dir : List ℕ) (file : FileKind) (bytes : List ℕ) : Type 0 where
   pub is : bytes ≡ bytes_at held dir file
-  pub faultless : fault_by need file (held (path_of dir file)) ≡ None
+  pub faultless : file_fault file (held (path_of dir file)) ≡ None
 
 -- a fact of the fault, where there is one
 abbrev pub IfBad : Interruption → (BadInput → Type 0) → Type 0
@@ -107,9 +76,6 @@ IfBad OutOfMemory P = ⊤
 
 -- the files that can't be read yet are empty
 pub record HasBuiltAlone (files : Files) : Type 0 where
-  pub zones : files.zones ≡ []
-  pub areas : files.areas ≡ []
-  pub roads : files.roads ≡ []
   pub vehicles : files.vehicles ≡ []
   pub rules : files.rules ≡ []
   pub holidays : files.holidays ≡ []

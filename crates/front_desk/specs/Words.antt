@@ -1,7 +1,8 @@
 -- The words of the command that plans a trip.
 use Rattle.std.specs.Prelude.{ℕ, ◌==◌, ◌&&◌, Bool, false, not, nat_le, Option, None, List, [], ◌∷◌, length, codes, if◌then◌else◌, option_and_then, option_map, bytes_eq}
 use Rattle.route_base.specs.Digits.{plain_number_of}
-use Rattle.route_base.specs.Forms.{at_most, minute_of}
+use Rattle.route_base.specs.Forms.{at_most}
+use Rattle.calendar_days.specs.Texts.{instant_of}
 use Rattle.front_desk.specs.declared.words.PlanWords.{PlanWords}
 
 -- a trip from a node at a minute to a node, by a minute at the latest, over the files of a folder
@@ -26,7 +27,7 @@ abbrev pub trip_of : List ℕ → List ℕ → List ℕ → List ℕ → List �
 trip_of dir from to start end =
     option_and_then (λ o. option_and_then (λ g. option_and_then (λ d. option_map
     (λ u. record { dir = dir; origin = o; goal = g; depart = d; until = u })
-    (minute_of end)) (minute_of start)) (node_of to)) (node_of from)
+    (instant_of end)) (instant_of start)) (node_of to)) (node_of from)
 
 -- the trip of the words `plan DIR any FROM TO DEPART UNTIL`, and nothing for any other words
 abbrev pub plan_of : List (List ℕ) → Option Plan

@@ -2,10 +2,11 @@
 ghost use Rattle.std.specs.Prelude.{◌≡◌, ◌≤◌, Some, None, [], IfOk, IfErr, string_bytes};
 ghost use Rattle.route_base.specs.Counts.{Rose};
 ghost use Rattle.route_base.specs.Holding.{Holding};
-ghost use Rattle.front_desk.specs.Files.{path_of, fault_by, whole_fault, reading_fault, files_of, HasBuiltAlone, IsRead, IfBad};
-ghost use Rattle.front_desk.specs.Needs.{Required, Optional, Unbuilt};
+ghost use Rattle.front_desk.specs.Files.{path_of, file_fault, whole_fault, reading_fault, files_of, HasBuiltAlone, IsRead, IfBad};
+ghost use Rattle.front_desk.specs.Needs.{need_of};
 ghost use Rattle.route_base.specs.declared.faults.Cause.TheVariants.{Missing};
 
+use crate::needs::{Need, need_of};
 use crate::texts::file_name;
 use network_tables::Files;
 use route_base::{
@@ -31,9 +32,6 @@ impl From<OutOfMemory> for Interruption {
     }
 }
 
-// The most bytes that a file may have.
-const FILE_LIMIT: u64 = 268_435_456;
-
 // The name under which the folder is asked for a file of dir.
 fn path_to(alloc: Global, dir: &str, file: FileKind) -> Result<String, OutOfMemory>
     ensures { IfOk result (λ path. string_bytes path ≡ path_of dir.now file) }
@@ -55,16 +53,17 @@ fn whole_fault(file: FileKind, cause: Cause) -> BadInput
     }
 }
 
-// The bytes of a file that has to be there.
-fn read_required<F: Folder>(
+// The bytes of a file; of one that isn't there and needn't be, none.
+fn read_file<F: Folder>(
     alloc: Global,
     folder: &mut F,
     dir: &str,
     file: FileKind,
 ) -> Result<FileBytes, Interruption>
-    ensures whole { IfOk result (λ bytes. (held : Holding) → F.contents folder.old ≡ Some held → IsRead Required held dir.now file bytes) }
+    ensures whole { IfOk result (λ bytes. (held : Holding) → F.contents folder.old ≡ Some held → IsRead held dir.now file bytes) }
+    ensures unbuilt { need_of file ≡ Need.Unbuilt → IfOk result (λ bytes. bytes ≡ []) }
     ensures bad { IfErr result (λ e. IfBad e (λ fault. (held : Holding) → F.contents folder.old ≡ Some held
-        → fault_by Required file (held (path_of dir.now file)) ≡ Some fault)) }
+        → file_fault file (held (path_of dir.now file)) ≡ Some fault)) }
     ensures missing { IfErr result (λ e. IfBad e (λ fault. fault.cause ≡ Missing → Rose (F.missing folder.old) (F.missing folder.new))) }
     ensures failed { result ≡ Err Interruption.Failed → Rose (F.read_faults folder.old) (F.read_faults folder.new) }
     ensures same { F.contents folder.new ≡ F.contents folder.old }
@@ -72,63 +71,19 @@ fn read_required<F: Folder>(
     ensures read_count { F.read_faults folder.old ≤ F.read_faults folder.new }
 {
     let path = path_to(alloc, dir, file)?;
-    match read_all(alloc, folder, path.as_str(), FILE_LIMIT) {
+    let need = need_of(file);
+    match read_all(alloc, folder, path.as_str(), need.limit()) {
         Ok(bytes) => Ok(FileBytes::from_vec(bytes)),
-        Err(ReadAllFault::Missing) => Err(Interruption::Bad(whole_fault(file, Cause::Missing))),
-        Err(ReadAllFault::TooLong) => Err(Interruption::Bad(whole_fault(file, Cause::TooLong))),
-        Err(ReadAllFault::Failed) => Err(Interruption::Failed),
-        Err(ReadAllFault::OutOfMemory) => Err(Interruption::OutOfMemory),
-    }
-}
-
-// The bytes of a file that may be there.
-fn read_optional<F: Folder>(
-    alloc: Global,
-    folder: &mut F,
-    dir: &str,
-    file: FileKind,
-) -> Result<FileBytes, Interruption>
-    ensures whole { IfOk result (λ bytes. (held : Holding) → F.contents folder.old ≡ Some held → IsRead Optional held dir.now file bytes) }
-    ensures bad { IfErr result (λ e. IfBad e (λ fault. (held : Holding) → F.contents folder.old ≡ Some held
-        → fault_by Optional file (held (path_of dir.now file)) ≡ Some fault)) }
-    ensures missing { IfErr result (λ e. IfBad e (λ fault. fault.cause ≡ Missing → Rose (F.missing folder.old) (F.missing folder.new))) }
-    ensures failed { result ≡ Err Interruption.Failed → Rose (F.read_faults folder.old) (F.read_faults folder.new) }
-    ensures same { F.contents folder.new ≡ F.contents folder.old }
-    ensures missing_count { F.missing folder.old ≤ F.missing folder.new }
-    ensures read_count { F.read_faults folder.old ≤ F.read_faults folder.new }
-{
-    let path = path_to(alloc, dir, file)?;
-    match read_all(alloc, folder, path.as_str(), FILE_LIMIT) {
-        Ok(bytes) => Ok(FileBytes::from_vec(bytes)),
-        Err(ReadAllFault::Missing) => Ok(FileBytes::new(alloc)),
-        Err(ReadAllFault::TooLong) => Err(Interruption::Bad(whole_fault(file, Cause::TooLong))),
-        Err(ReadAllFault::Failed) => Err(Interruption::Failed),
-        Err(ReadAllFault::OutOfMemory) => Err(Interruption::OutOfMemory),
-    }
-}
-
-// The bytes of a file that can't be read yet: none.
-fn read_unbuilt<F: Folder>(
-    alloc: Global,
-    folder: &mut F,
-    dir: &str,
-    file: FileKind,
-) -> Result<FileBytes, Interruption>
-    ensures whole { IfOk result (λ bytes. (held : Holding) → F.contents folder.old ≡ Some held → IsRead Unbuilt held dir.now file bytes) }
-    ensures none { IfOk result (λ bytes. bytes ≡ []) }
-    ensures bad { IfErr result (λ e. IfBad e (λ fault. (held : Holding) → F.contents folder.old ≡ Some held
-        → fault_by Unbuilt file (held (path_of dir.now file)) ≡ Some fault)) }
-    ensures missing { IfErr result (λ e. IfBad e (λ fault. fault.cause ≡ Missing → Rose (F.missing folder.old) (F.missing folder.new))) }
-    ensures failed { result ≡ Err Interruption.Failed → Rose (F.read_faults folder.old) (F.read_faults folder.new) }
-    ensures same { F.contents folder.new ≡ F.contents folder.old }
-    ensures missing_count { F.missing folder.old ≤ F.missing folder.new }
-    ensures read_count { F.read_faults folder.old ≤ F.read_faults folder.new }
-{
-    let path = path_to(alloc, dir, file)?;
-    match read_all(alloc, folder, path.as_str(), 0) {
-        Ok(bytes) => Ok(FileBytes::from_vec(bytes)),
-        Err(ReadAllFault::Missing) => Ok(FileBytes::new(alloc)),
-        Err(ReadAllFault::TooLong) => Err(Interruption::Bad(whole_fault(file, Cause::NotBuilt))),
+        Err(ReadAllFault::Missing) => {
+            if need.is_required() {
+                Err(Interruption::Bad(whole_fault(file, Cause::Missing)))
+            } else {
+                Ok(FileBytes::new(alloc))
+            }
+        }
+        Err(ReadAllFault::TooLong) => {
+            Err(Interruption::Bad(whole_fault(file, need.cause_beyond())))
+        }
         Err(ReadAllFault::Failed) => Err(Interruption::Failed),
         Err(ReadAllFault::OutOfMemory) => Err(Interruption::OutOfMemory),
     }
@@ -151,16 +106,16 @@ pub fn read_files<F: Folder>(
     ensures missing_count { F.missing folder.old ≤ F.missing folder.new }
     ensures read_count { F.read_faults folder.old ≤ F.read_faults folder.new }
 {
-    let graph = read_required(alloc, folder, dir, FileKind::Graph)?;
-    let zones = read_unbuilt(alloc, folder, dir, FileKind::Zones)?;
-    let areas = read_unbuilt(alloc, folder, dir, FileKind::Areas)?;
-    let roads = read_unbuilt(alloc, folder, dir, FileKind::Roads)?;
-    let vehicles = read_unbuilt(alloc, folder, dir, FileKind::Vehicles)?;
-    let rules = read_unbuilt(alloc, folder, dir, FileKind::Rules)?;
-    let closures = read_optional(alloc, folder, dir, FileKind::Closures)?;
-    let ratings = read_optional(alloc, folder, dir, FileKind::Ratings)?;
-    let parking = read_optional(alloc, folder, dir, FileKind::Parking)?;
-    let holidays = read_unbuilt(alloc, folder, dir, FileKind::Holidays)?;
+    let graph = read_file(alloc, folder, dir, FileKind::Graph)?;
+    let zones = read_file(alloc, folder, dir, FileKind::Zones)?;
+    let areas = read_file(alloc, folder, dir, FileKind::Areas)?;
+    let roads = read_file(alloc, folder, dir, FileKind::Roads)?;
+    let vehicles = read_file(alloc, folder, dir, FileKind::Vehicles)?;
+    let rules = read_file(alloc, folder, dir, FileKind::Rules)?;
+    let closures = read_file(alloc, folder, dir, FileKind::Closures)?;
+    let ratings = read_file(alloc, folder, dir, FileKind::Ratings)?;
+    let parking = read_file(alloc, folder, dir, FileKind::Parking)?;
+    let holidays = read_file(alloc, folder, dir, FileKind::Holidays)?;
     Ok(Files {
         graph,
         zones,

@@ -10,6 +10,7 @@
 
 mod desk;
 mod files;
+mod needs;
 mod network;
 mod requests;
 mod texts;

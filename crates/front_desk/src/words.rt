@@ -3,7 +3,8 @@ ghost use Rattle.std.specs.Prelude.{◌≡◌, IfSome, option_map};
 ghost use Rattle.route_base.specs.Time.{IsInstant};
 ghost use Rattle.front_desk.specs.Words.{is_folder_name, node_of, trip_of, plan_of, plan_in};
 
-use route_base::{Minute, Text, read_minute, read_plain_number};
+use calendar_days::read_instant;
+use route_base::{Minute, Text, read_plain_number};
 
 /// The words of a plan, read: a trip from node `origin` at `depart` to node `goal`, by `until` at the latest, over the files
 /// of the folder `dir`. The nodes aren't tested against a graph, and the minutes not against each other.
@@ -55,13 +56,14 @@ fn trip_words<'a>(
         dir,
         origin: node_word(origin)?,
         goal: node_word(goal)?,
-        depart: read_minute(depart.as_bytes())?,
-        until: read_minute(until.as_bytes())?,
+        depart: read_instant(depart.as_bytes()).ok()?,
+        until: read_instant(until.as_bytes()).ok()?,
     })
 }
 
 /// The trip that the words `plan DIR any FROM TO DEPART UNTIL` give; `None` exactly where the words aren't of this form. DIR
-/// has 1 to 4,096 bytes and doesn't begin with `-`; numbers have no leading zero. Linear in the length of the words.
+/// has 1 to 4,096 bytes and doesn't begin with `-`; FROM and TO have no leading zero; DEPART and UNTIL are instants, as texts or as
+/// Unix minutes. Linear in the length of the words.
 pub fn read_words(words: &[Text]) -> Option<PlanWords<'_>>
     ensures plan { option_map plan_in result ≡ plan_of words.now }
     ensures instants { IfSome result (λ p. IsInstant p.depart × IsInstant p.until) }

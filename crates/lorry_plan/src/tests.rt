@@ -7,6 +7,7 @@ mod replays;
 mod runs;
 mod tables;
 mod waiting;
+mod zones;
 
 use front_desk::run;
 use route_base::{

@@ -4,6 +4,9 @@ use Rattle.std.specs.Prelude.{slice_get, unwrap_or}
 use Rattle.std.proofs.lemmas.List.{get_or-map}
 use Rattle.std.proofs.lemmas.Option.{unwrap_or-slice_get}
 use Rattle.route_base.specs.Net.{at_number}
+use Rattle.route_base.specs.declared.types.Run.{Run}
+use Rattle.dimacs_reader.specs.Table.{GraphTable}
+use Rattle.network_tables.specs.Stated.{Area, NetworkTable}
 
 pub at_number-get : {A : Type 0} (xs : List A) (a : ℕ) → 1 ≤ a → at_number xs a ≡ slice_get xs (a - 1)
 at_number-get xs zero h = absurd (omega (arith, h))
@@ -17,3 +20,8 @@ list_at items vs a v low high is =
     ∙ unwrap_or-slice_get (map items vs) (a - 1) []
     ∙ get_or-map items vs (a - 1) v [] there
     ∙ ap items (sym is)
+
+-- networks with the same parts
+pub same_network : {g h : GraphTable} {areas areas2 : List Area} {roads roads2 : List ℕ} {closures closures2 : List (List Run)} {weights weights2 : List (Option ℕ)} → g ≡ h → areas ≡ areas2 → roads ≡ roads2 → closures ≡ closures2 → weights ≡ weights2
+    → ◌≡◌ {A = NetworkTable} (record { graph = g; areas = areas; roads = roads; closures = closures; weights = weights }) (record { graph = h; areas = areas2; roads = roads2; closures = closures2; weights = weights2 })
+same_network p q r s t = λ i. record { graph = p i; areas = q i; roads = r i; closures = s i; weights = t i }

@@ -1,12 +1,18 @@
 -- Worked records: what the definitions say of them, by computing.
-use Rattle.std.proofs.Common.{◌≡◌, ℕ, List, [], ◌∷◌, Some, None, refl}
+use Rattle.std.proofs.Common.{◌≡◌, ℕ, Option, List, [], ◌∷◌, Some, None, refl}
 use Rattle.std.specs.Prelude.{codes}
 use Rattle.route_base.specs.declared.faults.Cause.TheVariants.{BadHeader, FieldCount, SizeLimit, BadField, Unknown, Duplicate, NotRising}
+use Rattle.calendar_days.specs.Days.{days_of_years, days_of_months}
+use Rattle.calendar_days.specs.Texts.{instant_of, day_of_text, clock_of}
 use Rattle.network_tables.specs.Closures.{closures_law, closures_in, runs_by_arc}
 use Rattle.network_tables.specs.Laws.{Law, first_table_fault}
+use Rattle.network_tables.specs.Areas.{AreaEntry, areas_law, areas_in, standing}
+use Rattle.network_tables.specs.Numbered.{given_by_number}
 use Rattle.network_tables.specs.Parking.{parking_law, parked_in, weights_by_node}
 use Rattle.network_tables.specs.Ratings.{Rating, ratings_law, ratings_in}
+use Rattle.network_tables.specs.Names.{names_of, value_of}
 use Rattle.network_tables.specs.Records.{Record, rows_in}
+use Rattle.network_tables.specs.Roads.{roads_law, roads_in, area_by_arc}
 
 abbrev closures_header : Record
 closures_header = codes "arc" ∷ codes "from" ∷ codes "to" ∷ []
@@ -18,11 +24,11 @@ abbrev two_arcs : List Record
 two_arcs = closures_header ∷ closure_row (codes "2") (codes "26563740") (codes "26563860") ∷ closure_row (codes "02") (codes "26563600") (codes "26563700") ∷ []
 
 closures_faultless : first_table_fault (closures_law 3) two_arcs ≡ None
-unfolding first_table_fault
+unfolding first_table_fault instant_of
 closures_faultless = refl
 
 closures_stated : runs_by_arc 3 (closures_in (rows_in two_arcs)) ≡ [] ∷ (record { lo = 26563740; hi = 26563860 } ∷ record { lo = 26563600; hi = 26563700 } ∷ []) ∷ [] ∷ []
-unfolding runs_by_arc
+unfolding runs_by_arc instant_of
 closures_stated = refl
 
 -- a file without records stands for the header alone
@@ -35,7 +41,7 @@ unfolding first_table_fault
 header_alone = refl
 
 header_wrong : first_table_fault (closures_law 3) ((codes "arc" ∷ codes "to" ∷ codes "from" ∷ []) ∷ closure_row (codes "x") (codes "") (codes "") ∷ []) ≡ Some (1, BadHeader)
-unfolding first_table_fault
+unfolding first_table_fault instant_of
 header_wrong = refl
 
 header_longer : first_table_fault (closures_law 3) ((codes "arc" ∷ codes "from" ∷ codes "to" ∷ codes "why" ∷ []) ∷ []) ≡ Some (1, BadHeader)
@@ -43,33 +49,42 @@ unfolding first_table_fault
 header_longer = refl
 
 field_count : first_table_fault (closures_law 3) (closures_header ∷ closure_row (codes "2") (codes "26563740") (codes "26563860") ∷ (codes "2" ∷ codes "x" ∷ []) ∷ []) ≡ Some (3, FieldCount)
-unfolding first_table_fault
+unfolding first_table_fault instant_of
 field_count = refl
 
 arc_after_last : first_table_fault (closures_law 3) (closures_header ∷ closure_row (codes "4") (codes "26563740") (codes "26563860") ∷ []) ≡ Some (2, Unknown)
-unfolding first_table_fault
+unfolding first_table_fault instant_of
 arc_after_last = refl
 
 arc_before_first : first_table_fault (closures_law 3) (closures_header ∷ closure_row (codes "0") (codes "26563740") (codes "26563860") ∷ []) ≡ Some (2, Unknown)
-unfolding first_table_fault
+unfolding first_table_fault instant_of
 arc_before_first = refl
 
 -- a field that isn't in its form comes before an arc that isn't there, and that before an end that isn't above its start
 bad_instant : first_table_fault (closures_law 3) (closures_header ∷ closure_row (codes "4") (codes "26563740") (codes "2656374x") ∷ []) ≡ Some (2, BadField)
-unfolding first_table_fault
+unfolding first_table_fault instant_of day_of_text
 bad_instant = refl
 
 instant_too_early : first_table_fault (closures_law 3) (closures_header ∷ closure_row (codes "3") (codes "525599") (codes "26563740") ∷ []) ≡ Some (2, BadField)
-unfolding first_table_fault
+unfolding first_table_fault instant_of day_of_text
 instant_too_early = refl
 
 unknown_before_order : first_table_fault (closures_law 3) (closures_header ∷ closure_row (codes "4") (codes "26563740") (codes "26563740") ∷ []) ≡ Some (2, Unknown)
-unfolding first_table_fault
+unfolding first_table_fault instant_of
 unknown_before_order = refl
 
 end_at_start : first_table_fault (closures_law 3) (closures_header ∷ closure_row (codes "3") (codes "26563740") (codes "26563740") ∷ []) ≡ Some (2, NotRising)
-unfolding first_table_fault
+unfolding first_table_fault instant_of
 end_at_start = refl
+
+-- instants as texts
+texts_read : closures_in (closure_row (codes "1") (codes "2020-07-04T00:00Z") (codes "2020-07-04T01:30:00Z") ∷ []) ≡ record { arc = record { 0 = 1 }; run = record { lo = 26563680; hi = 26563770 } } ∷ []
+unfolding instant_of day_of_text clock_of days_of_years days_of_months
+texts_read = refl
+
+text_without_zone : first_table_fault (closures_law 3) (closures_header ∷ closure_row (codes "1") (codes "2020-07-04T00:00") (codes "2020-07-04T01:00Z") ∷ []) ≡ Some (2, BadField)
+unfolding first_table_fault instant_of day_of_text clock_of
+text_without_zone = refl
 
 abbrev rating_row : List ℕ → List ℕ → Record
 rating_row name weight = name ∷ weight ∷ []
@@ -102,7 +117,7 @@ abbrev parked_row : List ℕ → List ℕ → Record
 parked_row node rating = node ∷ rating ∷ []
 
 weights_stated : weights_by_node 4 two_ratings (parked_in (parked_row (codes "2") (codes "r") ∷ parked_row (codes "4") (codes "s") ∷ [])) ≡ None ∷ Some 2000 ∷ None ∷ Some 0 ∷ []
-unfolding weights_by_node
+unfolding given_by_number
 weights_stated = refl
 
 abbrev parking_header : Record
@@ -124,6 +139,65 @@ node_twice = refl
 unknown_before_duplicate : first_table_fault (parking_law 4 two_ratings) (parking_header ∷ parked_row (codes "1") (codes "r") ∷ parked_row (codes "1") (codes "t") ∷ []) ≡ Some (3, Unknown)
 unfolding first_table_fault
 unknown_before_duplicate = refl
+
+abbrev area_row : List ℕ → List ℕ → Record
+area_row area zone = area ∷ zone ∷ []
+
+abbrev areas_header : Record
+areas_header = codes "area" ∷ codes "zone" ∷ []
+
+abbrev two_zones : List ℕ → Option ℕ
+two_zones name = value_of ((codes "East", 0) ∷ (codes "UTC", 1) ∷ []) name
+
+areas_stated : standing (areas_in (area_row (codes "a") (codes "East") ∷ area_row (codes "b") (codes "UTC") ∷ [])) ≡ (codes "a", codes "East") ∷ (codes "b", codes "UTC") ∷ []
+areas_stated = refl
+
+-- without rows one area stands
+default_area : standing (areas_in []) ≡ (codes "default", codes "UTC") ∷ []
+default_area = refl
+
+zone_unknown : first_table_fault (areas_law two_zones) (areas_header ∷ area_row (codes "a") (codes "West") ∷ []) ≡ Some (2, Unknown)
+unfolding first_table_fault
+zone_unknown = refl
+
+area_twice : first_table_fault (areas_law two_zones) (areas_header ∷ area_row (codes "a") (codes "East") ∷ area_row (codes "a") (codes "UTC") ∷ []) ≡ Some (3, Duplicate)
+unfolding first_table_fault
+area_twice = refl
+
+-- a zone that isn't there comes before an area that is there already, and a field that is no name before both
+zone_before_duplicate : first_table_fault (areas_law two_zones) (areas_header ∷ area_row (codes "a") (codes "East") ∷ area_row (codes "a") (codes "West") ∷ []) ≡ Some (3, Unknown)
+unfolding first_table_fault
+zone_before_duplicate = refl
+
+zone_no_name : first_table_fault (areas_law two_zones) (areas_header ∷ area_row (codes "a") (codes "Far East") ∷ []) ≡ Some (2, BadField)
+unfolding first_table_fault
+zone_no_name = refl
+
+abbrev two_areas : List (List ℕ)
+two_areas = names_of ((codes "a", codes "East") ∷ (codes "b", codes "UTC") ∷ [])
+
+abbrev road_row : List ℕ → List ℕ → Record
+road_row arc area = arc ∷ area ∷ []
+
+-- an arc without a row is in the first area
+roads_stated : area_by_arc 3 two_areas (roads_in (road_row (codes "2") (codes "b") ∷ road_row (codes "1") (codes "a") ∷ [])) ≡ 0 ∷ 1 ∷ 0 ∷ []
+unfolding given_by_number
+roads_stated = refl
+
+abbrev roads_header : Record
+roads_header = codes "arc" ∷ codes "area" ∷ []
+
+area_unknown : first_table_fault (roads_law 3 two_areas) (roads_header ∷ road_row (codes "1") (codes "c") ∷ []) ≡ Some (2, Unknown)
+unfolding first_table_fault
+area_unknown = refl
+
+road_after_last : first_table_fault (roads_law 3 two_areas) (roads_header ∷ road_row (codes "4") (codes "a") ∷ []) ≡ Some (2, Unknown)
+unfolding first_table_fault
+road_after_last = refl
+
+arc_twice : first_table_fault (roads_law 3 two_areas) (roads_header ∷ road_row (codes "3") (codes "a") ∷ road_row (codes "03") (codes "b") ∷ []) ≡ Some (3, Duplicate)
+unfolding first_table_fault
+arc_twice = refl
 
 -- a law with room for one row
 abbrev one_row : Law

@@ -11,7 +11,8 @@ use Rattle.std.proofs.lemmas.Option.{cond_some, option_and_then_some}
 use Rattle.std.specs.List.{slice_split}
 use Rattle.std.specs.Prelude.{◌==◌}
 use Rattle.route_base.specs.Forms.{at_most, is_name, weight_of, thousandths_in}
-use Rattle.network_tables.specs.Parking.{Parked, weight_at, rating_at, weights_by_node}
+use Rattle.network_tables.specs.Numbered.{Numbered, name_at, given_to, given_by_number}
+use Rattle.network_tables.specs.Parking.{weights_by_node}
 use Rattle.network_tables.specs.Ratings.{Rating, rating_of, ratings_in, weight_named}
 use Rattle.network_tables.specs.Records.{Record}
 use Rattle.network_tables.specs.Stated.{IsSmall}
@@ -55,9 +56,9 @@ weight_named-small (row ∷ rows) name w is = by_row (weight_named-small rows na
         (λ no. more (sym (cond-false _ _ _ no) ∙ same))
         (cases_Bool (bytes_eq name r.0))
 
-weight_at-small : (rows : List Record) (parked : List Parked) (v : ℕ) → IsSmall (weight_at (ratings_in rows) parked v)
-weight_at-small rows parked v w is = option_and_then_some (weight_named (ratings_in rows)) (rating_at parked v) w is (λ name _ found. weight_named-small rows name w found)
+given_to-small : (rows : List Record) (parked : List Numbered) (v : ℕ) → IsSmall (given_to (weight_named (ratings_in rows)) parked v)
+given_to-small rows parked v w is = option_and_then_some (weight_named (ratings_in rows)) (name_at parked v) w is (λ name _ found. weight_named-small rows name w found)
 
-pub weights_by_node-small : (nodes : ℕ) (rows : List Record) (parked : List Parked) → All IsSmall (weights_by_node nodes (ratings_in rows) parked)
-unfolding weights_by_node
-weights_by_node-small nodes rows parked = All-map IsSmall (weight_at (ratings_in rows) parked) (range_with_len 1 nodes) (λ k d _. weight_at-small rows parked (get_or (range_with_len 1 nodes) k d))
+pub weights_by_node-small : (nodes : ℕ) (rows : List Record) (parked : List Numbered) → All IsSmall (weights_by_node nodes (ratings_in rows) parked)
+unfolding given_by_number
+weights_by_node-small nodes rows parked = All-map IsSmall (given_to (weight_named (ratings_in rows)) parked) (range_with_len 1 nodes) (λ k d _. given_to-small rows parked (get_or (range_with_len 1 nodes) k d))

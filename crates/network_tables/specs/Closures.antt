@@ -1,10 +1,11 @@
 -- closures.csv: when arcs are closed.
 use Rattle.std.specs.Prelude.{ℕ, ◌==◌, nat_lt, Option, Some, None, List, [], ◌∷◌, map, codes, if◌then◌else◌}
 use Rattle.std.specs.List.{filter, filter_map, range_with_len}
-use Rattle.route_base.specs.Forms.{is_from_to, table_number_of, minute_of}
+use Rattle.route_base.specs.Forms.{is_from_to, table_number_of}
 use Rattle.route_base.specs.declared.faults.Cause.{Cause}
 use Rattle.route_base.specs.declared.faults.Cause.TheVariants.{BadField, Unknown, NotRising}
 use Rattle.route_base.specs.declared.types.Run.{Run}
+use Rattle.calendar_days.specs.Texts.{instant_of}
 use Rattle.network_tables.specs.declared.closures.Closure.{Closure}
 use Rattle.network_tables.specs.Laws.{Law}
 use Rattle.network_tables.specs.Records.{Record}
@@ -17,7 +18,7 @@ closure_from None lo hi = None
 
 -- a number and two instants
 abbrev pub closure_of : Record → Option Closure
-closure_of (arc ∷ from ∷ to ∷ []) = closure_from (table_number_of arc) (minute_of from) (minute_of to)
+closure_of (arc ∷ from ∷ to ∷ []) = closure_from (table_number_of arc) (instant_of from) (instant_of to)
 closure_of others = None
 
 -- the arc is one of so many, and the end is above the start

@@ -1,13 +1,12 @@
 -- ratings.csv: what a minute of waiting costs.
 use Rattle.std.specs.Prelude.{ℕ, is_some, Option, Some, None, List, [], ◌∷◌, codes, if◌then◌else◌}
 use Rattle.std.specs.List.{filter_map}
-use Rattle.std.specs.Map.{lookup}
 use Rattle.std.specs.Option.{option_map}
-use Rattle.std.specs.Str.{bytes_eq}
 use Rattle.route_base.specs.Forms.{is_name, weight_of}
 use Rattle.route_base.specs.declared.faults.Cause.{Cause}
 use Rattle.route_base.specs.declared.faults.Cause.TheVariants.{BadField, Duplicate}
 use Rattle.network_tables.specs.Laws.{Law}
+use Rattle.network_tables.specs.Names.{value_of}
 use Rattle.network_tables.specs.Records.{Record}
 
 -- a rating's name, and its weight in thousandths
@@ -21,7 +20,7 @@ rating_of others = None
 
 -- the weight of the rating with this name
 abbrev pub weight_named : List Rating → List ℕ → Option ℕ
-weight_named ratings name = lookup (bytes_eq name) ratings
+weight_named ratings name = value_of ratings name
 
 -- a name that isn't there yet
 abbrev pub cause_of_rating : List Rating → Option Rating → Option Cause

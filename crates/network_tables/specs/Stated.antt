@@ -1,12 +1,20 @@
 -- What a network is.
-use Rattle.std.specs.Prelude.{◌≡◌, ℕ, ◌≤◌, Option, Some, List, [], length, unwrap_or, All}
+use Rattle.std.specs.Prelude.{◌≡◌, ℕ, ◌≤◌, ◌<◌, Option, Some, List, [], length, map, unwrap_or, slice_get, All}
 use Rattle.route_base.specs.Net.{at_number}
 use Rattle.route_base.specs.declared.types.Run.{Run}
 use Rattle.dimacs_reader.specs.Table.{GraphTable}
+use Rattle.zone_rules.specs.declared.rows.ZoneRow.{ZoneRow}
 
--- a graph, the closed minutes of each arc by its number, and the weight of each node where one may wait
+-- an area: the rows of its zone
+pub record Area : Type 0 where
+  pub zone : List ZoneRow
+
+-- a graph, the areas, for each arc the place of its area, for each arc its closed minutes, and the weight of each node where
+-- one may wait
 pub record NetworkTable : Type 0 where
   pub graph : GraphTable
+  pub areas : List Area
+  pub roads : List ℕ
   pub closures : List (List Run)
   pub weights : List (Option ℕ)
 
@@ -18,8 +26,23 @@ closures_of net a = unwrap_or (at_number net.closures a) []
 abbrev pub IsSmall : Option ℕ → Type 0
 IsSmall o = (w : ℕ) → o ≡ Some w → w ≤ 100000
 
+-- each of these places is below so many
+abbrev pub AreBelow : ℕ → List ℕ → Type 0
+AreBelow n places = All (λ i. i < n) places
+
 -- what each network keeps
 pub record IsGoodNetwork (net : NetworkTable) : Type 0 where
+  pub roads : length net.roads ≡ length net.graph.arcs
+  pub placed : AreBelow (length net.areas) net.roads
   pub closures : length net.closures ≡ length net.graph.arcs
   pub weights : length net.weights ≡ net.graph.nodes
   pub small : All IsSmall net.weights
+
+-- the areas whose zones stand at these places
+abbrev pub areas_at : List (List ZoneRow) → List ℕ → List Area
+areas_at zones places = map (λ i. record { zone = unwrap_or (slice_get zones i) [] }) places
+
+-- a good network, whose areas name their zones by these places among these zones
+pub record HoldsNetwork (zones : List (List ZoneRow)) (places : List ℕ) (net : NetworkTable) : Type 0 where
+  pub good : IsGoodNetwork net
+  pub zoned : AreBelow (length zones) places

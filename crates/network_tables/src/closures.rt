@@ -6,8 +6,9 @@ ghost use Rattle.network_tables.specs.Closures.{closure_of, closures_law, closur
 use crate::faults::RowFault;
 use crate::fields::three_fields;
 use crate::tables::Table;
+use calendar_days::read_instant;
 use csv::ByteRecord;
-use route_base::{ArcId, Cause, OutOfMemory, Run, read_minute, read_table_number};
+use route_base::{ArcId, Cause, OutOfMemory, Run, read_table_number};
 use std::alloc::Global;
 use std::marker::Model;
 
@@ -62,8 +63,8 @@ fn read_closure(row: &ByteRecord) -> Option<Closure>
     let (arc, from, to) = three_fields(row);
     let arc = ArcId(read_table_number(arc)?);
     let run = Run {
-        lo: read_minute(from)?,
-        hi: read_minute(to)?,
+        lo: read_instant(from).ok()?,
+        hi: read_instant(to).ok()?,
     };
     Some(Closure { arc, run })
 }

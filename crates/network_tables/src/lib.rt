@@ -1,24 +1,35 @@
 //! Reads the tables of a road network from the bytes of its files (csv, RFC 4180), beside its graph.
 //!
-//! The law is in `specs/`: `Records` (the records of a file), `Laws` (what any table may hold, and its first fault),
-//! `Closures`, `Ratings` and `Parking` (the law of each table, and what its rows state) and `Network` (the network that all
-//! files state, and the first fault of their contents). It is met by `read_network` and the calls of `Network`. What all
-//! tables share is `read_table`, over the trait `Table`.
+//! The law is in `specs/`: `Records` (the records of a file), `Laws` (what any table may hold, and its first fault), `Zones`,
+//! `Areas`, `Roads`, `Closures`, `Ratings` and `Parking` (the law of each table, and what its rows state), `Stated` (what a
+//! network is) and `Network` (the network that all files state, and the first fault of their contents). It is met by
+//! `read_network` and the calls of `Network`. What all tables share is `read_table`, over the trait `Table`; what tables of a
+//! number and a name share is `NumberedTable`, over the trait `Naming` and the law in `Numbered`; what stands by name is held
+//! in `Names`.
 #![tactic(auto)]
 
+mod area_files;
+mod areas;
 mod closures;
 mod faults;
 mod fields;
 mod files;
+mod names;
 mod network;
+mod numbered;
+mod offsets;
 mod parking;
 mod ratings;
 mod reading;
 mod records;
+mod roads;
+mod table_files;
 mod tables;
 #[cfg(test)]
 mod tests;
 mod threads;
+mod zone_rows;
+mod zones;
 
 pub use faults::NetworkFault;
 pub use files::Files;

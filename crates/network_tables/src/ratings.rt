@@ -5,9 +5,9 @@ ghost use Rattle.network_tables.specs.Ratings.{rating_of, ratings_law, ratings_i
 
 use crate::faults::RowFault;
 use crate::fields::two_fields;
+use crate::names::Names;
 use crate::tables::Table;
 use csv::ByteRecord;
-use indexmap::IndexMap;
 use route_base::{Cause, Cost, is_name_field, read_weight};
 use std::alloc::Global;
 use std::marker::Model;
@@ -15,15 +15,15 @@ use std::marker::Model;
 /// The weights of ratings by name, which contracts see as a list of pairs in the order of the rows.
 #[derive(Drop)]
 pub struct RatingTable {
-    weights: IndexMap<Vec<u8>, Cost>,
+    weights: Names<Cost>,
 }
 
 impl Model for RatingTable {
-    ghost use Rattle.std.specs.Prelude.{List, ℕ, map};
+    ghost use Rattle.std.specs.Prelude.{List, ℕ};
 
     ghost Value = { List (List ℕ × ℕ) };
 
-    ghost view = { λ t. map (λ e. (e.0.items, e.1)) t.weights.entries };
+    ghost view = { λ t. t.weights };
 }
 
 impl RatingTable {
@@ -32,7 +32,7 @@ impl RatingTable {
         ensures { result ≡ [] }
     {
         RatingTable {
-            weights: IndexMap::new(alloc),
+            weights: Names::new(alloc),
         }
     }
 
@@ -40,7 +40,7 @@ impl RatingTable {
     pub fn weight(&self, name: &[u8]) -> Option<Cost>
         ensures { result ≡ weight_named self.now name.now }
     {
-        self.weights.get(name).copied()
+        self.weights.value(name)
     }
 }
 
@@ -73,10 +73,6 @@ impl Table for RatingTable {
         let Some((name, weight)) = read_rating(row) else {
             return Err(RowFault::Bad(Cause::BadField));
         };
-        if self.weight(name).is_some() {
-            return Err(RowFault::Bad(Cause::Duplicate));
-        }
-        self.weights.insert(Vec::from_slice(alloc, name)?, weight)?;
-        Ok(())
+        self.weights.add(alloc, name, weight)
     }
 }

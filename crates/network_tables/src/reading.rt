@@ -11,35 +11,15 @@ ghost use Rattle.network_tables.specs.Ratings.{ratings_law, ratings_in};
 ghost use Rattle.network_tables.specs.Records.{records_of, rows_in};
 ghost use Rattle.route_base.specs.declared.faults.FileKind.TheVariants.{Graph, Closures, Ratings, Parking};
 
+use crate::area_files::read_area_files;
 use crate::closures::ClosureTable;
-use crate::parking::ParkingTable;
+use crate::numbered::NumberedTable;
 use crate::ratings::RatingTable;
-use crate::tables::{Table, read_table};
+use crate::table_files::read_file;
 use crate::{Files, Network, NetworkFault};
 use dimacs_reader::{GraphFault, read_graph};
-use route_base::{BadInput, Cost, FileBytes, FileKind, Run, TableFault};
+use route_base::{BadInput, Cost, FileBytes, FileKind, Run};
 use std::alloc::Global;
-
-// A table with the rows of its file.
-fn read_file<T: Table>(
-    alloc: Global,
-    file: FileKind,
-    bytes: &FileBytes,
-    table: T,
-) -> Result<T, NetworkFault>
-    requires { T.becomes table table [] }
-    ensures faultless { OnOk result (fault_in file (first_table_fault (T.law table) (records_of bytes.now)) ≡ None) }
-    ensures stated { IfOk result (λ read. T.becomes table read (rows_in (records_of bytes.now))) }
-    ensures refused { IfErr result (λ e. IfBad e (λ fault. fault_in file (first_table_fault (T.law table) (records_of bytes.now)) ≡ Some fault)) }
-{
-    match read_table(alloc, bytes.as_slice(), table) {
-        Ok(table) => Ok(table),
-        Err(TableFault::BadRow { row, cause }) => {
-            Err(NetworkFault::Bad(BadInput { file, row, cause }))
-        }
-        Err(TableFault::OutOfMemory) => Err(NetworkFault::OutOfMemory),
-    }
-}
 
 // The graph of a file.
 fn read_graph_file(alloc: Global, bytes: &FileBytes) -> Result<dimacs_reader::Graph, NetworkFault>
@@ -88,19 +68,18 @@ fn read_weights(
     ensures stated { IfOk result (λ weights. weights.items ≡ weights_by_node nodes ratings (parked_in (rows_in (records_of bytes.now)))) }
     ensures refused { IfErr result (λ e. IfBad e (λ fault. fault_in Parking (first_table_fault (parking_law nodes ratings) (records_of bytes.now)) ≡ Some fault)) }
 {
-    let table = ParkingTable::new(alloc, nodes, ratings)?;
-    Ok(read_file(alloc, FileKind::Parking, bytes, table)?.into_weights())
+    let table = NumberedTable::new(alloc, nodes, ratings)?;
+    let (_, weights) = read_file(alloc, FileKind::Parking, bytes, table)?.into_parts();
+    Ok(weights)
 }
 
-/// Reads the network that the files state: the graph, then closures, ratings and parking. Linear in the bytes.
+/// Reads the network that the files state: the graph, then zones, areas, roads, closures, ratings and parking. Linear in the
+/// bytes, the nodes and the arcs.
 ///
 /// `Bad` is the first fault of their contents; `OutOfMemory` comes where a list can't grow. The other files can't be read yet
 /// and have to be empty.
 #[tactic(auto, unfolding(crate::specs::Network::contents_fault, crate::specs::Network::network_of))]
 pub fn read_network(alloc: Global, files: &Files) -> Result<Network, NetworkFault>
-    requires zones { files.now.zones ≡ [] }
-    requires areas { files.now.areas ≡ [] }
-    requires roads { files.now.roads ≡ [] }
     requires vehicles { files.now.vehicles ≡ [] }
     requires rules { files.now.rules ≡ [] }
     requires holidays { files.now.holidays ≡ [] }
@@ -109,8 +88,11 @@ pub fn read_network(alloc: Global, files: &Files) -> Result<Network, NetworkFaul
     ensures refused { IfErr result (λ e. IfBad e (λ fault. contents_fault files.now ≡ Some fault)) }
 {
     let graph = read_graph_file(alloc, &files.graph)?;
-    let closures = read_closures(alloc, &files.closures, graph.arc_count())?;
+    let arcs = graph.arc_count();
+    let map = read_area_files(alloc, files, arcs)?;
+    let closures = read_closures(alloc, &files.closures, arcs)?;
     let ratings = read_ratings(alloc, &files.ratings)?;
     let weights = read_weights(alloc, &files.parking, graph.node_count(), ratings)?;
-    Ok(Network::new(graph, closures, weights))
+    let zone_places = map.areas.into_zone_places(alloc)?;
+    Ok(Network::new(graph, map.zones, zone_places, map.roads, closures, weights))
 }

@@ -1,4 +1,4 @@
-// Worked files: a triangle whose second arc is closed once, with one rated node.
+// Worked files: a triangle whose second arc is closed once, with one rated node; and its arcs in areas.
 use crate::{Files, Network, NetworkFault, read_network};
 use route_base::{ArcId, BadInput, Cause, FileBytes, FileKind, NodeId, OutOfMemory, Run};
 use std::alloc::Global;
@@ -9,7 +9,7 @@ fn bytes_of(alloc: Global, text: &str) -> Result<FileBytes, OutOfMemory> {
     Ok(FileBytes::from_vec(Vec::from_slice(alloc, text.as_bytes())?))
 }
 
-// The network of these tables over the triangle.
+// The network of these tables over the triangle, all arcs in one area.
 fn read(
     alloc: Global,
     closures: &str,
@@ -26,6 +26,28 @@ fn read(
         closures: bytes_of(alloc, closures)?,
         ratings: bytes_of(alloc, ratings)?,
         parking: bytes_of(alloc, parking)?,
+        holidays: FileBytes::new(alloc),
+    };
+    read_network(alloc, &files)
+}
+
+// The network of these tables over the triangle, without closures and rated nodes.
+fn read_areas(
+    alloc: Global,
+    zones: &str,
+    areas: &str,
+    roads: &str,
+) -> Result<Network, NetworkFault> {
+    let files = Files {
+        graph: bytes_of(alloc, TRIANGLE)?,
+        zones: bytes_of(alloc, zones)?,
+        areas: bytes_of(alloc, areas)?,
+        roads: bytes_of(alloc, roads)?,
+        vehicles: FileBytes::new(alloc),
+        rules: FileBytes::new(alloc),
+        closures: FileBytes::new(alloc),
+        ratings: FileBytes::new(alloc),
+        parking: FileBytes::new(alloc),
         holidays: FileBytes::new(alloc),
     };
     read_network(alloc, &files)
@@ -54,6 +76,127 @@ fn reads_a_closure_and_a_rated_node(rt: HostRuntime) {
             assert!(rt; network.closure(ArcId(2), 0) == run);
         }
         Err(_) => assert!(rt; false, "the tables are refused"),
+    }
+}
+
+#[test]
+fn reads_closures_between_texts(rt: HostRuntime) {
+    let closures = "arc,from,to\n2,2020-07-04T00:00Z,26563860\n";
+    match read(rt.alloc(), closures, "", "") {
+        Ok(network) => {
+            assert_eq!(rt; network.graph().arc_count(), 3);
+            assert_eq!(rt; network.closure_count(ArcId(2)), 1);
+            assert_eq!(rt; network.closure(ArcId(2), 0).lo, 26_563_680);
+        }
+        Err(_) => assert!(rt; false, "the closures are refused"),
+    }
+}
+
+#[test]
+fn puts_arcs_into_areas(rt: HostRuntime) {
+    let zones = "zone,from,offset\nEast,525600,+02:00\n";
+    let areas = "area,zone\nport,UTC\ntown,East\n";
+    match read_areas(rt.alloc(), zones, areas, "arc,area\n2,town\n") {
+        Ok(network) => {
+            assert_eq!(rt; network.graph().arc_count(), 3);
+            assert_eq!(rt; network.area_of(ArcId(1)), 0);
+            assert_eq!(rt; network.area_of(ArcId(2)), 1);
+            assert_eq!(rt; network.area_of(ArcId(3)), 0);
+            let port = network.zone_of(network.area_of(ArcId(1)));
+            let town = network.zone_of(network.area_of(ArcId(2)));
+            assert_eq!(rt; port.offset(26_563_680), 0);
+            assert_eq!(rt; town.offset(26_563_680), 120);
+        }
+        Err(_) => assert!(rt; false, "the areas are refused"),
+    }
+}
+
+#[test]
+fn has_a_default_area(rt: HostRuntime) {
+    for (zones, ahead) in [("", 0i64), ("zone,from,offset\nUTC,525600,+00:01\n", 1)] {
+        match read_areas(rt.alloc(), zones, "", "arc,area\n3,default\n") {
+            Ok(network) => {
+                assert_eq!(rt; network.graph().arc_count(), 3);
+                assert_eq!(rt; network.area_of(ArcId(3)), 0);
+                let zone = network.zone_of(network.area_of(ArcId(1)));
+                assert_eq!(rt; zone.offset(26_563_680), ahead);
+            }
+            Err(_) => assert!(rt; false, "the areas are refused"),
+        }
+    }
+}
+
+#[test]
+fn names_the_first_fault_of_areas(rt: HostRuntime) {
+    let zones = "zone,from,offset\nEast,525600,+02:00\n";
+    let areas = "area,zone\nport,East\n";
+    let faults = [
+        ("zone\n", "x", "x", FileKind::Zones, 1, Cause::BadHeader),
+        (
+            zones,
+            "area,zone\nport,-\n",
+            "x",
+            FileKind::Areas,
+            2,
+            Cause::BadField,
+        ),
+        (
+            zones,
+            "area,zone\nport,West\n",
+            "x",
+            FileKind::Areas,
+            2,
+            Cause::Unknown,
+        ),
+        (
+            zones,
+            "area,zone\nport,East\nport,UTC\n",
+            "x",
+            FileKind::Areas,
+            3,
+            Cause::Duplicate,
+        ),
+        (
+            zones,
+            areas,
+            "arc,area\nx,port\n",
+            FileKind::Roads,
+            2,
+            Cause::BadField,
+        ),
+        (
+            zones,
+            areas,
+            "arc,area\n1,default\n",
+            FileKind::Roads,
+            2,
+            Cause::Unknown,
+        ),
+        (
+            zones,
+            areas,
+            "arc,area\n4,port\n",
+            FileKind::Roads,
+            2,
+            Cause::Unknown,
+        ),
+        (
+            zones,
+            areas,
+            "arc,area\n1,port\n01,port\n",
+            FileKind::Roads,
+            3,
+            Cause::Duplicate,
+        ),
+    ];
+    for (zones, areas, roads, file, row, cause) in faults {
+        match read_areas(rt.alloc(), zones, areas, roads) {
+            Err(fault) => {
+                let named = NetworkFault::Bad(BadInput { file, row, cause });
+                assert!(rt; fault == named, "at {zones}{areas}{roads}");
+            }
+            Ok(_) => assert!(rt; false, "taken: {zones}{areas}{roads}"),
+        }
     }
 }
 

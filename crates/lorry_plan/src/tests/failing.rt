@@ -92,19 +92,19 @@ fn tells_faults_of_reading_and_writing(rt: HostRuntime) -> Result<(), Fail> {
     ];
     let elsewhere = [("e/graph.gr", TRIANGLE)];
     let faulty = [("d/graph.gr", TRIANGLE), ("d/closures.csv", "x")];
-    let unbuilt = [("d/graph.gr", TRIANGLE), ("d/zones.csv", "x")];
+    let unbuilt = [("d/graph.gr", TRIANGLE), ("d/vehicles.csv", "x")];
     let refused = "plan d any 0 3 26563680 26564080";
     let origin = "refused request OriginRange\n";
     let missing = "refused input graph.gr 0 Missing\n";
     let header = "refused input closures.csv 1 BadHeader\n";
-    let zones = "refused input zones.csv 0 NotBuilt\n";
+    let vehicles = "refused input vehicles.csv 0 NotBuilt\n";
     let usage = "refused usage\n";
     expect_calls(&rt, &alone, 11, TRIP, Status::Done, ONE_PAIR)?;
     expect_calls(&rt, &network, 14, TRIP, Status::Done, TWO_PAIRS)?;
     expect_calls(&rt, &network, 14, refused, Status::BadRequest, origin)?;
     expect_calls(&rt, &elsewhere, 1, TRIP, Status::BadInput, missing)?;
     expect_calls(&rt, &faulty, 12, TRIP, Status::BadInput, header)?;
-    expect_calls(&rt, &unbuilt, 3, TRIP, Status::BadInput, zones)?;
+    expect_calls(&rt, &unbuilt, 6, TRIP, Status::BadInput, vehicles)?;
     expect_calls(&rt, &network, 0, "plan", Status::Usage, usage)
 }
 

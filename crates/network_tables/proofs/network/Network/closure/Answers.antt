@@ -10,7 +10,7 @@ use Rattle.network_tables.proofs.network.Network.closure.Goals as goal
 pub index-requires-2 : goal.index-requires-2
 index-requires-2 c =
     let arcs = ap (λ (n : NetworkTable). length n.graph.arcs) c.self.view_is in
-    let high : c.args.a.0 ≤ length c.self.inside.closures.items = omega (arith, arcs, c.self.invariant.closures, c.requires.high, length-map {B = List Run} c.self.inside.closures.items (λ v. v.items)) in
+    let high : c.args.a.0 ≤ length c.self.inside.closures.items = omega (arith, arcs, c.self.invariant.good.closures, c.requires.high, length-map {B = List Run} c.self.inside.closures.items (λ v. v.items)) in
     let here = list_at (λ v. v.items) c.self.inside.closures.items c.args.a.0 c.index.result.now c.requires.low high c.index.ensures in
     let seen = ap (λ (n : NetworkTable). length (closures_of n c.args.a.0)) c.self.view_is in
     omega (arith, c.index.result.now.ok.0, ap (λ (ys : List _). length ys) here, seen, c.requires.there)
@@ -18,7 +18,7 @@ index-requires-2 c =
 pub returns : goal.returns
 returns c =
     let arcs = ap (λ (n : NetworkTable). length n.graph.arcs) c.self.view_is in
-    let high : c.args.a.0 ≤ length c.self.inside.closures.items = omega (arith, arcs, c.self.invariant.closures, c.requires.high, length-map {B = List Run} c.self.inside.closures.items (λ v. v.items)) in
+    let high : c.args.a.0 ≤ length c.self.inside.closures.items = omega (arith, arcs, c.self.invariant.good.closures, c.requires.high, length-map {B = List Run} c.self.inside.closures.items (λ v. v.items)) in
     let here = list_at (λ v. v.items) c.self.inside.closures.items c.args.a.0 c.index.result.now c.requires.low high c.index.ensures in
     let seen = ap (λ (n : NetworkTable). closures_of n c.args.a.0) c.self.view_is in
     let same = sym seen ∙ here in

@@ -1,0 +1,37 @@
+-- Values by name, as a map of keys holds them that are seen as names.
+use Rattle.std.proofs.Common.{◌≡◌, ℕ, Bool, true, false, Option, Some, None, List, [], ◌∷◌, ◌++◌, map, refl, sym, ◌∙◌, ap}
+use Rattle.std.specs.List.{position}
+use Rattle.std.specs.Map.{lookup}
+use Rattle.std.specs.Option.{is_some}
+use Rattle.std.specs.Str.{bytes_eq}
+use Rattle.std.proofs.lemmas.List.{map-append}
+use Rattle.network_tables.specs.Names.{value_of, names_of, place_among}
+use Rattle.network_tables.proofs.Lists.{lookup-map, position-map}
+
+pub none_from : {A : Type 0} (o : Option A) → is_some o ≡ false → o ≡ None
+none_from None e = refl
+none_from (Some x) e = cc
+
+module _ {K V : Type 0} (items : K → List ℕ) (es : List (K × V)) (seen : List (List ℕ × V)) (is : map (λ (e : K × V). (items e.0, e.1)) es ≡ seen) where
+  pub value_seen : (name : List ℕ) → lookup (λ k. bytes_eq name (items k)) es ≡ value_of seen name
+  value_seen name = sym (lookup-map items (bytes_eq name) es) ∙ ap (λ (ns : List (List ℕ × V)). value_of ns name) is
+
+  pub place_seen : (name : List ℕ) → position (λ k. bytes_eq name (items k)) (map (λ (e : K × V). e.0) es) ≡ place_among (names_of seen) name
+  place_seen name =
+      position-map (λ (e : K × V). e.0) (λ k. bytes_eq name (items k)) es
+      ∙ sym (position-map (λ (e : K × V). (items e.0, e.1)) (λ (p : List ℕ × V). bytes_eq name p.0) es)
+      ∙ sym (position-map (λ (p : List ℕ × V). p.0) (bytes_eq name) (map (λ (e : K × V). (items e.0, e.1)) es))
+      ∙ ap (λ (ns : List (List ℕ × V)). place_among (names_of ns) name) is
+
+  pub seen_more : (key : K) (name : List ℕ) (v : V) → items key ≡ name → map (λ (e : K × V). (items e.0, e.1)) (es ++ (key, v) ∷ []) ≡ seen ++ (name, v) ∷ []
+  seen_more key name v same =
+      map-append (λ (e : K × V). (items e.0, e.1)) es ((key, v) ∷ [])
+      ∙ ap (λ (ns : List (List ℕ × V)). ns ++ (items key, v) ∷ []) is
+      ∙ ap (λ (n : List ℕ). seen ++ (n, v) ∷ []) same
+
+  pub values_seen : map (λ (e : K × V). e.1) es ≡ map (λ (p : List ℕ × V). p.1) seen
+  values_seen = kept es ∙ ap (λ (ns : List (List ℕ × V)). map (λ (p : List ℕ × V). p.1) ns) is
+    where
+      kept : (xs : List (K × V)) → map (λ (e : K × V). e.1) xs ≡ map (λ (p : List ℕ × V). p.1) (map (λ (e : K × V). (items e.0, e.1)) xs)
+      kept [] = refl
+      kept (x ∷ xs) = ap (λ (vs : List V). x.1 ∷ vs) (kept xs)

@@ -1,0 +1,40 @@
+-- areas.csv: which zone an area is in.
+use Rattle.std.specs.Prelude.{ℕ, ◌&&◌, is_some, Option, Some, None, List, [], ◌∷◌, codes, if◌then◌else◌}
+use Rattle.std.specs.List.{filter_map}
+use Rattle.route_base.specs.Forms.{is_name}
+use Rattle.route_base.specs.declared.faults.Cause.{Cause}
+use Rattle.route_base.specs.declared.faults.Cause.TheVariants.{BadField, Unknown, Duplicate}
+use Rattle.network_tables.specs.Laws.{Law}
+use Rattle.network_tables.specs.Names.{value_of}
+use Rattle.network_tables.specs.Records.{Record}
+
+-- the names of an area and of its zone
+abbrev pub AreaEntry : Type 0
+AreaEntry = List ℕ × List ℕ
+
+-- two names
+abbrev pub area_of_record : Record → Option AreaEntry
+area_of_record (area ∷ zone ∷ []) = if is_name area && is_name zone then Some (area, zone) else None
+area_of_record others = None
+
+-- a zone that is there, and an area that isn't there yet
+abbrev pub cause_of_area : {Z : Type 0} → (List ℕ → Option Z) → List AreaEntry → Option AreaEntry → Option Cause
+cause_of_area zones before None = Some BadField
+cause_of_area zones before (Some a) =
+    if is_some (zones a.1) then (if is_some (value_of before a.0) then Some Duplicate else None) else Some Unknown
+
+-- the areas of these rows in their order
+abbrev pub areas_in : List Record → List AreaEntry
+areas_in rows = filter_map area_of_record rows
+
+abbrev pub areas_law : {Z : Type 0} → (List ℕ → Option Z) → Law
+areas_law zones = record {
+  header = codes "area" ∷ codes "zone" ∷ [];
+  limit = 1000;
+  cause = λ before row. cause_of_area zones (areas_in before) (area_of_record row);
+}
+
+-- the areas that stand: where there are no rows, one that is called default, in UTC
+abbrev pub standing : List AreaEntry → List AreaEntry
+standing [] = (codes "default", codes "UTC") ∷ []
+standing (area ∷ more) = area ∷ more

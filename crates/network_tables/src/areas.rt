@@ -1,0 +1,146 @@
+// areas.csv: which zone an area is in.
+ghost use Rattle.std.specs.Prelude.{◌≡◌, ◌<◌, [], List, ℕ, IsSome, IfOk, IfSome, codes, length, map, option_map};
+ghost use Rattle.csv.specs.Records.{fields_of};
+ghost use Rattle.network_tables.specs.Areas.{AreaEntry, area_of_record, areas_in, areas_law, standing};
+ghost use Rattle.network_tables.specs.Names.{value_of, names_of, place_among};
+ghost use Rattle.network_tables.specs.Zoned.{HaveZones};
+
+use crate::faults::RowFault;
+use crate::fields::two_fields;
+use crate::names::Names;
+use crate::tables::Table;
+use crate::zones::Zones;
+use csv::ByteRecord;
+use route_base::{Cause, OutOfMemory, is_name_field};
+use std::alloc::Global;
+use std::marker::Model;
+
+/// Areas by name, each with the place of its zone among all zones. Contracts see a list of pairs of a name and a place.
+#[derive(Drop)]
+pub struct Areas {
+    zone_places: Names<usize>,
+}
+
+impl Model for Areas {
+    ghost use Rattle.std.specs.Prelude.{◌<◌, ◌^◌, List, ℕ, length};
+
+    ghost Value = { List (List ℕ × ℕ) };
+
+    ghost view = { λ a. a.zone_places };
+
+    ghost invariant = { λ a. length a.zone_places < 2 ^ 32 };
+}
+
+impl Areas {
+    /// The place from 0 of the area of this name, in constant time on average.
+    pub fn place(&self, name: &[u8]) -> Option<u32>
+        ensures place { result ≡ place_among (names_of self.now) name.now }
+        ensures within { IfSome result (λ i. i < length self.now) }
+    {
+        self.zone_places.place(name).map(|i| i as u32)
+    }
+
+    /// The place of the zone of each area. Linear in the areas.
+    pub fn into_zone_places(self, alloc: Global) -> Result<Vec<usize>, OutOfMemory>
+        ensures { IfOk result (λ places. places.items ≡ map (λ e. e.1) self) }
+    {
+        self.zone_places.into_values(alloc)
+    }
+}
+
+/// Areas as their rows come, with the zones that they name.
+#[derive(Drop)]
+pub struct AreaTable {
+    zones: Zones,
+    zone_places: Names<usize>,
+}
+
+impl Model for AreaTable {
+    ghost use Rattle.network_tables.specs.Zoned.{Zoned};
+
+    ghost Value = { Zoned };
+
+    ghost view = { λ t. record { zones = t.zones; areas = t.zone_places } };
+}
+
+impl AreaTable {
+    /// No areas.
+    pub fn new(alloc: Global, zones: Zones) -> Self
+        ensures zones { result.zones ≡ zones }
+        ensures none { result.areas ≡ [] }
+    {
+        AreaTable {
+            zones,
+            zone_places: Names::new(alloc),
+        }
+    }
+
+    /// The zones and the areas; without rows the area `default` in the zone `UTC`.
+    pub fn into_areas(self, alloc: Global) -> Result<(Zones, Areas), OutOfMemory>
+        requires utc { IsSome (value_of self.zones (codes "UTC")) }
+        ensures zones { IfOk result (λ read. read.0 ≡ self.zones) }
+        ensures areas { IfOk result (λ read. (rows : List AreaEntry) → HaveZones self.zones rows self.areas → HaveZones self.zones (standing rows) read.1) }
+    {
+        let AreaTable { zones, zone_places } = self;
+        let zone_places = with_default(alloc, &zones, zone_places)?;
+        if zone_places.len() > u32::MAX as usize {
+            return Err(OutOfMemory);
+        }
+        Ok((zones, Areas { zone_places }))
+    }
+}
+
+// Areas without a row are one that is called default, in UTC.
+fn with_default(
+    alloc: Global,
+    zones: &Zones,
+    mut zone_places: Names<usize>,
+) -> Result<Names<usize>, OutOfMemory>
+    requires utc { IsSome (value_of zones.now (codes "UTC")) }
+    ensures { IfOk result (λ placed. (rows : List AreaEntry) → HaveZones zones.now rows zone_places → HaveZones zones.now (standing rows) placed) }
+{
+    if zone_places.len() == 0 {
+        let utc = zones.place(b"UTC").unwrap();
+        if zone_places.add(alloc, b"default", utc).is_err() {
+            return Err(OutOfMemory);
+        }
+    }
+    Ok(zone_places)
+}
+
+// What a row says.
+fn read_area(row: &ByteRecord) -> Option<(&[u8], &[u8])>
+    requires { length (fields_of row.now) ≡ 2 }
+    ensures { option_map (λ a. (a.0.now, a.1.now)) result ≡ area_of_record (fields_of row.now) }
+{
+    let (area, zone) = two_fields(row);
+    if is_name_field(area) && is_name_field(zone) {
+        Some((area, zone))
+    } else {
+        None
+    }
+}
+
+impl Table for AreaTable {
+    ghost law = { λ t. areas_law (value_of t.zones) };
+
+    ghost becomes = { λ start t rows. (t.zones ≡ start.zones) × HaveZones start.zones (areas_in rows) t.areas };
+
+    fn header(&self) -> &'static [&'static str] {
+        &["area", "zone"]
+    }
+
+    fn limit(&self) -> u32 {
+        1_000
+    }
+
+    fn add(&mut self, alloc: Global, row: &ByteRecord) -> Result<(), RowFault> {
+        let Some((area, zone)) = read_area(row) else {
+            return Err(RowFault::Bad(Cause::BadField));
+        };
+        let Some(zone) = self.zones.place(zone) else {
+            return Err(RowFault::Bad(Cause::Unknown));
+        };
+        self.zone_places.add(alloc, area, zone)
+    }
+}

@@ -1,0 +1,4 @@
+pub mod FirstFaults
+pub mod GrowingZones
+pub mod LastRows
+pub mod SoundZones

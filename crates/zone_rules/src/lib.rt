@@ -1,0 +1,15 @@
+//! Time zones as tables of offsets: from a minute in UTC to the local day and minute of the day.
+//!
+//! The law is in `specs/Zones`: which rows are a zone, the offset at a minute, and the wall reading of a minute. It is met here
+//! by `Zone::from_rows`, `offset` and `wall`.
+#![tactic(auto)]
+
+mod faults;
+mod rows;
+#[cfg(test)]
+mod tests;
+mod threads;
+mod zone;
+
+pub use rows::{Wall, ZoneFault, ZoneRow};
+pub use zone::Zone;
