@@ -1,0 +1,11 @@
+pub mod Canon
+pub mod Cuts
+pub mod Longest
+pub mod Parts
+pub mod Pieces
+pub mod PlainTexts
+pub mod Lists
+pub mod Whole
+pub mod Rising
+pub mod Rules
+pub mod Spelled

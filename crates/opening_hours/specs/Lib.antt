@@ -1,0 +1,11 @@
+pub mod Covering
+pub mod Cutting
+pub mod Grammar
+pub mod Holidays
+pub mod Hours
+pub mod Matching
+pub mod Plain
+pub mod Printing
+pub mod Reading
+pub mod Spelling
+pub mod Tokens

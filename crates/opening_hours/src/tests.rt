@@ -1,0 +1,215 @@
+// Texts with their canonical texts, and days with what is covered on them.
+use crate::{Holidays, HoursFault, covers, parse, print, spans_on};
+use std::alloc::{AllocError, Global};
+use std::test::Fail;
+
+// A text, an arrow and its canonical text, which is empty where the text has no rules.
+const TEXTS: &str = "\
+Jul-Aug: Mo,We 8:00-12:00, 13:00-17:00 open => Jul 01-Aug 31 Mo,We 08:00-12:00,13:00-17:00\n\
+24/7 => 00:00-24:00\n\
+Fr 22:00-06:00 => Fr 22:00-30:00\n\
+Sa 22:00-Su 24:00 => Sa 22:00-Mo 00:00\n\
+Mo 08:00-12:00 off => \n\
+Mo 25:00-26:00 => \n\
+\x20=> \n\
+Jul => Jul 01-Jul 31 00:00-24:00\n\
+Jul: => Jul 01-Jul 31 00:00-24:00\n\
+Jul: open => Jul 01-Jul 31 00:00-24:00\n\
+Nov-Feb 06:00-07:00 => Nov 01-Feb 31 06:00-07:00\n\
+Dec 24 => Dec 24-Dec 24 00:00-24:00\n\
+Dec 24-26 off => Dec 24-Dec 26 off\n\
+Dec 24-Jan 06: off => Dec 24-Jan 06 off\n\
+Jul 5-Aug 7,Oct => Jul 05-Aug 07,Oct 01-Oct 31 00:00-24:00\n\
+Jan-Jan,Feb-Mar,Apr,May,Jun,Sep 1 off => Jan 01-Jan 31,Feb 01-Mar 31,Apr 01-Apr 31,May 01-May 31,Jun 01-Jun 31,Sep 01-Sep 01 off\n\
+Feb 30 => Feb 30-Feb 30 00:00-24:00\n\
+Feb 32 => \n\
+Jul 00 => \n\
+Jan 01,06 => \n\
+Jul 05-29:08:00-12:00 => \n\
+Jul 05-29: 08:00-12:00 => Jul 05-Jul 29 08:00-12:00\n\
+Jul12:00-13:00 => Jul 01-Jul 31 12:00-13:00\n\
+Jul 12 12:00-13:00 => Jul 12-Jul 12 12:00-13:00\n\
+Jul:: => \n\
+: 08:00-12:00 => \n\
+Jul- => \n\
+Jul, => \n\
+Jul-Aug 7 => \n\
+2024 Jul => \n\
+Mo-Fr => Mo-Fr 00:00-24:00\n\
+Mo-Mo => Mo 00:00-24:00\n\
+Th-Tu,PH,SH 09:00-10:00 => Th-Tu,PH,SH 09:00-10:00\n\
+PH off; SH closed => PH off; SH off\n\
+PH Mo 08:00-09:00 => \n\
+Mo SH => \n\
+Mo-PH => \n\
+mo 08:00-09:00 => \n\
+MO => \n\
+Su[1] => \n\
+Su[-1] off => \n\
+Mo08:00-09:00 => Mo 08:00-09:00\n\
+Mo:08:00-09:00 => \n\
+8:00-8:00 => 08:00-32:00\n\
+23:59-00:00 => 23:59-24:00\n\
+24:00-25:00 => \n\
+22:00-48:00 => 22:00-48:00\n\
+22:00-48:01 => \n\
+08:60-09:00 => \n\
+08:00-09:60 => \n\
+17:00+ => \n\
+08:00 => \n\
+8:0-9:00 => \n\
+008:00-09:00 => \n\
+08:000-09:00 => \n\
+08:00 - 09:00 => 08:00-09:00\n\
+08 :00-09:00 => \n\
+sunrise-sunset => \n\
+open => \n\
+off => off\n\
+closed => off\n\
+24/7 open => 00:00-24:00\n\
+24/7open => 00:00-24:00\n\
+24/7 off => \n\
+Jul 24/7 => \n\
+24/7;PH off => 00:00-24:00; PH off\n\
+08:00-12:00 open open => \n\
+08:00-12:00open => 08:00-12:00\n\
+08:00-12:00off => \n\
+Mooff => \n\
+Mo Off => \n\
+Mo 08:00-12:00; => \n\
+;Mo => \n\
+Mo; ;Tu => \n\
+Mo 08:00-12:00, Tu 09:00-10:00 => \n\
+Mo || Tu => \n\
+\x2024/7 => \n\
+24/7  => \n\
+Mo\t-  Tu\t08:00 -\t09:00 ; Sa => Mo-Tu 08:00-09:00; Sa 00:00-24:00\n\
+Sa 22:00-Su 22:00 => Sa 22:00-Su 22:00\n\
+Mo 08:00-Mo 08:00 => Mo 08:00-Mo 08:00\n\
+Mo 09:00-Mo 08:00 => Mo 09:00-Mo 08:00\n\
+Jul: Fr 20:00-Mo 06:00 open => Jul 01-Jul 31 Fr 20:00-Mo 06:00\n\
+Fr 24:00-Mo 06:00 => \n\
+Fr 22:00-Mo 24:01 => \n\
+Fr 22:00-We 24:00 => Fr 22:00-Th 00:00\n\
+Fr 22:00-Mo 06:00 off => \n\
+Fr,Sa 20:00-Su 06:00 => \n\
+Fr 20:00-Mo 06:00,Tu 07:00-We 08:00 => \n\
+";
+
+// The canonical text, and nothing where the text has no rules.
+fn canonical_text(alloc: Global, text: &str) -> Result<Vec<u8>, HoursFault> {
+    match parse(alloc, text.as_bytes()) {
+        Ok(hours) => Ok(print(alloc, &hours)?),
+        Err(HoursFault::NotHours) => Ok(Vec::new(alloc)),
+        Err(HoursFault::OutOfMemory) => Err(HoursFault::OutOfMemory),
+    }
+}
+
+#[test]
+fn texts_have_these_canonical_texts_or_none(rt: HostRuntime) -> Result<(), Fail> {
+    for row in TEXTS.lines() {
+        let Some((text, canonical)) = row.split_once(" => ") else {
+            assert!(rt; false, "a row has no arrow: {row}");
+            return Ok(());
+        };
+        let printed = canonical_text(rt.alloc(), text)?;
+        assert!(rt; printed.as_slice() == canonical.as_bytes(), "{row}");
+    }
+    Ok(())
+}
+
+// Whether the minutes of the days are covered just as the rows say.
+fn covers_as_told(
+    alloc: Global,
+    text: &str,
+    holidays: &Holidays,
+    rows: &[(u32, u32, bool)],
+) -> Result<bool, HoursFault> {
+    let hours = parse(alloc, text.as_bytes())?;
+    for (day, minute, covered) in rows {
+        if *day < 7 || *day > 84370 || *minute >= 1440 {
+            return Ok(false);
+        }
+        if covers(&hours, *day, *minute, holidays) != *covered {
+            return Ok(false);
+        }
+    }
+    Ok(true)
+}
+
+// Holidays without a school holiday, and with one public holiday.
+fn one_holiday(alloc: Global, day: u32) -> Result<Holidays, AllocError> {
+    let mut public = Vec::new(alloc);
+    public.push(day)?;
+    Ok(Holidays::from_days(public, Vec::new(alloc)))
+}
+
+#[test]
+fn the_governing_rule_of_a_day_has_its_spans(rt: HostRuntime) -> Result<(), Fail> {
+    let hours = parse(rt.alloc(), b"Mo-Fr 22:00-06:00; PH off")?;
+    assert_eq!(rt; hours.len(), 2);
+    assert!(rt; hours.get(1).is_some());
+    assert!(rt; hours.get(2).is_none());
+    let holidays = one_holiday(rt.alloc(), 18452)?;
+    assert!(rt; holidays.is_public(18452));
+    assert!(rt; !holidays.is_school(18452));
+    let spans = spans_on(rt.alloc(), &hours, 18451, &holidays)?;
+    assert_eq!(rt; spans.len(), 1);
+    for span in spans.as_slice() {
+        assert_eq!(rt; span.start, 1320);
+        assert_eq!(rt; span.length, 480);
+    }
+    let none = spans_on(rt.alloc(), &hours, 18452, &holidays)?;
+    assert_eq!(rt; none.len(), 0);
+    Ok(())
+}
+
+// Day 18447 is 2020-07-04, a Saturday.
+#[test]
+fn these_minutes_are_covered_and_those_are_not(rt: HostRuntime) -> Result<(), Fail> {
+    let alloc = rt.alloc();
+    let holidays = one_holiday(alloc, 18452)?;
+    let nights = [
+        (18451, 1319, false),
+        (18451, 1320, true),
+        (18452, 359, true),
+        (18452, 360, false),
+        (18452, 1320, false),
+        (18453, 100, false),
+        (18453, 1320, true),
+        (18454, 359, true),
+    ];
+    let told = covers_as_told(alloc, "Mo-Fr 22:00-06:00; PH off", &holidays, &nights)?;
+    assert!(rt; told, "an off day doesn't cut the evening before");
+    let weekend = [
+        (18447, 1319, false),
+        (18447, 1320, true),
+        (18448, 1319, true),
+        (18448, 1320, false),
+    ];
+    let told = covers_as_told(alloc, "Sa 22:00-Su 22:00", &holidays, &weekend)?;
+    assert!(rt; told, "a weekend");
+    let week = [
+        (18449, 479, false),
+        (18449, 480, true),
+        (18456, 479, true),
+        (18456, 480, false),
+    ];
+    let told = covers_as_told(alloc, "Jul 06: Mo 08:00-Mo 08:00", &holidays, &week)?;
+    assert!(rt; told, "a whole week");
+    let winter = [
+        (18619, 480, false),
+        (18620, 480, true),
+        (18627, 539, true),
+        (18628, 480, true),
+        (18633, 480, true),
+        (18634, 480, false),
+    ];
+    let told = covers_as_told(alloc, "Dec 24-Jan 06 08:00-09:00", &holidays, &winter)?;
+    assert!(rt; told, "dates across the end of the year");
+    let replaced = [(18449, 500, false), (18449, 800, true), (18450, 500, true)];
+    let text = "Mo-Fr 08:00-12:00; Mo 13:00-17:00";
+    let told = covers_as_told(alloc, text, &holidays, &replaced)?;
+    assert!(rt; told, "a later rule replaces the whole day");
+    Ok(())
+}
