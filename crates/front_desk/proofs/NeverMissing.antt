@@ -1,7 +1,6 @@
 -- What is wrong with the contents of files is never that one is missing.
 use Rattle.std.proofs.Common.{◌≡◌, ◌≢◌, ℕ, ◌+◌, Bool, true, false, cond, Some, None, Option, List, [], ◌∷◌, ◌++◌, ◌&&◌, length, refl, sym, ◌∙◌, ap}
 use Rattle.std.specs.Prelude.{nat_lt, is_some, ◌==◌}
-use Rattle.std.specs.List.{last_or}
 use Rattle.std.specs.Option.{option_map, option_or}
 use Rattle.std.proofs.lemmas.Bool.{both_ways}
 use Rattle.route_base.specs.declared.faults.BadInput.{BadInput}
@@ -17,12 +16,13 @@ use Rattle.dimacs_reader.specs.declared.lines.Line.{Line}
 use Rattle.dimacs_reader.specs.declared.lines.Line.TheVariants.{Passed, Problem, Arc, Bad}
 use Rattle.network_tables.specs.Areas.{AreaEntry, areas_law, areas_in, area_of_record, cause_of_area}
 use Rattle.network_tables.specs.Closures.{closures_law, closure_of, cause_of_closure}
+use Rattle.network_tables.specs.HolidayRows.{HolidayEntry, holidays_law, holiday_of, cause_of_holiday}
 use Rattle.network_tables.specs.Laws.{Law, cause_after, row_fault_from, first_table_fault}
-use Rattle.network_tables.specs.Names.{value_of, names_of}
-use Rattle.network_tables.specs.Network.{contents_fault, area_files_fault, fault_in, first_some, arcs_in, nodes_in, zones_of, areas_of, ratings_of}
+use Rattle.network_tables.specs.Names.{names_of}
+use Rattle.network_tables.specs.Network.{contents_fault, area_files_fault, fault_in, arcs_in, nodes_in, zones_of, areas_of, ratings_of}
 use Rattle.network_tables.specs.Numbered.{Numbered, numbered_of, numbered_in, name_at, cause_of_numbered}
 use Rattle.network_tables.specs.Parking.{parking_law}
-use Rattle.network_tables.specs.Ratings.{ratings_law, weight_named, Rating, rating_of, ratings_in, cause_of_rating}
+use Rattle.network_tables.specs.Ratings.{ratings_law, Rating, rating_of, ratings_in, cause_of_rating}
 use Rattle.network_tables.specs.Records.{Record, records_of, record_eq}
 use Rattle.network_tables.specs.Roads.{roads_law}
 use Rattle.network_tables.specs.Zones.{ZoneEntry, zones_law, zone_entry_of, zone_entries_in, cause_of_entry}
@@ -165,6 +165,10 @@ areas files =
     (or_input _ _ (in_file _ _ (table (roads_law (arcs_in files) (names_of (areas_of files))) (λ before row. numbered _ _ (numbered_in before) (numbered_of row)) (records_of files.roads)))
     nothing))
 
+holiday : (areas : List (List ℕ)) (o : Option HolidayEntry) → IsOther (cause_of_holiday areas o)
+holiday areas None = other _ refl
+holiday areas (Some h) = by_test _ _ _ no_cause (other Unknown refl)
+
 contents : (files : Files) → IsOtherInput (contents_fault files)
 unfolding contents_fault
 contents files =
@@ -173,7 +177,8 @@ contents files =
     (or_input _ _ (in_file _ _ (table (closures_law (arcs_in files)) (λ before row. closure (arcs_in files) (closure_of row)) (records_of files.closures)))
     (or_input _ _ (in_file _ _ (table ratings_law (λ before row. rating (ratings_in before) (rating_of row)) (records_of files.ratings)))
     (or_input _ _ (in_file _ _ (table (parking_law (nodes_in files) (ratings_of files)) (λ before row. numbered _ _ (numbered_in before) (numbered_of row)) (records_of files.parking)))
-    nothing))))
+    (or_input _ _ (in_file _ _ (table (holidays_law (names_of (areas_of files))) (λ before row. holiday (names_of (areas_of files)) (holiday_of row)) (records_of files.holidays)))
+    nothing)))))
 
 pub never_missing : (files : Files) (fault : BadInput) → contents_fault files ≡ Some fault → fault.cause ≢ Missing
 never_missing files fault is missing = both_ways (is_missing fault.cause) (sym (ap missing_input is) ∙ (contents files).is) (ap is_missing missing)

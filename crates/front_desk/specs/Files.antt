@@ -78,4 +78,3 @@ IfBad OutOfMemory P = ⊤
 pub record HasBuiltAlone (files : Files) : Type 0 where
   pub vehicles : files.vehicles ≡ []
   pub rules : files.rules ≡ []
-  pub holidays : files.holidays ≡ []

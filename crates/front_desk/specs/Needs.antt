@@ -18,7 +18,7 @@ need_of Rules = Unbuilt
 need_of Closures = Optional
 need_of Ratings = Optional
 need_of Parking = Optional
-need_of Holidays = Unbuilt
+need_of Holidays = Optional
 need_of Jobs = Required
 need_of Certificate = Required
 

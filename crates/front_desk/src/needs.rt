@@ -64,7 +64,7 @@ pub fn need_of(file: FileKind) -> Need
         FileKind::Closures => Need::Optional,
         FileKind::Ratings => Need::Optional,
         FileKind::Parking => Need::Optional,
-        FileKind::Holidays => Need::Unbuilt,
+        FileKind::Holidays => Need::Optional,
         FileKind::Jobs => Need::Required,
         FileKind::Certificate => Need::Required,
     }

@@ -13,8 +13,8 @@ use Rattle.network_tables.specs.declared.faults.RowFault.TheVariants as row
 use Rattle.network_tables.specs.Faulty.{IfBadCause}
 use Rattle.network_tables.specs.Areas.{AreaEntry, cause_of_area, standing}
 use Rattle.network_tables.specs.Names.{value_of, names_of, place_among}
-use Rattle.network_tables.specs.Network.{area_in}
-use Rattle.network_tables.specs.Stated.{Area, areas_at}
+use Rattle.network_tables.specs.Network.{zone_for}
+use Rattle.network_tables.specs.Stated.{zones_at}
 use Rattle.network_tables.specs.Zoned.{HaveZones, placed_area, sought_area}
 use Rattle.network_tables.specs.Zones.{ZoneList}
 use Rattle.zone_rules.specs.declared.rows.ZoneRow.{ZoneRow}
@@ -61,11 +61,12 @@ refused_weaker (Err row.OutOfMemory) P Q weaker refused = tt
 ends_same : {A : Type 0} (x y : A) (xs ys : List A) → x ∷ xs ≡ y ∷ ys → (x ≡ y) × (xs ≡ ys)
 ends_same x y xs ys e = (cc, cc)
 
-abbrev pub area_with : Option (List ZoneRow) → Area
-area_with o = record { zone = unwrap_or o [] }
+-- the rows of a zone that is there
+abbrev pub zone_there : Option (List ZoneRow) → List ZoneRow
+zone_there o = unwrap_or o []
 
-abbrev zone_of_place : List (List ZoneRow) → List ℕ × Option ℕ → Area
-zone_of_place zones e = area_with (option_and_then (slice_get zones) e.1)
+abbrev zone_of_place : List (List ZoneRow) → List ℕ × Option ℕ → List ZoneRow
+zone_of_place zones e = zone_there (option_and_then (slice_get zones) e.1)
 
 pub HaveZones-first : (zones : ZoneList) → HaveZones zones [] []
 HaveZones-first zones = record { each = refl }
@@ -90,15 +91,15 @@ standing_kept zones [] (p ∷ placed) have some = absurd (differs have.each)
 standing_kept zones (a ∷ areas) placed have some = have
 
 -- the zone of a place is that of the name that has the place
-zone_at : (zones : ZoneList) (named : List ℕ → Option (List ZoneRow)) → ((name : List ℕ) → value_of zones name ≡ named name) → (a : AreaEntry) → zone_of_place (map (λ z. z.1) zones) (sought_area zones a) ≡ area_in named a
+zone_at : (zones : ZoneList) (named : List ℕ → Option (List ZoneRow)) → ((name : List ℕ) → value_of zones name ≡ named name) → (a : AreaEntry) → zone_of_place (map (λ z. z.1) zones) (sought_area zones a) ≡ zone_for named a
 zone_at zones named is a =
-    ap (λ (o : Option (List ZoneRow)). area_with o) (value_at_place (bytes_eq a.1) zones ∙ is a.1)
+    ap (λ (o : Option (List ZoneRow)). zone_there o) (value_at_place (bytes_eq a.1) zones ∙ is a.1)
 
--- areas that have zones are those that stand in them
-pub areas_seen : (zones : ZoneList) (areas : List AreaEntry) (placed : List (List ℕ × ℕ)) (named : List ℕ → Option (List ZoneRow)) → HaveZones zones areas placed → ((name : List ℕ) → value_of zones name ≡ named name)
-    → areas_at (map (λ z. z.1) zones) (map (λ p. p.1) placed) ≡ map (area_in named) areas
-areas_seen zones areas placed named have is =
-    map-map (λ (i : ℕ). area_with (slice_get (map (λ (z : List ℕ × List ZoneRow). z.1) zones) i)) (λ (p : List ℕ × ℕ). p.1) placed
+-- areas that have zones stand in those that they name
+pub zones_seen : (zones : ZoneList) (areas : List AreaEntry) (placed : List (List ℕ × ℕ)) (named : List ℕ → Option (List ZoneRow)) → HaveZones zones areas placed → ((name : List ℕ) → value_of zones name ≡ named name)
+    → zones_at (map (λ z. z.1) zones) (map (λ p. p.1) placed) ≡ map (zone_for named) areas
+zones_seen zones areas placed named have is =
+    map-map (λ (i : ℕ). zone_there (slice_get (map (λ (z : List ℕ × List ZoneRow). z.1) zones) i)) (λ (p : List ℕ × ℕ). p.1) placed
     ∙ sym (map-map (zone_of_place (map (λ (z : List ℕ × List ZoneRow). z.1) zones)) placed_area placed)
     ∙ ap (λ (es : List (List ℕ × Option ℕ)). map (zone_of_place (map (λ (z : List ℕ × List ZoneRow). z.1) zones)) es) have.each
     ∙ map-map (zone_of_place (map (λ (z : List ℕ × List ZoneRow). z.1) zones)) (sought_area zones) areas

@@ -1,6 +1,6 @@
 -- Values by name, as a map of keys holds them that are seen as names.
-use Rattle.std.proofs.Common.{◌≡◌, ℕ, Bool, true, false, Option, Some, None, List, [], ◌∷◌, ◌++◌, map, refl, sym, ◌∙◌, ap}
-use Rattle.std.specs.List.{position}
+use Rattle.std.proofs.Common.{◌≡◌, ℕ, false, Option, Some, None, List, [], ◌∷◌, ◌++◌, map, refl, sym, ◌∙◌, ap, subst}
+use Rattle.std.specs.List.{position, IsDistinct, AllByRecursion}
 use Rattle.std.specs.Map.{lookup}
 use Rattle.std.specs.Option.{is_some}
 use Rattle.std.specs.Str.{bytes_eq}
@@ -35,3 +35,17 @@ module _ {K V : Type 0} (items : K → List ℕ) (es : List (K × V)) (seen : Li
       kept : (xs : List (K × V)) → map (λ (e : K × V). e.1) xs ≡ map (λ (p : List ℕ × V). p.1) (map (λ (e : K × V). (items e.0, e.1)) xs)
       kept [] = refl
       kept (x ∷ xs) = ap (λ (vs : List V). x.1 ∷ vs) (kept xs)
+
+  -- keys of which no two are seen as the same name
+  pub distinct_seen : IsDistinct (λ k l. bytes_eq (items k) (items l)) (map (λ (e : K × V). e.0) es) → IsDistinct bytes_eq (names_of seen)
+  unfolding IsDistinct
+  distinct_seen distinct = subst (λ (ns : List (List ℕ × V)). IsDistinct bytes_eq (names_of ns)) is (kept es distinct)
+    where
+      apart : (name : List ℕ) (xs : List (K × V)) → AllByRecursion (λ k. bytes_eq name (items k) ≡ false) (map (λ (e : K × V). e.0) xs)
+          → AllByRecursion (λ n. bytes_eq name n ≡ false) (names_of (map (λ (e : K × V). (items e.0, e.1)) xs))
+      apart name [] h = h
+      apart name (x ∷ xs) h = (h.0, apart name xs h.1)
+
+      kept : (xs : List (K × V)) → IsDistinct (λ k l. bytes_eq (items k) (items l)) (map (λ (e : K × V). e.0) xs) → IsDistinct bytes_eq (names_of (map (λ (e : K × V). (items e.0, e.1)) xs))
+      kept [] h = h
+      kept (x ∷ xs) h = (apart (items x.0) xs h.0, kept xs h.1)

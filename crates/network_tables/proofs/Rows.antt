@@ -1,12 +1,15 @@
 -- Worked records: what the definitions say of them, by computing.
 use Rattle.std.proofs.Common.{◌≡◌, ℕ, Option, List, [], ◌∷◌, Some, None, refl}
 use Rattle.std.specs.Prelude.{codes}
+use Rattle.opening_hours.specs.Holidays.{is_listed}
+use Rattle.std.specs.List.{filter}
 use Rattle.route_base.specs.declared.faults.Cause.TheVariants.{BadHeader, FieldCount, SizeLimit, BadField, Unknown, Duplicate, NotRising}
 use Rattle.calendar_days.specs.Days.{days_of_years, days_of_months}
 use Rattle.calendar_days.specs.Texts.{instant_of, day_of_text, clock_of}
 use Rattle.network_tables.specs.Closures.{closures_law, closures_in, runs_by_arc}
+use Rattle.network_tables.specs.HolidayRows.{holidays_law, holidays_in, rows_named, calendar_days}
 use Rattle.network_tables.specs.Laws.{Law, first_table_fault}
-use Rattle.network_tables.specs.Areas.{AreaEntry, areas_law, areas_in, standing}
+use Rattle.network_tables.specs.Areas.{areas_law, areas_in, standing}
 use Rattle.network_tables.specs.Numbered.{given_by_number}
 use Rattle.network_tables.specs.Parking.{parking_law, parked_in, weights_by_node}
 use Rattle.network_tables.specs.Ratings.{Rating, ratings_law, ratings_in}
@@ -198,6 +201,43 @@ road_after_last = refl
 arc_twice : first_table_fault (roads_law 3 two_areas) (roads_header ∷ road_row (codes "3") (codes "a") ∷ road_row (codes "03") (codes "b") ∷ []) ≡ Some (3, Duplicate)
 unfolding first_table_fault
 arc_twice = refl
+
+abbrev holiday_row : List ℕ → List ℕ → List ℕ → Record
+holiday_row area kind date = area ∷ kind ∷ date ∷ []
+
+abbrev three_holidays : List Record
+three_holidays = holiday_row (codes "b") (codes "PH") (codes "1970-02-01") ∷ holiday_row (codes "a") (codes "PH") (codes "1970-01-02") ∷ holiday_row (codes "b") (codes "SH") (codes "1970-01-01") ∷ []
+
+-- each area has the days of its own rows, of either kind
+holidays_stated : rows_named (holidays_in three_holidays) (codes "b") ≡ record { public = 31 ∷ []; school = 0 ∷ [] }
+unfolding day_of_text days_of_years days_of_months
+holidays_stated = refl
+
+-- listed days once, in the order of the calendar
+days_once : filter (λ day. is_listed day (2 ∷ 0 ∷ 2 ∷ [])) (calendar_days 4) ≡ 0 ∷ 2 ∷ []
+unfolding calendar_days
+days_once = refl
+
+abbrev holidays_header : Record
+holidays_header = codes "area" ∷ codes "kind" ∷ codes "date" ∷ []
+
+-- a row may be repeated
+holiday_twice : first_table_fault (holidays_law two_areas) (holidays_header ∷ holiday_row (codes "a") (codes "PH") (codes "1970-01-02") ∷ holiday_row (codes "a") (codes "PH") (codes "1970-01-02") ∷ []) ≡ None
+unfolding first_table_fault day_of_text days_of_years days_of_months
+holiday_twice = refl
+
+holiday_nowhere : first_table_fault (holidays_law two_areas) (holidays_header ∷ holiday_row (codes "c") (codes "SH") (codes "1970-01-02") ∷ []) ≡ Some (2, Unknown)
+unfolding first_table_fault day_of_text days_of_years days_of_months
+holiday_nowhere = refl
+
+-- a kind that is none, and a date that is none, come before an area that isn't there
+kind_before_area : first_table_fault (holidays_law two_areas) (holidays_header ∷ holiday_row (codes "c") (codes "ph") (codes "1970-01-02") ∷ []) ≡ Some (2, BadField)
+unfolding first_table_fault
+kind_before_area = refl
+
+date_before_area : first_table_fault (holidays_law two_areas) (holidays_header ∷ holiday_row (codes "c") (codes "PH") (codes "1970-02-29") ∷ []) ≡ Some (2, BadField)
+unfolding first_table_fault day_of_text
+date_before_area = refl
 
 -- a law with room for one row
 abbrev one_row : Law

@@ -1,8 +1,10 @@
 pub mod Areas
 pub mod Closures
+pub mod Dated
 pub mod Faulty
 pub mod Given
 pub mod Gives
+pub mod HolidayRows
 pub mod Laws
 pub mod Names
 pub mod Network

@@ -1,5 +1,5 @@
 -- What stands by name in a list of pairs of a name and a value.
-use Rattle.std.specs.Prelude.{◌≡◌, ℕ, Option, List, map, position}
+use Rattle.std.specs.Prelude.{ℕ, Option, List, map, position}
 use Rattle.std.specs.Map.{lookup}
 use Rattle.std.specs.Str.{bytes_eq}
 

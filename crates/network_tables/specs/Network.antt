@@ -4,12 +4,13 @@ use Rattle.std.specs.Option.{option_map, option_or}
 use Rattle.route_base.specs.declared.faults.BadInput.{BadInput}
 use Rattle.route_base.specs.declared.faults.Cause.{Cause}
 use Rattle.route_base.specs.declared.faults.FileKind.{FileKind}
-use Rattle.route_base.specs.declared.faults.FileKind.TheVariants.{Graph, Zones, Areas, Roads, Closures, Ratings, Parking}
+use Rattle.route_base.specs.declared.faults.FileKind.TheVariants.{Graph, Zones, Areas, Roads, Closures, Ratings, Parking, Holidays}
 use Rattle.dimacs_reader.specs.Faults.{fault_of}
 use Rattle.dimacs_reader.specs.Table.{graph_of}
 use Rattle.zone_rules.specs.declared.rows.ZoneRow.{ZoneRow}
 use Rattle.network_tables.specs.Areas.{AreaEntry, areas_law, areas_in, standing}
 use Rattle.network_tables.specs.Closures.{closures_law, closures_in, runs_by_arc}
+use Rattle.network_tables.specs.HolidayRows.{HolidayEntry, holidays_law, holidays_in, holidays_named}
 use Rattle.network_tables.specs.Laws.{first_table_fault}
 use Rattle.network_tables.specs.Names.{names_of}
 use Rattle.network_tables.specs.Parking.{parking_law, parked_in, weights_by_node}
@@ -35,9 +36,17 @@ zones_of files = zone_named (zone_entries_in (rows_in (records_of files.zones)))
 abbrev pub areas_of : Files → List AreaEntry
 areas_of files = standing (areas_in (rows_in (records_of files.areas)))
 
--- an area in one of these zones
-abbrev pub area_in : (List ℕ → Option (List ZoneRow)) → AreaEntry → Area
-area_in zones a = record { zone = unwrap_or (zones a.1) [] }
+-- what the rows of holidays say
+abbrev pub holidays_of : Files → List HolidayEntry
+holidays_of files = holidays_in (rows_in (records_of files.holidays))
+
+-- the zone of an area among these zones
+abbrev pub zone_for : (List ℕ → Option (List ZoneRow)) → AreaEntry → List ZoneRow
+zone_for zones a = unwrap_or (zones a.1) []
+
+-- an area in one of these zones, with those of these holidays that name it
+abbrev pub area_in : (List ℕ → Option (List ZoneRow)) → List HolidayEntry → AreaEntry → Area
+area_in zones entries a = record { zone = zone_for zones a; holidays = holidays_named entries a.0 }
 
 -- for each arc the place of its area
 abbrev pub roads_of : Files → List ℕ
@@ -71,6 +80,9 @@ ratings_fault files = fault_in Ratings (first_table_fault ratings_law (records_o
 abbrev pub parking_fault : Files → Option BadInput
 parking_fault files = fault_in Parking (first_table_fault (parking_law (nodes_in files) (ratings_of files)) (records_of files.parking))
 
+abbrev pub holidays_fault : Files → Option BadInput
+holidays_fault files = fault_in Holidays (first_table_fault (holidays_law (names_of (areas_of files))) (records_of files.holidays))
+
 -- the first that is there
 abbrev pub first_some : {X : Type 0} → List (Option X) → Option X
 first_some [] = None
@@ -82,13 +94,13 @@ area_files_fault files = first_some (zones_fault files ∷ areas_fault files ∷
 
 -- the first fault of the files' contents, in the order in which they are read
 unfoldable pub contents_fault : Files → Option BadInput
-contents_fault files = first_some (graph_fault files ∷ area_files_fault files ∷ closures_fault files ∷ ratings_fault files ∷ parking_fault files ∷ [])
+contents_fault files = first_some (graph_fault files ∷ area_files_fault files ∷ closures_fault files ∷ ratings_fault files ∷ parking_fault files ∷ holidays_fault files ∷ [])
 
 -- the network that the files state
 unfoldable pub network_of : Files → NetworkTable
 network_of files = record {
   graph = graph_of files.graph;
-  areas = map (area_in (zones_of files)) (areas_of files);
+  areas = map (area_in (zones_of files) (holidays_of files)) (areas_of files);
   roads = roads_of files;
   closures = runs_by_arc (arcs_in files) (closures_in (rows_in (records_of files.closures)));
   weights = weights_by_node (nodes_in files) (ratings_of files) (parked_in (rows_in (records_of files.parking)));

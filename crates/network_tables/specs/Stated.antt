@@ -1,13 +1,16 @@
 -- What a network is.
 use Rattle.std.specs.Prelude.{◌≡◌, ℕ, ◌≤◌, ◌<◌, Option, Some, List, [], length, map, unwrap_or, slice_get, All}
+use Rattle.std.specs.List.{zip}
 use Rattle.route_base.specs.Net.{at_number}
 use Rattle.route_base.specs.declared.types.Run.{Run}
 use Rattle.dimacs_reader.specs.Table.{GraphTable}
+use Rattle.opening_hours.specs.Holidays.{HolidayLists}
 use Rattle.zone_rules.specs.declared.rows.ZoneRow.{ZoneRow}
 
--- an area: the rows of its zone
+-- an area: the rows of its zone, and its holidays
 pub record Area : Type 0 where
   pub zone : List ZoneRow
+  pub holidays : HolidayLists
 
 -- a graph, the areas, for each arc the place of its area, for each arc its closed minutes, and the weight of each node where
 -- one may wait
@@ -38,11 +41,16 @@ pub record IsGoodNetwork (net : NetworkTable) : Type 0 where
   pub weights : length net.weights ≡ net.graph.nodes
   pub small : All IsSmall net.weights
 
--- the areas whose zones stand at these places
-abbrev pub areas_at : List (List ZoneRow) → List ℕ → List Area
-areas_at zones places = map (λ i. record { zone = unwrap_or (slice_get zones i) [] }) places
+-- the zones that stand at these places
+abbrev pub zones_at : List (List ZoneRow) → List ℕ → List (List ZoneRow)
+zones_at zones places = map (λ i. unwrap_or (slice_get zones i) []) places
 
--- a good network, whose areas name their zones by these places among these zones
-pub record HoldsNetwork (zones : List (List ZoneRow)) (places : List ℕ) (net : NetworkTable) : Type 0 where
+-- the areas in these zones, with these holidays
+abbrev pub areas_with : List (List ZoneRow) → List HolidayLists → List Area
+areas_with zones holidays = map (λ p. record { zone = p.0; holidays = p.1 }) (zip zones holidays)
+
+-- a good network, whose areas name their zones by these places among these zones and have so many holidays
+pub record HoldsNetwork (zones : List (List ZoneRow)) (places : List ℕ) (holidays : List HolidayLists) (net : NetworkTable) : Type 0 where
   pub good : IsGoodNetwork net
   pub zoned : AreBelow (length zones) places
+  pub dated : length holidays ≡ length places

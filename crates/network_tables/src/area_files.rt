@@ -4,10 +4,10 @@ ghost use Rattle.network_tables.specs.Areas.{areas_law, areas_in, standing};
 ghost use Rattle.network_tables.specs.Faulty.{IfBad};
 ghost use Rattle.network_tables.specs.Laws.{first_table_fault};
 ghost use Rattle.network_tables.specs.Names.{value_of, names_of};
-ghost use Rattle.network_tables.specs.Network.{fault_in, arcs_in, zones_of, areas_of, area_in, roads_of, zones_fault, areas_fault, roads_fault, area_files_fault};
+ghost use Rattle.network_tables.specs.Network.{fault_in, arcs_in, zones_of, areas_of, zone_for, roads_of, zones_fault, areas_fault, roads_fault, area_files_fault};
 ghost use Rattle.network_tables.specs.Records.{records_of, rows_in};
 ghost use Rattle.network_tables.specs.Roads.{roads_law, roads_in, area_by_arc};
-ghost use Rattle.network_tables.specs.Stated.{AreBelow, areas_at};
+ghost use Rattle.network_tables.specs.Stated.{AreBelow, zones_at};
 ghost use Rattle.network_tables.specs.Zoned.{HaveZones};
 ghost use Rattle.network_tables.specs.Zones.{HasZones, zone_entries_in};
 
@@ -106,7 +106,8 @@ pub fn read_area_files(alloc: Global, files: &Files, arcs: u32) -> Result<AreaMa
     requires { arcs ≡ arcs_in files.now }
     ensures faultless { OnOk result (area_files_fault files.now ≡ None) }
     ensures zoned { IfOk result (λ read. AreBelow (length read.zones.items) (map (λ e. e.1) read.areas)) }
-    ensures areas { IfOk result (λ read. areas_at read.zones.items (map (λ e. e.1) read.areas) ≡ map (area_in (zones_of files.now)) (areas_of files.now)) }
+    ensures areas { IfOk result (λ read. zones_at read.zones.items (map (λ e. e.1) read.areas) ≡ map (zone_for (zones_of files.now)) (areas_of files.now)) }
+    ensures names { IfOk result (λ read. names_of read.areas ≡ names_of (areas_of files.now)) }
     ensures roads { IfOk result (λ read. read.roads.items ≡ roads_of files.now) }
     ensures refused { IfErr result (λ e. IfBad e (λ fault. area_files_fault files.now ≡ Some fault)) }
 {

@@ -1,5 +1,7 @@
 // areas.csv: which zone an area is in.
 ghost use Rattle.std.specs.Prelude.{◌≡◌, ◌<◌, [], List, ℕ, IsSome, IfOk, IfSome, codes, length, map, option_map};
+ghost use Rattle.std.specs.List.{IsDistinct};
+ghost use Rattle.std.specs.Str.{bytes_eq};
 ghost use Rattle.csv.specs.Records.{fields_of};
 ghost use Rattle.network_tables.specs.Areas.{AreaEntry, area_of_record, areas_in, areas_law, standing};
 ghost use Rattle.network_tables.specs.Names.{value_of, names_of, place_among};
@@ -32,6 +34,14 @@ impl Model for Areas {
 }
 
 impl Areas {
+    /// How many areas there are. No two have the same name.
+    pub fn len(&self) -> usize
+        ensures value { result ≡ length self.now }
+        ensures distinct { IsDistinct bytes_eq (names_of self.now) }
+    {
+        self.zone_places.len()
+    }
+
     /// The place from 0 of the area of this name, in constant time on average.
     pub fn place(&self, name: &[u8]) -> Option<u32>
         ensures place { result ≡ place_among (names_of self.now) name.now }

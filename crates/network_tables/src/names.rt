@@ -1,5 +1,7 @@
 // Values by name.
 ghost use Rattle.std.specs.Prelude.{◌≡◌, ◌<◌, ◌∷◌, ◌++◌, [], None, length, map, is_some, IfOk, IfErr, IfSome, OnOk, IsSome};
+ghost use Rattle.std.specs.List.{IsDistinct};
+ghost use Rattle.std.specs.Str.{bytes_eq};
 ghost use Rattle.network_tables.specs.Faulty.{IfBadCause};
 ghost use Rattle.network_tables.specs.Names.{value_of, names_of, place_among};
 
@@ -33,9 +35,10 @@ impl<V> Names<V> {
         }
     }
 
-    /// How many names there are.
+    /// How many names there are. No two are the same.
     pub fn len(&self) -> usize
-        ensures { result ≡ length self.now }
+        ensures value { result ≡ length self.now }
+        ensures distinct { IsDistinct bytes_eq (names_of self.now) }
     {
         self.held.len()
     }

@@ -1,20 +1,22 @@
 // The network that tables state.
 ghost use Rattle.std.specs.Prelude.{◌≡◌, ◌≤◌, ◌<◌, Some, All, length, map, option_map, slice_get};
 ghost use Rattle.route_base.specs.Net.{at_number, joined};
-ghost use Rattle.network_tables.specs.Stated.{NetworkTable, closures_of, areas_at, AreBelow, IsGoodNetwork, IsSmall};
+ghost use Rattle.network_tables.specs.Stated.{NetworkTable, closures_of, zones_at, areas_with, AreBelow, IsGoodNetwork, IsSmall};
 
 use dimacs_reader::Graph;
+use opening_hours::Holidays;
 use route_base::{ArcId, Cost, NodeId, Run};
 use std::marker::Model;
 use zone_rules::Zone;
 
-/// A road network: a graph, the area of each arc with its zone, the closed minutes of each arc, and the weights of the nodes
-/// where one may wait. Each zone is held once.
+/// A road network: a graph, the area of each arc with its zone and its holidays, the closed minutes of each arc, and the weights
+/// of the nodes where one may wait. Each zone is held once.
 #[derive(Drop)]
 pub struct Network {
     graph: Graph,
     zones: Vec<Zone>,
     zone_places: Vec<usize>,
+    holidays: Vec<Holidays>,
     roads: Vec<u32>,
     closures: Vec<Vec<Run>>,
     weights: Vec<Option<Cost>>,
@@ -22,13 +24,13 @@ pub struct Network {
 
 impl Model for Network {
     ghost use Rattle.std.specs.Prelude.{map};
-    ghost use Rattle.network_tables.specs.Stated.{NetworkTable, areas_at, HoldsNetwork};
+    ghost use Rattle.network_tables.specs.Stated.{NetworkTable, zones_at, areas_with, HoldsNetwork};
 
     ghost Value = { NetworkTable };
 
-    ghost view = { λ n. record { graph = n.graph; areas = areas_at n.zones.items n.zone_places.items; roads = n.roads.items; closures = map (λ v. v.items) n.closures.items; weights = n.weights.items } };
+    ghost view = { λ n. record { graph = n.graph; areas = areas_with (zones_at n.zones.items n.zone_places.items) n.holidays.items; roads = n.roads.items; closures = map (λ v. v.items) n.closures.items; weights = n.weights.items } };
 
-    ghost invariant = { λ n. HoldsNetwork n.zones.items n.zone_places.items (record { graph = n.graph; areas = areas_at n.zones.items n.zone_places.items; roads = n.roads.items; closures = map (λ v. v.items) n.closures.items; weights = n.weights.items }) };
+    ghost invariant = { λ n. HoldsNetwork n.zones.items n.zone_places.items n.holidays.items (record { graph = n.graph; areas = areas_with (zones_at n.zones.items n.zone_places.items) n.holidays.items; roads = n.roads.items; closures = map (λ v. v.items) n.closures.items; weights = n.weights.items }) };
 }
 
 impl Network {
@@ -37,22 +39,25 @@ impl Network {
         graph: Graph,
         zones: Vec<Zone>,
         zone_places: Vec<usize>,
+        holidays: Vec<Holidays>,
         roads: Vec<u32>,
         closures: Vec<Vec<Run>>,
         weights: Vec<Option<Cost>>,
     ) -> Network
         requires zoned { AreBelow (length zones.items) zone_places.items }
+        requires dated { length holidays.items ≡ length zone_places.items }
         requires roads { length roads.items ≡ length graph.arcs }
         requires placed { AreBelow (length zone_places.items) roads.items }
         requires arcs { length closures.items ≡ length graph.arcs }
         requires nodes { length weights.items ≡ graph.nodes }
         requires small { All IsSmall weights.items }
-        ensures { result ≡ record { graph = graph; areas = areas_at zones.items zone_places.items; roads = roads.items; closures = map (λ v. v.items) closures.items; weights = weights.items } }
+        ensures { result ≡ record { graph = graph; areas = areas_with (zones_at zones.items zone_places.items) holidays.items; roads = roads.items; closures = map (λ v. v.items) closures.items; weights = weights.items } }
     {
         Network {
             graph,
             zones,
             zone_places,
+            holidays,
             roads,
             closures,
             weights,
@@ -83,6 +88,14 @@ impl Network {
         ensures { option_map (λ a. a.zone) (slice_get self.now.areas area) ≡ Some result.now }
     {
         &self.zones[self.zone_places[area]]
+    }
+
+    /// The holidays of the area at this place from 0. In constant time.
+    pub fn holidays_of(&self, area: usize) -> &Holidays
+        requires { area < length self.now.areas }
+        ensures { option_map (λ a. a.holidays) (slice_get self.now.areas area) ≡ Some result.now }
+    {
+        &self.holidays[area]
     }
 
     /// The cost in thousandths of a minute of waiting at the node; `None` exactly where one may not wait. In constant time.

@@ -13,6 +13,7 @@ ghost use Rattle.route_base.specs.declared.faults.FileKind.TheVariants.{Graph, C
 
 use crate::area_files::read_area_files;
 use crate::closures::ClosureTable;
+use crate::holiday_files::read_holidays;
 use crate::numbered::NumberedTable;
 use crate::ratings::RatingTable;
 use crate::table_files::read_file;
@@ -73,8 +74,8 @@ fn read_weights(
     Ok(weights)
 }
 
-/// Reads the network that the files state: the graph, then zones, areas, roads, closures, ratings and parking. Linear in the
-/// bytes, the nodes and the arcs.
+/// Reads the network that the files state: the graph, then zones, areas, roads, closures, ratings, parking and holidays. Linear in
+/// the bytes, the nodes and the arcs, beside n log n steps for n days of holidays.
 ///
 /// `Bad` is the first fault of their contents; `OutOfMemory` comes where a list can't grow. The other files can't be read yet
 /// and have to be empty.
@@ -82,7 +83,6 @@ fn read_weights(
 pub fn read_network(alloc: Global, files: &Files) -> Result<Network, NetworkFault>
     requires vehicles { files.now.vehicles ≡ [] }
     requires rules { files.now.rules ≡ [] }
-    requires holidays { files.now.holidays ≡ [] }
     ensures faultless { OnOk result (contents_fault files.now ≡ None) }
     ensures found { IfOk result (λ network. network ≡ network_of files.now) }
     ensures refused { IfErr result (λ e. IfBad e (λ fault. contents_fault files.now ≡ Some fault)) }
@@ -93,6 +93,15 @@ pub fn read_network(alloc: Global, files: &Files) -> Result<Network, NetworkFaul
     let closures = read_closures(alloc, &files.closures, arcs)?;
     let ratings = read_ratings(alloc, &files.ratings)?;
     let weights = read_weights(alloc, &files.parking, graph.node_count(), ratings)?;
-    let zone_places = map.areas.into_zone_places(alloc)?;
-    Ok(Network::new(graph, map.zones, zone_places, map.roads, closures, weights))
+    let (areas, holidays) = read_holidays(alloc, files, map.areas)?;
+    let zone_places = areas.into_zone_places(alloc)?;
+    Ok(Network::new(
+        graph,
+        map.zones,
+        zone_places,
+        holidays,
+        map.roads,
+        closures,
+        weights,
+    ))
 }

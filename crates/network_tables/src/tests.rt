@@ -1,4 +1,4 @@
-// Worked files: a triangle whose second arc is closed once, with one rated node; and its arcs in areas.
+// Worked files: a triangle whose second arc is closed once, with one rated node; and its arcs in areas with holidays.
 use crate::{Files, Network, NetworkFault, read_network};
 use route_base::{ArcId, BadInput, Cause, FileBytes, FileKind, NodeId, OutOfMemory, Run};
 use std::alloc::Global;
@@ -49,6 +49,28 @@ fn read_areas(
         ratings: FileBytes::new(alloc),
         parking: FileBytes::new(alloc),
         holidays: FileBytes::new(alloc),
+    };
+    read_network(alloc, &files)
+}
+
+// The network of these tables over the triangle, all areas in UTC.
+fn read_holidays(
+    alloc: Global,
+    areas: &str,
+    parking: &str,
+    holidays: &str,
+) -> Result<Network, NetworkFault> {
+    let files = Files {
+        graph: bytes_of(alloc, TRIANGLE)?,
+        zones: FileBytes::new(alloc),
+        areas: bytes_of(alloc, areas)?,
+        roads: bytes_of(alloc, "arc,area\n2,town\n")?,
+        vehicles: FileBytes::new(alloc),
+        rules: FileBytes::new(alloc),
+        closures: FileBytes::new(alloc),
+        ratings: FileBytes::new(alloc),
+        parking: bytes_of(alloc, parking)?,
+        holidays: bytes_of(alloc, holidays)?,
     };
     read_network(alloc, &files)
 }
@@ -196,6 +218,88 @@ fn names_the_first_fault_of_areas(rt: HostRuntime) {
                 assert!(rt; fault == named, "at {zones}{areas}{roads}");
             }
             Ok(_) => assert!(rt; false, "taken: {zones}{areas}{roads}"),
+        }
+    }
+}
+
+#[test]
+fn reads_holidays_of_both_kinds(rt: HostRuntime) {
+    let areas = "area,zone\nport,UTC\ntown,UTC\n";
+    let holidays =
+        "area,kind,date\ntown,PH,2020-12-25\ntown,SH,2020-07-06\ntown,PH,2020-01-01\ntown,PH,2020-12-25\n";
+    match read_holidays(rt.alloc(), areas, "", holidays) {
+        Ok(network) => {
+            assert_eq!(rt; network.graph().arc_count(), 3);
+            let town = network.holidays_of(network.area_of(ArcId(2)));
+            for (day, public, school) in [
+                (18_261u32, false, false),
+                (18_262, true, false),
+                (18_263, false, false),
+                (18_449, false, true),
+                (18_620, false, false),
+                (18_621, true, false),
+                (18_622, false, false),
+            ] {
+                assert_eq!(rt; town.is_public(day), public, "public holiday {day}");
+                assert_eq!(rt; town.is_school(day), school, "school holiday {day}");
+            }
+            let port = network.holidays_of(network.area_of(ArcId(1)));
+            assert!(rt; !port.is_public(18_621));
+            assert!(rt; !port.is_school(18_449));
+        }
+        Err(_) => assert!(rt; false, "the holidays are refused"),
+    }
+}
+
+#[test]
+fn names_the_first_fault_of_holidays(rt: HostRuntime) {
+    let areas = "area,zone\nport,UTC\ntown,UTC\n";
+    let faults = [
+        ("", "area,kind\n", FileKind::Holidays, 1, Cause::BadHeader),
+        (
+            "",
+            "area,kind,date\nport,PH,2020-02-29\nport,PH,2020-02-30\n",
+            FileKind::Holidays,
+            3,
+            Cause::BadField,
+        ),
+        (
+            "",
+            "area,kind,date\nquay,XH,2020-02-03\n",
+            FileKind::Holidays,
+            2,
+            Cause::BadField,
+        ),
+        (
+            "",
+            "area,kind,date\n-,PH,2020-02-03\n",
+            FileKind::Holidays,
+            2,
+            Cause::BadField,
+        ),
+        (
+            "",
+            "area,kind,date\nquay,SH,2020-02-03\n",
+            FileKind::Holidays,
+            2,
+            Cause::Unknown,
+        ),
+        (
+            "",
+            "area,kind,date\nport,PH\n",
+            FileKind::Holidays,
+            2,
+            Cause::FieldCount,
+        ),
+        ("x", "x", FileKind::Parking, 1, Cause::BadHeader),
+    ];
+    for (parking, holidays, file, row, cause) in faults {
+        match read_holidays(rt.alloc(), areas, parking, holidays) {
+            Err(fault) => {
+                let named = NetworkFault::Bad(BadInput { file, row, cause });
+                assert!(rt; fault == named, "at {parking}{holidays}");
+            }
+            Ok(_) => assert!(rt; false, "taken: {parking}{holidays}"),
         }
     }
 }

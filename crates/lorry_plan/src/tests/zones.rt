@@ -1,6 +1,9 @@
-// Zones, areas and the areas of roads: what is read, and each cause for which they are refused; instants as texts.
-use super::{CLOSED, PARKED, RATED, TRIANGLE, TRIP, TWO_PAIRS, expect_run};
-use route_base::Status;
+// Zones, areas, the areas of roads and holidays: what is read, and each cause for which they are refused; instants as texts.
+use super::{
+    CLOSED, ONE_PAIR, PARKED, RATED, TRIANGLE, TRIP, TWO_PAIRS, expect_run, sure_folder, words_of,
+};
+use front_desk::run;
+use route_base::{Folder, Status, SureFolder, SureSink};
 use std::process::Abort;
 use std::test::Fail;
 use std::thread::Threads;
@@ -17,21 +20,41 @@ const ROADS: &str = "arc,area\n3,sea\n1,acores\n";
 // Runs a trip over the triangle with its tables and these of zones, areas and roads.
 fn expect_zoned<R: Abort + Threads + Sync + AllocGlobal>(
     rt: &R,
-    (zones, areas, roads): (&str, &str, &str),
+    tables: (&str, &str, &str),
     line: &str,
     status: Status,
     text: &str,
 ) -> Result<(), Fail> {
-    let files = [
-        ("d/graph.gr", TRIANGLE),
+    let (zones, areas, roads) = tables;
+    let zoned = [
         ("d/zones.csv", zones),
         ("d/areas.csv", areas),
         ("d/roads.csv", roads),
+    ];
+    let mut folder = triangle_folder(rt);
+    for (name, file) in zoned {
+        assert!(rt;
+            folder.write_file(name, file.as_bytes()).is_ok(),
+            "no memory for {name}"
+        );
+    }
+    let words = words_of(rt.alloc(), line)?;
+    let mut sink = SureSink::new(rt.alloc());
+    let ended = run(rt, rt.alloc(), words.as_slice(), &mut folder, &mut sink);
+    assert_eq!(rt; ended, status, "{line:?} over {zoned:?}");
+    assert_eq!(rt; sink.written(), text.as_bytes(), "{line:?} over {zoned:?}");
+    Ok(())
+}
+
+// A folder with the triangle, its closures and its rated node.
+fn triangle_folder<R: Abort + AllocGlobal>(rt: &R) -> SureFolder {
+    let files = [
+        ("d/graph.gr", TRIANGLE),
         ("d/closures.csv", CLOSED),
         ("d/ratings.csv", RATED),
         ("d/parking.csv", PARKED),
     ];
-    expect_run(rt, &files, line, status, text)
+    sure_folder(rt, &files)
 }
 
 #[test]
@@ -134,6 +157,65 @@ fn plans_the_same_trip_in_any_zone(rt: HostRuntime) -> Result<(), Fail> {
         expect_zoned(&rt, tables, TRIP, Status::Done, TWO_PAIRS)?;
     }
     Ok(())
+}
+
+#[test]
+fn reads_holidays_of_areas_last(rt: HostRuntime) -> Result<(), Fail> {
+    let refused = [
+        ("x", "1 BadHeader"),
+        ("area,date,kind\n", "1 BadHeader"),
+        ("area,kind,date\nde,PH\n", "2 FieldCount"),
+        ("area,kind,date\nd e,PH,2020-07-09\n", "2 BadField"),
+        ("area,kind,date\nde,ph,2020-07-09\n", "2 BadField"),
+        ("area,kind,date\nde,PH,2020-7-9\n", "2 BadField"),
+        ("area,kind,date\nde,PH,2021-02-29\n", "2 BadField"),
+        ("area,kind,date\nde,PH,1969-12-31\n", "2 BadField"),
+        ("area,kind,date\nde,PH,2201-01-01\n", "2 BadField"),
+        ("area,kind,date\nde,PH,2020-07-09T00:00Z\n", "2 BadField"),
+        ("area,kind,date\nxx,XX,2020-07-09\n", "2 BadField"),
+        (
+            "area,kind,date\nde,PH,2020-07-09\nxx,SH,2020-07-09\n",
+            "3 Unknown",
+        ),
+        ("area,kind,date\ndefault,PH,2020-07-09\n", "2 Unknown"),
+    ];
+    for (holidays, fault) in refused {
+        let files = [
+            ("d/graph.gr", TRIANGLE),
+            ("d/zones.csv", ZONES),
+            ("d/areas.csv", AREAS),
+            ("d/holidays.csv", holidays),
+        ];
+        let text = format!(in rt.alloc(); "refused input holidays.csv {fault}\n")?;
+        expect_run(&rt, &files, TRIP, Status::BadInput, text.as_str())?;
+    }
+    let read = [
+        "",
+        "area,kind,date\n",
+        "area,kind,date\nsea,SH,2200-12-31\nde,PH,1970-01-01\nde,PH,1970-01-01\nde,SH,1970-01-01\n",
+    ];
+    for holidays in read {
+        let files = [
+            ("d/graph.gr", TRIANGLE),
+            ("d/zones.csv", ZONES),
+            ("d/areas.csv", AREAS),
+            ("d/holidays.csv", holidays),
+        ];
+        expect_run(&rt, &files, TRIP, Status::Done, ONE_PAIR)?;
+    }
+    // The faults of all other tables come first, and an area that stands without a row has holidays too.
+    let last = [
+        ("d/graph.gr", TRIANGLE),
+        ("d/parking.csv", "x"),
+        ("d/holidays.csv", "x"),
+    ];
+    let parking = "refused input parking.csv 1 BadHeader\n";
+    expect_run(&rt, &last, TRIP, Status::BadInput, parking)?;
+    let alone = [
+        ("d/graph.gr", TRIANGLE),
+        ("d/holidays.csv", "area,kind,date\ndefault,PH,2020-07-09\n"),
+    ];
+    expect_run(&rt, &alone, TRIP, Status::Done, ONE_PAIR)
 }
 
 #[test]

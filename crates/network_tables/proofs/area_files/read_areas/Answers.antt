@@ -1,14 +1,12 @@
-use Rattle.std.proofs.Common.{◌≡◌, ℕ, true, refl, Option, Some, None, List, OnOk, IfErr, IfOk, ap, sym, ◌∙◌, subst}
+use Rattle.std.proofs.Common.{◌≡◌, ℕ, true, refl, Option, Some, None, List, OnOk, IfErr, ap, ◌∙◌, subst}
 use Rattle.std.specs.Prelude.{codes}
 use Rattle.std.specs.Option.{is_some, option_or}
 use Rattle.route_base.specs.declared.faults.FileKind.TheVariants.{Areas}
 use Rattle.network_tables.specs.Areas.{areas_law}
 use Rattle.network_tables.specs.Faulty.{IfBad}
 use Rattle.network_tables.specs.Laws.{Law, first_table_fault}
-use Rattle.network_tables.specs.Names.{value_of}
-use Rattle.network_tables.specs.Network.{fault_in, zones_of}
+use Rattle.network_tables.specs.Network.{fault_in}
 use Rattle.network_tables.specs.Records.{records_of}
-use Rattle.network_tables.specs.Zones.{ZoneList}
 use Rattle.network_tables.proofs.area_files.read_areas.Goals as goal
 
 some_of : {X : Type 0} (o : Option X) (x : X) → is_some (option_or o (Some x)) ≡ true
