@@ -6,7 +6,8 @@ use Rattle.jiff_core.specs.declared.civil.date.Date.{Date}
 use Rattle.jiff_core.specs.Calendar as jiff
 use Rattle.jiff_core.specs.Date.{epoch_day}
 use Rattle.jiff_core.proofs.SignedLemmas.{signed_arith, back_small}
-use Rattle.jiff_core.proofs.CalendarLemmas.{day_count-epoch, day_count-next_year, day_count-day_of_year, day_of_year_bound, days_from_civil-day_count, days_of_months_all}
+use Rattle.jiff_core.proofs.CalendarLemmas.{day_count-epoch, day_count-next_year, day_count-day_of_year, day_of_year_bound}
+use Rattle.jiff_core.proofs.CalendarLemmas.{days_from_civil-day_count, days_of_months_all}
 use Rattle.jiff_core.proofs.DateLemmas.{epoch_day_injective}
 use Rattle.calendar_days.specs.declared.days.CivilDate.{CivilDate}
 use Rattle.calendar_days.specs.Days.{days_of_year, days_of_month, days_of_years, days_of_months, date_from, is_date, day_number, next_date, date_on}
@@ -48,9 +49,11 @@ civil d h small = ((omega (arith, signed_arith), omega (arith, signed_arith)), h
 
 -- the date as jiff has it
 jiff_date : (d : CivilDate) → IsFrom1970 d → d.year ≤ 9999 → Date
-jiff_date d h small = let c = civil d h small in record { year = pos d.year; month = d.month; day = d.day; year_in = c.0; month_in = c.1; day_in = c.2 }
+jiff_date d h small = let c = civil d h small in
+    record { year = pos d.year; month = d.month; day = d.day; year_in = c.0; month_in = c.1; day_in = c.2 }
 
-pub as_jiff : (d : CivilDate) (j : Date) → IsFrom1970 d → d.year ≤ 9999 → epoch_day j ≡ pos (day_number d) → (j.year ≡ pos d.year) × (j.month ≡ d.month) × (j.day ≡ d.day)
+pub as_jiff : (d : CivilDate) (j : Date) → IsFrom1970 d → d.year ≤ 9999 → epoch_day j ≡ pos (day_number d)
+    → (j.year ≡ pos d.year) × (j.month ≡ d.month) × (j.day ≡ d.day)
 unfolding jiff_date
 as_jiff d j h small e = epoch_day_injective j (jiff_date d h small) (e ∙ sym (days_from_civil-day_number d h))
 
@@ -112,14 +115,16 @@ IsDateOf n d = IsFrom1970 d × (day_number d ≡ n)
 next_day : (d : CivilDate) → IsFrom1970 d → d.day < days_of_month d.year d.month → IsDateOf (day_number d + 1) (date_from d.year d.month (d.day + 1))
 next_day d h more = (record { year = h.year; month = h.month; day = (omega arith, omega (arith, more)) }, omega (arith, h.day.0))
 
-next_month : (d : CivilDate) → IsFrom1970 d → days_of_month d.year d.month ≤ d.day → d.month < 12 → IsDateOf (day_number d + 1) (date_from d.year (d.month + 1) 1)
+next_month : (d : CivilDate) → IsFrom1970 d → days_of_month d.year d.month ≤ d.day → d.month < 12
+    → IsDateOf (day_number d + 1) (date_from d.year (d.month + 1) 1)
 next_month d h last more =
     let back : d.month + 1 - 1 ≡ d.month = omega arith in (
       record { year = h.year; month = (omega arith, omega (arith, more)); day = (omega arith, omega (arith, month_bounds d.year (d.month + 1))) },
       rw back (omega (arith, h.day, last, days_of_months-more d.year d.month h.month.0)),
     )
 
-next_year : (d : CivilDate) → IsFrom1970 d → days_of_month d.year d.month ≤ d.day → 12 ≤ d.month → IsDateOf (day_number d + 1) (date_from (d.year + 1) 1 1)
+next_year : (d : CivilDate) → IsFrom1970 d → days_of_month d.year d.month ≤ d.day → 12 ≤ d.month
+    → IsDateOf (day_number d + 1) (date_from (d.year + 1) 1 1)
 next_year d h last end =
     let n = d.year - 1970 in
     let y : 1970 + n ≡ d.year = omega (arith, h.year) in
@@ -145,7 +150,15 @@ next_date-is d h =
 -- the date of a day number has that day number
 pub date_on-is : (n : ℕ) → IsDateOf n (date_on n)
 unfolding date_on
-date_on-is zero = (record { year = omega arith; month = (omega arith, omega arith); day = (omega arith, omega arith) }, unfold days_of_years days_of_months in refl)
+date_on-is zero = (
+  record {
+    year = omega arith;
+    month = (omega arith, omega arith);
+    day =
+        (omega arith, omega arith);
+  },
+  unfold days_of_years days_of_months in refl,
+)
 date_on-is (suc n) =
     let before = date_on-is n in
     let after = next_date-is (date_on n) before.0 in
@@ -168,7 +181,7 @@ back_from_32 z n e small = rw e (back_small w32 (pos n) (omega (arith, small)))
 pub year_in_16 : (y : ℕ) → y ≤ 2200 → to_z w16 y ≡ pos y
 year_in_16 y small = back_small w16 (pos y) (omega (arith, small))
 
--- what holds of a date of the years 1970 to 2200
+-- the facts of a date of the years 1970 to 2200
 pub record HasNumber (d : CivilDate) : Type 0 where
   pub number : jiff.days_from_civil (pos d.year) d.month d.day ≡ pos (day_number d)
   pub small : day_number d ≤ 84370
@@ -186,7 +199,7 @@ has_number d h =
       back = day_number-injective _ d on.0 proper.0 on.1 (omega (arith, early)) (omega (arith, proper.1));
     }
 
--- what holds of jiff's date of a day number up to 84370
+-- the facts of jiff's date of a day number up to 84370
 pub record IsOn (n : ℕ) (j : Date) : Type 0 where
   pub date : is_date (date_on n) ≡ true
   pub number : day_number (date_on n) ≡ n
@@ -200,4 +213,12 @@ is_on n j small e =
     let on = date_on-is n in
     let early = year-small (date_on n) on.0 (omega (arith, on.1, small)) in
     let same = as_jiff (date_on n) j on.0 (omega (arith, early)) (e ∙ ap pos (sym on.1)) in
-    record { date = proper-is_date (date_on n) on.0 early; number = on.1; year = rw same.0 (year_in_16 (date_on n).year early); early = early; month = same.1; day = same.2 }
+    record {
+      date = proper-is_date (date_on n) on.0 early;
+      number = on.1;
+      year =
+          rw same.0 (year_in_16 (date_on n).year early);
+      early = early;
+      month = same.1;
+      day = same.2;
+    }

@@ -1,11 +1,13 @@
 -- Numbers of two and of four digits, and their texts.
-use Rattle.std.proofs.Common.{◌≡◌, ℕ, ◌+◌, ◌-◌, ◌*◌, ◌/◌, ◌%◌, ◌≤◌, ◌&&◌, Bool, true, false, cond, Option, Some, None, List, [], ◌∷◌, ◌++◌, length, refl, ap, ◌∙◌, arith}
+use Rattle.std.proofs.Common.{◌≡◌, ℕ, ◌+◌, ◌-◌, ◌*◌, ◌/◌, ◌%◌, ◌≤◌, ◌&&◌, Bool, true, false, cond, Option, Some, None, List}
+use Rattle.std.proofs.Common.{[], ◌∷◌, ◌++◌, length, refl, ap, ◌∙◌, arith}
 use Rattle.std.specs.Prelude.{nat_le, option_and_then}
 use Rattle.std.proofs.lemmas.Bool.{le-leb, leb-true, and_parts}
+use Rattle.std.proofs.lemmas.Option.{option_and_then_some, same_Some}
 use Rattle.route_base.specs.Digits.{digits_from, number_of, has_no_leading_zero, plain_number_of}
 use Rattle.calendar_days.specs.Texts.{two_digits}
 
--- what a value behind a test says
+-- a value behind a test is there only where the test holds
 pub cond_some : {A : Type 0} (b : Bool) (o : Option A) (k : A) → cond b o None ≡ Some k → (b ≡ true) × (o ≡ Some k)
 cond_some true o k e = (refl, e)
 cond_some false o k e = absurd (cc)
@@ -14,10 +16,9 @@ pub cond_none : {A : Type 0} (b : Bool) (o : Option A) → o ≡ None → cond b
 cond_none true o e = e
 cond_none false o e = refl
 
--- and behind a step that may fail
+-- a value behind a step that may fail is there only where the step gives one
 pub then_some : {A B : Type 0} (f : A → Option B) (o : Option A) (k : B) → option_and_then f o ≡ Some k → (x : A) × (o ≡ Some x) × (f x ≡ Some k)
-then_some f (Some x) k e = (x, refl, e)
-then_some f None k e = absurd (cc)
+then_some f o k e = option_and_then_some f o k e (λ x is found. (x, is, found))
 
 pub digit_more : (n d : ℕ) (bs : List ℕ) → d ≤ 9 → digits_from n ((48 + d) ∷ bs) ≡ digits_from (10 * n + d) bs
 digit_more n d bs small =
@@ -30,16 +31,14 @@ digit_back n a k bs e =
     let parts = and_parts (nat_le 48 a) (nat_le a 57) behind.0 in
     (leb-true 48 a parts.0, leb-true a 57 parts.1, behind.1)
 
-pub some_same : (a b : ℕ) → Some a ≡ Some b → a ≡ b
-some_same a b e = cc
-
 pub two_digits-number : (n : ℕ) → n ≤ 99 → number_of (two_digits n) ≡ Some n
 two_digits-number n small =
     digit_more 0 (n / 10 % 10) ((48 + n % 10) ∷ []) (omega arith)
     ∙ digit_more (10 * 0 + n / 10 % 10) (n % 10) [] (omega arith)
     ∙ ap (λ k. Some k) (omega (arith, small))
 
-digits_of_four : (a b c d : ℕ) → a ≤ 9 → b ≤ 9 → c ≤ 9 → d ≤ 9 → digits_from 0 ((48 + a) ∷ (48 + b) ∷ (48 + c) ∷ (48 + d) ∷ []) ≡ Some (1000 * a + (100 * b + (10 * c + d)))
+digits_of_four : (a b c d : ℕ) → a ≤ 9 → b ≤ 9 → c ≤ 9 → d ≤ 9
+    → digits_from 0 ((48 + a) ∷ (48 + b) ∷ (48 + c) ∷ (48 + d) ∷ []) ≡ Some (1000 * a + (100 * b + (10 * c + d)))
 digits_of_four a b c d ha hb hc hd =
     let x = 10 * 0 + a in
     let y = 10 * x + b in
@@ -54,22 +53,24 @@ digits_of_four a b c d ha hb hc hd =
 pub four_digits-number : (n : ℕ) → n ≤ 9999 → number_of (two_digits (n / 100) ++ two_digits n) ≡ Some n
 four_digits-number n small =
     let value : 1000 * (n / 100 / 10 % 10) + (100 * (n / 100 % 10) + (10 * (n / 10 % 10) + n % 10)) ≡ n = omega (arith, small) in
-    digits_of_four (n / 100 / 10 % 10) (n / 100 % 10) (n / 10 % 10) (n % 10) (omega arith) (omega arith) (omega arith) (omega arith) ∙ ap (λ k. Some k) value
+    digits_of_four (n / 100 / 10 % 10) (n / 100 % 10) (n / 10 % 10) (n % 10) (omega arith) (omega arith) (omega arith)
+    (omega arith) ∙ ap (λ k. Some k) value
 
 pub two_digits-only : (a b n : ℕ) → number_of (a ∷ b ∷ []) ≡ Some n → (n ≤ 99) × (a ≡ 48 + n / 10 % 10) × (b ≡ 48 + n % 10)
 two_digits-only a b n e =
     let x = digit_back 0 a n (b ∷ []) e in
     let y = digit_back _ b n [] x.2 in
-    let k = some_same _ n y.2 in
+    let k = same_Some _ n y.2 in
     (omega (arith, x.0, x.1, y.0, y.1, k), omega (arith, x.0, x.1, y.0, y.1, k), omega (arith, x.0, x.1, y.0, y.1, k))
 
-pub four_digits-only : (a b c d n : ℕ) → number_of (a ∷ b ∷ c ∷ d ∷ []) ≡ Some n → (n ≤ 9999) × (a ≡ 48 + n / 100 / 10 % 10) × (b ≡ 48 + n / 100 % 10) × (c ≡ 48 + n / 10 % 10) × (d ≡ 48 + n % 10)
+pub four_digits-only : (a b c d n : ℕ) → number_of (a ∷ b ∷ c ∷ d ∷ []) ≡ Some n → (n ≤ 9999) × (a ≡ 48 + n / 100 / 10 % 10)
+    × (b ≡ 48 + n / 100 % 10) × (c ≡ 48 + n / 10 % 10) × (d ≡ 48 + n % 10)
 four_digits-only a b c d n e =
     let x = digit_back 0 a n (b ∷ c ∷ d ∷ []) e in
     let y = digit_back _ b n (c ∷ d ∷ []) x.2 in
     let z = digit_back _ c n (d ∷ []) y.2 in
     let w = digit_back _ d n [] z.2 in
-    let k = some_same _ n w.2 in (
+    let k = same_Some _ n w.2 in (
       omega (arith, x.0, x.1, y.0, y.1, z.0, z.1, w.0, w.1, k),
       omega (arith, x.0, x.1, y.0, y.1, z.0, z.1, w.0, w.1, k),
       omega (arith, x.0, x.1, y.0, y.1, z.0, z.1, w.0, w.1, k),
@@ -82,7 +83,8 @@ pub dashed_no_number : (a b c d : ℕ) (bs : List ℕ) → plain_number_of (a �
 dashed_no_number a b c d bs =
     let none : digits_from 0 (a ∷ b ∷ c ∷ d ∷ 45 ∷ bs) ≡ None =
     passed 0 a (b ∷ c ∷ d ∷ 45 ∷ bs) (λ n. passed n b (c ∷ d ∷ 45 ∷ bs) (λ n. passed n c (d ∷ 45 ∷ bs) (λ n. passed n d (45 ∷ bs) (λ n. refl)))) in
-    cond_none (has_no_leading_zero (a ∷ b ∷ c ∷ d ∷ 45 ∷ bs)) (number_of (a ∷ b ∷ c ∷ d ∷ 45 ∷ bs)) (cond_none (nat_le (length (a ∷ b ∷ c ∷ d ∷ 45 ∷ bs)) 18) (digits_from 0 (a ∷ b ∷ c ∷ d ∷ 45 ∷ bs)) none)
+    cond_none (has_no_leading_zero (a ∷ b ∷ c ∷ d ∷ 45 ∷ bs)) (number_of (a ∷ b ∷ c ∷ d ∷ 45 ∷ bs))
+    (cond_none (nat_le (length (a ∷ b ∷ c ∷ d ∷ 45 ∷ bs)) 18) (digits_from 0 (a ∷ b ∷ c ∷ d ∷ 45 ∷ bs)) none)
   where
     passed : (n a : ℕ) (bs : List ℕ) → ((m : ℕ) → digits_from m bs ≡ None) → digits_from n (a ∷ bs) ≡ None
     passed n a bs h = cond_none (nat_le 48 a && nat_le a 57) (digits_from (10 * n + (a - 48)) bs) (h (10 * n + (a - 48)))

@@ -24,8 +24,10 @@ short_no_day text h = let same : take 10 text ≡ text = grind arith in rw same 
 
 -- a clock by its first six bytes and what follows them
 pub clock_by_place : (text : List ℕ) → 6 ≤ length text → clock_of text ≡
-    cond (bytes_eq (get_or text 0 0 ∷ get_or text 3 0 ∷ []) (codes "T:") && (bytes_eq (drop 6 text) (codes "Z") || bytes_eq (drop 6 text) (codes ":00Z")))
-    (option_and_then (λ h. option_and_then (λ n. minute_of_day h n) (number_of (get_or text 4 0 ∷ get_or text 5 0 ∷ []))) (number_of (get_or text 1 0 ∷ get_or text 2 0 ∷ [])))
+    cond (bytes_eq (get_or text 0 0 ∷ get_or text 3 0 ∷ []) (codes "T:") &&
+    (bytes_eq (drop 6 text) (codes "Z") || bytes_eq (drop 6 text) (codes ":00Z")))
+    (option_and_then (λ h. option_and_then (λ n. minute_of_day h n) (number_of (get_or text 4 0 ∷ get_or text 5 0 ∷ [])))
+    (number_of (get_or text 1 0 ∷ get_or text 2 0 ∷ [])))
     None
 unfolding clock_of
 clock_by_place [] h = absurd (omega arith)

@@ -1,4 +1,4 @@
--- Dates and day numbers of the proleptic Gregorian calendar (ISO 8601): day 0 is 1970-01-01.
+-- Dates and their day numbers, day 0 being 1970-01-01 (source: ISO 8601, the proleptic Gregorian calendar).
 use Rattle.std.specs.Prelude.{ℕ, zero, suc, ◌+◌, ◌-◌, ◌%◌, ◌==◌, ◌&&◌, ◌||◌, Bool, not, nat_le, nat_lt, Option, Some, None, if◌then◌else◌}
 use Rattle.calendar_days.specs.declared.days.CivilDate.{CivilDate}
 
@@ -31,7 +31,8 @@ date_from y m d = record { year = y; month = m; day = d }
 
 -- a date of the years 1970 to 2200
 abbrev pub is_date : CivilDate → Bool
-is_date d = nat_le 1970 d.year && nat_le d.year 2200 && nat_le 1 d.month && nat_le d.month 12 && nat_le 1 d.day && nat_le d.day (days_of_month d.year d.month)
+is_date d = nat_le 1970 d.year && nat_le d.year 2200 && nat_le 1 d.month && nat_le d.month 12 && nat_le 1 d.day
+    && nat_le d.day (days_of_month d.year d.month)
 
 -- the days of the whole years and months before a date, and of its month before it
 abbrev pub day_number : CivilDate → ℕ

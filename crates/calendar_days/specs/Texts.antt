@@ -1,5 +1,6 @@
--- Dates and instants as texts (ISO 8601), and Unix minutes as digits.
-use Rattle.std.specs.Prelude.{◌≡◌, ◌⊎◌, ℕ, ◌+◌, ◌*◌, ◌/◌, ◌%◌, ◌&&◌, ◌||◌, nat_lt, Option, Some, None, List, [], ◌∷◌, ◌++◌, codes, bytes_eq, take, drop, decimal, if◌then◌else◌, option_and_then}
+-- Dates and instants as texts, and Unix minutes as digits (source: ISO 8601).
+use Rattle.std.specs.Prelude.{◌≡◌, ◌⊎◌, ℕ, ◌+◌, ◌*◌, ◌/◌, ◌%◌, ◌&&◌, ◌||◌, nat_lt, Option, Some, None, List, [], ◌∷◌, ◌++◌}
+use Rattle.std.specs.Prelude.{codes, bytes_eq, take, drop, decimal, if◌then◌else◌, option_and_then}
 use Rattle.std.specs.Option.{option_or}
 use Rattle.route_base.specs.Digits.{number_of}
 use Rattle.route_base.specs.Forms.{minute_of, is_from_to}
@@ -33,7 +34,8 @@ in_range t = if is_from_to first_instant last_instant t then Some t else None
 
 -- the minute of a day and a clock's text, from 1971 to 2199
 abbrev pub dated_minute_of : List ℕ → Option ℕ
-dated_minute_of text = option_and_then (λ day. option_and_then (λ n. in_range (1440 * day + n)) (clock_of (drop 10 text))) (day_of_text (take 10 text))
+dated_minute_of text = option_and_then (λ day. option_and_then (λ n. in_range (1440 * day + n)) (clock_of (drop 10 text)))
+    (day_of_text (take 10 text))
 
 -- an instant as a Unix minute without a leading zero, or as the text of a day and a time in UTC
 unfoldable pub instant_of : List ℕ → Option ℕ

@@ -1,4 +1,4 @@
--- Weekdays in their order.
+-- Weekdays and their order, Monday first (source: ISO 8601).
 use Rattle.std.specs.Prelude.{ℕ, zero, suc, ◌+◌, ◌-◌, ◌%◌}
 use Rattle.calendar_days.specs.declared.weekday.Weekday.{Weekday}
 use Rattle.calendar_days.specs.declared.weekday.Weekday.TheVariants.{Mo, Tu, We, Th, Fr, Sa, Su}

@@ -53,8 +53,8 @@ fn day_number(date: CivilDate) -> u32
     date.to_unix_epoch_day() as u32
 }
 
-/// The day number of a date of the years 1970 to 2200, from day 0, 1970-01-01, to day 84370, 2200-12-31; `None` exactly where
-/// the calendar (proleptic Gregorian, ISO 8601) has no such date in these years. In constant time.
+/// The day number of a date of the years 1970 to 2200, from day 0, 1970-01-01, to day 84370, 2200-12-31; `None` exactly if the
+/// calendar (proleptic Gregorian, ISO 8601) has no such date in these years. In constant time.
 pub fn day_of(year: u32, month: u32, day: u32) -> Option<u32>
     ensures value { result ≡ day_of_parts year month day }
     ensures date { IfSome result (λ n. date_on n ≡ date_from year month day) }
@@ -67,7 +67,7 @@ pub fn day_of(year: u32, month: u32, day: u32) -> Option<u32>
     }
 }
 
-// The date of a day number as jiff has it.
+// The date of a day number, by jiff's calendar.
 fn calendar_day(day: u32) -> Date
     requires { day ≤ 84370 }
     ensures { epoch_day result ≡ pos day }
@@ -90,6 +90,7 @@ pub fn date_of(day: u32) -> CivilDate
     }
 }
 
+// The weekday that jiff's weekday is.
 fn weekday_from(weekday: civil::Weekday) -> Weekday
     ensures { index_of result ≡ monday_zero weekday }
 {

@@ -3,6 +3,7 @@ ghost use Rattle.std.specs.Prelude.{◌≡◌, ◌≤◌, ◌∷◌, [], IfSome}
 ghost use Rattle.route_base.specs.Digits.{number_of};
 ghost use Rattle.calendar_days.specs.Texts.{two_digits};
 
+// The number that two digits write.
 pub(crate) fn read_two(tens: u8, ones: u8) -> Option<u32>
     ensures value { result ≡ number_of (tens ∷ ones ∷ []) }
     ensures small { IfSome result (λ n. n ≤ 99) }
@@ -13,6 +14,7 @@ pub(crate) fn read_two(tens: u8, ones: u8) -> Option<u32>
     Some(10 * (tens - b'0') as u32 + (ones - b'0') as u32)
 }
 
+// The number that four digits write.
 pub(crate) fn read_four(thousands: u8, hundreds: u8, tens: u8, ones: u8) -> Option<u32>
     ensures { result ≡ number_of (thousands ∷ hundreds ∷ tens ∷ ones ∷ []) }
 {

@@ -3,24 +3,23 @@ ghost use Rattle.std.specs.Prelude.{◌≡◌, ℕ, ◌≤◌, ◌||◌, codes, 
 ghost use Rattle.std.specs.Result.{result_ok};
 ghost use Rattle.route_base.specs.Time.{IsInstant};
 ghost use Rattle.calendar_days.specs.Days.{date_on};
-ghost use Rattle.calendar_days.specs.Texts.{day_of_text, minute_of_day, clock_of, in_range, dated_minute_of, instant_of, date_text_of, instant_text_of, IsTextOf};
+ghost use Rattle.calendar_days.specs.Texts.{day_of_text, minute_of_day, clock_of, in_range, dated_minute_of, instant_of};
+ghost use Rattle.calendar_days.specs.Texts.{date_text_of, instant_text_of, IsTextOf};
 
 use crate::digits::{read_four, read_two, two_digits};
 use crate::{date_of, day_of};
+use route_base::limits::{DAY_MINUTES, FIRST_INSTANT, LAST_INSTANT};
 use route_base::{Minute, read_minute};
 
-const FIRST_INSTANT: Minute = 525_600;
-
-const LAST_INSTANT: Minute = 120_968_639;
-
-/// The bytes are none of the texts of an instant.
+/// The fault of bytes that are no text of an instant.
 #[derive(Clone, Copy, Debug, PartialEq, Eq)]
 pub struct NotAnInstant;
 
-/// The bytes aren't the text of a date of the years 1970 to 2200.
+/// The fault of bytes that are no text of a date of the years 1970 to 2200.
 #[derive(Clone, Copy, Debug, PartialEq, Eq)]
 pub struct NotADate;
 
+// The day number of `YYYY-MM-DD`.
 #[tactic(auto, unfolding(crate::specs::Texts::day_of_text))]
 fn read_day(bytes: &[u8]) -> Option<u32>
     ensures value { result ≡ day_of_text bytes.now }
@@ -40,6 +39,7 @@ fn read_day(bytes: &[u8]) -> Option<u32>
     }
 }
 
+// The minute of the day of an hour and a minute, if they exist.
 fn time_of_day(hour: u32, minute: u32) -> Option<Minute>
     ensures value { result ≡ minute_of_day hour minute }
     ensures small { IfSome result (λ n. n ≤ 1439) }
@@ -51,12 +51,14 @@ fn time_of_day(hour: u32, minute: u32) -> Option<Minute>
     }
 }
 
+// Whether a clock may end in these bytes.
 fn is_end_of_clock(end: &[u8]) -> bool
     ensures { result ≡ (bytes_eq end.now (codes "Z") || bytes_eq end.now (codes ":00Z")) }
 {
     end == b"Z".as_slice() || end == b":00Z".as_slice()
 }
 
+// The minute of the day of `THH:MMZ` or `THH:MM:00Z`.
 #[tactic(auto, using(crate::proofs::Pieces::clock_by_place, crate::proofs::Pieces::no_clock))]
 fn read_clock(bytes: &[u8]) -> Option<Minute>
     ensures value { result ≡ clock_of bytes.now }
@@ -78,6 +80,7 @@ fn read_clock(bytes: &[u8]) -> Option<Minute>
     }
 }
 
+// The instant that a date and a clock write.
 #[tactic(auto, using(crate::proofs::Pieces::short_no_day))]
 fn read_dated_minute(bytes: &[u8]) -> Option<Minute>
     ensures value { result ≡ dated_minute_of bytes.now }
@@ -85,7 +88,7 @@ fn read_dated_minute(bytes: &[u8]) -> Option<Minute>
 {
     let (date, clock) = bytes.split_at_checked(10)?;
     let day = read_day(date)?;
-    let minute = 1440 * day as Minute + read_clock(clock)?;
+    let minute = DAY_MINUTES * day as Minute + read_clock(clock)?;
     if FIRST_INSTANT <= minute && minute <= LAST_INSTANT {
         Some(minute)
     } else {
@@ -93,7 +96,7 @@ fn read_dated_minute(bytes: &[u8]) -> Option<Minute>
     }
 }
 
-/// The day number that `YYYY-MM-DD` says, of a date from 1970-01-01 to 2200-12-31; an error exactly for all other bytes. In
+/// Parses a date, `YYYY-MM-DD`, to its day number: a date from 1970-01-01 to 2200-12-31; an error exactly for all other bytes. In
 /// constant time.
 pub fn read_date(bytes: &[u8]) -> Result<u32, NotADate>
     ensures value { result_ok result ≡ day_of_text bytes.now }
@@ -104,6 +107,7 @@ pub fn read_date(bytes: &[u8]) -> Result<u32, NotADate>
     read_day(bytes).ok_or(NotADate)
 }
 
+// The instant that the bytes write in digits, or as a date and a clock.
 #[tactic(auto, unfolding(crate::specs::Texts::instant_of))]
 fn minute_in(bytes: &[u8]) -> Option<Minute>
     ensures value { result ≡ instant_of bytes.now }
@@ -133,8 +137,8 @@ pub fn instant_text(t: Minute) -> [u8; 17]
     ensures text { result ≡ instant_text_of t }
     ensures read { instant_of result ≡ Some t }
 {
-    let date = date_of((t / 1440) as u32);
-    let minute_of_day = (t % 1440) as u32;
+    let date = date_of((t / DAY_MINUTES) as u32);
+    let minute_of_day = (t % DAY_MINUTES) as u32;
     let [y3, y2] = two_digits(date.year / 100);
     let [y1, y0] = two_digits(date.year);
     let [m1, m0] = two_digits(date.month);

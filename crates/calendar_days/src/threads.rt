@@ -1,8 +1,8 @@
-// Types that threads may share and hand over: the calls below are refused where one may not.
+// Compile-time check that these types are Send and Sync.
 use crate::{CivilDate, NotADate, NotAnInstant, Weekday};
+use route_base::crosses_threads;
 
-fn crosses_threads<T: Send + Sync>() {}
-
+// Compiles only if all these types cross threads.
 fn all_cross_threads() {
     crosses_threads::<CivilDate>();
     crosses_threads::<Weekday>();

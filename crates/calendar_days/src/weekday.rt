@@ -15,7 +15,7 @@ pub enum Weekday {
 }
 
 impl Weekday {
-    /// Monday is 0 and Sunday is 6. In constant time.
+    /// The weekday's place in the week: Monday is 0 and Sunday is 6. In constant time.
     pub fn index(self) -> u32
         ensures { result ≡ index_of self }
     {

@@ -1,16 +1,17 @@
 -- A file whose first lines are read.
-use Rattle.std.proofs.Common.{◌≡◌, ℕ, ◌+◌, ◌<◌, ◌≤◌, List, [], ◌∷◌, ◌++◌, length, map, Option, Some, None, refl, subst, ap, sym, ◌∙◌, arith, rules, append_assoc, length-append}
+use Rattle.std.proofs.Common.{◌≡◌, ℕ, ◌+◌, ◌<◌, ◌≤◌, List, [], ◌∷◌, ◌++◌, length, map, Option, Some, None, refl, subst, ap, sym}
+use Rattle.std.proofs.Common.{◌∙◌, arith, rules, append_assoc, length-append}
 use Rattle.std.specs.Option.{option_map, option_or}
 use Rattle.route_base.specs.declared.faults.Cause.{Cause}
-use Rattle.dimacs_reader.specs.declared.draft.Sizes.{Sizes}
+use Rattle.dimacs_reader.specs.declared.builder.Sizes.{Sizes}
 use Rattle.dimacs_reader.specs.declared.graph.GraphArc.{GraphArc}
 use Rattle.dimacs_reader.specs.declared.lines.Line.{Line}
-use Rattle.dimacs_reader.specs.declared.lines.Line.TheVariants.{Passed, Problem, Arc, Bad}
-use Rattle.dimacs_reader.specs.Draft.{after}
+use Rattle.dimacs_reader.specs.declared.lines.Line.TheVariants.{Ignored, Problem, Arc, Bad}
+use Rattle.dimacs_reader.specs.Inside.Builder.{after}
 use Rattle.dimacs_reader.specs.Faults.{cause_in, end_cause_in, cause_of, cause_of_problem, cause_at_end, fault_from, first_fault, fault_of}
 use Rattle.dimacs_reader.specs.Lines.{line_of, lines_of, lines_in}
 use Rattle.dimacs_reader.specs.Stated.{Stated, stated_in, sizes_in, arcs_in, arc_with}
-use Rattle.dimacs_reader.specs.Table.{graph_of, graph_in}
+use Rattle.dimacs_reader.specs.GraphModel.{graph_of, graph_in}
 
 -- the lines before, all without a fault, and what is left of the file
 pub record HasRead (bytes rest : List ℕ) (number : ℕ) (stated : Stated) : Type 0 where
@@ -23,14 +24,14 @@ pub record HasRead (bytes rest : List ℕ) (number : ℕ) (stated : Stated) : Ty
 
 sizes_in-append : (xs ys : List Line) → sizes_in (xs ++ ys) ≡ option_or (sizes_in xs) (sizes_in ys)
 sizes_in-append [] ys = refl
-sizes_in-append (Passed ∷ xs) ys = sizes_in-append xs ys
+sizes_in-append (Ignored ∷ xs) ys = sizes_in-append xs ys
 sizes_in-append (Problem n m ∷ xs) ys = refl
 sizes_in-append (Arc u v w ∷ xs) ys = sizes_in-append xs ys
 sizes_in-append (Bad ∷ xs) ys = sizes_in-append xs ys
 
 arcs_in-append : (xs ys : List Line) → arcs_in (xs ++ ys) ≡ arcs_in xs ++ arcs_in ys
 arcs_in-append [] ys = refl
-arcs_in-append (Passed ∷ xs) ys = arcs_in-append xs ys
+arcs_in-append (Ignored ∷ xs) ys = arcs_in-append xs ys
 arcs_in-append (Problem n m ∷ xs) ys = arcs_in-append xs ys
 arcs_in-append (Arc u v w ∷ xs) ys = ap (λ r. arc_with u v w ∷ r) (arcs_in-append xs ys)
 arcs_in-append (Bad ∷ xs) ys = arcs_in-append xs ys
@@ -50,13 +51,15 @@ no_sizes None n m e = refl
 no_sizes (Some x) n m e = absurd (cc)
 
 -- one line more, which has no cause
-stated_more : (before : List Line) (line : Line) → cause_in (stated_in before) line ≡ None → after (stated_in before) line ≡ stated_in (before ++ line ∷ [])
+stated_more : (before : List Line) (line : Line) → cause_in (stated_in before) line ≡ None
+    → after (stated_in before) line ≡ stated_in (before ++ line ∷ [])
 unfolding stated_in
-stated_more before Passed e =
+stated_more before Ignored e =
     rw (sizes_in-append, arcs_in-append, or_none, and_nothing) refl
 stated_more before (Problem n m) e =
     let first : sizes_in before ≡ None = no_sizes (sizes_in before) n m e in
-    let sizes : sizes_in (before ++ Problem n m ∷ []) ≡ Some (record { nodes = n; arcs = m }) = sizes_in-append before (Problem n m ∷ []) ∙ ap (λ o. option_or o (Some (record { nodes = n; arcs = m }))) first in
+    let sizes : sizes_in (before ++ Problem n m ∷ []) ≡ Some (record { nodes = n; arcs = m }) = sizes_in-append before (Problem n m ∷ [])
+    ∙ ap (λ o. option_or o (Some (record { nodes = n; arcs = m }))) first in
     rw (sizes, arcs_in-append, and_nothing) refl
 stated_more before (Arc u v w) e =
     rw (sizes_in-append, arcs_in-append, or_none) refl
@@ -67,20 +70,25 @@ pub read_none : (bytes : List ℕ) → HasRead bytes bytes 1 (record { sizes = N
 unfolding stated_in fault_of first_fault
 read_none bytes = record { before = []; number_is = refl; stated_is = refl; lines = refl; fault = refl; few = omega arith }
 
-lines_next : (rest text more : List ℕ) (line : Line) → lines_of rest ≡ text ∷ lines_of more → line ≡ line_of text → lines_in rest ≡ line ∷ lines_in more
+lines_next : (rest text more : List ℕ) (line : Line) → lines_of rest ≡ text ∷ lines_of more → line ≡ line_of text
+    → lines_in rest ≡ line ∷ lines_in more
 unfolding lines_in
 lines_next rest text more line cuts says = ap (map line_of) cuts ∙ ap (λ l. l ∷ lines_in more) (sym says)
 
-fault_next : (before : List Line) (line : Line) (more : List Line) → cause_in (stated_in before) line ≡ None → fault_from before (line ∷ more) ≡ fault_from (before ++ line ∷ []) more
+fault_next : (before : List Line) (line : Line) (more : List Line) → cause_in (stated_in before) line ≡ None
+    → fault_from before (line ∷ more) ≡ fault_from (before ++ line ∷ []) more
 unfolding cause_of
 fault_next before line more e = ap (λ o. option_or (option_map (λ cause. (length before + 1, cause)) o) (fault_from (before ++ line ∷ []) more)) e
 
-fault_here : (before : List Line) (line : Line) (more : List Line) (cause : Cause) → cause_in (stated_in before) line ≡ Some cause → fault_from before (line ∷ more) ≡ Some (length before + 1, cause)
+fault_here : (before : List Line) (line : Line) (more : List Line) (cause : Cause) → cause_in (stated_in before) line ≡ Some cause
+    → fault_from before (line ∷ more) ≡ Some (length before + 1, cause)
 unfolding cause_of
 fault_here before line more cause e = ap (λ o. option_or (option_map (λ why. (length before + 1, why)) o) (fault_from (before ++ line ∷ []) more)) e
 
 -- one line more, without a fault
-pub read_more : (bytes rest text more : List ℕ) (number : ℕ) (stated : Stated) (line : Line) → HasRead bytes rest number stated → lines_of rest ≡ text ∷ lines_of more → length more < length rest → line ≡ line_of text → cause_in stated line ≡ None → HasRead bytes more (number + 1) (after stated line)
+pub read_more : (bytes rest text more : List ℕ) (number : ℕ) (stated : Stated) (line : Line) → HasRead bytes rest number stated
+    → lines_of rest ≡ text ∷ lines_of more → length more < length rest → line ≡ line_of text → cause_in stated line ≡ None
+    → HasRead bytes more (number + 1) (after stated line)
 read_more bytes rest text more number stated line h cuts less says none =
     let here : cause_in (stated_in h.before) line ≡ None = sym (ap (λ s. cause_in s line) h.stated_is) ∙ none in
     let next : lines_in rest ≡ line ∷ lines_in more = lines_next rest text more line cuts says in
@@ -95,7 +103,9 @@ read_more bytes rest text more number stated line h cuts less says none =
     }
 
 -- a line with a fault
-pub line_refused : (bytes rest text more : List ℕ) (number : ℕ) (stated : Stated) (line : Line) (cause : Cause) → HasRead bytes rest number stated → lines_of rest ≡ text ∷ lines_of more → line ≡ line_of text → cause_in stated line ≡ Some cause → fault_of bytes ≡ Some (number, cause)
+pub line_refused : (bytes rest text more : List ℕ) (number : ℕ) (stated : Stated) (line : Line) (cause : Cause)
+    → HasRead bytes rest number stated → lines_of rest ≡ text ∷ lines_of more → line ≡ line_of text → cause_in stated line ≡ Some cause
+    → fault_of bytes ≡ Some (number, cause)
 line_refused bytes rest text more number stated line cause h cuts says why =
     let here : cause_in (stated_in h.before) line ≡ Some cause = sym (ap (λ s. cause_in s line) h.stated_is) ∙ why in
     h.fault
@@ -103,7 +113,8 @@ line_refused bytes rest text more number stated line cause h cuts says why =
     ∙ fault_here h.before line (lines_in more) cause here
     ∙ ap (λ n. Some (n, cause)) (sym h.number_is)
 
-end_fault : (bytes : List ℕ) (number : ℕ) (stated : Stated) → HasRead bytes [] number stated → fault_of bytes ≡ option_map (λ cause. (number, cause)) (end_cause_in stated)
+end_fault : (bytes : List ℕ) (number : ℕ) (stated : Stated) → HasRead bytes [] number stated
+    → fault_of bytes ≡ option_map (λ cause. (number, cause)) (end_cause_in stated)
 unfolding lines_in cause_at_end
 end_fault bytes number stated h =
     h.fault
@@ -111,11 +122,15 @@ end_fault bytes number stated h =
     ∙ ap (λ n. option_map (λ cause. (n, cause)) (end_cause_in stated)) (sym h.number_is)
 
 -- the lines can't end here
-pub end_refused : (bytes rest : List ℕ) (number : ℕ) (stated : Stated) (cause : Cause) → HasRead bytes rest number stated → rest ≡ [] → end_cause_in stated ≡ Some cause → fault_of bytes ≡ Some (number, cause)
-end_refused bytes rest number stated cause h none why = end_fault bytes number stated (subst (λ (r : List ℕ). HasRead bytes r number stated) none h) ∙ ap (option_map (λ c. (number, c))) why
+pub end_refused : (bytes rest : List ℕ) (number : ℕ) (stated : Stated) (cause : Cause) → HasRead bytes rest number stated → rest ≡ []
+    → end_cause_in stated ≡ Some cause → fault_of bytes ≡ Some (number, cause)
+end_refused bytes rest number stated cause h none why = end_fault bytes number stated
+    (subst (λ (r : List ℕ). HasRead bytes r number stated) none h) ∙ ap (option_map (λ c. (number, c))) why
 
-pub end_faultless : (bytes rest : List ℕ) (number : ℕ) (stated : Stated) → HasRead bytes rest number stated → rest ≡ [] → end_cause_in stated ≡ None → fault_of bytes ≡ None
-end_faultless bytes rest number stated h none why = end_fault bytes number stated (subst (λ (r : List ℕ). HasRead bytes r number stated) none h) ∙ ap (option_map (λ c. (number, c))) why
+pub end_faultless : (bytes rest : List ℕ) (number : ℕ) (stated : Stated) → HasRead bytes rest number stated → rest ≡ []
+    → end_cause_in stated ≡ None → fault_of bytes ≡ None
+end_faultless bytes rest number stated h none why = end_fault bytes number stated
+    (subst (λ (r : List ℕ). HasRead bytes r number stated) none h) ∙ ap (option_map (λ c. (number, c))) why
 
 pub end_graph : (bytes rest : List ℕ) (number : ℕ) (stated : Stated) → HasRead bytes rest number stated → rest ≡ [] → graph_in stated ≡ graph_of bytes
 unfolding graph_of lines_in

@@ -5,7 +5,7 @@ use Rattle.route_base.specs.declared.faults.Cause.TheVariants.{NodeRange, ArcCou
 use Rattle.dimacs_reader.specs.Lines.{lines_in, line_of, tokens_of}
 use Rattle.dimacs_reader.specs.Stated.{stated_in, arc_with}
 use Rattle.dimacs_reader.specs.Faults.{fault_of, first_fault, cause_of, cause_at_end}
-use Rattle.dimacs_reader.specs.Table.{graph_of}
+use Rattle.dimacs_reader.specs.GraphModel.{graph_of}
 
 abbrev triangle : List ℕ
 triangle = codes "p sp 3 3\na 1 2 60\na 2 3 60\na 1 3 300\n"

@@ -1,12 +1,12 @@
-// Why a graph file is refused.
+// The refusal of a graph file.
 ghost use Rattle.std.specs.Prelude.{◌≡◌};
 ghost use Rattle.dimacs_reader.specs.declared.faults.GraphFault.TheVariants.{OutOfMemory};
 
 use route_base::Cause;
 use std::alloc::{AllocError, AllocFailed};
 
-/// Why a graph file is refused: its first fault, by the number of the line from 1 and the cause, where the end counts as
-/// the line after the last; or want of memory.
+/// The refusal of a graph file: its first fault, by the number of the line from 1 and the cause, where the end of the file
+/// counts as the line after the last; or out of memory.
 #[derive(Clone, Copy, Debug, PartialEq, Eq)]
 pub enum GraphFault {
     BadLine { line: u64, cause: Cause },

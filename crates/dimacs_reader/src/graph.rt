@@ -1,7 +1,7 @@
-// The graph of a file.
+// Road graphs.
 ghost use Rattle.std.specs.Prelude.{◌≡◌, IfSome, length};
 ghost use Rattle.route_base.specs.Net.{at_number};
-ghost use Rattle.dimacs_reader.specs.Table.{IsGoodGraph, IsGoodArc};
+ghost use Rattle.dimacs_reader.specs.GraphModel.{IsGoodGraph, IsGoodGraphArc, graph_with};
 
 use route_base::{ArcId, NodeId};
 use std::marker::Model;
@@ -14,7 +14,7 @@ pub struct GraphArc {
     pub minutes: u64,
 }
 
-/// A road graph: nodes from 1 to their number, and arcs in the order of their file. Parallel arcs and loops are kept.
+/// A road graph: nodes from 1 to their number, and arcs in the order of their file. Parallel arcs and loops are allowed.
 #[derive(Drop)]
 pub struct Graph {
     nodes: u32,
@@ -22,20 +22,20 @@ pub struct Graph {
 }
 
 impl Model for Graph {
-    ghost use Rattle.dimacs_reader.specs.Table.{GraphTable, IsGoodGraph};
+    ghost use Rattle.dimacs_reader.specs.GraphModel.{GraphModel, IsGoodGraph, graph_with};
 
-    ghost Value = { GraphTable };
+    ghost Value = { GraphModel };
 
-    ghost view = { λ g. record { nodes = g.nodes; arcs = g.arcs.items } };
+    ghost view = { λ g. graph_with g.nodes g.arcs.items };
 
-    ghost invariant = { λ g. IsGoodGraph (record { nodes = g.nodes; arcs = g.arcs.items }) };
+    ghost invariant = { λ g. IsGoodGraph (graph_with g.nodes g.arcs.items) };
 }
 
 impl Graph {
     // The graph of these parts.
     pub(crate) fn new(nodes: u32, arcs: Vec<GraphArc>) -> Graph
-        requires { IsGoodGraph (record { nodes = nodes; arcs = arcs.items }) }
-        ensures { result ≡ record { nodes = nodes; arcs = arcs.items } }
+        requires { IsGoodGraph (graph_with nodes arcs.items) }
+        ensures { result ≡ graph_with nodes arcs.items }
     {
         Graph { nodes, arcs }
     }
@@ -59,7 +59,7 @@ impl Graph {
     /// The arc of this number; `None` exactly where it isn't from 1 to the number of arcs. In constant time.
     pub fn arc(&self, a: ArcId) -> Option<GraphArc>
         ensures value { result ≡ at_number self.now.arcs a.0 }
-        ensures good { IfSome result (IsGoodArc self.now.nodes) }
+        ensures good { IfSome result (IsGoodGraphArc self.now.nodes) }
     {
         let arcs = self.arcs.as_slice();
         if a.0 == 0 {

@@ -1,33 +1,34 @@
-// The lines of a graph file, one after another.
+// Reads a graph file line by line.
 ghost use Rattle.std.specs.Prelude.{◌≡◌, ◌≢◌, ◌<◌, ◌∷◌, ◌==◌, [], IfSome, IfNone, length, not};
 ghost use Rattle.std.specs.List.{position};
 ghost use Rattle.std.specs.Str.Lines.{strip_carriage_return};
-ghost use Rattle.dimacs_reader.specs.Lines.{lines_of, line_of, tokens_of, is_blank, is_comment, line_of_four, problem_of, arc_of};
+ghost use Rattle.dimacs_reader.specs.Lines.{lines_of, line_of, tokens_of, is_blank, is_comment};
+ghost use Rattle.dimacs_reader.specs.Lines.{line_of_four, problem_of, arc_of};
 
-use route_base::read_number;
+use route_base::{cut, read_number};
 
-/// What a line of a graph file says.
+/// A line of a graph file.
 #[derive(Clone, Copy, Debug, PartialEq, Eq)]
 pub enum Line {
-    /// Nothing: it has no tokens, or is a comment.
-    Passed,
-    /// That there are so many nodes and so many arcs.
+    /// An empty line or a comment.
+    Ignored,
+    /// A problem line: the numbers of nodes and of arcs.
     Problem(u64, u64),
-    /// That there is an arc, from a node to a node, of so many minutes.
+    /// An arc: tail, head, minutes.
     Arc(u64, u64, u64),
-    /// Neither, for its form.
+    /// A line of no known form.
     Bad,
 }
 
-/// What a line says, without its line end. Linear in its bytes.
+/// Parses a line without its line end. Linear in its bytes.
 pub fn read_line(line: &[u8]) -> Line
     ensures { result ≡ line_of line.now }
 {
     let Some((first, rest)) = next_token(line) else {
-        return Line::Passed;
+        return Line::Ignored;
     };
     if is_comment(first) {
-        return Line::Passed;
+        return Line::Ignored;
     }
     match three_tokens(rest) {
         Some((second, third, fourth)) => line_of_fields(first, second, third, fourth),
@@ -35,7 +36,7 @@ pub fn read_line(line: &[u8]) -> Line
     }
 }
 
-// The tokens, where there are just three.
+// The tokens, where there are exactly three.
 fn three_tokens(line: &[u8]) -> Option<(&[u8], &[u8], &[u8])>
     ensures three { IfSome result (λ t. tokens_of line.now ≡ t.0.now ∷ t.1.now ∷ t.2.now ∷ []) }
     ensures others { IfNone result (length (tokens_of line.now) ≢ 3) }
@@ -59,24 +60,28 @@ fn next_token(line: &[u8]) -> Option<(&[u8], &[u8])>
     Some(line.split_at(end))
 }
 
+// The place of the first byte that is no blank.
 fn place_of_text(line: &[u8]) -> Option<usize>
     ensures { result ≡ position (λ b. not (is_blank b)) line.now }
 {
     line.iter().position(|b| !is_blank(*b))
 }
 
+// The place of the first blank.
 fn place_of_blank(line: &[u8]) -> Option<usize>
     ensures { result ≡ position is_blank line.now }
 {
     line.iter().position(|b| is_blank(*b))
 }
 
+// Whether the byte is a space or a tab.
 fn is_blank(b: u8) -> bool
     ensures { result ≡ is_blank b }
 {
     b == b' ' || b == b'\t'
 }
 
+// Whether the token begins a comment.
 fn is_comment(token: &[u8]) -> bool
     ensures { result ≡ is_comment token.now }
 {
@@ -86,6 +91,7 @@ fn is_comment(token: &[u8]) -> bool
     }
 }
 
+// The line of four tokens.
 fn line_of_fields(first: &[u8], second: &[u8], third: &[u8], fourth: &[u8]) -> Line
     ensures { result ≡ line_of_four first.now second.now third.now fourth.now }
 {
@@ -98,6 +104,7 @@ fn line_of_fields(first: &[u8], second: &[u8], third: &[u8], fourth: &[u8]) -> L
     }
 }
 
+// The problem line of two tokens.
 fn problem(nodes: &[u8], arcs: &[u8]) -> Line
     ensures { result ≡ problem_of nodes.now arcs.now }
 {
@@ -107,6 +114,7 @@ fn problem(nodes: &[u8], arcs: &[u8]) -> Line
     }
 }
 
+// The arc line of three tokens.
 fn arc(tail: &[u8], head: &[u8], minutes: &[u8]) -> Line
     ensures { result ≡ arc_of tail.now head.now minutes.now }
 {
@@ -125,19 +133,13 @@ pub fn next_line(bytes: &[u8]) -> Option<(&[u8], &[u8])>
     if bytes.is_empty() {
         return None;
     }
-    match place_of_feed(bytes) {
-        Some(place) => Some((without_return(&bytes[..place]), &bytes[place + 1..])),
+    match cut(bytes, b'\n') {
+        Some((line, rest)) => Some((without_return(line), rest)),
         None => Some((bytes, &[])),
     }
 }
 
-fn place_of_feed(bytes: &[u8]) -> Option<usize>
-    ensures { result ≡ position (λ b. b == 10) bytes.now }
-{
-    bytes.iter().position(|b| *b == b'\n')
-}
-
-// A carriage return right before the line feed belongs to the line end.
+// The line without a carriage return right before its line feed, which belongs to the line end.
 fn without_return(line: &[u8]) -> &[u8]
     ensures { result.now ≡ strip_carriage_return line.now }
 {

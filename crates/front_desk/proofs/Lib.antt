@@ -1,5 +1,5 @@
-pub mod Faults
-pub mod NeverMissing
+pub mod ReadFiles
+pub mod RefusalTexts
 pub mod RoadNets
 pub mod Rows
 pub mod Timed

@@ -4,47 +4,57 @@ use Rattle.std.specs.Prelude.{if◌then◌else◌}
 use Rattle.std.specs.Str.{bytes_eq}
 use Rattle.std.specs.Fmt.{digits}
 use Rattle.route_base.specs.declared.types.Leg.TheVariants.{Drive}
+use Rattle.route_base.specs.declared.types.Route.{Route}
 use Rattle.route_base.specs.declared.faults.FileKind.TheVariants.{Graph, Vehicles}
 use Rattle.route_base.specs.declared.faults.Cause.TheVariants.{Missing, NotBuilt}
 use Rattle.route_base.specs.declared.faults.RequestFault.{RequestFault}
 use Rattle.route_base.specs.declared.faults.RequestFault.TheVariants.{OriginRange, GoalRange, UntilBeforeDepart, HorizonTooLong}
-use Rattle.front_desk.specs.declared.texts.Refusal.TheVariants.{Usage, Input, Request}
-use Rattle.front_desk.specs.Words.{plan_of, is_folder_name, node_of}
+use Rattle.front_desk.specs.declared.outcome.Refusal.TheVariants.{Usage, Input, Request}
+use Rattle.route_base.specs.declared.types.Form.TheVariants.{Plain}
+use Rattle.front_desk.specs.CommandLine.{Command, command_of, is_folder_name, node_of, to_plan}
 use Rattle.route_base.specs.Forms.{minute_of}
 use Rattle.calendar_days.specs.Days.{days_of_years, days_of_months}
 use Rattle.calendar_days.specs.Texts.{instant_of, day_of_text, clock_of}
 use Rattle.front_desk.specs.Texts.{thousandths_of, plain_text_of, refusal_text_of}
-use Rattle.front_desk.specs.Requests.{first_failing}
-use Rattle.front_desk.specs.Files.{first_unreadable, reading_fault}
-use Rattle.front_desk.specs.Network.{first_fault}
+use Rattle.front_desk.specs.Trips.{failed_check_over}
+use Rattle.front_desk.specs.Files.{first_unreadable}
+use Rattle.front_desk.specs.ReadingOrder.{network_files, first_folder_fault}
 
 -- the words of a plan from `d`, with these for FROM, TO, DEPART and UNTIL
 abbrev words_with : List ℕ → List ℕ → List ℕ → List ℕ → List (List ℕ)
 words_with from to start end = codes "plan" ∷ codes "d" ∷ codes "any" ∷ from ∷ to ∷ start ∷ end ∷ []
 
-pub plan_read : plan_of (words_with (codes "1") (codes "3") (codes "26563680") (codes "26564080")) ≡ Some (record { dir = codes "d"; origin = 1; goal = 3; depart = 26563680; until = 26564080 })
+-- the plan of that trip
+abbrev the_plan : Option Command
+the_plan = Some (to_plan (record {
+  dir = codes "d";
+  trip = record { vehicle = codes "any"; origin = 1; goal = 3; depart = 26563680; until = 26564080 };
+  form = Plain;
+}))
+
+pub plan_read : command_of (words_with (codes "1") (codes "3") (codes "26563680") (codes "26564080")) ≡ the_plan
 unfolding instant_of
 plan_read = refl
 
 -- the same trip, its instants as texts
-pub texts_read : plan_of (words_with (codes "1") (codes "3") (codes "2020-07-04T00:00Z") (codes "2020-07-04T06:40:00Z")) ≡ Some (record { dir = codes "d"; origin = 1; goal = 3; depart = 26563680; until = 26564080 })
+pub texts_read : command_of (words_with (codes "1") (codes "3") (codes "2020-07-04T00:00Z") (codes "2020-07-04T06:40:00Z")) ≡ the_plan
 unfolding instant_of day_of_text clock_of days_of_years days_of_months
 texts_read = refl
 
-pub no_such_day_refused : plan_of (words_with (codes "1") (codes "3") (codes "2020-02-30T00:00Z") (codes "2020-07-04T06:40Z")) ≡ None
+pub no_such_day_refused : command_of (words_with (codes "1") (codes "3") (codes "2020-02-30T00:00Z") (codes "2020-07-04T06:40Z")) ≡ None
 unfolding instant_of day_of_text clock_of days_of_years days_of_months
 no_such_day_refused = refl
 
-pub leading_zero_refused : plan_of (words_with (codes "01") (codes "3") (codes "26563680") (codes "26564080")) ≡ None
+pub leading_zero_refused : command_of (words_with (codes "01") (codes "3") (codes "26563680") (codes "26564080")) ≡ None
 leading_zero_refused = refl
 
-pub command_alone_refused : plan_of (codes "plan" ∷ []) ≡ None
+pub command_alone_refused : command_of (codes "plan" ∷ []) ≡ None
 command_alone_refused = refl
 
-pub eighth_word_refused : plan_of (words_with (codes "1") (codes "3") (codes "26563680") (codes "26564080") ++ codes "x" ∷ []) ≡ None
+pub eighth_word_refused : command_of (words_with (codes "1") (codes "3") (codes "26563680") (codes "26564080") ++ codes "x" ∷ []) ≡ None
 eighth_word_refused = refl
 
-pub before_first_instant : plan_of (words_with (codes "1") (codes "3") (codes "525599") (codes "26564080")) ≡ None
+pub before_first_instant : command_of (words_with (codes "1") (codes "3") (codes "525599") (codes "26564080")) ≡ None
 unfolding instant_of day_of_text
 before_first_instant = refl
 
@@ -54,7 +64,7 @@ first_instant_read = refl
 pub last_instant_read : minute_of (codes "120968639") ≡ Some 120968639
 last_instant_read = refl
 
-pub after_last_instant : plan_of (words_with (codes "1") (codes "3") (codes "26563680") (codes "120968640")) ≡ None
+pub after_last_instant : command_of (words_with (codes "1") (codes "3") (codes "26563680") (codes "120968640")) ≡ None
 unfolding instant_of day_of_text
 after_last_instant = refl
 
@@ -70,7 +80,11 @@ larger_node_refused = refl
 pub dash_refused : is_folder_name (codes "-d") ≡ false
 dash_refused = refl
 
-pub report_of_one_route : plain_text_of (record { pair = record { arrival = 26563800; cost = 120000 }; legs = Drive (record { 0 = 1 }) ∷ Drive (record { 0 = 2 }) ∷ [] } ∷ []) ≡ codes "pairs 1\npair 26563800 120.000\ndrive 1\ndrive 2\n"
+-- a route over two arcs
+abbrev one_route : Route
+one_route = record { pair = record { arrival = 26563800; cost = 120000 }; legs = Drive (record { 0 = 1 }) ∷ Drive (record { 0 = 2 }) ∷ [] }
+
+pub report_of_one_route : plain_text_of (one_route ∷ []) ≡ codes "pairs 1\npair 26563800 120.000\ndrive 1\ndrive 2\n"
 unfolding digits
 report_of_one_route = refl
 
@@ -96,9 +110,9 @@ missing_graph_refused = refl
 pub long_horizon_refused : refusal_text_of (Request HorizonTooLong) ≡ codes "refused request HorizonTooLong\n"
 long_horizon_refused = refl
 
--- what is wrong with a trip over three nodes
+-- the first check that a trip over three nodes fails
 abbrev failing_of : ℕ → ℕ → ℕ → ℕ → Option RequestFault
-failing_of from to start end = first_failing 3 (record { dir = codes "d"; origin = from; goal = to; depart = start; until = end })
+failing_of from to start end = failed_check_over 3 (record { vehicle = codes "any"; origin = from; goal = to; depart = start; until = end })
 
 pub origin_from_one : failing_of 0 4 26563680 26563679 ≡ Some OriginRange
 origin_from_one = refl
@@ -119,7 +133,7 @@ pub a_minute_more : failing_of 1 3 26563680 26650081 ≡ Some HorizonTooLong
 a_minute_more = refl
 
 -- an empty folder lacks its graph
-no_graph : first_fault (λ name. None) (codes "d") ≡ Some (record { file = Graph; row = 0; cause = Missing })
+no_graph : first_folder_fault (λ name. None) (codes "d") ≡ Some (record { file = Graph; row = 0; cause = Missing })
 unfolding first_unreadable
 no_graph = refl
 
@@ -127,17 +141,18 @@ no_graph = refl
 beside : List ℕ → List ℕ → List ℕ → Option (List ℕ)
 beside other bytes name = if bytes_eq name (codes "d/graph.gr") then Some (codes "x\n") else if bytes_eq name other then Some bytes else None
 
--- a file that can't be read yet comes before what the graph holds
-vehicles_first : first_fault (beside (codes "d/vehicles.csv") (codes "x")) (codes "d") ≡ Some (record { file = Vehicles; row = 0; cause = NotBuilt })
+-- a table that isn't supported yet is refused before the graph's contents
+vehicles_first :
+    first_folder_fault (beside (codes "d/vehicles.csv") (codes "x")) (codes "d") ≡ Some (record { file = Vehicles; row = 0; cause = NotBuilt })
 unfolding beside first_unreadable
 vehicles_first = refl
 
--- an empty one is none
-no_vehicles : reading_fault (beside (codes "d/vehicles.csv") []) (codes "d") ≡ None
+-- where it is empty, it is not refused
+no_vehicles : first_unreadable (beside (codes "d/vehicles.csv") []) (codes "d") network_files ≡ None
 unfolding beside first_unreadable
 no_vehicles = refl
 
--- what a table holds comes after what the graph holds
-tables_read : reading_fault (beside (codes "d/parking.csv") (codes "x")) (codes "d") ≡ None
+-- a fault of a table's contents is no reading fault
+tables_read : first_unreadable (beside (codes "d/parking.csv") (codes "x")) (codes "d") network_files ≡ None
 unfolding beside first_unreadable
 tables_read = refl

@@ -1,10 +1,10 @@
-pub mod Desk
+pub mod CommandLine
+pub mod Commands
 pub mod Files
-pub mod Halting
-pub mod Needs
-pub mod Network
-pub mod Requests
-pub mod Road
+pub mod Inside
+pub mod Plan
+pub mod ReadingOrder
+pub mod Run
 pub mod Texts
-pub mod Timing
+pub mod Trips
 pub mod Words

@@ -1,17 +1,16 @@
--- The texts that are answered. Each line ends with a line feed.
-use Rattle.std.specs.Prelude.{ℕ, ◌+◌, ◌/◌, ◌%◌, List, [], ◌∷◌, ◌++◌, length, codes, decimal, flat_map}
+-- The texts of reports and refusals; each line ends with a line feed (source: own).
+use Rattle.std.specs.Prelude.{ℕ, Option, Some, None, ◌+◌, ◌/◌, ◌%◌, List, [], ◌∷◌, ◌++◌, length, codes, decimal, flat_map}
 use Rattle.route_base.specs.declared.types.Leg.{Leg}
 use Rattle.route_base.specs.declared.types.Leg.TheVariants.{Drive, Wait}
 use Rattle.route_base.specs.declared.types.Route.{Route}
-use Rattle.route_base.specs.declared.faults.FileKind.{FileKind}
-use Rattle.route_base.specs.declared.faults.FileKind.TheVariants.{Graph, Zones, Areas, Roads, Vehicles, Rules, Closures, Ratings, Parking, Holidays, Jobs, Certificate}
-use Rattle.route_base.specs.declared.faults.Cause.{Cause}
-use Rattle.route_base.specs.declared.faults.Cause.TheVariants.{Missing, TooLong, NoProblemLine, SecondProblemLine, BadForm, NodeRange, WeightRange, ArcCount, SizeLimit, BadHeader, FieldCount, BadField, NotConditional, Unknown, Duplicate, NotRising, NotBuilt}
 use Rattle.route_base.specs.declared.faults.BadInput.{BadInput}
-use Rattle.route_base.specs.declared.faults.RequestFault.{RequestFault}
-use Rattle.route_base.specs.declared.faults.RequestFault.TheVariants.{UnknownVehicle, UnknownArc, OriginRange, GoalRange, UntilBeforeDepart, HorizonTooLong}
-use Rattle.front_desk.specs.declared.texts.Refusal.{Refusal}
-use Rattle.front_desk.specs.declared.texts.Refusal.TheVariants.{Usage, Input, Request}
+use Rattle.route_base.specs.declared.types.Form.{Form}
+use Rattle.route_base.specs.declared.types.Form.TheVariants.{Plain, Table, Csv, Json}
+use Rattle.route_base.specs.declared.types.Request.{Request as TripRequest}
+use Rattle.route_base.specs.Labels.{label_of, cause_name_of, request_fault_name_of}
+use Rattle.route_base.specs.Setting.{Setting}
+use Rattle.front_desk.specs.declared.outcome.Refusal.{Refusal}
+use Rattle.front_desk.specs.declared.outcome.Refusal.TheVariants.{Usage, Input, Request}
 
 -- the last three digits of a number
 abbrev pub three_digits : ℕ → List ℕ
@@ -34,55 +33,18 @@ route_text route = codes "pair " ++ decimal route.pair.arrival ++ codes " " ++ t
 abbrev pub plain_text_of : List Route → List ℕ
 plain_text_of routes = codes "pairs " ++ decimal (length routes) ++ codes "\n" ++ flat_map route_text routes
 
--- the name of a file
-abbrev pub file_name_of : FileKind → List ℕ
-file_name_of Graph = codes "graph.gr"
-file_name_of Zones = codes "zones.csv"
-file_name_of Areas = codes "areas.csv"
-file_name_of Roads = codes "roads.csv"
-file_name_of Vehicles = codes "vehicles.csv"
-file_name_of Rules = codes "rules.csv"
-file_name_of Closures = codes "closures.csv"
-file_name_of Ratings = codes "ratings.csv"
-file_name_of Parking = codes "parking.csv"
-file_name_of Holidays = codes "holidays.csv"
-file_name_of Jobs = codes "jobs"
-file_name_of Certificate = codes "certificate"
+-- the report of routes in a form; forms other than the plain one are not supported yet
+abbrev pub report_text : Form → Setting → TripRequest → List Route → Option (List ℕ)
+report_text Plain s request routes = Some (plain_text_of routes)
+report_text Table s request routes = None
+report_text Csv s request routes = None
+report_text Json s request routes = None
 
--- the name of a file's fault
-abbrev pub cause_name_of : Cause → List ℕ
-cause_name_of Missing = codes "Missing"
-cause_name_of TooLong = codes "TooLong"
-cause_name_of NoProblemLine = codes "NoProblemLine"
-cause_name_of SecondProblemLine = codes "SecondProblemLine"
-cause_name_of BadForm = codes "BadForm"
-cause_name_of NodeRange = codes "NodeRange"
-cause_name_of WeightRange = codes "WeightRange"
-cause_name_of ArcCount = codes "ArcCount"
-cause_name_of SizeLimit = codes "SizeLimit"
-cause_name_of BadHeader = codes "BadHeader"
-cause_name_of FieldCount = codes "FieldCount"
-cause_name_of BadField = codes "BadField"
-cause_name_of NotConditional = codes "NotConditional"
-cause_name_of Unknown = codes "Unknown"
-cause_name_of Duplicate = codes "Duplicate"
-cause_name_of NotRising = codes "NotRising"
-cause_name_of NotBuilt = codes "NotBuilt"
-
--- the name of a failed test
-abbrev pub request_fault_name_of : RequestFault → List ℕ
-request_fault_name_of UnknownVehicle = codes "UnknownVehicle"
-request_fault_name_of UnknownArc = codes "UnknownArc"
-request_fault_name_of OriginRange = codes "OriginRange"
-request_fault_name_of GoalRange = codes "GoalRange"
-request_fault_name_of UntilBeforeDepart = codes "UntilBeforeDepart"
-request_fault_name_of HorizonTooLong = codes "HorizonTooLong"
-
--- where a fault is, and which
+-- the place and the cause of a fault
 abbrev pub fault_text : BadInput → List ℕ
-fault_text fault = codes "input " ++ file_name_of fault.file ++ codes " " ++ decimal fault.row ++ codes " " ++ cause_name_of fault.cause
+fault_text fault = codes "input " ++ label_of fault.file ++ codes " " ++ decimal fault.row ++ codes " " ++ cause_name_of fault.cause
 
--- what is refused
+-- the words behind `refused`
 abbrev pub refused_text : Refusal → List ℕ
 refused_text Usage = codes "usage"
 refused_text (Input fault) = fault_text fault

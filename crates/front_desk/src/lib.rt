@@ -1,19 +1,25 @@
-//! The desk: what stands between the words of the command line, the files, and the answer.
+//! The program itself: from command-line words and files to the printed answer.
 //!
-//! `words` reads the words, `files` the folder's files one after another, `network` makes the net of what they state, `requests`
-//! tests the trip, `texts` writes the report or the line of a refusal, and `desk` has the top call, `run`, over them.
+//! `command_line` reads the words, `files` reads a folder's files one after another, `requests` checks a trip, `net` makes the net
+//! of a network, and `texts` writes reports and the lines of refusals. Each command has a module of its own, so far `plan`;
+//! `commands` has one case for each. `desk` has the top call, `run`; `outcome` says why a command may end without its text.
 //!
-//! The law of `run` is in `specs/Desk` (what a run owes), over `Words` (the trip that words plan), `Files` and `Network` (the first
-//! fault of a folder's files, and the network that they state), `Requests` (the first test that fails), `Road` (the setting that is
-//! planned over) and `Texts`. It is proved on `run`, in `desk`; each other call answers exactly what its definition says.
+//! The law of `run` is in `specs/`. `Run` says which text is due with each status, over `Commands` (the answer, the refusals and the
+//! files of each command, one line a command), `CommandLine` (the command that words are), `ReadingOrder` and `Files` (the first
+//! fault of a folder's files, and the network that they state), `Trips` (the first check that fails), `Plan` (the report of a
+//! plan) and `Texts`. It is proved on `run`; each other call answers exactly what its definition says. `Inside` is no law: it has
+//! the facts that the functions hand to one another. `Words` passes the names of all these on to the contracts.
 #![tactic(auto)]
 
+mod command_line;
+mod commands;
 mod desk;
+mod file_to_read;
 mod files;
-mod needs;
-mod network;
+mod net;
+mod outcome;
+mod plan;
 mod requests;
 mod texts;
-mod words;
 
 pub use desk::run;

@@ -1,47 +1,63 @@
-// The tests of a request.
+// Checks requests against the network.
 ghost use Rattle.std.specs.Prelude.{◌≡◌, None};
-ghost use Rattle.front_desk.specs.Words.{plan_in};
-ghost use Rattle.front_desk.specs.Requests.{is_node, first_failing, request_of_plan, Passes};
+ghost use Rattle.front_desk.specs.Words.{is_node, failed_check_over, failed_check, request_of, trip_in, IsGoodTrip};
 
-use crate::words::PlanWords;
+use network_tables::Network;
+use route_base::limits::LONGEST_HORIZON;
 use route_base::{Minute, NodeId, Request, RequestFault};
 
-// How many minutes there may be from the departure to the last arrival.
-const LONGEST_HORIZON: Minute = 86_400;
-
-// Whether a node is one of so many.
-fn is_known(nodes: u32, node: u32) -> bool
-    ensures { result ≡ is_node nodes node }
-{
-    1 <= node && node <= nodes
+/// A trip of a vehicle from node `origin` at `depart` to node `goal`, by `until` at the latest. Nothing is checked yet: the
+/// nodes may be no nodes of the network, and `until` may come before `depart`.
+#[derive(Clone, Copy)]
+pub struct Trip<'a> {
+    pub vehicle: &'a str,
+    pub origin: u32,
+    pub goal: u32,
+    pub depart: Minute,
+    pub until: Minute,
 }
 
-/// The first test that the trip fails over a graph of so many nodes, in the order of `RequestFault`.
-pub fn first_failing_test(nodes: u32, plan: PlanWords<'_>) -> Option<RequestFault>
-    ensures first { result ≡ first_failing nodes (plan_in plan.entry) }
-    ensures passed { result ≡ None → Passes nodes (plan_in plan.entry) }
+// Whether a node is one of `count` nodes.
+fn is_known(count: u32, node: u32) -> bool
+    ensures { result ≡ is_node count node }
 {
-    if !is_known(nodes, plan.origin) {
+    1 <= node && node <= count
+}
+
+// The first check that the trip fails over a graph of `count` nodes.
+fn failed_over(count: u32, trip: Trip<'_>) -> Option<RequestFault>
+    ensures first { result ≡ failed_check_over count (trip_in trip.entry) }
+    ensures passed { result ≡ None → IsGoodTrip count (trip_in trip.entry) }
+{
+    if !is_known(count, trip.origin) {
         Some(RequestFault::OriginRange)
-    } else if !is_known(nodes, plan.goal) {
+    } else if !is_known(count, trip.goal) {
         Some(RequestFault::GoalRange)
-    } else if plan.until < plan.depart {
+    } else if trip.until < trip.depart {
         Some(RequestFault::UntilBeforeDepart)
-    } else if plan.until - plan.depart > LONGEST_HORIZON {
+    } else if trip.until - trip.depart > LONGEST_HORIZON {
         Some(RequestFault::HorizonTooLong)
     } else {
         None
     }
 }
 
+/// The first check that the trip fails over the network, in the order of `RequestFault`.
+pub fn first_failed_check(network: &Network, trip: Trip<'_>) -> Option<RequestFault>
+    ensures first { result ≡ failed_check network.now (trip_in trip.entry) }
+    ensures passed { result ≡ None → IsGoodTrip network.now.graph.nodes (trip_in trip.entry) }
+{
+    failed_over(network.graph().node_count(), trip)
+}
+
 /// The trip as a request.
-pub fn request_of(plan: PlanWords<'_>) -> Request
-    ensures { result ≡ request_of_plan (plan_in plan.entry) }
+pub fn request_of(trip: Trip<'_>) -> Request
+    ensures { result ≡ request_of (trip_in trip.entry) }
 {
     Request {
-        origin: NodeId(plan.origin),
-        goal: NodeId(plan.goal),
-        depart: plan.depart,
-        until: plan.until,
+        origin: NodeId(trip.origin),
+        goal: NodeId(trip.goal),
+        depart: trip.depart,
+        until: trip.until,
     }
 }

@@ -1,76 +1,13 @@
-// The texts that are answered: a report, or the line of a refusal.
+// Writes reports and the lines of refusals.
 ghost use Rattle.std.specs.Prelude.{◌≡◌, ◌++◌, OnOk, IfOk, decimal, flat_map};
-ghost use Rattle.front_desk.specs.Texts.{thousandths_of, leg_text, route_text, plain_text_of, file_name_of, cause_name_of, request_fault_name_of, fault_text, refusal_text_of};
+ghost use Rattle.front_desk.specs.Words.{thousandths_of, leg_text, route_text, plain_text_of, fault_text, refusal_text_of};
 
+use crate::outcome::Refusal;
 use itoa::Buffer;
-use route_base::{BadInput, Cause, Cost, FileKind, Leg, OutOfMemory, RequestFault, Route, Routes};
+use route_base::{BadInput, Cost, Leg, OutOfMemory, Route, Routes};
 use std::alloc::Global;
 
-/// Why nothing is planned: the words are no command, a file has a fault, or the request fails a test.
-#[derive(Clone, Copy, Debug, PartialEq, Eq)]
-pub enum Refusal {
-    Usage,
-    Input(BadInput),
-    Request(RequestFault),
-}
-
-/// The name under which a file of this kind is read; of the two that a command names, what a refusal calls them.
-pub fn file_name(file: FileKind) -> &'static str
-    ensures { result.now ≡ file_name_of file }
-{
-    match file {
-        FileKind::Graph => "graph.gr",
-        FileKind::Zones => "zones.csv",
-        FileKind::Areas => "areas.csv",
-        FileKind::Roads => "roads.csv",
-        FileKind::Vehicles => "vehicles.csv",
-        FileKind::Rules => "rules.csv",
-        FileKind::Closures => "closures.csv",
-        FileKind::Ratings => "ratings.csv",
-        FileKind::Parking => "parking.csv",
-        FileKind::Holidays => "holidays.csv",
-        FileKind::Jobs => "jobs",
-        FileKind::Certificate => "certificate",
-    }
-}
-
-fn cause_name(cause: Cause) -> &'static str
-    ensures { result.now ≡ cause_name_of cause }
-{
-    match cause {
-        Cause::Missing => "Missing",
-        Cause::TooLong => "TooLong",
-        Cause::NoProblemLine => "NoProblemLine",
-        Cause::SecondProblemLine => "SecondProblemLine",
-        Cause::BadForm => "BadForm",
-        Cause::NodeRange => "NodeRange",
-        Cause::WeightRange => "WeightRange",
-        Cause::ArcCount => "ArcCount",
-        Cause::SizeLimit => "SizeLimit",
-        Cause::BadHeader => "BadHeader",
-        Cause::FieldCount => "FieldCount",
-        Cause::BadField => "BadField",
-        Cause::NotConditional => "NotConditional",
-        Cause::Unknown => "Unknown",
-        Cause::Duplicate => "Duplicate",
-        Cause::NotRising => "NotRising",
-        Cause::NotBuilt => "NotBuilt",
-    }
-}
-
-fn request_fault_name(fault: RequestFault) -> &'static str
-    ensures { result.now ≡ request_fault_name_of fault }
-{
-    match fault {
-        RequestFault::UnknownVehicle => "UnknownVehicle",
-        RequestFault::UnknownArc => "UnknownArc",
-        RequestFault::OriginRange => "OriginRange",
-        RequestFault::GoalRange => "GoalRange",
-        RequestFault::UntilBeforeDepart => "UntilBeforeDepart",
-        RequestFault::HorizonTooLong => "HorizonTooLong",
-    }
-}
-
+// Appends a text.
 fn push_text(out: &mut Vec<u8>, text: &str) -> Result<(), OutOfMemory>
     ensures { OnOk result (out.new.items ≡ out.old.items ++ text.now) }
 {
@@ -78,6 +15,7 @@ fn push_text(out: &mut Vec<u8>, text: &str) -> Result<(), OutOfMemory>
     Ok(())
 }
 
+// Appends a number in decimal digits.
 fn push_number(out: &mut Vec<u8>, number: u64) -> Result<(), OutOfMemory>
     ensures { OnOk result (out.new.items ≡ out.old.items ++ decimal number) }
 {
@@ -85,7 +23,7 @@ fn push_number(out: &mut Vec<u8>, number: u64) -> Result<(), OutOfMemory>
     push_text(out, buffer.format(number))
 }
 
-// A whole part, a point and three digits.
+// Appends a cost: its whole part, a point and three digits.
 fn push_thousandths(out: &mut Vec<u8>, cost: Cost) -> Result<(), OutOfMemory>
     ensures { OnOk result (out.new.items ≡ out.old.items ++ thousandths_of cost) }
 {
@@ -100,6 +38,7 @@ fn push_thousandths(out: &mut Vec<u8>, cost: Cost) -> Result<(), OutOfMemory>
     Ok(())
 }
 
+// Appends the line of a leg.
 fn push_leg(out: &mut Vec<u8>, leg: Leg) -> Result<(), OutOfMemory>
     ensures { OnOk result (out.new.items ≡ out.old.items ++ leg_text leg) }
 {
@@ -116,6 +55,7 @@ fn push_leg(out: &mut Vec<u8>, leg: Leg) -> Result<(), OutOfMemory>
     push_text(out, "\n")
 }
 
+// Appends the lines of legs.
 fn push_legs(out: &mut Vec<u8>, legs: &[Leg]) -> Result<(), OutOfMemory>
     ensures { OnOk result (out.new.items ≡ out.old.items ++ flat_map leg_text legs.now) }
 {
@@ -125,6 +65,7 @@ fn push_legs(out: &mut Vec<u8>, legs: &[Leg]) -> Result<(), OutOfMemory>
     Ok(())
 }
 
+// Appends the line of a route, and then those of its legs.
 fn push_route(out: &mut Vec<u8>, route: &Route) -> Result<(), OutOfMemory>
     ensures { OnOk result (out.new.items ≡ out.old.items ++ route_text route.now) }
 {
@@ -136,6 +77,7 @@ fn push_route(out: &mut Vec<u8>, route: &Route) -> Result<(), OutOfMemory>
     push_legs(out, route.legs.as_slice())
 }
 
+// Appends the lines of routes.
 fn push_routes(out: &mut Vec<u8>, routes: &[Route]) -> Result<(), OutOfMemory>
     ensures { OnOk result (out.new.items ≡ out.old.items ++ flat_map route_text routes.now) }
 {
@@ -158,15 +100,16 @@ pub fn plain_text(alloc: Global, routes: &Routes) -> Result<Vec<u8>, OutOfMemory
     Ok(out)
 }
 
+// Appends the words of a file's fault.
 fn push_fault(out: &mut Vec<u8>, fault: BadInput) -> Result<(), OutOfMemory>
     ensures { OnOk result (out.new.items ≡ out.old.items ++ fault_text fault) }
 {
     push_text(out, "input ")?;
-    push_text(out, file_name(fault.file))?;
+    push_text(out, fault.file.label())?;
     push_text(out, " ")?;
     push_number(out, fault.row)?;
     push_text(out, " ")?;
-    push_text(out, cause_name(fault.cause))
+    push_text(out, fault.cause.name())
 }
 
 /// The one line of a refusal.
@@ -180,7 +123,7 @@ pub fn refusal_text(alloc: Global, refusal: Refusal) -> Result<Vec<u8>, OutOfMem
         Refusal::Input(fault) => push_fault(&mut out, fault)?,
         Refusal::Request(fault) => {
             push_text(&mut out, "request ")?;
-            push_text(&mut out, request_fault_name(fault))?;
+            push_text(&mut out, fault.name())?;
         }
     }
     push_text(&mut out, "\n")?;

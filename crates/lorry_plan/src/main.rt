@@ -1,7 +1,8 @@
 //! The program `lorry_plan`: `front_desk::run` over the real files, the real standard output and the command line's words.
 //!
-//! What it prints and why it refuses is the contract of `run`. This crate adds the trusted edge, in `real_folder` and
-//! `real_out`, whose faults are counted as the traits of `route_base` want it; and the tests that cross crates.
+//! The contract of `run` says what it prints and why it refuses. This crate adds the trusted edge, in `real_folder` and
+//! `real_out`, whose faults are counted from 0 on as the traits of `route_base` ask (`specs/Untold`); and the tests that cross
+//! crates.
 #![tactic(auto)]
 
 mod real_folder;
@@ -17,7 +18,7 @@ use std::env;
 use std::io::ErrorKind;
 use std::process::ExitCode;
 
-// The words behind the program's name; without them the status with which the program ends.
+// The words behind the program's name, or the status to exit with where they can't be had.
 fn words_of(rt: &HostRuntime) -> Result<Vec<Text>, Status> {
     let args = match env::args(rt) {
         Ok(args) => args,

@@ -1,12 +1,13 @@
-// The files of the system. What they hold isn't told, so nothing is proved of it: this is the trusted edge.
-ghost use Rattle.std.specs.Prelude.{◌≡◌, ◌≤◌, None, length, IfOk};
+// The files of the system. Their contents aren't told, so nothing is proved of them: this is the trusted edge.
+ghost use Rattle.std.specs.Prelude.{◌≡◌, ◌≤◌, length, IfOk};
+ghost use Rattle.lorry_plan.specs.Untold.{state_with};
 
 use route_base::{Folder, PartError, WriteError};
 use std::fs;
 use std::io::{self, ErrorKind, Read, Seek, SeekFrom, Write};
 use std::rt::Files;
 
-/// Files by their paths.
+/// The system's files by their paths, and the numbers of their faults so far.
 #[derive(Drop)]
 pub struct RealFolder<'a, R: Files> {
     files: &'a R,
@@ -16,8 +17,12 @@ pub struct RealFolder<'a, R: Files> {
 }
 
 impl<'a, R: Files> RealFolder<'a, R> {
-    /// The files, with no fault so far.
-    pub fn new(files: &'a R) -> Self {
+    /// The files; no fault is counted yet.
+    pub fn new(files: &'a R) -> Self
+        ensures missing { result.missing ≡ 0 }
+        ensures read_faults { result.read_faults ≡ 0 }
+        ensures write_faults { result.write_faults ≡ 0 }
+    {
         RealFolder {
             files,
             missing: 0,
@@ -27,7 +32,7 @@ impl<'a, R: Files> RealFolder<'a, R> {
     }
 }
 
-// One read from a place on. An interrupted call is an error like any other.
+// Reads once from a place on. An interrupted call is an error like any other.
 fn read_at<R: Files>(files: &R, name: &str, at: u64, buf: &mut [u8]) -> io::Result<usize>
     ensures { IfOk result (λ k. k ≤ length buf.new) }
 {
@@ -36,7 +41,7 @@ fn read_at<R: Files>(files: &R, name: &str, at: u64, buf: &mut [u8]) -> io::Resu
     file.read(buf)
 }
 
-// The whole of the bytes as a new file. A write that takes nothing is an error.
+// Writes all bytes to a new file. A write that takes nothing is an error.
 fn write_whole<R: Files>(files: &R, name: &str, bytes: &[u8]) -> io::Result<()> {
     let mut file = fs::create(files, name)?;
     let mut rest = bytes;
@@ -51,13 +56,7 @@ fn write_whole<R: Files>(files: &R, name: &str, bytes: &[u8]) -> io::Result<()> 
 }
 
 impl<R: Files> Folder for RealFolder<'_, R> {
-    ghost contents = { λ _. None };
-
-    ghost missing = { λ s. s.missing };
-
-    ghost read_faults = { λ s. s.read_faults };
-
-    ghost write_faults = { λ s. s.write_faults };
+    ghost state = { λ s. state_with s.missing s.read_faults s.write_faults };
 
     fn read_part(&mut self, name: &str, at: u64, buf: &mut [u8]) -> Result<usize, PartError> {
         match read_at(self.files, name, at, buf) {

@@ -1,10 +1,11 @@
-// The standard output. What it took isn't told, so nothing is proved of it: this is the trusted edge.
-ghost use Rattle.std.specs.Prelude.{None};
+// The standard output. The bytes that it took aren't told, so nothing is proved of them: this is the trusted edge.
+ghost use Rattle.std.specs.Prelude.{◌≡◌};
+ghost use Rattle.lorry_plan.specs.Untold.{sink_with};
 
 use route_base::{Sink, WriteError};
 use std::io::{self, ErrorKind};
 
-/// What a runtime prints to.
+/// The output that a runtime prints to, and the number of its faults so far.
 #[derive(Drop)]
 pub struct RealOut<'a, R: Print> {
     out: &'a R,
@@ -12,13 +13,15 @@ pub struct RealOut<'a, R: Print> {
 }
 
 impl<'a, R: Print> RealOut<'a, R> {
-    /// The output, with no fault so far.
-    pub fn new(out: &'a R) -> Self {
+    /// The output; no fault is counted yet.
+    pub fn new(out: &'a R) -> Self
+        ensures faults { result.faults ≡ 0 }
+    {
         RealOut { out, faults: 0 }
     }
 }
 
-// All of the bytes. A write that takes nothing, and an interrupted call, are errors.
+// Writes all bytes. A write that takes nothing, and an interrupted call, are errors.
 fn write_whole<R: Print>(out: &R, bytes: &[u8]) -> io::Result<()> {
     let mut rest = bytes;
     'writing: while !rest.is_empty() {
@@ -32,9 +35,7 @@ fn write_whole<R: Print>(out: &R, bytes: &[u8]) -> io::Result<()> {
 }
 
 impl<R: Print> Sink for RealOut<'_, R> {
-    ghost written = { λ _. None };
-
-    ghost faults = { λ s. s.faults };
+    ghost state = { λ s. sink_with s.faults };
 
     fn write(&mut self, bytes: &[u8]) -> Result<(), WriteError> {
         match write_whole(self.out, bytes) {

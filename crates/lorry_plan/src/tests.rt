@@ -1,13 +1,15 @@
-//! The tests that cross crates: whole runs, the objects in memory, and the edge to the system.
+//! The tests that cross crates, by subject: whole runs, the objects in memory, and the edge to the system.
 
-mod failing;
+mod faults;
+mod fronts;
+mod graph;
+mod itineraries;
+mod limits;
 mod lists;
-mod real;
-mod replays;
-mod runs;
+mod requests;
+mod system;
 mod tables;
-mod waiting;
-mod zones;
+mod words;
 
 use front_desk::run;
 use route_base::{
@@ -21,7 +23,7 @@ use std::thread::Threads;
 // A triangle in which the way over node 2 takes 120 minutes, and the straight one 300.
 const TRIANGLE: &str = "p sp 3 3\na 1 2 60\na 2 3 60\na 1 3 300\n";
 
-// The words of a trip over it, and what is answered to them.
+// The words of a trip over it, and the answer to them.
 const TRIP: &str = "plan d any 1 3 26563680 26564080";
 
 const ONE_PAIR: &str = "pairs 1\npair 26563800 120.000\ndrive 1\ndrive 2\n";
@@ -33,20 +35,43 @@ const RATED: &str = "rating,weight\nr,2.000\n";
 
 const PARKED: &str = "node,rating\n2,r\n";
 
-// What is answered to the same words over these tables.
+// The answer to the same words over these tables.
 const TWO_PAIRS: &str =
     "pairs 2\npair 26563920 360.000\ndrive 1\nwait 120\ndrive 2\npair 26563980 300.000\ndrive 3\n";
 
+// The names and the texts of files.
+type Texts<'a> = &'a [(&'a str, &'a str)];
+
+// The triangle alone, and with its tables.
+const GRAPH: Texts<'static> = &[("d/graph.gr", TRIANGLE)];
+
+const NETWORK: Texts<'static> = &[
+    ("d/graph.gr", TRIANGLE),
+    ("d/closures.csv", CLOSED),
+    ("d/ratings.csv", RATED),
+    ("d/parking.csv", PARKED),
+];
+
 // A folder that never fails and holds these files, of which a later one replaces an earlier one of its name.
-fn sure_folder<R: Abort + AllocGlobal>(rt: &R, files: &[(&str, &str)]) -> SureFolder {
-    let mut folder = SureFolder::new(FileList::new(rt.alloc()));
+fn sure_folder(alloc: Global, files: Texts<'_>) -> Result<SureFolder, OutOfMemory> {
+    let mut list = FileList::new(alloc);
+    let [(name, text), more @ ..] = files else {
+        return Ok(SureFolder::new(list));
+    };
+    list.push(name, text.as_bytes())?;
+    let mut folder = SureFolder::new(list);
+    put_files(&mut folder, more)?;
+    Ok(folder)
+}
+
+// Puts these files into a folder in memory.
+fn put_files<F: Folder>(folder: &mut F, files: Texts<'_>) -> Result<(), OutOfMemory> {
     for (name, text) in files {
-        assert!(rt;
-            folder.write_file(name, text.as_bytes()).is_ok(),
-            "no memory for {name}"
-        );
+        if folder.write_file(name, text.as_bytes()).is_err() {
+            return Err(OutOfMemory);
+        }
     }
-    folder
+    Ok(())
 }
 
 // The words of a line, which single blanks separate; an empty line has none.
@@ -80,49 +105,79 @@ fn expect_whole<R: Abort + AllocGlobal, F: Folder>(
     }
 }
 
-// Runs the words over the files, and compares the status and the whole text.
-fn expect_run<R: Abort + Threads + Sync + AllocGlobal>(
-    rt: &R,
-    files: &[(&str, &str)],
-    line: &str,
+// A run: the files beside those of the base, the words, and the status and the whole text that are due.
+#[derive(Clone, Copy)]
+struct Case<'a> {
+    more: Texts<'a>,
+    words: &'a str,
     status: Status,
-    text: &str,
+    text: &'a str,
+}
+
+// Runs the words over the files of the base and of the case, and compares the status and the whole text.
+fn expect<R: Abort + Threads + Sync + AllocGlobal>(
+    rt: &R,
+    base: Texts<'_>,
+    case: Case<'_>,
 ) -> Result<(), Fail> {
+    let Case {
+        more,
+        words: line,
+        status,
+        text,
+    } = case;
     let words = words_of(rt.alloc(), line)?;
-    let mut folder = sure_folder(rt, files);
+    let mut folder = sure_folder(rt.alloc(), base)?;
+    put_files(&mut folder, more)?;
     let mut sink = SureSink::new(rt.alloc());
     let ended = run(rt, rt.alloc(), words.as_slice(), &mut folder, &mut sink);
-    assert_eq!(rt; ended, status, "{line:?} over {files:?}");
-    assert_eq!(rt; sink.written(), text.as_bytes(), "{line:?} over {files:?}");
+    assert_eq!(rt; ended, status, "{line:?} over {base:?} and {more:?}");
+    assert_eq!(rt;
+        sink.written(),
+        text.as_bytes(),
+        "{line:?} over {base:?} and {more:?}"
+    );
     Ok(())
 }
 
-// The same over a graph and the tables of closures, of ratings and of parking.
-fn expect_over<R: Abort + Threads + Sync + AllocGlobal>(
+// Runs the trip over the base with each text of this file, and compares the report.
+fn expect_reports<R: Abort + Threads + Sync + AllocGlobal>(
     rt: &R,
-    graph: &str,
-    tables: (&str, &str, &str),
-    line: &str,
-    status: Status,
-    text: &str,
+    base: Texts<'_>,
+    file: &str,
+    texts: &[&str],
+    report: &str,
 ) -> Result<(), Fail> {
-    let (closures, ratings, parking) = tables;
-    let files = [
-        ("d/graph.gr", graph),
-        ("d/closures.csv", closures),
-        ("d/ratings.csv", ratings),
-        ("d/parking.csv", parking),
-    ];
-    expect_run(rt, &files, line, status, text)
+    let path = format!(in rt.alloc(); "d/{file}")?;
+    for text in texts {
+        let case = Case {
+            more: &[(path.as_str(), *text)],
+            words: TRIP,
+            status: Status::Done,
+            text: report,
+        };
+        expect(rt, base, case)?;
+    }
+    Ok(())
 }
 
-// That the trip over these files is refused for a fault of this file, line or record, and cause.
-fn expect_refused<R: Abort + Threads + Sync + AllocGlobal>(
+// Runs the trip over the base with each text of this file, which is refused at this line or record with this cause.
+fn expect_refusals<R: Abort + Threads + Sync + AllocGlobal>(
     rt: &R,
-    graph: &str,
-    tables: (&str, &str, &str),
-    fault: &str,
+    base: Texts<'_>,
+    file: &str,
+    cases: &[(&str, &str)],
 ) -> Result<(), Fail> {
-    let text = format!(in rt.alloc(); "refused input {fault}\n")?;
-    expect_over(rt, graph, tables, TRIP, Status::BadInput, text.as_str())
+    let path = format!(in rt.alloc(); "d/{file}")?;
+    for (text, fault) in cases {
+        let refusal = format!(in rt.alloc(); "refused input {file} {fault}\n")?;
+        let case = Case {
+            more: &[(path.as_str(), *text)],
+            words: TRIP,
+            status: Status::BadInput,
+            text: refusal.as_str(),
+        };
+        expect(rt, base, case)?;
+    }
+    Ok(())
 }

@@ -1,14 +1,14 @@
-// A set of minutes.
+// Sets of minutes.
 ghost use Rattle.std.specs.Prelude.{◌≡◌, ℕ, List, IfOk};
 ghost use Rattle.route_base.specs.Runs.{any_has, AreRuns};
 ghost use Rattle.route_base.specs.declared.types.Run.{Run};
 
-use crate::merging::merged;
+use crate::merge::merged;
 use route_base::{Minute, OutOfMemory, Run, is_free};
 use std::alloc::Global;
 use std::marker::Model;
 
-/// A set of minutes, which contracts see as its runs: they rise, don't touch, and none is empty.
+/// A set of minutes, which contracts see as its runs: they rise, do not touch, and none is empty.
 #[derive(Drop)]
 pub struct MinuteSet {
     held: Vec<Run>,
@@ -63,26 +63,22 @@ impl MinuteSet {
 #[cfg(test)]
 mod tests {
     use super::*;
+    use std::test::Fail;
 
     #[test]
-    fn merges_what_overlaps(rt: HostRuntime) {
+    fn merges_runs_that_overlap(rt: HostRuntime) -> Result<(), Fail> {
         let runs = [
             Run { lo: 40, hi: 50 },
             Run { lo: 15, hi: 30 },
             Run { lo: 35, hi: 35 },
             Run { lo: 10, hi: 20 },
         ];
-        match MinuteSet::from_runs(rt.alloc(), &runs) {
-            Ok(set) => {
-                assert!(rt;
-                    set.runs() == [Run { lo: 10, hi: 30 }, Run { lo: 40, hi: 50 }].as_slice()
-                );
-                assert!(rt; set.contains(29));
-                assert!(rt; !set.contains(30));
-                assert!(rt; !set.contains(u64::MAX));
-                assert_eq!(rt; set.into_runs().len(), 2);
-            }
-            Err(_) => assert!(rt; false),
-        }
+        let set = MinuteSet::from_runs(rt.alloc(), &runs)?;
+        assert!(rt; set.runs() == [Run { lo: 10, hi: 30 }, Run { lo: 40, hi: 50 }].as_slice());
+        assert!(rt; set.contains(29));
+        assert!(rt; !set.contains(30));
+        assert!(rt; !set.contains(u64::MAX));
+        assert_eq!(rt; set.into_runs().len(), 2);
+        Ok(())
     }
 }

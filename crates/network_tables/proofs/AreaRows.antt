@@ -1,5 +1,6 @@
 -- Areas with the places of their zones, after one row more and as a network has them.
-use Rattle.std.proofs.Common.{◌≡◌, ℕ, zero, suc, ◌<◌, Bool, true, cond, Result, Ok, Err, IfErr, Option, Some, None, List, [], ◌∷◌, ◌++◌, length, map, get_or, refl, sym, ◌∙◌, ap, arith}
+use Rattle.std.proofs.Common.{◌≡◌, ℕ, zero, suc, ◌<◌, Bool, true, cond, Result, Ok, Err, IfErr, Option, Some, None, List, [], ◌∷◌, ◌++◌, length, map}
+use Rattle.std.proofs.Common.{get_or, refl, sym, ◌∙◌, ap, arith}
 use Rattle.std.specs.Prelude.{codes, unwrap_or, slice_get}
 use Rattle.std.specs.List.{list_any}
 use Rattle.std.specs.Option.{is_some, option_and_then}
@@ -8,17 +9,17 @@ use Rattle.std.proofs.lemmas.List.{map-append, length-map}
 use Rattle.std.proofs.lemmas.Map.Made.{is_some-lookup}
 use Rattle.route_base.specs.declared.faults.Cause.{Cause}
 use Rattle.route_base.specs.declared.faults.Cause.TheVariants.{Duplicate}
-use Rattle.network_tables.specs.declared.faults.RowFault.{RowFault}
-use Rattle.network_tables.specs.declared.faults.RowFault.TheVariants as row
-use Rattle.network_tables.specs.Faulty.{IfBadCause}
-use Rattle.network_tables.specs.Areas.{AreaEntry, cause_of_area, standing}
-use Rattle.network_tables.specs.Names.{value_of, names_of, place_among}
-use Rattle.network_tables.specs.Network.{zone_for}
-use Rattle.network_tables.specs.Stated.{zones_at}
-use Rattle.network_tables.specs.Zoned.{HaveZones, placed_area, sought_area}
+use Rattle.network_tables.specs.NetworkParts.{zones_at}
+use Rattle.table_reader.specs.declared.faults.RowFault.{RowFault}
+use Rattle.table_reader.specs.declared.faults.RowFault.TheVariants as row
+use Rattle.table_reader.specs.Refusals.{IfBadCause}
+use Rattle.network_tables.specs.Areas.{AreaEntry, cause_of_area, areas_or_default}
+use Rattle.table_reader.specs.NameIndex.{value_of, names_of, place_among}
+use Rattle.network_tables.specs.NetworkFiles.{zone_for}
+use Rattle.network_tables.specs.AreaPlaces.{HaveZones, placed_area, sought_area}
 use Rattle.network_tables.specs.Zones.{ZoneList}
 use Rattle.zone_rules.specs.declared.rows.ZoneRow.{ZoneRow}
-use Rattle.network_tables.proofs.Lists.{map-map, is_some-position, position_within, value_at_place}
+use Rattle.table_reader.proofs.Lists.{map-map, is_some-position, position_within, value_at_place}
 
 -- a name that has a place has a value
 pub place_is_some : {V : Type 0} (es : List (List ℕ × V)) (name : List ℕ) → is_some (place_among (names_of es) name) ≡ is_some (value_of es name)
@@ -34,7 +35,8 @@ module _ (zones : ZoneList) (areas : List AreaEntry) (placed : List (List ℕ ×
   -- an area has a place where it has a row
   pub area_is_some : (name : List ℕ) → is_some (value_of placed name) ≡ is_some (value_of areas name)
   area_is_some name =
-      is_some-lookup (bytes_eq name) placed ∙ ap (λ (names : List (List ℕ)). list_any (bytes_eq name) names) names_kept ∙ sym (is_some-lookup (bytes_eq name) areas)
+      is_some-lookup (bytes_eq name) placed ∙ ap (λ (names : List (List ℕ)). list_any (bytes_eq name) names) names_kept
+      ∙ sym (is_some-lookup (bytes_eq name) areas)
 
   pub HaveZones-more : (a : AreaEntry) (i : ℕ) → place_among (names_of zones) a.1 ≡ Some i → HaveZones zones (areas ++ a ∷ []) (placed ++ (a.0, i) ∷ [])
   HaveZones-more a i is = record {
@@ -46,14 +48,16 @@ module _ (zones : ZoneList) (areas : List AreaEntry) (placed : List (List ℕ ×
   }
 
   -- why a row can't follow, once its zone is there
-  pub cause_placed : (a : AreaEntry) (i : ℕ) (b : Bool) → place_among (names_of zones) a.1 ≡ Some i → is_some (value_of placed a.0) ≡ b → cause_of_area (value_of zones) areas (Some a) ≡ cond b (Some Duplicate) None
+  pub cause_placed : (a : AreaEntry) (i : ℕ) (b : Bool) → place_among (names_of zones) a.1 ≡ Some i → is_some (value_of placed a.0) ≡ b
+      → cause_of_area (value_of zones) areas (Some a) ≡ cond b (Some Duplicate) None
   cause_placed a i b is held =
       let known : is_some (value_of zones a.1) ≡ true = sym (place_is_some zones a.1) ∙ ap (λ (o : Option ℕ). is_some o) is in
       let taken : is_some (value_of areas a.0) ≡ b = sym (area_is_some a.0) ∙ held in
       rw (known, taken) refl
 
 -- a cause that is refused, under a weaker claim
-pub refused_weaker : {T : Type 0} (r : Result T RowFault) (P Q : Cause → Type 0) → ((cause : Cause) → P cause → Q cause) → IfErr r (λ e. IfBadCause e P) → IfErr r (λ e. IfBadCause e Q)
+pub refused_weaker : {T : Type 0} (r : Result T RowFault) (P Q : Cause → Type 0) → ((cause : Cause) → P cause → Q cause)
+    → IfErr r (λ e. IfBadCause e P) → IfErr r (λ e. IfBadCause e Q)
 refused_weaker (Ok x) P Q weaker refused = tt
 refused_weaker (Err (row.Bad cause)) P Q weaker refused = weaker cause refused
 refused_weaker (Err row.OutOfMemory) P Q weaker refused = tt
@@ -72,8 +76,9 @@ pub HaveZones-first : (zones : ZoneList) → HaveZones zones [] []
 HaveZones-first zones = record { each = refl }
 
 -- where there are no areas, the one in UTC
-pub standing_first : (zones : ZoneList) (areas : List AreaEntry) (placed : List (List ℕ × ℕ)) (i : ℕ) → HaveZones zones areas placed → length placed ≡ 0 → place_among (names_of zones) (codes "UTC") ≡ Some i
-    → HaveZones zones (standing areas) (placed ++ (codes "default", i) ∷ [])
+pub standing_first : (zones : ZoneList) (areas : List AreaEntry) (placed : List (List ℕ × ℕ)) (i : ℕ) → HaveZones zones areas placed
+    → length placed ≡ 0 → place_among (names_of zones) (codes "UTC") ≡ Some i
+    → HaveZones zones (areas_or_default areas) (placed ++ (codes "default", i) ∷ [])
 standing_first zones [] [] i have none is = HaveZones-more zones [] [] have (codes "default", codes "UTC") i is
 standing_first zones (a ∷ areas) [] i have none is = absurd (differs have.each)
   where
@@ -82,7 +87,8 @@ standing_first zones (a ∷ areas) [] i have none is = absurd (differs have.each
 standing_first zones areas (p ∷ placed) i have none is = absurd (omega (arith, none))
 
 -- and else those that are there
-pub standing_kept : (zones : ZoneList) (areas : List AreaEntry) (placed : List (List ℕ × ℕ)) → HaveZones zones areas placed → (length placed ≡ 0 → ⊥) → HaveZones zones (standing areas) placed
+pub standing_kept : (zones : ZoneList) (areas : List AreaEntry) (placed : List (List ℕ × ℕ)) → HaveZones zones areas placed → (length placed ≡ 0 → ⊥)
+    → HaveZones zones (areas_or_default areas) placed
 standing_kept zones [] [] have some = absurd (some refl)
 standing_kept zones [] (p ∷ placed) have some = absurd (differs have.each)
   where
@@ -91,12 +97,14 @@ standing_kept zones [] (p ∷ placed) have some = absurd (differs have.each)
 standing_kept zones (a ∷ areas) placed have some = have
 
 -- the zone of a place is that of the name that has the place
-zone_at : (zones : ZoneList) (named : List ℕ → Option (List ZoneRow)) → ((name : List ℕ) → value_of zones name ≡ named name) → (a : AreaEntry) → zone_of_place (map (λ z. z.1) zones) (sought_area zones a) ≡ zone_for named a
+zone_at : (zones : ZoneList) (named : List ℕ → Option (List ZoneRow)) → ((name : List ℕ) → value_of zones name ≡ named name) → (a : AreaEntry)
+    → zone_of_place (map (λ z. z.1) zones) (sought_area zones a) ≡ zone_for named a
 zone_at zones named is a =
     ap (λ (o : Option (List ZoneRow)). zone_there o) (value_at_place (bytes_eq a.1) zones ∙ is a.1)
 
 -- areas that have zones stand in those that they name
-pub zones_seen : (zones : ZoneList) (areas : List AreaEntry) (placed : List (List ℕ × ℕ)) (named : List ℕ → Option (List ZoneRow)) → HaveZones zones areas placed → ((name : List ℕ) → value_of zones name ≡ named name)
+pub zones_seen : (zones : ZoneList) (areas : List AreaEntry) (placed : List (List ℕ × ℕ)) (named : List ℕ → Option (List ZoneRow))
+    → HaveZones zones areas placed → ((name : List ℕ) → value_of zones name ≡ named name)
     → zones_at (map (λ z. z.1) zones) (map (λ p. p.1) placed) ≡ map (zone_for named) areas
 zones_seen zones areas placed named have is =
     map-map (λ (i : ℕ). zone_there (slice_get (map (λ (z : List ℕ × List ZoneRow). z.1) zones) i)) (λ (p : List ℕ × ℕ). p.1) placed
@@ -106,7 +114,8 @@ zones_seen zones areas placed named have is =
     ∙ (λ i. map (λ (a : AreaEntry). zone_at zones named is a i) areas)
 
 -- each of their places is one of a zone
-pub places_within : (zones : ZoneList) (areas : List AreaEntry) (placed : List (List ℕ × ℕ)) → HaveZones zones areas placed → (k d : ℕ) → k < length (map (λ (p : List ℕ × ℕ). p.1) placed) → get_or (map (λ (p : List ℕ × ℕ). p.1) placed) k d < length zones
+pub places_within : (zones : ZoneList) (areas : List AreaEntry) (placed : List (List ℕ × ℕ)) → HaveZones zones areas placed → (k d : ℕ)
+    → k < length (map (λ (p : List ℕ × ℕ). p.1) placed) → get_or (map (λ (p : List ℕ × ℕ). p.1) placed) k d < length zones
 places_within zones areas [] have k d there = absurd (omega (arith, there))
 places_within zones [] (p ∷ placed) have k d there = absurd (differs have.each)
   where
@@ -114,7 +123,12 @@ places_within zones [] (p ∷ placed) have k d there = absurd (differs have.each
     differs e = cc
 places_within zones (a ∷ areas) (p ∷ placed) have zero d there =
     let same = ends_same (placed_area p) (sought_area zones a) (map placed_area placed) (map (sought_area zones) areas) have.each in
-    omega (arith, position_within (bytes_eq a.1) (names_of zones) p.1 (sym (ap (λ (e : List ℕ × Option ℕ). e.1) same.0)), length-map zones (λ (z : List ℕ × List ZoneRow). z.0))
+    omega (
+      arith,
+      position_within (bytes_eq a.1) (names_of zones) p.1 (sym (ap (λ (e : List ℕ × Option ℕ). e.1) same.0)),
+      length-map zones
+          (λ (z : List ℕ × List ZoneRow). z.0),
+    )
 places_within zones (a ∷ areas) (p ∷ placed) have (suc k) d there =
     let same = ends_same (placed_area p) (sought_area zones a) (map placed_area placed) (map (sought_area zones) areas) have.each in
     places_within zones areas placed (record { each = same.1 }) k d (omega (arith, there))

@@ -1,5 +1,6 @@
 -- Days in the order of the calendar, each once.
-use Rattle.std.proofs.Common.{◌≡◌, ℕ, zero, suc, ◌+◌, ◌<◌, ◌≤◌, Bool, true, false, cond, eqb, List, [], ◌∷◌, length, get_or, refl, sym, ◌∙◌, ap, subst, arith, ⊎_elim}
+use Rattle.std.proofs.Common.{◌≡◌, ℕ, zero, suc, ◌+◌, ◌<◌, ◌≤◌, Bool, true, false, cond, eqb, List, [], ◌∷◌, length, get_or, refl, sym, ◌∙◌, ap}
+use Rattle.std.proofs.Common.{subst, arith, ⊎_elim}
 use Rattle.std.specs.Prelude.{◌||◌, All}
 use Rattle.std.specs.List.{filter, range_with_len, list_any, dedup, dedup_from}
 use Rattle.std.specs.List.Sorted.{IsStrictlyIncreasing, IsSorted, IsPermutation}
@@ -10,7 +11,7 @@ use Rattle.std.proofs.lemmas.List.Filters.{All-dedup}
 use Rattle.std.proofs.lemmas.List.Sorted.{All-permutation, list_any-IsPermutation}
 use Rattle.std.proofs.lemmas.Map.Keys.{IsStrictlyIncreasing-dedup}
 use Rattle.opening_hours.specs.Holidays.{is_listed}
-use Rattle.network_tables.specs.HolidayRows.{calendar_days}
+use Rattle.network_tables.specs.Holidays.{calendar_days}
 
 -- each from the first number on and below the second, and below the next
 abbrev Rises : ℕ → ℕ → List ℕ → Type 0
@@ -24,8 +25,12 @@ increasing_rest x xs up = λ k h.
 
 Rises-from : (a b : ℕ) (xs : List ℕ) → IsStrictlyIncreasing xs → All (λ x. x < b) xs → (0 < length xs → a ≤ get_or xs 0 0) → Rises a b xs
 Rises-from a b [] up below low = tt
-Rises-from a b (x ∷ xs) up below low =
-    (low (omega arith), All-head (λ x. x < b) x xs below, Rises-from (x + 1) b xs (increasing_rest x xs up) (All-tail (λ x. x < b) x xs below) (λ h. omega (arith, up 0 (omega (arith, h)))))
+Rises-from a b (x ∷ xs) up below low = (
+  low (omega arith),
+  All-head (λ x. x < b) x xs below,
+  Rises-from (x + 1) b xs (increasing_rest x xs up) (All-tail (λ x. x < b) x xs below)
+      (λ h. omega (arith, up 0 (omega (arith, h)))),
+)
 
 -- a number below all of them isn't listed
 not_listed : (a b d : ℕ) (xs : List ℕ) → d < a → Rises a b xs → is_listed d xs ≡ false
@@ -33,7 +38,7 @@ not_listed a b d [] low rises = refl
 not_listed a b d (x ∷ xs) low rises =
     ap (λ (t : Bool). t || is_listed d xs) (ne_eqb x d (λ e. omega (arith, rises.0, e))) ∙ not_listed (x + 1) b d xs (omega (arith, rises.0)) rises.2
 
--- what rises is a choice from the numbers in a row: with one number more at the front
+-- a rising list is a choice from the numbers in a row: with one number more at the front
 module _ (p : ℕ → Bool) (a n b x : ℕ) (xs : List ℕ) (rises : Rises a b (x ∷ xs)) (says : (d : ℕ) → a ≤ d → is_listed d (x ∷ xs) ≡ p d)
     (more : (ys : List ℕ) → Rises (a + 1) b ys → ((d : ℕ) → a + 1 ≤ d → is_listed d ys ≡ p d) → ys ≡ filter p (range_with_len (a + 1) n)) where
   chosen_here : x ≡ a → x ∷ xs ≡ filter p (range_with_len a (suc n))
@@ -58,7 +63,8 @@ chosen p a (suc n) b [] end rises says =
     chosen p (a + 1) n b [] (omega (arith, end)) tt (λ d h. says d (omega (arith, h)))
     ∙ ap (λ (t : Bool). cond t (a ∷ filter p (range_with_len (a + 1) n)) (filter p (range_with_len (a + 1) n))) (says a (omega arith))
 chosen p a (suc n) b (x ∷ xs) end rises says =
-    let more : (ys : List ℕ) → Rises (a + 1) b ys → ((d : ℕ) → a + 1 ≤ d → is_listed d ys ≡ p d) → ys ≡ filter p (range_with_len (a + 1) n) = λ ys. chosen p (a + 1) n b ys (omega (arith, end)) in
+    let more : (ys : List ℕ) → Rises (a + 1) b ys → ((d : ℕ) → a + 1 ≤ d → is_listed d ys ≡ p d) → ys ≡ filter p (range_with_len (a + 1) n) =
+    λ ys. chosen p (a + 1) n b ys (omega (arith, end)) in
     ⊎_elim (λ (low : a < x). chosen_later p a n b x xs rises says more low)
     (λ (high : x ≤ a). (let e : x ≡ a = omega (arith, rises.0, high) in chosen_here p a n b x xs rises says more e))
     (cases_lt a x)
@@ -83,7 +89,8 @@ any_dedup q [] = refl
 any_dedup q (x ∷ xs) = any_kept q x xs
 
 -- sorted and without repeats, numbers below n are the first n numbers that are listed
-pub in_calendar_order : (n : ℕ) (days sorted kept : List ℕ) → IsPermutation days sorted → IsSorted nat_cmp sorted → kept ≡ dedup eqb sorted → All (λ day. day < n) days
+pub in_calendar_order : (n : ℕ) (days sorted kept : List ℕ) → IsPermutation days sorted → IsSorted nat_cmp sorted → kept ≡ dedup eqb sorted
+    → All (λ day. day < n) days
     → kept ≡ filter (λ day. is_listed day days) (calendar_days n)
 unfolding calendar_days
 in_calendar_order n days sorted kept moved up is below =

@@ -1,14 +1,10 @@
-pub mod AllRecords
 pub mod AreaLists
 pub mod AreaRows
 pub mod ClosureRows
 pub mod DatedRows
 pub mod DayLists
-pub mod FieldLists
-pub mod Lists
-pub mod NameRows
+pub mod FirstFaults
 pub mod NetLists
-pub mod NumberedRows
 pub mod RoadRows
 mod Rows
 mod WorkedZones

@@ -5,15 +5,16 @@ use Rattle.std.proofs.lemmas.List.{get_or-map}
 use Rattle.std.proofs.lemmas.Option.{unwrap_or-slice_get}
 use Rattle.route_base.specs.Net.{at_number}
 use Rattle.route_base.specs.declared.types.Run.{Run}
-use Rattle.dimacs_reader.specs.Table.{GraphTable}
-use Rattle.network_tables.specs.Stated.{Area, NetworkTable}
+use Rattle.dimacs_reader.specs.GraphModel.{GraphModel}
+use Rattle.network_tables.specs.NetworkModel.{Area, NetworkModel}
 
 pub at_number-get : {A : Type 0} (xs : List A) (a : ℕ) → 1 ≤ a → at_number xs a ≡ slice_get xs (a - 1)
 at_number-get xs zero h = absurd (omega (arith, h))
 at_number-get xs (suc k) h = (let e : k ≡ suc k - 1 = omega arith in ap (λ i. slice_get xs i) e)
 
 -- the list that stands at a number
-pub list_at : {V X : Type 0} (items : V → List X) (vs : List V) (a : ℕ) (v : V) → 1 ≤ a → a ≤ length vs → v ≡ get_or vs (a - 1) v → unwrap_or (at_number (map items vs) a) [] ≡ items v
+pub list_at : {V X : Type 0} (items : V → List X) (vs : List V) (a : ℕ) (v : V) → 1 ≤ a → a ≤ length vs → v ≡ get_or vs (a - 1) v
+    → unwrap_or (at_number (map items vs) a) [] ≡ items v
 list_at items vs a v low high is =
     let there : a - 1 < length vs = omega arith in
     ap (λ (o : Option (List _)). unwrap_or o []) (at_number-get (map items vs) a low)
@@ -22,6 +23,8 @@ list_at items vs a v low high is =
     ∙ ap items (sym is)
 
 -- networks with the same parts
-pub same_network : {g h : GraphTable} {areas areas2 : List Area} {roads roads2 : List ℕ} {closures closures2 : List (List Run)} {weights weights2 : List (Option ℕ)} → g ≡ h → areas ≡ areas2 → roads ≡ roads2 → closures ≡ closures2 → weights ≡ weights2
-    → ◌≡◌ {A = NetworkTable} (record { graph = g; areas = areas; roads = roads; closures = closures; weights = weights }) (record { graph = h; areas = areas2; roads = roads2; closures = closures2; weights = weights2 })
+pub same_network : {g h : GraphModel} {areas areas2 : List Area} {roads roads2 : List ℕ} {closures closures2 : List
+    (List Run)} {weights weights2 : List (Option ℕ)} → g ≡ h → areas ≡ areas2 → roads ≡ roads2 → closures ≡ closures2 → weights ≡ weights2
+    → ◌≡◌ {A = NetworkModel} (record { graph = g; areas = areas; roads = roads; closures = closures; weights = weights })
+    (record { graph = h; areas = areas2; roads = roads2; closures = closures2; weights = weights2 })
 same_network p q r s t = λ i. record { graph = p i; areas = q i; roads = r i; closures = s i; weights = t i }

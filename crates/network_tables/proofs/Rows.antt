@@ -6,16 +6,16 @@ use Rattle.std.specs.List.{filter}
 use Rattle.route_base.specs.declared.faults.Cause.TheVariants.{BadHeader, FieldCount, SizeLimit, BadField, Unknown, Duplicate, NotRising}
 use Rattle.calendar_days.specs.Days.{days_of_years, days_of_months}
 use Rattle.calendar_days.specs.Texts.{instant_of, day_of_text, clock_of}
-use Rattle.network_tables.specs.Closures.{closures_law, closures_in, runs_by_arc}
-use Rattle.network_tables.specs.HolidayRows.{holidays_law, holidays_in, rows_named, calendar_days}
-use Rattle.network_tables.specs.Laws.{Law, first_table_fault}
-use Rattle.network_tables.specs.Areas.{areas_law, areas_in, standing}
-use Rattle.network_tables.specs.Numbered.{given_by_number}
-use Rattle.network_tables.specs.Parking.{parking_law, parked_in, weights_by_node}
-use Rattle.network_tables.specs.Ratings.{Rating, ratings_law, ratings_in}
-use Rattle.network_tables.specs.Names.{names_of, value_of}
-use Rattle.network_tables.specs.Records.{Record, rows_in}
-use Rattle.network_tables.specs.Roads.{roads_law, roads_in, area_by_arc}
+use Rattle.network_tables.specs.Closures.{closures_schema, closures_in, runs_by_arc}
+use Rattle.network_tables.specs.Holidays.{holidays_schema, holidays_in, rows_named, calendar_days}
+use Rattle.table_reader.specs.Schema.{Schema, first_table_fault}
+use Rattle.network_tables.specs.Areas.{areas_schema, areas_in, areas_or_default}
+use Rattle.table_reader.specs.ByNumber.{given_by_number, numbered_in, numbered_in}
+use Rattle.network_tables.specs.Parking.{parking_schema, weights_by_node}
+use Rattle.network_tables.specs.Ratings.{Rating, ratings_schema, ratings_in}
+use Rattle.table_reader.specs.NameIndex.{names_of, value_of}
+use Rattle.table_reader.specs.Records.{Record, rows_in}
+use Rattle.network_tables.specs.Roads.{roads_schema, area_by_arc}
 
 abbrev closures_header : Record
 closures_header = codes "arc" ∷ codes "from" ∷ codes "to" ∷ []
@@ -26,90 +26,105 @@ closure_row a from to = a ∷ from ∷ to ∷ []
 abbrev two_arcs : List Record
 two_arcs = closures_header ∷ closure_row (codes "2") (codes "26563740") (codes "26563860") ∷ closure_row (codes "02") (codes "26563600") (codes "26563700") ∷ []
 
-closures_faultless : first_table_fault (closures_law 3) two_arcs ≡ None
+closures_faultless : first_table_fault (closures_schema 3) two_arcs ≡ None
 unfolding first_table_fault instant_of
 closures_faultless = refl
 
-closures_stated : runs_by_arc 3 (closures_in (rows_in two_arcs)) ≡ [] ∷ (record { lo = 26563740; hi = 26563860 } ∷ record { lo = 26563600; hi = 26563700 } ∷ []) ∷ [] ∷ []
+closures_stated : runs_by_arc 3 (closures_in (rows_in two_arcs)) ≡ [] ∷
+    (record { lo = 26563740; hi = 26563860 } ∷ record { lo = 26563600; hi = 26563700 } ∷ []) ∷ [] ∷ []
 unfolding runs_by_arc instant_of
 closures_stated = refl
 
 -- a file without records stands for the header alone
-no_records : first_table_fault (closures_law 3) [] ≡ None
+no_records : first_table_fault (closures_schema 3) [] ≡ None
 unfolding first_table_fault
 no_records = refl
 
-header_alone : first_table_fault (closures_law 3) (closures_header ∷ []) ≡ None
+header_alone : first_table_fault (closures_schema 3) (closures_header ∷ []) ≡ None
 unfolding first_table_fault
 header_alone = refl
 
-header_wrong : first_table_fault (closures_law 3) ((codes "arc" ∷ codes "to" ∷ codes "from" ∷ []) ∷ closure_row (codes "x") (codes "") (codes "") ∷ []) ≡ Some (1, BadHeader)
+header_wrong : first_table_fault (closures_schema 3)
+    ((codes "arc" ∷ codes "to" ∷ codes "from" ∷ []) ∷ closure_row (codes "x") (codes "") (codes "") ∷ []) ≡ Some (1, BadHeader)
 unfolding first_table_fault instant_of
 header_wrong = refl
 
-header_longer : first_table_fault (closures_law 3) ((codes "arc" ∷ codes "from" ∷ codes "to" ∷ codes "why" ∷ []) ∷ []) ≡ Some (1, BadHeader)
+header_longer : first_table_fault (closures_schema 3) ((codes "arc" ∷ codes "from" ∷ codes "to" ∷ codes "why" ∷ []) ∷ []) ≡ Some (1, BadHeader)
 unfolding first_table_fault
 header_longer = refl
 
-field_count : first_table_fault (closures_law 3) (closures_header ∷ closure_row (codes "2") (codes "26563740") (codes "26563860") ∷ (codes "2" ∷ codes "x" ∷ []) ∷ []) ≡ Some (3, FieldCount)
+field_count : first_table_fault (closures_schema 3)
+    (closures_header ∷ closure_row (codes "2") (codes "26563740") (codes "26563860") ∷ (codes "2" ∷ codes "x" ∷ []) ∷ []) ≡ Some (3, FieldCount)
 unfolding first_table_fault instant_of
 field_count = refl
 
-arc_after_last : first_table_fault (closures_law 3) (closures_header ∷ closure_row (codes "4") (codes "26563740") (codes "26563860") ∷ []) ≡ Some (2, Unknown)
+arc_after_last : first_table_fault (closures_schema 3) (closures_header ∷ closure_row (codes "4") (codes "26563740") (codes "26563860") ∷ []) ≡ Some
+    (2, Unknown)
 unfolding first_table_fault instant_of
 arc_after_last = refl
 
-arc_before_first : first_table_fault (closures_law 3) (closures_header ∷ closure_row (codes "0") (codes "26563740") (codes "26563860") ∷ []) ≡ Some (2, Unknown)
+arc_before_first : first_table_fault (closures_schema 3)
+    (closures_header ∷ closure_row (codes "0") (codes "26563740") (codes "26563860") ∷ []) ≡ Some (2, Unknown)
 unfolding first_table_fault instant_of
 arc_before_first = refl
 
 -- a field that isn't in its form comes before an arc that isn't there, and that before an end that isn't above its start
-bad_instant : first_table_fault (closures_law 3) (closures_header ∷ closure_row (codes "4") (codes "26563740") (codes "2656374x") ∷ []) ≡ Some (2, BadField)
+bad_instant : first_table_fault (closures_schema 3) (closures_header ∷ closure_row (codes "4") (codes "26563740") (codes "2656374x") ∷ []) ≡ Some (2, BadField)
 unfolding first_table_fault instant_of day_of_text
 bad_instant = refl
 
-instant_too_early : first_table_fault (closures_law 3) (closures_header ∷ closure_row (codes "3") (codes "525599") (codes "26563740") ∷ []) ≡ Some (2, BadField)
+instant_too_early : first_table_fault (closures_schema 3) (closures_header ∷ closure_row (codes "3") (codes "525599") (codes "26563740") ∷ []) ≡ Some
+    (2, BadField)
 unfolding first_table_fault instant_of day_of_text
 instant_too_early = refl
 
-unknown_before_order : first_table_fault (closures_law 3) (closures_header ∷ closure_row (codes "4") (codes "26563740") (codes "26563740") ∷ []) ≡ Some (2, Unknown)
+unknown_before_order : first_table_fault (closures_schema 3)
+    (closures_header ∷ closure_row (codes "4") (codes "26563740") (codes "26563740") ∷ []) ≡ Some (2, Unknown)
 unfolding first_table_fault instant_of
 unknown_before_order = refl
 
-end_at_start : first_table_fault (closures_law 3) (closures_header ∷ closure_row (codes "3") (codes "26563740") (codes "26563740") ∷ []) ≡ Some (2, NotRising)
+end_at_start : first_table_fault (closures_schema 3) (closures_header ∷ closure_row (codes "3") (codes "26563740") (codes "26563740") ∷ []) ≡ Some
+    (2, NotRising)
 unfolding first_table_fault instant_of
 end_at_start = refl
 
 -- instants as texts
-texts_read : closures_in (closure_row (codes "1") (codes "2020-07-04T00:00Z") (codes "2020-07-04T01:30:00Z") ∷ []) ≡ record { arc = record { 0 = 1 }; run = record { lo = 26563680; hi = 26563770 } } ∷ []
+texts_read : closures_in (closure_row (codes "1") (codes "2020-07-04T00:00Z") (codes "2020-07-04T01:30:00Z") ∷ [])
+    ≡ record { arc = record { 0 = 1 }; run = record { lo = 26563680; hi = 26563770 } } ∷ []
 unfolding instant_of day_of_text clock_of days_of_years days_of_months
 texts_read = refl
 
-text_without_zone : first_table_fault (closures_law 3) (closures_header ∷ closure_row (codes "1") (codes "2020-07-04T00:00") (codes "2020-07-04T01:00Z") ∷ []) ≡ Some (2, BadField)
+text_without_zone : first_table_fault (closures_schema 3)
+    (closures_header ∷ closure_row (codes "1") (codes "2020-07-04T00:00") (codes "2020-07-04T01:00Z") ∷ []) ≡ Some (2, BadField)
 unfolding first_table_fault instant_of day_of_text clock_of
 text_without_zone = refl
 
 abbrev rating_row : List ℕ → List ℕ → Record
 rating_row name weight = name ∷ weight ∷ []
 
-ratings_stated : ratings_in (rating_row (codes "r") (codes "2.000") ∷ rating_row (codes "quiet") (codes "0.5") ∷ []) ≡ (codes "r", 2000) ∷ (codes "quiet", 500) ∷ []
+ratings_stated : ratings_in (rating_row (codes "r") (codes "2.000") ∷ rating_row (codes "quiet") (codes "0.5") ∷ []) ≡ (codes "r", 2000) ∷
+    (codes "quiet", 500) ∷ []
 ratings_stated = refl
 
 -- the third row is a duplicate, before the bad field of the fourth
-duplicate_first : first_table_fault ratings_law ((codes "rating" ∷ codes "weight" ∷ []) ∷ rating_row (codes "r") (codes "1") ∷ rating_row (codes "s") (codes "2") ∷ rating_row (codes "r") (codes "3") ∷ rating_row (codes "t") (codes "x") ∷ []) ≡ Some (4, Duplicate)
+duplicate_first : first_table_fault ratings_schema
+    ((codes "rating" ∷ codes "weight" ∷ []) ∷ rating_row (codes "r") (codes "1") ∷ rating_row (codes "s") (codes "2") ∷ rating_row (codes "r")
+    (codes "3") ∷ rating_row (codes "t") (codes "x") ∷ []) ≡ Some (4, Duplicate)
 unfolding first_table_fault
 duplicate_first = refl
 
-weight_too_large : first_table_fault ratings_law ((codes "rating" ∷ codes "weight" ∷ []) ∷ rating_row (codes "r") (codes "100.001") ∷ []) ≡ Some (2, BadField)
+weight_too_large : first_table_fault ratings_schema ((codes "rating" ∷ codes "weight" ∷ []) ∷ rating_row (codes "r") (codes "100.001") ∷ []) ≡ Some
+    (2, BadField)
 unfolding first_table_fault
 weight_too_large = refl
 
 -- a bad field comes before a duplicate
-bad_before_duplicate : first_table_fault ratings_law ((codes "rating" ∷ codes "weight" ∷ []) ∷ rating_row (codes "r") (codes "1") ∷ rating_row (codes "r") (codes "101") ∷ []) ≡ Some (3, BadField)
+bad_before_duplicate : first_table_fault ratings_schema
+    ((codes "rating" ∷ codes "weight" ∷ []) ∷ rating_row (codes "r") (codes "1") ∷ rating_row (codes "r") (codes "101") ∷ []) ≡ Some (3, BadField)
 unfolding first_table_fault
 bad_before_duplicate = refl
 
-name_with_a_dash : first_table_fault ratings_law ((codes "rating" ∷ codes "weight" ∷ []) ∷ rating_row (codes "-r") (codes "1") ∷ []) ≡ Some (2, BadField)
+name_with_a_dash : first_table_fault ratings_schema ((codes "rating" ∷ codes "weight" ∷ []) ∷ rating_row (codes "-r") (codes "1") ∷ []) ≡ Some (2, BadField)
 unfolding first_table_fault
 name_with_a_dash = refl
 
@@ -119,27 +134,30 @@ two_ratings = (codes "r", 2000) ∷ (codes "s", 0) ∷ []
 abbrev parked_row : List ℕ → List ℕ → Record
 parked_row node rating = node ∷ rating ∷ []
 
-weights_stated : weights_by_node 4 two_ratings (parked_in (parked_row (codes "2") (codes "r") ∷ parked_row (codes "4") (codes "s") ∷ [])) ≡ None ∷ Some 2000 ∷ None ∷ Some 0 ∷ []
+weights_stated : weights_by_node 4 two_ratings (numbered_in (parked_row (codes "2") (codes "r") ∷ parked_row (codes "4") (codes "s") ∷ [])) ≡ None
+    ∷ Some 2000 ∷ None ∷ Some 0 ∷ []
 unfolding given_by_number
 weights_stated = refl
 
 abbrev parking_header : Record
 parking_header = codes "node" ∷ codes "rating" ∷ []
 
-node_after_last : first_table_fault (parking_law 4 two_ratings) (parking_header ∷ parked_row (codes "5") (codes "r") ∷ []) ≡ Some (2, Unknown)
+node_after_last : first_table_fault (parking_schema 4 two_ratings) (parking_header ∷ parked_row (codes "5") (codes "r") ∷ []) ≡ Some (2, Unknown)
 unfolding first_table_fault
 node_after_last = refl
 
-rating_unknown : first_table_fault (parking_law 4 two_ratings) (parking_header ∷ parked_row (codes "1") (codes "t") ∷ []) ≡ Some (2, Unknown)
+rating_unknown : first_table_fault (parking_schema 4 two_ratings) (parking_header ∷ parked_row (codes "1") (codes "t") ∷ []) ≡ Some (2, Unknown)
 unfolding first_table_fault
 rating_unknown = refl
 
-node_twice : first_table_fault (parking_law 4 two_ratings) (parking_header ∷ parked_row (codes "1") (codes "r") ∷ parked_row (codes "01") (codes "s") ∷ []) ≡ Some (3, Duplicate)
+node_twice : first_table_fault (parking_schema 4 two_ratings)
+    (parking_header ∷ parked_row (codes "1") (codes "r") ∷ parked_row (codes "01") (codes "s") ∷ []) ≡ Some (3, Duplicate)
 unfolding first_table_fault
 node_twice = refl
 
 -- a rating that isn't there comes before a node that has one already
-unknown_before_duplicate : first_table_fault (parking_law 4 two_ratings) (parking_header ∷ parked_row (codes "1") (codes "r") ∷ parked_row (codes "1") (codes "t") ∷ []) ≡ Some (3, Unknown)
+unknown_before_duplicate : first_table_fault (parking_schema 4 two_ratings)
+    (parking_header ∷ parked_row (codes "1") (codes "r") ∷ parked_row (codes "1") (codes "t") ∷ []) ≡ Some (3, Unknown)
 unfolding first_table_fault
 unknown_before_duplicate = refl
 
@@ -152,27 +170,30 @@ areas_header = codes "area" ∷ codes "zone" ∷ []
 abbrev two_zones : List ℕ → Option ℕ
 two_zones name = value_of ((codes "East", 0) ∷ (codes "UTC", 1) ∷ []) name
 
-areas_stated : standing (areas_in (area_row (codes "a") (codes "East") ∷ area_row (codes "b") (codes "UTC") ∷ [])) ≡ (codes "a", codes "East") ∷ (codes "b", codes "UTC") ∷ []
+areas_stated : areas_or_default (areas_in (area_row (codes "a") (codes "East") ∷ area_row (codes "b") (codes "UTC") ∷ [])) ≡
+    (codes "a", codes "East") ∷ (codes "b", codes "UTC") ∷ []
 areas_stated = refl
 
 -- without rows one area stands
-default_area : standing (areas_in []) ≡ (codes "default", codes "UTC") ∷ []
+default_area : areas_or_default (areas_in []) ≡ (codes "default", codes "UTC") ∷ []
 default_area = refl
 
-zone_unknown : first_table_fault (areas_law two_zones) (areas_header ∷ area_row (codes "a") (codes "West") ∷ []) ≡ Some (2, Unknown)
+zone_unknown : first_table_fault (areas_schema two_zones) (areas_header ∷ area_row (codes "a") (codes "West") ∷ []) ≡ Some (2, Unknown)
 unfolding first_table_fault
 zone_unknown = refl
 
-area_twice : first_table_fault (areas_law two_zones) (areas_header ∷ area_row (codes "a") (codes "East") ∷ area_row (codes "a") (codes "UTC") ∷ []) ≡ Some (3, Duplicate)
+area_twice : first_table_fault (areas_schema two_zones)
+    (areas_header ∷ area_row (codes "a") (codes "East") ∷ area_row (codes "a") (codes "UTC") ∷ []) ≡ Some (3, Duplicate)
 unfolding first_table_fault
 area_twice = refl
 
 -- a zone that isn't there comes before an area that is there already, and a field that is no name before both
-zone_before_duplicate : first_table_fault (areas_law two_zones) (areas_header ∷ area_row (codes "a") (codes "East") ∷ area_row (codes "a") (codes "West") ∷ []) ≡ Some (3, Unknown)
+zone_before_duplicate : first_table_fault (areas_schema two_zones)
+    (areas_header ∷ area_row (codes "a") (codes "East") ∷ area_row (codes "a") (codes "West") ∷ []) ≡ Some (3, Unknown)
 unfolding first_table_fault
 zone_before_duplicate = refl
 
-zone_no_name : first_table_fault (areas_law two_zones) (areas_header ∷ area_row (codes "a") (codes "Far East") ∷ []) ≡ Some (2, BadField)
+zone_no_name : first_table_fault (areas_schema two_zones) (areas_header ∷ area_row (codes "a") (codes "Far East") ∷ []) ≡ Some (2, BadField)
 unfolding first_table_fault
 zone_no_name = refl
 
@@ -183,22 +204,23 @@ abbrev road_row : List ℕ → List ℕ → Record
 road_row arc area = arc ∷ area ∷ []
 
 -- an arc without a row is in the first area
-roads_stated : area_by_arc 3 two_areas (roads_in (road_row (codes "2") (codes "b") ∷ road_row (codes "1") (codes "a") ∷ [])) ≡ 0 ∷ 1 ∷ 0 ∷ []
+roads_stated : area_by_arc 3 two_areas (numbered_in (road_row (codes "2") (codes "b") ∷ road_row (codes "1") (codes "a") ∷ [])) ≡ 0 ∷ 1 ∷ 0 ∷ []
 unfolding given_by_number
 roads_stated = refl
 
 abbrev roads_header : Record
 roads_header = codes "arc" ∷ codes "area" ∷ []
 
-area_unknown : first_table_fault (roads_law 3 two_areas) (roads_header ∷ road_row (codes "1") (codes "c") ∷ []) ≡ Some (2, Unknown)
+area_unknown : first_table_fault (roads_schema 3 two_areas) (roads_header ∷ road_row (codes "1") (codes "c") ∷ []) ≡ Some (2, Unknown)
 unfolding first_table_fault
 area_unknown = refl
 
-road_after_last : first_table_fault (roads_law 3 two_areas) (roads_header ∷ road_row (codes "4") (codes "a") ∷ []) ≡ Some (2, Unknown)
+road_after_last : first_table_fault (roads_schema 3 two_areas) (roads_header ∷ road_row (codes "4") (codes "a") ∷ []) ≡ Some (2, Unknown)
 unfolding first_table_fault
 road_after_last = refl
 
-arc_twice : first_table_fault (roads_law 3 two_areas) (roads_header ∷ road_row (codes "3") (codes "a") ∷ road_row (codes "03") (codes "b") ∷ []) ≡ Some (3, Duplicate)
+arc_twice : first_table_fault (roads_schema 3 two_areas)
+    (roads_header ∷ road_row (codes "3") (codes "a") ∷ road_row (codes "03") (codes "b") ∷ []) ≡ Some (3, Duplicate)
 unfolding first_table_fault
 arc_twice = refl
 
@@ -206,7 +228,8 @@ abbrev holiday_row : List ℕ → List ℕ → List ℕ → Record
 holiday_row area kind date = area ∷ kind ∷ date ∷ []
 
 abbrev three_holidays : List Record
-three_holidays = holiday_row (codes "b") (codes "PH") (codes "1970-02-01") ∷ holiday_row (codes "a") (codes "PH") (codes "1970-01-02") ∷ holiday_row (codes "b") (codes "SH") (codes "1970-01-01") ∷ []
+three_holidays = holiday_row (codes "b") (codes "PH") (codes "1970-02-01") ∷ holiday_row (codes "a") (codes "PH") (codes "1970-01-02") ∷ holiday_row
+    (codes "b") (codes "SH") (codes "1970-01-01") ∷ []
 
 -- each area has the days of its own rows, of either kind
 holidays_stated : rows_named (holidays_in three_holidays) (codes "b") ≡ record { public = 31 ∷ []; school = 0 ∷ [] }
@@ -222,32 +245,39 @@ abbrev holidays_header : Record
 holidays_header = codes "area" ∷ codes "kind" ∷ codes "date" ∷ []
 
 -- a row may be repeated
-holiday_twice : first_table_fault (holidays_law two_areas) (holidays_header ∷ holiday_row (codes "a") (codes "PH") (codes "1970-01-02") ∷ holiday_row (codes "a") (codes "PH") (codes "1970-01-02") ∷ []) ≡ None
+holiday_twice : first_table_fault (holidays_schema two_areas)
+    (holidays_header ∷ holiday_row (codes "a") (codes "PH") (codes "1970-01-02") ∷ holiday_row (codes "a") (codes "PH") (codes "1970-01-02") ∷ [])
+    ≡ None
 unfolding first_table_fault day_of_text days_of_years days_of_months
 holiday_twice = refl
 
-holiday_nowhere : first_table_fault (holidays_law two_areas) (holidays_header ∷ holiday_row (codes "c") (codes "SH") (codes "1970-01-02") ∷ []) ≡ Some (2, Unknown)
+holiday_nowhere : first_table_fault (holidays_schema two_areas)
+    (holidays_header ∷ holiday_row (codes "c") (codes "SH") (codes "1970-01-02") ∷ []) ≡ Some (2, Unknown)
 unfolding first_table_fault day_of_text days_of_years days_of_months
 holiday_nowhere = refl
 
 -- a kind that is none, and a date that is none, come before an area that isn't there
-kind_before_area : first_table_fault (holidays_law two_areas) (holidays_header ∷ holiday_row (codes "c") (codes "ph") (codes "1970-01-02") ∷ []) ≡ Some (2, BadField)
+kind_before_area : first_table_fault (holidays_schema two_areas)
+    (holidays_header ∷ holiday_row (codes "c") (codes "ph") (codes "1970-01-02") ∷ []) ≡ Some (2, BadField)
 unfolding first_table_fault
 kind_before_area = refl
 
-date_before_area : first_table_fault (holidays_law two_areas) (holidays_header ∷ holiday_row (codes "c") (codes "PH") (codes "1970-02-29") ∷ []) ≡ Some (2, BadField)
+date_before_area : first_table_fault (holidays_schema two_areas)
+    (holidays_header ∷ holiday_row (codes "c") (codes "PH") (codes "1970-02-29") ∷ []) ≡ Some (2, BadField)
 unfolding first_table_fault day_of_text
 date_before_area = refl
 
 -- a law with room for one row
-abbrev one_row : Law
-one_row = record ratings_law { limit = 1 }
+abbrev one_row : Schema
+one_row = record ratings_schema { limit = 1 }
 
-row_too_many : first_table_fault one_row ((codes "rating" ∷ codes "weight" ∷ []) ∷ rating_row (codes "r") (codes "1") ∷ rating_row (codes "r") (codes "x") ∷ []) ≡ Some (3, SizeLimit)
+row_too_many : first_table_fault one_row
+    ((codes "rating" ∷ codes "weight" ∷ []) ∷ rating_row (codes "r") (codes "1") ∷ rating_row (codes "r") (codes "x") ∷ []) ≡ Some (3, SizeLimit)
 unfolding first_table_fault
 row_too_many = refl
 
 -- the number of fields comes before the number of rows
-count_before_limit : first_table_fault one_row ((codes "rating" ∷ codes "weight" ∷ []) ∷ rating_row (codes "r") (codes "1") ∷ (codes "r" ∷ []) ∷ []) ≡ Some (3, FieldCount)
+count_before_limit : first_table_fault one_row
+    ((codes "rating" ∷ codes "weight" ∷ []) ∷ rating_row (codes "r") (codes "1") ∷ (codes "r" ∷ []) ∷ []) ≡ Some (3, FieldCount)
 unfolding first_table_fault
 count_before_limit = refl

@@ -11,11 +11,12 @@ use Rattle.std.proofs.lemmas.Option.{cond_some, option_and_then_some}
 use Rattle.std.specs.List.{slice_split}
 use Rattle.std.specs.Prelude.{◌==◌}
 use Rattle.route_base.specs.Forms.{at_most, is_name, weight_of, thousandths_in}
-use Rattle.network_tables.specs.Numbered.{Numbered, name_at, given_to, given_by_number}
+use Rattle.table_reader.specs.NameIndex.{value_of}
+use Rattle.table_reader.specs.ByNumber.{NumberedRow, name_at, given_to, given_by_number}
 use Rattle.network_tables.specs.Parking.{weights_by_node}
-use Rattle.network_tables.specs.Ratings.{Rating, rating_of, ratings_in, weight_named}
-use Rattle.network_tables.specs.Records.{Record}
-use Rattle.network_tables.specs.Stated.{IsSmall}
+use Rattle.network_tables.specs.Ratings.{Rating, rating_of, ratings_in}
+use Rattle.table_reader.specs.Records.{Record}
+use Rattle.network_tables.specs.NetworkModel.{IsSmall}
 
 at_most-small : (o : Option ℕ) → IsSmall (at_most 100000 o)
 at_most-small o w is = option_and_then_some (λ n. cond (leb n 100000) (Some n) None) o w is (λ n _ within.
@@ -41,11 +42,12 @@ rating_of-small [] r is = absurd (cc)
 rating_of-small (name ∷ []) r is = absurd (cc)
 rating_of-small (name ∷ weight ∷ more ∷ rest) r is = absurd (cc)
 
-weight_named-small : (rows : List Record) (name : List ℕ) → IsSmall (weight_named (ratings_in rows) name)
-weight_named-small [] name w is = absurd (cc)
-weight_named-small (row ∷ rows) name w is = by_row (weight_named-small rows name w) (rating_of row) (rating_of-small row) is
+value_of-small : (rows : List Record) (name : List ℕ) → IsSmall (value_of (ratings_in rows) name)
+value_of-small [] name w is = absurd (cc)
+value_of-small (row ∷ rows) name w is = by_row (value_of-small rows name w) (rating_of row) (rating_of-small row) is
   where
-    by_row : (weight_named (ratings_in rows) name ≡ Some w → w ≤ 100000) → (o : Option Rating) → ((r : Rating) → o ≡ Some r → r.1 ≤ 100000) → lookup (bytes_eq name) (cons_option o (ratings_in rows)) ≡ Some w → w ≤ 100000
+    by_row : (value_of (ratings_in rows) name ≡ Some w → w ≤ 100000) → (o : Option Rating) → ((r : Rating) → o ≡ Some r → r.1 ≤ 100000)
+        → lookup (bytes_eq name) (cons_option o (ratings_in rows)) ≡ Some w → w ≤ 100000
     by_row more None small same = more same
     by_row more (Some r) small same =
         ⊎_elim
@@ -56,9 +58,11 @@ weight_named-small (row ∷ rows) name w is = by_row (weight_named-small rows na
         (λ no. more (sym (cond-false _ _ _ no) ∙ same))
         (cases_Bool (bytes_eq name r.0))
 
-given_to-small : (rows : List Record) (parked : List Numbered) (v : ℕ) → IsSmall (given_to (weight_named (ratings_in rows)) parked v)
-given_to-small rows parked v w is = option_and_then_some (weight_named (ratings_in rows)) (name_at parked v) w is (λ name _ found. weight_named-small rows name w found)
+given_to-small : (rows : List Record) (parked : List NumberedRow) (v : ℕ) → IsSmall (given_to (value_of (ratings_in rows)) parked v)
+given_to-small rows parked v w is = option_and_then_some (value_of (ratings_in rows)) (name_at parked v) w is (λ name _ found. value_of-small rows name w found)
 
-pub weights_by_node-small : (nodes : ℕ) (rows : List Record) (parked : List Numbered) → All IsSmall (weights_by_node nodes (ratings_in rows) parked)
+pub weights_by_node-small : (nodes : ℕ) (rows : List Record) (parked : List NumberedRow) → All IsSmall (weights_by_node nodes (ratings_in rows) parked)
 unfolding given_by_number
-weights_by_node-small nodes rows parked = All-map IsSmall (given_to (weight_named (ratings_in rows)) parked) (range_with_len 1 nodes) (λ k d _. given_to-small rows parked (get_or (range_with_len 1 nodes) k d))
+weights_by_node-small nodes rows parked =
+    All-map IsSmall (given_to (value_of (ratings_in rows)) parked) (range_with_len 1 nodes)
+    (λ k d _. given_to-small rows parked (get_or (range_with_len 1 nodes) k d))

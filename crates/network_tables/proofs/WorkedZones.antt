@@ -3,9 +3,9 @@ use Rattle.std.proofs.Common.{◌≡◌, ℕ, List, [], ◌∷◌, Some, None, p
 use Rattle.std.specs.Prelude.{codes}
 use Rattle.calendar_days.specs.Texts.{instant_of}
 use Rattle.route_base.specs.declared.faults.Cause.TheVariants.{BadField, NotRising}
-use Rattle.network_tables.specs.Laws.{first_table_fault}
-use Rattle.network_tables.specs.Records.{Record, rows_in}
-use Rattle.network_tables.specs.Zones.{offset_of, zone_row, zone_entries_in, zone_named, zones_law}
+use Rattle.table_reader.specs.Schema.{first_table_fault}
+use Rattle.table_reader.specs.Records.{Record, rows_in}
+use Rattle.network_tables.specs.Zones.{offset_of, zone_row, zone_entries_in, zone_named, zones_schema}
 
 east : offset_of (codes "+05:45") ≡ Some (pos 345)
 unfolding offset_of
@@ -50,9 +50,10 @@ abbrev row : List ℕ → List ℕ → List ℕ → Record
 row name from offset = name ∷ from ∷ offset ∷ []
 
 abbrev two_zones : List Record
-two_zones = header ∷ row (codes "A") (codes "525600") (codes "+01:00") ∷ row (codes "B") (codes "525600") (codes "-02:00") ∷ row (codes "A") (codes "525601") (codes "+02:00") ∷ []
+two_zones = header ∷ row (codes "A") (codes "525600") (codes "+01:00") ∷ row (codes "B") (codes "525600") (codes "-02:00") ∷ row (codes "A")
+    (codes "525601") (codes "+02:00") ∷ []
 
-two_zones_faultless : first_table_fault zones_law two_zones ≡ None
+two_zones_faultless : first_table_fault zones_schema two_zones ≡ None
 unfolding first_table_fault offset_of instant_of
 two_zones_faultless = refl
 
@@ -72,11 +73,13 @@ utc_of_the_file : zone_named (zone_entries_in (row (codes "UTC") (codes "525600"
 unfolding offset_of instant_of
 utc_of_the_file = refl
 
-same_start : first_table_fault zones_law (header ∷ row (codes "A") (codes "525600") (codes "+01:00") ∷ row (codes "A") (codes "525600") (codes "+02:00") ∷ []) ≡ Some (3, NotRising)
+same_start : first_table_fault zones_schema
+    (header ∷ row (codes "A") (codes "525600") (codes "+01:00") ∷ row (codes "A") (codes "525600") (codes "+02:00") ∷ []) ≡ Some (3, NotRising)
 unfolding first_table_fault offset_of instant_of
 same_start = refl
 
 -- a field that isn't in its form comes before a start that isn't above the one before
-bad_before_order : first_table_fault zones_law (header ∷ row (codes "A") (codes "525600") (codes "+01:00") ∷ row (codes "A") (codes "525600") (codes "+19:00") ∷ []) ≡ Some (3, BadField)
+bad_before_order : first_table_fault zones_schema
+    (header ∷ row (codes "A") (codes "525600") (codes "+01:00") ∷ row (codes "A") (codes "525600") (codes "+19:00") ∷ []) ≡ Some (3, BadField)
 unfolding first_table_fault offset_of instant_of
 bad_before_order = refl

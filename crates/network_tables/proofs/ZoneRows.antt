@@ -1,5 +1,6 @@
 -- Zones that take one row more.
-use Rattle.std.proofs.Common.{◌≡◌, ℕ, suc, ◌-◌, length, arith, Bool, true, false, cond, Option, Some, None, List, [], ◌∷◌, ◌++◌, map, filter, refl, sym, ◌∙◌, ap, subst, append-nil}
+use Rattle.std.proofs.Common.{◌≡◌, ℕ, suc, ◌-◌, length, arith, Bool, true, false, cond, Option, Some, None, List, [], ◌∷◌, ◌++◌, map, filter, refl}
+use Rattle.std.proofs.Common.{sym, ◌∙◌, ap, subst, append-nil}
 use Rattle.std.specs.List.{last_or, slice_get}
 use Rattle.std.specs.Map.{lookup, set_value}
 use Rattle.std.specs.Option.{IsSome, unwrap_or, option_or}
@@ -8,13 +9,11 @@ use Rattle.std.specs.Str.{bytes_eq}
 use Rattle.std.proofs.lemmas.List.{map-append}
 use Rattle.std.proofs.lemmas.List.Elements.{filter-append}
 use Rattle.std.proofs.lemmas.Slice.Eq.{bytes_eq-Decides}
-use Rattle.indexmap.specs.IndexMap.{IndexMap}
 use Rattle.zone_rules.specs.declared.rows.ZoneRow.{ZoneRow}
-use Rattle.network_tables.specs.Zones.{ZoneEntry, ZoneList, rows_of_zone, some_rows, given_zone, zone_named, zone_in, HasRows, HasZones}
-use Rattle.network_tables.proofs.Lists.{lookup-other, lookup-new}
-
-same_name : (a b : List ℕ) → bytes_eq a b ≡ true → a ≡ b
-same_name a b = (bytes_eq-Decides a b).0
+use Rattle.table_reader.specs.NameIndex.{value_of}
+use Rattle.network_tables.specs.Zones.{ZoneEntry, ZoneList, rows_of_zone, some_rows, given_zone, zone_named, HasRows, HasZones}
+use Rattle.table_reader.proofs.HeaderLists.{same_name}
+use Rattle.table_reader.proofs.Lists.{lookup-other, lookup-new}
 
 name_same : (a b : List ℕ) → a ≡ b → bytes_eq a b ≡ true
 name_same a b = (bytes_eq-Decides a b).1
@@ -41,35 +40,40 @@ apart true false x y z w h e = e
 apart false true x y z w h e = refl
 apart false false x y z w h e = e
 
-module _ {K V : Type 0} (f : K → List ℕ) (name other : List ℕ) (w : V) where
+module _ {V : Type 0} (name other : List ℕ) (w : V) where
   -- a look-up after a write at a name that is there
-  pub lookup_written : (es : List (K × V)) → IsSome (lookup (λ k. bytes_eq name (f k)) es)
-      → lookup (λ k. bytes_eq other (f k)) (set_value (λ k. bytes_eq name (f k)) es w) ≡ cond (bytes_eq other name) (Some w) (lookup (λ k. bytes_eq other (f k)) es)
+  pub lookup_written : (es : List (List ℕ × V)) → IsSome (value_of es name)
+      → value_of (set_value (bytes_eq name) es w) other ≡ cond (bytes_eq other name) (Some w) (value_of es other)
   lookup_written [] h = absurd (cc)
   lookup_written (e ∷ es) h =
-      let here = λ (k : K). bytes_eq name (f k) in
-      let there = λ (k : K). bytes_eq other (f k) in
-      elim (bytes_eq name (f e.0)) as (λ b. bytes_eq name (f e.0) ≡ b → IsSome (cond b (Some e.1) (lookup here es))
-      → lookup there (cond b ((e.0, w) ∷ es) (e ∷ set_value here es w)) ≡ cond (bytes_eq other name) (Some w) (cond (there e.0) (Some e.1) (lookup there es))) [
-        | true ↦ λ is some. agree (bytes_eq other name) (bytes_eq other (f e.0)) (Some w) (Some e.1) (lookup there es) (ap (bytes_eq other) (sym (same_name name (f e.0) is)))
-        | false ↦ λ is some. apart (bytes_eq other name) (bytes_eq other (f e.0)) (Some w) (Some e.1) (lookup there es) (lookup there (set_value here es w))
-            (λ p q. (let e' : bytes_eq name (f e.0) ≡ true = name_same name (f e.0) (sym (same_name other name p) ∙ same_name other (f e.0) q) in cc)) (lookup_written es some)
+      elim (bytes_eq name e.0) as (λ b. bytes_eq name e.0 ≡ b → IsSome (cond b (Some e.1) (value_of es name))
+      → value_of (cond b ((e.0, w) ∷ es) (e ∷ set_value (bytes_eq name) es w)) other
+      ≡ cond (bytes_eq other name) (Some w) (cond (bytes_eq other e.0) (Some e.1) (value_of es other))) [
+        | true ↦ λ is some.
+            agree (bytes_eq other name) (bytes_eq other e.0) (Some w) (Some e.1) (value_of es other) (ap (bytes_eq other) (sym (same_name name e.0 is)))
+        | false ↦ λ is some.
+            apart (bytes_eq other name) (bytes_eq other e.0) (Some w) (Some e.1) (value_of es other) (value_of (set_value (bytes_eq name) es w) other)
+            (λ p q. (let e' : bytes_eq name e.0 ≡ true = name_same name e.0 (sym (same_name other name p) ∙ same_name other e.0 q) in cc))
+            (lookup_written es some)
       ] refl h
 
 -- a look-up with one name more
-pub lookup_pushed : {V : Type 0} (es : List (List ℕ × V)) (name other : List ℕ) (w : V) → lookup (bytes_eq name) es ≡ None
-    → lookup (bytes_eq other) (es ++ (name, w) ∷ []) ≡ cond (bytes_eq other name) (Some w) (lookup (bytes_eq other) es)
+pub lookup_pushed : {V : Type 0} (es : List (List ℕ × V)) (name other : List ℕ) (w : V) → value_of es name ≡ None
+    → value_of (es ++ (name, w) ∷ []) other ≡ cond (bytes_eq other name) (Some w) (value_of es other)
 lookup_pushed {V} es name other w none =
-    elim (bytes_eq other name) as (λ b. bytes_eq other name ≡ b → lookup (bytes_eq other) (es ++ (name, w) ∷ []) ≡ cond b (Some w) (lookup (bytes_eq other) es)) [
+    elim (bytes_eq other name) as (λ b. bytes_eq other name ≡ b
+    → lookup (bytes_eq other) (es ++ (name, w) ∷ []) ≡ cond b (Some w) (lookup (bytes_eq other) es)) [
       | true ↦ λ is. lookup-new (bytes_eq other) es (name, w) (ap (λ n. lookup (bytes_eq n) es) (same_name other name is) ∙ none) is
       | false ↦ λ is. lookup-other (bytes_eq other) es (name, w) is
     ] refl
 
-rows_more : (entries : List ZoneEntry) (e : ZoneEntry) (name : List ℕ) → rows_of_zone (entries ++ e ∷ []) name ≡ rows_of_zone entries name ++ cond (bytes_eq name e.0) (e.1 ∷ []) []
+rows_more : (entries : List ZoneEntry) (e : ZoneEntry) (name : List ℕ)
+    → rows_of_zone (entries ++ e ∷ []) name ≡ rows_of_zone entries name ++ cond (bytes_eq name e.0) (e.1 ∷ []) []
 rows_more entries e name =
     ap (map (λ (x : ZoneEntry). x.1)) (filter-append (λ (x : ZoneEntry). bytes_eq name x.0) entries (e ∷ []))
     ∙ map-append (λ (x : ZoneEntry). x.1) (filter (λ (x : ZoneEntry). bytes_eq name x.0) entries) (filter (λ (x : ZoneEntry). bytes_eq name x.0) (e ∷ []))
-    ∙ elim (bytes_eq name e.0) as (λ b. rows_of_zone entries name ++ map (λ (x : ZoneEntry). x.1) (cond b (e ∷ []) []) ≡ rows_of_zone entries name ++ cond b (e.1 ∷ []) []) [ true ↦ refl | false ↦ refl ]
+    ∙ elim (bytes_eq name e.0) as (λ b. rows_of_zone entries name ++ map (λ (x : ZoneEntry). x.1) (cond b (e ∷ []) []) ≡ rows_of_zone entries name
+    ++ cond b (e.1 ∷ []) []) [ true ↦ refl | false ↦ refl ]
 
 pub rows_back : (rows : List ZoneRow) → unwrap_or (some_rows rows) [] ≡ rows
 rows_back [] = refl
@@ -81,11 +85,13 @@ some_pushed (first ∷ rows) row = refl
 
 -- the rows by name with one row more
 pub HasRows-more : (old new : ZoneList) (entries : List ZoneEntry) (e : ZoneEntry) → HasRows old entries
-    → ((other : List ℕ) → zone_in new other ≡ cond (bytes_eq other e.0) (Some (unwrap_or (zone_in old e.0) [] ++ e.1 ∷ [])) (zone_in old other))
+    → ((other : List ℕ) → value_of new other ≡ cond (bytes_eq other e.0) (Some (unwrap_or (value_of old e.0) [] ++ e.1 ∷ [])) (value_of old other))
     → HasRows new (entries ++ e ∷ [])
 HasRows-more old new entries e has added name =
     added name
-    ∙ elim (bytes_eq name e.0) as (λ b. bytes_eq name e.0 ≡ b → cond b (Some (unwrap_or (zone_in old e.0) [] ++ e.1 ∷ [])) (zone_in old name) ≡ some_rows (rows_of_zone entries name ++ cond b (e.1 ∷ []) [])) [
+    ∙ elim (bytes_eq name e.0) as (λ b. bytes_eq name e.0 ≡ b
+    → cond b (Some (unwrap_or (value_of old e.0) [] ++ e.1 ∷ [])) (value_of old name) ≡ some_rows
+    (rows_of_zone entries name ++ cond b (e.1 ∷ []) [])) [
       | true ↦ λ is. ap (λ (rows : List ZoneRow). Some (rows ++ e.1 ∷ []))
           (ap (λ o. unwrap_or o []) (has e.0) ∙ rows_back (rows_of_zone entries e.0) ∙ ap (rows_of_zone entries) (sym (same_name name e.0 is)))
           ∙ sym (some_pushed (rows_of_zone entries name) e.1)
@@ -103,30 +109,31 @@ or_some (Some x) p h = refl
 
 module _ (old : ZoneList) (entries : List ZoneEntry) (has : HasRows old entries) where
   -- a name that isn't `UTC` has its rows alone
-  named_other : (name : List ℕ) → bytes_eq name (codes "UTC") ≡ false → zone_in old name ≡ zone_named entries name
-  named_other name is = has name ∙ sym (or_none (some_rows (rows_of_zone entries name))) ∙ ap (λ b. option_or (some_rows (rows_of_zone entries name)) (cond b (given_zone (codes "UTC")) None)) (sym is)
+  named_other : (name : List ℕ) → bytes_eq name (codes "UTC") ≡ false → value_of old name ≡ zone_named entries name
+  named_other name is = has name ∙ sym (or_none (some_rows (rows_of_zone entries name)))
+      ∙ ap (λ b. option_or (some_rows (rows_of_zone entries name)) (cond b (given_zone (codes "UTC")) None)) (sym is)
 
   -- `UTC` has rows
-  pub HasZones-there : IsSome (zone_in old (codes "UTC")) → HasZones old entries
+  pub HasZones-there : IsSome (value_of old (codes "UTC")) → HasZones old entries
   HasZones-there there name =
-      elim (bytes_eq name (codes "UTC")) as (λ b. bytes_eq name (codes "UTC") ≡ b → zone_in old name ≡ zone_named entries name) [
-        | true ↦ λ is. has name ∙ sym (or_some (some_rows (rows_of_zone entries name)) (given_zone name) (subst IsSome (ap (zone_in old) (sym (same_name name (codes "UTC") is)) ∙ has name) there))
+      elim (bytes_eq name (codes "UTC")) as (λ b. bytes_eq name (codes "UTC") ≡ b → value_of old name ≡ zone_named entries name) [
+        | true ↦ λ is. has name ∙ sym (or_some (some_rows (rows_of_zone entries name)) (given_zone name)
+            (subst IsSome (ap (value_of old) (sym (same_name name (codes "UTC") is)) ∙ has name) there))
         | false ↦ λ is. named_other name is
       ] refl
 
   -- `UTC` is given
-  pub HasZones-given : (new : ZoneList) → zone_in old (codes "UTC") ≡ None
-      → ((other : List ℕ) → zone_in new other ≡ cond (bytes_eq other (codes "UTC")) (given_zone (codes "UTC")) (zone_in old other)) → HasZones new entries
+  pub HasZones-given : (new : ZoneList) → value_of old (codes "UTC") ≡ None
+      → ((other : List ℕ) → value_of new other ≡ cond (bytes_eq other (codes "UTC")) (given_zone (codes "UTC")) (value_of old other)) → HasZones new entries
   HasZones-given new none added name =
       added name
-      ∙ elim (bytes_eq name (codes "UTC")) as (λ b. bytes_eq name (codes "UTC") ≡ b → cond b (given_zone (codes "UTC")) (zone_in old name) ≡ option_or (some_rows (rows_of_zone entries name)) (cond b (given_zone (codes "UTC")) None)) [
-        | true ↦ λ is. ap (λ o. option_or o (given_zone (codes "UTC"))) (sym none ∙ ap (zone_in old) (sym (same_name name (codes "UTC") is)) ∙ has name)
+      ∙ elim (bytes_eq name (codes "UTC")) as (λ b. bytes_eq name (codes "UTC") ≡ b
+      → cond b (given_zone (codes "UTC")) (value_of old name) ≡ option_or (some_rows (rows_of_zone entries name))
+      (cond b (given_zone (codes "UTC")) None)) [
+        | true ↦ λ is. ap (λ o. option_or o (given_zone (codes "UTC"))) (sym none ∙ ap (value_of old) (sym (same_name name (codes "UTC") is)) ∙ has name)
         | false ↦ λ is. has name ∙ sym (or_none (some_rows (rows_of_zone entries name)))
       ] refl
 
 pub on_ok : {T E P Q : Type 0} (r : Result T E) → (P → Q) → OnOk r P → OnOk r Q
 on_ok (Ok x) f h = f h
 on_ok (Err e) f h = tt
-
-pub entries_same : {K V S : Type 0} (m n : IndexMap K V S) → m ≡ n → m.entries ≡ n.entries
-entries_same {K} {V} {S} m n e = ap (λ (x : IndexMap K V S). x.entries) e

@@ -1,12 +1,12 @@
--- areas.csv: which zone an area is in.
+-- areas.csv: the zone of each area (source: own).
 use Rattle.std.specs.Prelude.{ℕ, ◌&&◌, is_some, Option, Some, None, List, [], ◌∷◌, codes, if◌then◌else◌}
 use Rattle.std.specs.List.{filter_map}
 use Rattle.route_base.specs.Forms.{is_name}
 use Rattle.route_base.specs.declared.faults.Cause.{Cause}
 use Rattle.route_base.specs.declared.faults.Cause.TheVariants.{BadField, Unknown, Duplicate}
-use Rattle.network_tables.specs.Laws.{Law}
-use Rattle.network_tables.specs.Names.{value_of}
-use Rattle.network_tables.specs.Records.{Record}
+use Rattle.table_reader.specs.Schema.{Schema}
+use Rattle.table_reader.specs.NameIndex.{value_of}
+use Rattle.table_reader.specs.Records.{Record}
 
 -- the names of an area and of its zone
 abbrev pub AreaEntry : Type 0
@@ -17,7 +17,7 @@ abbrev pub area_of_record : Record → Option AreaEntry
 area_of_record (area ∷ zone ∷ []) = if is_name area && is_name zone then Some (area, zone) else None
 area_of_record others = None
 
--- a zone that is there, and an area that isn't there yet
+-- the zone is known, and the area has no row yet
 abbrev pub cause_of_area : {Z : Type 0} → (List ℕ → Option Z) → List AreaEntry → Option AreaEntry → Option Cause
 cause_of_area zones before None = Some BadField
 cause_of_area zones before (Some a) =
@@ -27,14 +27,15 @@ cause_of_area zones before (Some a) =
 abbrev pub areas_in : List Record → List AreaEntry
 areas_in rows = filter_map area_of_record rows
 
-abbrev pub areas_law : {Z : Type 0} → (List ℕ → Option Z) → Law
-areas_law zones = record {
-  header = codes "area" ∷ codes "zone" ∷ [];
+-- two names
+abbrev pub areas_schema : {Z : Type 0} → (List ℕ → Option Z) → Schema
+areas_schema zones = record {
+  headers = (codes "area" ∷ codes "zone" ∷ []) ∷ [];
   limit = 1000;
-  cause = λ before row. cause_of_area zones (areas_in before) (area_of_record row);
+  cause = λ header before row. cause_of_area zones (areas_in before) (area_of_record row);
 }
 
--- the areas that stand: where there are no rows, one that is called default, in UTC
-abbrev pub standing : List AreaEntry → List AreaEntry
-standing [] = (codes "default", codes "UTC") ∷ []
-standing (area ∷ more) = area ∷ more
+-- the areas of these rows; without rows the area `default` in the zone `UTC`
+abbrev pub areas_or_default : List AreaEntry → List AreaEntry
+areas_or_default [] = (codes "default", codes "UTC") ∷ []
+areas_or_default (area ∷ more) = area ∷ more

@@ -1,18 +1,14 @@
--- parking.csv: where one may wait.
+-- parking.csv: the nodes where one may wait (source: own).
 use Rattle.std.specs.Prelude.{ℕ, Option, List, codes}
-use Rattle.network_tables.specs.Laws.{Law}
-use Rattle.network_tables.specs.Numbered.{Numbered, numbered_law, numbered_in, given_by_number}
-use Rattle.network_tables.specs.Ratings.{Rating, weight_named}
-use Rattle.network_tables.specs.Records.{Record}
+use Rattle.table_reader.specs.NameIndex.{value_of}
+use Rattle.table_reader.specs.Schema.{Schema}
+use Rattle.table_reader.specs.ByNumber.{NumberedRow, numbered_schema, given_by_number}
+use Rattle.network_tables.specs.Ratings.{Rating}
 
--- a node of so many, and the name of its rating
-abbrev pub parking_law : ℕ → List Rating → Law
-parking_law nodes ratings = numbered_law (codes "node") (codes "rating") 500000 nodes (weight_named ratings)
+-- a node from 1 to `nodes`, and the name of its rating
+abbrev pub parking_schema : ℕ → List Rating → Schema
+parking_schema nodes ratings = numbered_schema (codes "node") (codes "rating") 500000 nodes (value_of ratings)
 
--- the rated nodes of these rows in their order
-abbrev pub parked_in : List Record → List Numbered
-parked_in rows = numbered_in rows
-
--- the weight of the rating of the nodes 1, 2 and so on
-abbrev pub weights_by_node : ℕ → List Rating → List Numbered → List (Option ℕ)
-weights_by_node nodes ratings parked = given_by_number nodes (weight_named ratings) parked
+-- the weights of the ratings of the nodes 1, 2 and so on
+abbrev pub weights_by_node : ℕ → List Rating → List NumberedRow → List (Option ℕ)
+weights_by_node nodes ratings parked = given_by_number nodes (value_of ratings) parked

@@ -1,7 +1,6 @@
--- zones.csv: time zones as rows of offsets from UTC.
+-- zones.csv: time zones as rows of offsets from UTC (source: own; texts of offsets by ISO 8601).
 use Rattle.std.specs.Prelude.{◌≡◌, ℕ, ◌+◌, ◌*◌, ◌&&◌, nat_le, nat_lt, ℤ, pos, neg_ℤ, Option, Some, None, List, [], ◌∷◌, map, filter, codes, if◌then◌else◌}
 use Rattle.std.specs.List.{filter_map, last_or}
-use Rattle.std.specs.Map.{lookup}
 use Rattle.std.specs.Option.{option_map, option_and_then, option_or}
 use Rattle.std.specs.Str.{bytes_eq}
 use Rattle.route_base.specs.Digits.{number_of}
@@ -12,8 +11,9 @@ use Rattle.route_base.specs.declared.faults.Cause.TheVariants.{BadField, NotRisi
 use Rattle.calendar_days.specs.Texts.{instant_of}
 use Rattle.zone_rules.specs.Zones.{is_later}
 use Rattle.zone_rules.specs.declared.rows.ZoneRow.{ZoneRow}
-use Rattle.network_tables.specs.Laws.{Law}
-use Rattle.network_tables.specs.Records.{Record}
+use Rattle.table_reader.specs.NameIndex.{value_of}
+use Rattle.table_reader.specs.Schema.{Schema}
+use Rattle.table_reader.specs.Records.{Record}
 
 -- hours and minutes, at most 18 hours in all, as minutes
 abbrev pub span_of : ℕ → ℕ → Option ℕ
@@ -39,6 +39,7 @@ offset_of text = None
 abbrev pub ZoneEntry : Type 0
 ZoneEntry = List ℕ × ZoneRow
 
+-- a row of a zone: the instant from which an offset applies
 abbrev pub zone_row : ℕ → ℤ → ZoneRow
 zone_row start offset = record { start = start; offset = offset }
 
@@ -59,15 +60,16 @@ abbrev pub cause_of_entry : List ZoneEntry → Option ZoneEntry → Option Cause
 cause_of_entry before None = Some BadField
 cause_of_entry before (Some e) = if is_later (last_or None (rows_of_zone before e.0)) e.1 then None else Some NotRising
 
--- what these rows say in their order
+-- the rows of zones in their order
 abbrev pub zone_entries_in : List Record → List ZoneEntry
 zone_entries_in rows = filter_map zone_entry_of rows
 
-abbrev pub zones_law : Law
-zones_law = record {
-  header = codes "zone" ∷ codes "from" ∷ codes "offset" ∷ [];
+-- a name, an instant and an offset
+abbrev pub zones_schema : Schema
+zones_schema = record {
+  headers = (codes "zone" ∷ codes "from" ∷ codes "offset" ∷ []) ∷ [];
   limit = 10000;
-  cause = λ before row. cause_of_entry (zone_entries_in before) (zone_entry_of row);
+  cause = λ header before row. cause_of_entry (zone_entries_in before) (zone_entry_of row);
 }
 
 -- rows, where there are some
@@ -87,14 +89,10 @@ zone_named entries name = option_or (some_rows (rows_of_zone entries name)) (giv
 abbrev pub ZoneList : Type 0
 ZoneList = List (List ℕ × List ZoneRow)
 
--- what stands by this name
-abbrev pub zone_in : ZoneList → List ℕ → Option (List ZoneRow)
-zone_in zones name = lookup (bytes_eq name) zones
-
 -- the zones are the rows of each name that has some
 abbrev pub HasRows : ZoneList → List ZoneEntry → Type 0
-HasRows zones entries = (name : List ℕ) → zone_in zones name ≡ some_rows (rows_of_zone entries name)
+HasRows zones entries = (name : List ℕ) → value_of zones name ≡ some_rows (rows_of_zone entries name)
 
 -- the zones are those that the rows name, and `UTC`
 abbrev pub HasZones : ZoneList → List ZoneEntry → Type 0
-HasZones zones entries = (name : List ℕ) → zone_in zones name ≡ zone_named entries name
+HasZones zones entries = (name : List ℕ) → value_of zones name ≡ zone_named entries name

@@ -1,26 +1,23 @@
-// areas.csv: which zone an area is in.
+// areas.csv: the zone of each area.
 ghost use Rattle.std.specs.Prelude.{◌≡◌, ◌<◌, [], List, ℕ, IsSome, IfOk, IfSome, codes, length, map, option_map};
-ghost use Rattle.std.specs.List.{IsDistinct};
-ghost use Rattle.std.specs.Str.{bytes_eq};
-ghost use Rattle.csv.specs.Records.{fields_of};
-ghost use Rattle.network_tables.specs.Areas.{AreaEntry, area_of_record, areas_in, areas_law, standing};
-ghost use Rattle.network_tables.specs.Names.{value_of, names_of, place_among};
-ghost use Rattle.network_tables.specs.Zoned.{HaveZones};
+ghost use Rattle.network_tables.specs.Words.{IsDistinct, bytes_eq, fields_of, AreaEntry, area_of_record, areas_in};
+ghost use Rattle.network_tables.specs.Words.{areas_schema, areas_or_default, value_of, names_of, place_among};
+ghost use Rattle.network_tables.specs.Words.{HaveZones, areas_of, areas_fault, Reads, HasZones, zone_entries_in};
+ghost use Rattle.network_tables.specs.Words.{rows_of};
 
-use crate::faults::RowFault;
-use crate::fields::two_fields;
-use crate::names::Names;
-use crate::tables::Table;
+use crate::files::read_file;
 use crate::zones::Zones;
+use crate::{Files, NetworkFault};
 use csv::ByteRecord;
-use route_base::{Cause, OutOfMemory, is_name_field};
+use route_base::{Cause, FileKind, OutOfMemory, is_name_field};
 use std::alloc::Global;
 use std::marker::Model;
+use table_reader::{NameIndex, RowFault, Table, two_fields};
 
 /// Areas by name, each with the place of its zone among all zones. Contracts see a list of pairs of a name and a place.
 #[derive(Drop)]
 pub struct Areas {
-    zone_places: Names<usize>,
+    zone_places: NameIndex<usize>,
 }
 
 impl Model for Areas {
@@ -34,7 +31,7 @@ impl Model for Areas {
 }
 
 impl Areas {
-    /// How many areas there are. No two have the same name.
+    /// The number of areas, of which no two have the same name. In constant time.
     pub fn len(&self) -> usize
         ensures value { result ≡ length self.now }
         ensures distinct { IsDistinct bytes_eq (names_of self.now) }
@@ -50,7 +47,7 @@ impl Areas {
         self.zone_places.place(name).map(|i| i as u32)
     }
 
-    /// The place of the zone of each area. Linear in the areas.
+    /// The place of the zone of each area. Linear in the areas, in time and memory.
     pub fn into_zone_places(self, alloc: Global) -> Result<Vec<usize>, OutOfMemory>
         ensures { IfOk result (λ places. places.items ≡ map (λ e. e.1) self) }
     {
@@ -58,17 +55,17 @@ impl Areas {
     }
 }
 
-/// Areas as their rows come, with the zones that they name.
+/// Areas while the table is being read, with the zones that they name.
 #[derive(Drop)]
 pub struct AreaTable {
     zones: Zones,
-    zone_places: Names<usize>,
+    zone_places: NameIndex<usize>,
 }
 
 impl Model for AreaTable {
-    ghost use Rattle.network_tables.specs.Zoned.{Zoned};
+    ghost use Rattle.network_tables.specs.AreaPlaces.{AreaPlaces};
 
-    ghost Value = { Zoned };
+    ghost Value = { AreaPlaces };
 
     ghost view = { λ t. record { zones = t.zones; areas = t.zone_places } };
 }
@@ -81,7 +78,7 @@ impl AreaTable {
     {
         AreaTable {
             zones,
-            zone_places: Names::new(alloc),
+            zone_places: NameIndex::new(alloc),
         }
     }
 
@@ -89,7 +86,8 @@ impl AreaTable {
     pub fn into_areas(self, alloc: Global) -> Result<(Zones, Areas), OutOfMemory>
         requires utc { IsSome (value_of self.zones (codes "UTC")) }
         ensures zones { IfOk result (λ read. read.0 ≡ self.zones) }
-        ensures areas { IfOk result (λ read. (rows : List AreaEntry) → HaveZones self.zones rows self.areas → HaveZones self.zones (standing rows) read.1) }
+        ensures areas { IfOk result (λ read. (rows : List AreaEntry) →
+            HaveZones self.zones rows self.areas → HaveZones self.zones (areas_or_default rows) read.1) }
     {
         let AreaTable { zones, zone_places } = self;
         let zone_places = with_default(alloc, &zones, zone_places)?;
@@ -100,14 +98,15 @@ impl AreaTable {
     }
 }
 
-// Areas without a row are one that is called default, in UTC.
+// If the table has no rows, adds the area `default` in the zone `UTC`.
 fn with_default(
     alloc: Global,
     zones: &Zones,
-    mut zone_places: Names<usize>,
-) -> Result<Names<usize>, OutOfMemory>
+    mut zone_places: NameIndex<usize>,
+) -> Result<NameIndex<usize>, OutOfMemory>
     requires utc { IsSome (value_of zones.now (codes "UTC")) }
-    ensures { IfOk result (λ placed. (rows : List AreaEntry) → HaveZones zones.now rows zone_places → HaveZones zones.now (standing rows) placed) }
+    ensures { IfOk result (λ placed. (rows : List AreaEntry) →
+        HaveZones zones.now rows zone_places → HaveZones zones.now (areas_or_default rows) placed) }
 {
     if zone_places.len() == 0 {
         let utc = zones.place(b"UTC").unwrap();
@@ -118,7 +117,7 @@ fn with_default(
     Ok(zone_places)
 }
 
-// What a row says.
+// Parses a data row.
 fn read_area(row: &ByteRecord) -> Option<(&[u8], &[u8])>
     requires { length (fields_of row.now) ≡ 2 }
     ensures { option_map (λ a. (a.0.now, a.1.now)) result ≡ area_of_record (fields_of row.now) }
@@ -132,19 +131,19 @@ fn read_area(row: &ByteRecord) -> Option<(&[u8], &[u8])>
 }
 
 impl Table for AreaTable {
-    ghost law = { λ t. areas_law (value_of t.zones) };
+    ghost schema = { λ t. areas_schema (value_of t.zones) };
 
-    ghost becomes = { λ start t rows. (t.zones ≡ start.zones) × HaveZones start.zones (areas_in rows) t.areas };
+    ghost becomes = { λ start t header rows. (t.zones ≡ start.zones) × HaveZones start.zones (areas_in rows) t.areas };
 
-    fn header(&self) -> &'static [&'static str] {
-        &["area", "zone"]
+    fn headers(&self) -> &'static [&'static [&'static str]] {
+        &[&["area", "zone"]]
     }
 
     fn limit(&self) -> u32 {
         1_000
     }
 
-    fn add(&mut self, alloc: Global, row: &ByteRecord) -> Result<(), RowFault> {
+    fn add(&mut self, alloc: Global, _header: &[&str], row: &ByteRecord) -> Result<(), RowFault> {
         let Some((area, zone)) = read_area(row) else {
             return Err(RowFault::Bad(Cause::BadField));
         };
@@ -153,4 +152,23 @@ impl Table for AreaTable {
         };
         self.zone_places.add(alloc, area, zone)
     }
+}
+
+/// The zones, and the areas by name in them. Linear in the bytes, on average.
+pub fn read_areas(
+    alloc: Global,
+    files: &Files,
+    zones: Zones,
+) -> Result<(Zones, Areas), NetworkFault>
+    requires { HasZones zones (zone_entries_in (rows_of files.now.zones)) }
+    ensures { Reads result (areas_fault files.now)
+        (λ read. (read.0 ≡ zones) × HaveZones zones (areas_of files.now) read.1) }
+{
+    let table = read_file(
+        alloc,
+        FileKind::Areas,
+        &files.areas,
+        AreaTable::new(alloc, zones),
+    )?;
+    Ok(table.into_areas(alloc)?)
 }

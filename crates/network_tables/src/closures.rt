@@ -1,25 +1,25 @@
-// closures.csv: when arcs are closed.
+// closures.csv: the minutes in which arcs are closed.
 ghost use Rattle.std.specs.Prelude.{◌≡◌, [], List, IfOk, length, map};
-ghost use Rattle.csv.specs.Records.{fields_of};
-ghost use Rattle.network_tables.specs.Closures.{closure_of, closures_law, closures_in, runs_by_arc};
+ghost use Rattle.network_tables.specs.Words.{fields_of, closure_of, closures_schema, closures_in, runs_by_arc};
+ghost use Rattle.network_tables.specs.Words.{arc_count_of, closed_runs_of, closures_fault, Reads};
 
-use crate::faults::RowFault;
-use crate::fields::three_fields;
-use crate::tables::Table;
+use crate::files::read_file;
+use crate::{Files, NetworkFault};
 use calendar_days::read_instant;
 use csv::ByteRecord;
-use route_base::{ArcId, Cause, OutOfMemory, Run, read_table_number};
+use route_base::{ArcId, Cause, FileKind, OutOfMemory, Run, read_table_number};
 use std::alloc::Global;
 use std::marker::Model;
+use table_reader::{RowFault, Table, three_fields};
 
-/// The minutes in which an arc is closed once.
+/// One closure: an arc, and the minutes in which it is closed.
 #[derive(Clone, Copy, Debug, PartialEq, Eq)]
 pub struct Closure {
     pub arc: ArcId,
     pub run: Run,
 }
 
-/// The closed minutes of arcs 1, 2 and so on, which contracts see as a list of lists.
+/// The closed minutes of the arcs 1, 2 and so on, which contracts see as a list of lists.
 #[derive(Drop)]
 pub struct ClosureTable {
     by_arc: Vec<Vec<Run>>,
@@ -35,7 +35,7 @@ impl Model for ClosureTable {
 }
 
 impl ClosureTable {
-    /// No closures, for so many arcs.
+    /// No closures yet, for the arcs from 1 to `arcs`. Linear in them, in time and memory.
     pub fn new(alloc: Global, arcs: u32) -> Result<Self, OutOfMemory>
         ensures size { IfOk result (λ t. length t ≡ arcs) }
         ensures none { IfOk result (λ t. t ≡ runs_by_arc arcs []) }
@@ -47,7 +47,7 @@ impl ClosureTable {
         Ok(ClosureTable { by_arc })
     }
 
-    /// The lists themselves, at no cost.
+    /// The closed minutes by arc, at no cost.
     pub fn into_lists(self) -> Vec<Vec<Run>>
         ensures { map (λ v. v.items) result.items ≡ self }
     {
@@ -55,7 +55,7 @@ impl ClosureTable {
     }
 }
 
-// What a row says.
+// Parses a data row.
 fn read_closure(row: &ByteRecord) -> Option<Closure>
     requires { length (fields_of row.now) ≡ 3 }
     ensures { result ≡ closure_of (fields_of row.now) }
@@ -70,19 +70,19 @@ fn read_closure(row: &ByteRecord) -> Option<Closure>
 }
 
 impl Table for ClosureTable {
-    ghost law = { λ t. closures_law (length t) };
+    ghost schema = { λ t. closures_schema (length t) };
 
-    ghost becomes = { λ start t rows. t ≡ runs_by_arc (length start) (closures_in rows) };
+    ghost becomes = { λ start t header rows. t ≡ runs_by_arc (length start) (closures_in rows) };
 
-    fn header(&self) -> &'static [&'static str] {
-        &["arc", "from", "to"]
+    fn headers(&self) -> &'static [&'static [&'static str]] {
+        &[&["arc", "from", "to"]]
     }
 
     fn limit(&self) -> u32 {
         100_000
     }
 
-    fn add(&mut self, _alloc: Global, row: &ByteRecord) -> Result<(), RowFault> {
+    fn add(&mut self, _alloc: Global, _header: &[&str], row: &ByteRecord) -> Result<(), RowFault> {
         let Some(closure) = read_closure(row) else {
             return Err(RowFault::Bad(Cause::BadField));
         };
@@ -96,4 +96,14 @@ impl Table for ClosureTable {
         self.by_arc[arc - 1].push(closure.run)?;
         Ok(())
     }
+}
+
+/// The closed minutes of each arc. Linear in the bytes and the arcs.
+pub fn read_closures(alloc: Global, files: &Files, arcs: u32) -> Result<Vec<Vec<Run>>, NetworkFault>
+    requires { arcs ≡ arc_count_of files.now }
+    ensures { Reads result (closures_fault files.now)
+        (λ lists. map (λ runs. runs.items) lists.items ≡ closed_runs_of files.now) }
+{
+    let table = ClosureTable::new(alloc, arcs)?;
+    Ok(read_file(alloc, FileKind::Closures, &files.closures, table)?.into_lists())
 }

@@ -1,21 +1,24 @@
 // holidays.csv: public and school holidays of areas.
 ghost use Rattle.std.specs.Prelude.{◌≡◌, [], IfOk, map};
-ghost use Rattle.network_tables.specs.Dated.{Dated, HaveDays};
-ghost use Rattle.network_tables.specs.HolidayRows.{holidays_law, holidays_in, in_calendar};
-ghost use Rattle.network_tables.specs.Names.{names_of};
+ghost use Rattle.network_tables.specs.Words.{HaveDays, holidays_schema, holidays_in, holidays_named, in_calendar};
+ghost use Rattle.network_tables.specs.Words.{areas_of, holidays_of, holidays_fault, Reads, names_of};
 
-use crate::area_days::AreaDays;
+mod days;
+mod row;
+
 use crate::areas::Areas;
-use crate::faults::RowFault;
-use crate::holiday_rows::read_holiday;
-use crate::tables::Table;
+use crate::files::read_file;
+use crate::{Files, NetworkFault};
 use csv::ByteRecord;
+use days::AreaDays;
 use opening_hours::Holidays;
-use route_base::{Cause, OutOfMemory};
+use route_base::{Cause, FileKind, OutOfMemory};
+use row::read_holiday;
 use std::alloc::Global;
 use std::marker::Model;
+use table_reader::{RowFault, Table};
 
-/// Areas with the days of their holidays, as the rows come.
+/// Areas with the days of their holidays while the table is being read.
 #[derive(Drop)]
 pub struct HolidayTable {
     areas: Areas,
@@ -23,17 +26,17 @@ pub struct HolidayTable {
 }
 
 impl Model for HolidayTable {
-    ghost use Rattle.network_tables.specs.Dated.{Dated, IsDated};
+    ghost use Rattle.network_tables.specs.HolidayDays.{HolidayDays, AreHolidayDays};
 
-    ghost Value = { Dated };
+    ghost Value = { HolidayDays };
 
     ghost view = { λ t. record { areas = t.areas; days = t.days.items } };
 
-    ghost invariant = { λ t. IsDated (record { areas = t.areas; days = t.days.items }) };
+    ghost invariant = { λ t. AreHolidayDays (record { areas = t.areas; days = t.days.items }) };
 }
 
 impl HolidayTable {
-    /// No days, for any of these areas.
+    /// No days yet, for any of these areas. Linear in them, in time and memory.
     pub fn new(alloc: Global, areas: Areas) -> Result<Self, OutOfMemory>
         ensures areas { IfOk result (λ t. t.areas ≡ areas) }
         ensures none { IfOk result (λ t. HaveDays t t []) }
@@ -58,19 +61,19 @@ impl HolidayTable {
 }
 
 impl Table for HolidayTable {
-    ghost law = { λ t. holidays_law (names_of t.areas) };
+    ghost schema = { λ t. holidays_schema (names_of t.areas) };
 
-    ghost becomes = { λ start t rows. HaveDays start t (holidays_in rows) };
+    ghost becomes = { λ start t header rows. HaveDays start t (holidays_in rows) };
 
-    fn header(&self) -> &'static [&'static str] {
-        &["area", "kind", "date"]
+    fn headers(&self) -> &'static [&'static [&'static str]] {
+        &[&["area", "kind", "date"]]
     }
 
     fn limit(&self) -> u32 {
         100_000
     }
 
-    fn add(&mut self, _alloc: Global, row: &ByteRecord) -> Result<(), RowFault> {
+    fn add(&mut self, _alloc: Global, _header: &[&str], row: &ByteRecord) -> Result<(), RowFault> {
         let Some((area, holiday)) = read_holiday(row) else {
             return Err(RowFault::Bad(Cause::BadField));
         };
@@ -80,4 +83,20 @@ impl Table for HolidayTable {
         self.days[place as usize].add(holiday)?;
         Ok(())
     }
+}
+
+/// The areas, and the holidays of each in their order. Linear in the bytes, and n log n steps for n days.
+pub fn read_holidays(
+    alloc: Global,
+    files: &Files,
+    areas: Areas,
+) -> Result<(Areas, Vec<Holidays>), NetworkFault>
+    requires { names_of areas ≡ names_of (areas_of files.now) }
+    ensures { Reads result (holidays_fault files.now)
+        (λ read. (read.0 ≡ areas)
+        × (read.1.items ≡ map (holidays_named (holidays_of files.now)) (names_of areas))) }
+{
+    let table = HolidayTable::new(alloc, areas)?;
+    let table = read_file(alloc, FileKind::Holidays, &files.holidays, table)?;
+    Ok(table.into_parts(alloc)?)
 }

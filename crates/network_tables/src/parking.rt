@@ -1,12 +1,17 @@
-// parking.csv: where one may wait.
-ghost use Rattle.std.specs.Prelude.{codes};
-ghost use Rattle.network_tables.specs.Ratings.{weight_named};
+// parking.csv: the nodes where one may wait.
+ghost use Rattle.std.specs.Prelude.{◌≡◌, codes};
+ghost use Rattle.table_reader.specs.NameIndex.{value_of};
+ghost use Rattle.network_tables.specs.NetworkFiles.{node_count_of, ratings_of, weights_of, parking_fault};
+ghost use Rattle.network_tables.specs.Refusals.{Reads};
 
-use crate::numbered::Naming;
+use crate::files::read_file;
 use crate::ratings::RatingTable;
-use route_base::Cost;
+use crate::{Files, NetworkFault};
+use route_base::{Cost, FileKind};
+use std::alloc::Global;
+use table_reader::{Naming, NumberedTable};
 
-/// The rows give a node the weight of a rating.
+/// The rows assign the weight of a rating to a node.
 impl Naming<Cost> for RatingTable {
     ghost numbers = { codes "node" };
 
@@ -14,10 +19,10 @@ impl Naming<Cost> for RatingTable {
 
     ghost limit = { 500000 };
 
-    ghost named = { weight_named };
+    ghost named = { value_of };
 
-    fn columns(&self) -> &'static [&'static str] {
-        &["node", "rating"]
+    fn headers(&self) -> &'static [&'static [&'static str]] {
+        &[&["node", "rating"]]
     }
 
     fn most_rows(&self) -> u32 {
@@ -27,4 +32,21 @@ impl Naming<Cost> for RatingTable {
     fn find(&self, name: &[u8]) -> Option<Cost> {
         self.weight(name)
     }
+}
+
+/// The weight of each node where one may wait. Linear in the bytes and the nodes.
+pub fn read_parking(
+    alloc: Global,
+    files: &Files,
+    nodes: u32,
+    ratings: RatingTable,
+) -> Result<Vec<Option<Cost>>, NetworkFault>
+    requires nodes { nodes ≡ node_count_of files.now }
+    requires ratings { ratings ≡ ratings_of files.now }
+    ensures { Reads result (parking_fault files.now)
+        (λ weights. weights.items ≡ weights_of files.now) }
+{
+    let table = NumberedTable::new(alloc, nodes, ratings)?;
+    let (_, weights) = read_file(alloc, FileKind::Parking, &files.parking, table)?.into_parts();
+    Ok(weights)
 }

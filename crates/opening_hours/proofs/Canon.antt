@@ -1,5 +1,6 @@
 -- The canonical tokens of rules are these rules.
-use Rattle.std.proofs.Common.{◌≡◌, ◌≢◌, ℕ, zero, suc, ◌+◌, ◌-◌, ◌*◌, ◌/◌, ◌%◌, ◌<◌, ◌≤◌, Bool, true, false, cond, List, [], ◌∷◌, ◌++◌, refl, ap, subst, ◌∙◌, arith, ltb, eq-eqb}
+use Rattle.std.proofs.Common.{◌≡◌, ◌≢◌, ℕ, zero, suc, ◌+◌, ◌-◌, ◌*◌, ◌/◌, ◌%◌, ◌<◌, ◌≤◌, Bool, true, false, cond, List, []}
+use Rattle.std.proofs.Common.{◌∷◌, ◌++◌, refl, ap, subst, ◌∙◌, arith, ltb, eq-eqb}
 use Rattle.std.specs.Prelude.{◌==◌}
 use Rattle.std.proofs.lemmas.Bool.{ltb-true, ltb-false, lt-ltb, eqb-true}
 use Rattle.calendar_days.specs.declared.weekday.Weekday.{Weekday}
@@ -14,16 +15,20 @@ use Rattle.opening_hours.specs.declared.types.TimeSpan.{TimeSpan}
 use Rattle.opening_hours.specs.declared.types.LongSpan.{LongSpan}
 use Rattle.opening_hours.specs.declared.types.RuleTimes.TheVariants as times
 use Rattle.opening_hours.specs.declared.types.HoursRule.{HoursRule}
-use Rattle.opening_hours.specs.Grammar.{IsTime, IsDate, IsItem, IsSpan, IsLong, IsOpens, IsDates, IsDays, IsSpans, IsRule, IsRules, Joined, whole_day, span_length, long_length}
+use Rattle.opening_hours.specs.Grammar.{IsTime, IsDate, IsItem, IsSpan, IsLong, IsOpens, IsDates, IsDays, IsSpans, IsRule}
+use Rattle.opening_hours.specs.Grammar.{IsRules, Joined, whole_day, span_length, long_length}
 use Rattle.opening_hours.specs.Grammar as grammar
-use Rattle.opening_hours.specs.Printing.{listed, date_tokens, item_tokens, time_token, span_tokens, weekday_at, days_after, long_tokens, rule_tokens, hours_tokens}
+use Rattle.opening_hours.specs.CanonicalTokens.{listed, date_tokens, item_tokens, time_token, span_tokens, weekday_at, days_after}
+use Rattle.opening_hours.specs.CanonicalTokens.{long_tokens, rule_tokens, hours_tokens}
 
 module _ {A : Type 0} (Is : List Token → A → Type 0) (mark : Token) (f : A → List Token) where
-  glue : {us : List Token} (x : A) (xs : List A) → Joined Is mark us xs → Is (f x) x → Joined Is mark (listed mark f xs) xs → Joined Is mark (listed mark f (x ∷ xs)) (x ∷ xs)
+  glue : {us : List Token} (x : A) (xs : List A) → Joined Is mark us xs → Is (f x) x → Joined Is mark (listed mark f xs) xs
+      → Joined Is mark (listed mark f (x ∷ xs)) (x ∷ xs)
   glue x xs (grammar.one _) p q = grammar.more p q
   glue x xs (grammar.more _ _) p q = grammar.more p q
 
-  pub listed_joined : ((ts : List Token) (x : A) → Is ts x → Is (f x) x) → {ts : List Token} {xs : List A} → Joined Is mark ts xs → Joined Is mark (listed mark f xs) xs
+  pub listed_joined : ((ts : List Token) (x : A) → Is ts x → Is (f x) x) → {ts : List Token} {xs : List A}
+      → Joined Is mark ts xs → Joined Is mark (listed mark f xs) xs
   listed_joined each (grammar.one {ts = ts} {x = x} p) = grammar.one (each ts x p)
   listed_joined each (grammar.more {ts = ts} {x = x} {xs = xs} p ps) = glue x xs ps (each ts x p) (listed_joined each ps)
 
@@ -66,12 +71,15 @@ clock t = omega arith
 is_clock : (t limit : ℕ) → t ≤ limit → IsTime (t / 60) (t % 60) limit
 is_clock t limit h = (omega arith, omega arith)
 
-span_made : (s e l : ℕ) → s ≤ 1439 → e ≤ 2880 → span_length s e ≡ l → IsSpan (time_token s ∷ Dash ∷ time_token e ∷ []) (record { start = s; length = l })
+span_made : (s e l : ℕ) → s ≤ 1439 → e ≤ 2880 → span_length s e ≡ l
+    → IsSpan (time_token s ∷ Dash ∷ time_token e ∷ []) (record { start = s; length = l })
 span_made s e l small large is =
     let made : ℕ → ℕ → TimeSpan = λ a b. record { start = a; length = span_length a b } in
-    let found : IsSpan (time_token s ∷ Dash ∷ time_token e ∷ []) (made (60 * (s / 60) + s % 60) (60 * (e / 60) + e % 60)) = grammar.span (is_clock s 1439 small) (is_clock e 2880 large) in
+    let found : IsSpan (time_token s ∷ Dash ∷ time_token e ∷ []) (made (60 * (s / 60) + s % 60) (60 * (e / 60) + e % 60)) =
+    grammar.span (is_clock s 1439 small) (is_clock e 2880 large) in
     let whole : ℕ → TimeSpan = λ k. record { start = s; length = k } in
-    subst (IsSpan (time_token s ∷ Dash ∷ time_token e ∷ [])) (ap (λ a. made a (60 * (e / 60) + e % 60)) (clock s) ∙ ap (λ b. made s b) (clock e) ∙ ap whole is) found
+    subst (IsSpan (time_token s ∷ Dash ∷ time_token e ∷ [])) (ap (λ a. made a (60 * (e / 60) + e % 60)) (clock s)
+    ∙ ap (λ b. made s b) (clock e) ∙ ap whole is) found
 
 length_again : (s l : ℕ) → 0 < l → span_length s (s + l) ≡ l
 length_again s l h =
@@ -126,16 +134,19 @@ long_end : (a : Weekday) (s : ℕ) (b : Weekday) (e : ℕ) → s ≤ 1439 → e 
     (0 < long_length a s b e) × (end ≤ 11519) × (long_length a s b e ≤ 10080)
 long_end a s b e small large = by (ltb s (1440 * days_forward a b + e)) refl
   where
-    by : (v : Bool) → ltb s (1440 * days_forward a b + e) ≡ v → let x = 1440 * days_forward a b + e in let l = cond v (x - s) (x + 10080 - s) in (0 < l) × (s + l ≤ 11519) × (l ≤ 10080)
+    by : (v : Bool) → ltb s (1440 * days_forward a b + e) ≡ v → let x = 1440 * days_forward a b + e in
+        let l = cond v (x - s) (x + 10080 - s) in (0 < l) × (s + l ≤ 11519) × (l ≤ 10080)
     by true h = let k = ltb-true s (1440 * days_forward a b + e) h in let f = forward_small a b in (omega arith, omega arith, omega arith)
     by false h = let k = ltb-false s (1440 * days_forward a b + e) h in let f = forward_small a b in (omega arith, omega arith, omega arith)
 
-long_again_length : (a : Weekday) (s l : ℕ) → s ≤ 1439 → 0 < l → s + l ≤ 11519 → l ≤ 10080 → long_length a s (days_after ((s + l) / 1440) a) ((s + l) % 1440) ≡ l
+long_again_length : (a : Weekday) (s l : ℕ) → s ≤ 1439 → 0 < l → s + l ≤ 11519 → l ≤ 10080
+    → long_length a s (days_after ((s + l) / 1440) a) ((s + l) % 1440) ≡ l
 long_again_length a s l small some fits week =
     let f : days_forward a (days_after ((s + l) / 1440) a) ≡ (s + l) / 1440 % 7 = after_forward ((s + l) / 1440) a in
     rw f (by (ltb s (1440 * ((s + l) / 1440 % 7) + (s + l) % 1440)) refl)
   where
-    by : (v : Bool) → ltb s (1440 * ((s + l) / 1440 % 7) + (s + l) % 1440) ≡ v → let x = 1440 * ((s + l) / 1440 % 7) + (s + l) % 1440 in cond v (x - s) (x + 10080 - s) ≡ l
+    by : (v : Bool) → ltb s (1440 * ((s + l) / 1440 % 7) + (s + l) % 1440) ≡ v
+        → let x = 1440 * ((s + l) / 1440 % 7) + (s + l) % 1440 in cond v (x - s) (x + 10080 - s) ≡ l
     by true h = let k = ltb-true s (1440 * ((s + l) / 1440 % 7) + (s + l) % 1440) h in omega arith
     by false h = let k = ltb-false s (1440 * ((s + l) / 1440 % 7) + (s + l) % 1440) h in omega arith
 
@@ -149,9 +160,12 @@ long_canon ts l (grammar.long {a = a} {b = b} {h = h} {m = m} {g = g} {n = n} p 
     let fits = long_end a s b (60 * g + n) p.1 q.1 in
     let made : ℕ → ℕ → LongSpan = λ x y. record { weekday = a; start = x; length = long_length a x to y } in
     let late : r ≤ 1440 = omega arith in
-    let found : IsLong (long_tokens (record { weekday = a; start = s; length = len })) (made (60 * (s / 60) + s % 60) (60 * (r / 60) + r % 60)) = grammar.long (is_clock s 1439 p.1) (is_clock r 1440 late) in
+    let found : IsLong (long_tokens (record { weekday = a; start = s; length = len }))
+    (made (60 * (s / 60) + s % 60) (60 * (r / 60) + r % 60)) = grammar.long (is_clock s 1439 p.1) (is_clock r 1440 late) in
     let whole : ℕ → LongSpan = λ k. record { weekday = a; start = s; length = k } in
-    subst (IsLong (long_tokens (record { weekday = a; start = s; length = len }))) (ap (λ x. made x (60 * (r / 60) + r % 60)) (clock s) ∙ ap (λ y. made s y) (clock r) ∙ ap whole (long_again_length a s len p.1 fits.0 fits.1 fits.2)) found
+    subst (IsLong (long_tokens (record { weekday = a; start = s; length = len })))
+    (ap (λ x. made x (60 * (r / 60) + r % 60)) (clock s) ∙ ap (λ y. made s y) (clock r)
+    ∙ ap whole (long_again_length a s len p.1 fits.0 fits.1 fits.2)) found
 
 dates_canon : (ts : List Token) (ds : List DateSpan) → IsDates ts ds → IsDates (listed Comma date_tokens ds) ds
 dates_canon ts ds grammar.none = grammar.none
@@ -184,17 +198,23 @@ end_nil : (ts : List Token) → ts ++ [] ≡ ts
 end_nil [] = refl
 end_nil (t ∷ ts) = ap (λ (us : List Token). t ∷ us) (end_nil ts)
 
-spans_rule : (a b c : List Token) (ds : List DateSpan) (is : List DayItem) (ss : List TimeSpan) → IsDates a ds → IsDays b is → IsSpans c ss → c ≢ [] → IsRule (a ++ (b ++ c)) (record { dates = ds; days = is; times = times.Spans ss })
+spans_rule : (a b c : List Token) (ds : List DateSpan) (is : List DayItem) (ss : List TimeSpan) → IsDates a ds → IsDays b is
+    → IsSpans c ss → c ≢ [] → IsRule (a ++ (b ++ c)) (record { dates = ds; days = is; times = times.Spans ss })
 spans_rule a b c ds is ss d i s some =
-    subst (λ (us : List Token). IsRule (a ++ (b ++ us)) (record { dates = ds; days = is; times = times.Spans ss })) (end_nil c) (grammar.spans d i s grammar.none (both_some a b c some))
+    subst (λ (us : List Token). IsRule (a ++ (b ++ us)) (record { dates = ds; days = is; times = times.Spans ss }))
+    (end_nil c) (grammar.spans d i s grammar.none (both_some a b c some))
 
 rule_canon : (ts : List Token) (r : HoursRule) → IsRule ts r → IsRule (rule_tokens r) r
-rule_canon ts r (grammar.always o) = spans_rule [] [] (listed Comma span_tokens whole_day) [] [] whole_day grammar.none grammar.none whole_canon (spans_some [] whole_day grammar.none)
+rule_canon ts r (grammar.always o) = spans_rule [] []
+    (listed Comma span_tokens whole_day) [] [] whole_day grammar.none grammar.none whole_canon (spans_some [] whole_day grammar.none)
 rule_canon ts r (grammar.spans {a = a} {b = b} {c = c} {dates = ds} {days = is} {spans = ss} d i s o some) =
-    spans_rule (listed Comma date_tokens ds) (listed Comma item_tokens is) (listed Comma span_tokens ss) ds is ss (dates_canon a ds d) (days_canon b is i) (spans_canon c ss s) (spans_some c ss s)
+    spans_rule (listed Comma date_tokens ds) (listed Comma item_tokens is) (listed Comma span_tokens ss) ds is ss
+    (dates_canon a ds d) (days_canon b is i) (spans_canon c ss s) (spans_some c ss s)
 rule_canon ts r (grammar.off {a = a} {b = b} {dates = ds} {days = is} d i) = grammar.off (dates_canon a ds d) (days_canon b is i)
 rule_canon ts r (grammar.long {a = a} {b = b} {dates = ds} {l = l} d h o) =
-    subst (λ (us : List Token). IsRule (listed Comma date_tokens ds ++ us) (record { dates = ds; days = []; times = times.Long l })) (end_nil (long_tokens l)) (grammar.long (dates_canon a ds d) (long_canon b l h) grammar.none)
+    subst (λ (us : List Token). IsRule (listed Comma date_tokens ds ++ us)
+    (record { dates = ds; days = []; times = times.Long l })) (end_nil (long_tokens l))
+    (grammar.long (dates_canon a ds d) (long_canon b l h) grammar.none)
 
 pub rules_canon : (ts : List Token) (rs : List HoursRule) → IsRules ts rs → IsRules (hours_tokens rs) rs
 rules_canon ts rs h = listed_joined IsRule Semicolon rule_tokens rule_canon h

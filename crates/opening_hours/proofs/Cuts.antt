@@ -1,5 +1,6 @@
 -- Texts and their tokens.
-use Rattle.std.proofs.Common.{◌≡◌, ◌≢◌, ℕ, suc, ◌<◌, ◌≤◌, Bool, true, false, cond, List, [], ◌∷◌, ◌++◌, length, take, drop, Option, Some, None, refl, sym, ap, subst, ◌∙◌, append_assoc, arith, ◌⊎◌, inl, inr, length-drop}
+use Rattle.std.proofs.Common.{◌≡◌, ◌≢◌, ℕ, suc, ◌<◌, ◌≤◌, Bool, true, false, cond, List, [], ◌∷◌, ◌++◌, length, take, drop}
+use Rattle.std.proofs.Common.{Option, Some, None, refl, sym, ap, subst, ◌∙◌, append_assoc, arith, ◌⊎◌, inl, inr, length-drop}
 use Rattle.std.specs.Prelude.{◌&&◌, ◌==◌}
 use Rattle.std.specs.List.{take_while, prefix_len}
 use Rattle.std.specs.Option.{option_or}
@@ -8,8 +9,9 @@ use Rattle.std.proofs.lemmas.List.Folds.{length-prefix_len}
 use Rattle.std.proofs.lemmas.List.Sums.{prefix_len-le-length}
 use Rattle.opening_hours.specs.declared.tokens.Token.{Token}
 use Rattle.opening_hours.specs.declared.tokens.Token.TheVariants.{Always, Time, Number, Dash, Comma, Semicolon, Colon}
-use Rattle.opening_hours.specs.Tokens.{is_digit, is_letter, is_blank, one_digit, two_digits, word_token, without_blanks}
-use Rattle.opening_hours.specs.Cutting.{word_of, word_at, always_at, long_time_at, short_time_at, long_number_at, short_number_at, mark_at, token_at, IsMatched}
+use Rattle.opening_hours.specs.Tokens.{is_digit, is_letter, is_blank, one_digit, number_of_two, word_token, without_blanks}
+use Rattle.opening_hours.specs.Inside.Tokenizer.{word_of, word_at, always_at, long_time_at, short_time_at, long_number_at}
+use Rattle.opening_hours.specs.Inside.Tokenizer.{short_number_at, mark_at, token_at, IsMatched}
 
 pub front_of_bytes : (p : ℕ → Bool) (ts : List ℕ) → take (length (take_while p ts)) ts ≡ take_while p ts
 front_of_bytes p ts = ap (λ (n : ℕ). take n ts) (length-prefix_len p ts)
@@ -30,7 +32,7 @@ if_found : (b : Bool) (t u : Token) (rest after : List ℕ) → cond b (found_on
 if_found true t u rest after e = (some_pair t u rest after e).1
 if_found false t u rest after e = absurd cc
 
--- what stands behind a token is shorter
+-- the text behind a token is shorter
 Shorter : (List ℕ → Option (Token × List ℕ)) → List ℕ → Type 0
 Shorter at text = (t : Token) (after : List ℕ) → at text ≡ Some (t, after) → length after < length text
 
@@ -47,22 +49,29 @@ word_shorter text t after e = of_word (take_while is_letter text) refl e
 
 always_shorter : (text : List ℕ) → Shorter always_at text
 unfolding Shorter
-always_shorter (a ∷ b ∷ c ∷ d ∷ rest) t after e = omega (arith, ap length (if_found (a == 50 && (b == 52 && (c == 47 && d == 55))) Always t rest after e))
+always_shorter (a ∷ b ∷ c ∷ d ∷ rest) t after e =
+    omega (arith, ap length (if_found (a == 50 && (b == 52 && (c == 47 && d == 55))) Always t rest after e))
 always_shorter text t after e = absurd cc
 
 long_time_shorter : (text : List ℕ) → Shorter long_time_at text
 unfolding Shorter
-long_time_shorter (a ∷ b ∷ c ∷ d ∷ e ∷ rest) t after f = omega (arith, ap length (if_found (is_digit a && (is_digit b && (c == 58 && (is_digit d && is_digit e)))) (Time (two_digits a b) (two_digits d e)) t rest after f))
+long_time_shorter (a ∷ b ∷ c ∷ d ∷ e ∷ rest) t after f =
+    omega (
+      arith,
+      ap length (if_found (is_digit a && (is_digit b && (c == 58 && (is_digit d && is_digit e))))
+          (Time (number_of_two a b) (number_of_two d e)) t rest after f),
+    )
 long_time_shorter text t after e = absurd cc
 
 short_time_shorter : (text : List ℕ) → Shorter short_time_at text
 unfolding Shorter
-short_time_shorter (a ∷ c ∷ d ∷ e ∷ rest) t after f = omega (arith, ap length (if_found (is_digit a && (c == 58 && (is_digit d && is_digit e))) (Time (one_digit a) (two_digits d e)) t rest after f))
+short_time_shorter (a ∷ c ∷ d ∷ e ∷ rest) t after f =
+    omega (arith, ap length (if_found (is_digit a && (c == 58 && (is_digit d && is_digit e))) (Time (one_digit a) (number_of_two d e)) t rest after f))
 short_time_shorter text t after e = absurd cc
 
 long_number_shorter : (text : List ℕ) → Shorter long_number_at text
 unfolding Shorter
-long_number_shorter (a ∷ b ∷ rest) t after e = omega (arith, ap length (if_found (is_digit a && is_digit b) (Number (two_digits a b)) t rest after e))
+long_number_shorter (a ∷ b ∷ rest) t after e = omega (arith, ap length (if_found (is_digit a && is_digit b) (Number (number_of_two a b)) t rest after e))
 long_number_shorter text t after e = absurd cc
 
 short_number_shorter : (text : List ℕ) → Shorter short_number_at text
@@ -70,7 +79,9 @@ unfolding Shorter
 short_number_shorter (a ∷ rest) t after e = omega (arith, ap length (if_found (is_digit a) (Number (one_digit a)) t rest after e))
 short_number_shorter text t after e = absurd cc
 
-marks : (b c d f : Bool) (u : Token) (rest after : List ℕ) → cond b (found_one Dash rest) (cond c (found_one Comma rest) (cond d (found_one Semicolon rest) (cond f (found_one Colon rest) None))) ≡ Some (u, after) → rest ≡ after
+marks : (b c d f : Bool) (u : Token) (rest after : List ℕ)
+    → cond b (found_one Dash rest) (cond c (found_one Comma rest)
+    (cond d (found_one Semicolon rest) (cond f (found_one Colon rest) None))) ≡ Some (u, after) → rest ≡ after
 marks true c d f u rest after e = (some_pair Dash u rest after e).1
 marks false true d f u rest after e = (some_pair Comma u rest after e).1
 marks false false true f u rest after e = (some_pair Semicolon u rest after e).1
@@ -82,7 +93,8 @@ unfolding Shorter
 mark_shorter (a ∷ rest) t after e = omega (arith, ap length (marks (a == 45) (a == 44) (a == 59) (a == 58) t rest after e))
 mark_shorter text t after e = absurd cc
 
-or_shorter : (text : List ℕ) (o p : Option (Token × List ℕ)) (t : Token) (after : List ℕ) → (o ≡ Some (t, after) → length after < length text) → (p ≡ Some (t, after) → length after < length text)
+or_shorter : (text : List ℕ) (o p : Option (Token × List ℕ)) (t : Token) (after : List ℕ)
+    → (o ≡ Some (t, after) → length after < length text) → (p ≡ Some (t, after) → length after < length text)
     → option_or o p ≡ Some (t, after) → length after < length text
 or_shorter text o p t after f g e = elim (or_some o p (t, after) e) [ inl h ↦ f h | inr h ↦ g h ]
 
@@ -127,7 +139,7 @@ one_cut text (t ∷ v ∷ ts) (u ∷ w ∷ us) h k =
     let rest = one_cut (without_blanks h.0) (v ∷ ts) (w ∷ us) h.2 (subst (λ (r : List ℕ). IsMatched (without_blanks r) (w ∷ us)) same k.2) in
     ap (λ (x : Token). x ∷ v ∷ ts) first ∙ ap (λ (xs : List Token). u ∷ xs) rest
 
--- what a loop over the tokens keeps
+-- the invariant of a loop over the tokens
 pub record SoFar (text rest : List ℕ) (front : List Token) : Type 0 where
   pub found : (us : List Token) → IsMatched rest us → IsMatched text (front ++ us)
   pub only : (us : List Token) → IsMatched text us → (vs : List Token) × (us ≡ front ++ vs) × IsMatched rest vs
@@ -135,11 +147,13 @@ pub record SoFar (text rest : List ℕ) (front : List Token) : Type 0 where
 pub begins : (text : List ℕ) → SoFar text text []
 begins text = record { found = λ us h. h; only = λ us h. (us, refl, h) }
 
-then_cut : (rest after : List ℕ) (t : Token) (us : List Token) → token_at rest ≡ Some (t, after) → IsMatched (without_blanks after) us → IsMatched rest (t ∷ us)
+then_cut : (rest after : List ℕ) (t : Token) (us : List Token) → token_at rest ≡ Some (t, after)
+    → IsMatched (without_blanks after) us → IsMatched rest (t ∷ us)
 then_cut rest after t [] e h = absurd h
 then_cut rest after t (u ∷ us) e h = (after, e, h)
 
-cut_then : (rest after : List ℕ) (t : Token) (vs : List Token) → token_at rest ≡ Some (t, after) → after ≢ [] → IsMatched rest vs → (us : List Token) × (vs ≡ t ∷ us) × IsMatched (without_blanks after) us
+cut_then : (rest after : List ℕ) (t : Token) (vs : List Token) → token_at rest ≡ Some (t, after) → after ≢ []
+    → IsMatched rest vs → (us : List Token) × (vs ≡ t ∷ us) × IsMatched (without_blanks after) us
 cut_then rest after t [] e some h = absurd h
 cut_then rest after t (v ∷ []) e some h = absurd (some (some_pair t v after [] (sym e ∙ h)).1)
 cut_then rest after t (v ∷ w ∷ vs) e some h =
@@ -148,7 +162,8 @@ cut_then rest after t (v ∷ w ∷ vs) e some h =
     let same = p.1 in
     (w ∷ vs, ap (λ (x : Token). x ∷ w ∷ vs) first, subst (λ (r : List ℕ). IsMatched (without_blanks r) (w ∷ vs)) same h.2)
 
-pub cut_goes_on : (text rest after : List ℕ) (front : List Token) (t : Token) → token_at rest ≡ Some (t, after) → after ≢ [] → SoFar text rest front → SoFar text (without_blanks after) (front ++ t ∷ [])
+pub cut_goes_on : (text rest after : List ℕ) (front : List Token) (t : Token) → token_at rest ≡ Some (t, after) → after ≢ []
+    → SoFar text rest front → SoFar text (without_blanks after) (front ++ t ∷ [])
 cut_goes_on text rest after front t e some s = record {
   found = λ us h. subst (IsMatched text) (sym (append_assoc front (t ∷ []) us)) (s.found (t ∷ us) (then_cut rest after t us e h));
   only = λ us h.
@@ -157,7 +172,8 @@ cut_goes_on text rest after front t e some s = record {
       (w.0, v.1 ∙ ap (λ (xs : List Token). front ++ xs) w.1 ∙ sym (append_assoc front (t ∷ []) w.0), w.2);
 }
 
-pub cut_ends : (text rest after : List ℕ) (front : List Token) (t : Token) → token_at rest ≡ Some (t, after) → after ≡ [] → SoFar text rest front → IsMatched text (front ++ t ∷ [])
+pub cut_ends : (text rest after : List ℕ) (front : List Token) (t : Token) → token_at rest ≡ Some (t, after) → after ≡ []
+    → SoFar text rest front → IsMatched text (front ++ t ∷ [])
 cut_ends text rest after front t e nil s = s.found (t ∷ []) (e ∙ ap (λ (r : List ℕ). Some (t, r)) nil)
 
 no_tokens : (rest : List ℕ) (vs : List Token) → token_at rest ≡ None → IsMatched rest vs → ⊥

@@ -1,5 +1,6 @@
 -- The token that is found is the longest.
-use Rattle.std.proofs.Common.{◌≡◌, ℕ, ◌+◌, ◌<◌, ◌≤◌, Bool, true, false, cond, List, [], ◌∷◌, ◌++◌, length, take, drop, Option, Some, None, refl, sym, ap, subst, ◌∙◌, arith, inl, inr, length-drop, length-append}
+use Rattle.std.proofs.Common.{◌≡◌, ℕ, ◌+◌, ◌<◌, ◌≤◌, Bool, true, false, cond, List, [], ◌∷◌, ◌++◌, length, take, drop}
+use Rattle.std.proofs.Common.{Option, Some, None, refl, sym, ap, subst, ◌∙◌, arith, inl, inr, length-drop, length-append}
 use Rattle.std.specs.Prelude.{◌==◌, ◌&&◌, codes}
 use Rattle.std.specs.List.{take_while, prefix_len}
 use Rattle.std.specs.Option.{option_or}
@@ -10,8 +11,11 @@ use Rattle.std.proofs.lemmas.List.Folds.{length-prefix_len}
 use Rattle.std.proofs.lemmas.List.Sums.{take_while-cons}
 use Rattle.opening_hours.specs.declared.tokens.Token.{Token}
 use Rattle.opening_hours.specs.declared.tokens.Token.TheVariants.{Always, Time, Number, Dash, Comma, Semicolon, Colon}
-use Rattle.opening_hours.specs.Tokens.{is_digit, is_letter, is_blank, one_digit, two_digits, months, weekdays, other_words, token_in, other_token, weekday_token, word_token, AreLetters, IsToken, IsFirst, without_blanks, IsCut}
-use Rattle.opening_hours.specs.Cutting.{word_of, word_at, always_at, long_time_at, short_time_at, long_number_at, short_number_at, mark_at, token_at, IsMatched}
+use Rattle.opening_hours.specs.Tokens.{is_digit, is_letter, is_blank, one_digit, number_of_two, months, weekdays, other_words}
+use Rattle.opening_hours.specs.Tokens.{token_in, other_token, weekday_token, word_token, AreLetters, IsToken, IsFirst}
+use Rattle.opening_hours.specs.Tokens.{without_blanks, IsCut}
+use Rattle.opening_hours.specs.Inside.Tokenizer.{word_of, word_at, always_at, long_time_at, short_time_at, long_number_at}
+use Rattle.opening_hours.specs.Inside.Tokenizer.{short_number_at, mark_at, token_at, IsMatched}
 use Rattle.opening_hours.specs.Tokens as tokens
 use Rattle.opening_hours.proofs.Pieces.{both_true}
 use Rattle.opening_hours.proofs.Cuts.{some_pair, or_some, token_shorter}
@@ -37,7 +41,8 @@ letters_cond b w false e h = tt
 
 letters_of : (text : List ℕ) → AreLetters (take_while is_letter text)
 letters_of [] = tt
-letters_of (b ∷ bs) = subst AreLetters (sym (take_while-cons is_letter b bs)) (letters_cond b (take_while is_letter bs) (is_letter b) refl (letters_of bs))
+letters_of (b ∷ bs) = subst AreLetters (sym (take_while-cons is_letter b bs))
+    (letters_cond b (take_while is_letter bs) (is_letter b) refl (letters_of bs))
 
 word_front : (text : List ℕ) (t : Token) (after : List ℕ) → word_at text ≡ Some (t, after) → Front text t after
 unfolding word_at
@@ -49,7 +54,8 @@ word_front text t after e = of_word (take_while is_letter text) refl (letters_of
         let p = some_pair (word_token (b ∷ bs)) t (drop (length (b ∷ bs)) text) after e in
         let n : length (b ∷ bs) ≡ prefix_len is_letter text = ap length same ∙ length-prefix_len is_letter text in
         let front : take (length (b ∷ bs)) text ≡ b ∷ bs = ap (λ k. take k text) n ∙ sym same in
-        let whole : text ≡ (b ∷ bs) ++ drop (length (b ∷ bs)) text = sym (take-append-drop (length (b ∷ bs)) text) ∙ ap (λ (w : List ℕ). w ++ drop (length (b ∷ bs)) text) front in
+        let whole : text ≡ (b ∷ bs) ++ drop (length (b ∷ bs)) text = sym (take-append-drop (length (b ∷ bs)) text)
+        ∙ ap (λ (w : List ℕ). w ++ drop (length (b ∷ bs)) text) front in
         (b ∷ bs, whole ∙ ap (λ (r : List ℕ). (b ∷ bs) ++ r) p.1, subst (IsToken (b ∷ bs)) p.0 (tokens.word h))
 
 four_true : (a b c d : Bool) → a && (b && (c && d)) ≡ true → (a ≡ true) × (b ≡ true) × (c ≡ true) × (d ≡ true)
@@ -59,32 +65,38 @@ always_front : (text : List ℕ) (t : Token) (after : List ℕ) → always_at te
 always_front (a ∷ b ∷ c ∷ d ∷ rest) t after e =
     let f = if_some (a == 50 && (b == 52 && (c == 47 && d == 55))) Always t rest after e in
     let g = four_true (a == 50) (b == 52) (c == 47) (d == 55) f.0 in
-    let same : a ∷ b ∷ c ∷ d ∷ [] ≡ codes "24/7" = ap (λ x. x ∷ b ∷ c ∷ d ∷ []) (eqb-true a 50 g.0) ∙ ap (λ x. 50 ∷ x ∷ c ∷ d ∷ []) (eqb-true b 52 g.1) ∙ ap (λ x. 50 ∷ 52 ∷ x ∷ d ∷ []) (eqb-true c 47 g.2) ∙ ap (λ x. 50 ∷ 52 ∷ 47 ∷ x ∷ []) (eqb-true d 55 g.3) in
+    let same : a ∷ b ∷ c ∷ d ∷ [] ≡ codes "24/7" = ap (λ x. x ∷ b ∷ c ∷ d ∷ []) (eqb-true a 50 g.0)
+    ∙ ap (λ x. 50 ∷ x ∷ c ∷ d ∷ []) (eqb-true b 52 g.1) ∙ ap (λ x. 50 ∷ 52 ∷ x ∷ d ∷ []) (eqb-true c 47 g.2)
+    ∙ ap (λ x. 50 ∷ 52 ∷ 47 ∷ x ∷ []) (eqb-true d 55 g.3) in
     front_is (a ∷ b ∷ c ∷ d ∷ []) rest after Always t (subst (λ (w : List ℕ). IsToken w Always) (sym same) tokens.always) f.1 f.2
 always_front text t after e = absurd cc
 
 long_time_front : (text : List ℕ) (t : Token) (after : List ℕ) → long_time_at text ≡ Some (t, after) → Front text t after
 long_time_front (a ∷ b ∷ c ∷ d ∷ e ∷ rest) t after h =
-    let f = if_some (is_digit a && (is_digit b && (c == 58 && (is_digit d && is_digit e)))) (Time (two_digits a b) (two_digits d e)) t rest after h in
+    let f = if_some (is_digit a && (is_digit b && (c == 58 && (is_digit d && is_digit e)))) (Time (number_of_two a b) (number_of_two d e)) t rest after h in
     let g = four_true (is_digit a) (is_digit b) (c == 58) (is_digit d && is_digit e) f.0 in
     let k = both_true (is_digit d) (is_digit e) g.3 in
-    let is : IsToken (a ∷ b ∷ c ∷ d ∷ e ∷ []) (Time (two_digits a b) (two_digits d e)) = subst (λ (x : ℕ). IsToken (a ∷ b ∷ x ∷ d ∷ e ∷ []) (Time (two_digits a b) (two_digits d e))) (sym (eqb-true c 58 g.2)) (tokens.long_time g.0 g.1 k.0 k.1) in
-    front_is (a ∷ b ∷ c ∷ d ∷ e ∷ []) rest after (Time (two_digits a b) (two_digits d e)) t is f.1 f.2
+    let is : IsToken (a ∷ b ∷ c ∷ d ∷ e ∷ []) (Time (number_of_two a b) (number_of_two d e)) =
+    subst (λ (x : ℕ). IsToken (a ∷ b ∷ x ∷ d ∷ e ∷ []) (Time (number_of_two a b) (number_of_two d e)))
+    (sym (eqb-true c 58 g.2)) (tokens.long_time g.0 g.1 k.0 k.1) in
+    front_is (a ∷ b ∷ c ∷ d ∷ e ∷ []) rest after (Time (number_of_two a b) (number_of_two d e)) t is f.1 f.2
 long_time_front text t after e = absurd cc
 
 short_time_front : (text : List ℕ) (t : Token) (after : List ℕ) → short_time_at text ≡ Some (t, after) → Front text t after
 short_time_front (a ∷ c ∷ d ∷ e ∷ rest) t after h =
-    let f = if_some (is_digit a && (c == 58 && (is_digit d && is_digit e))) (Time (one_digit a) (two_digits d e)) t rest after h in
+    let f = if_some (is_digit a && (c == 58 && (is_digit d && is_digit e))) (Time (one_digit a) (number_of_two d e)) t rest after h in
     let g = four_true (is_digit a) (c == 58) (is_digit d) (is_digit e) f.0 in
-    let is : IsToken (a ∷ c ∷ d ∷ e ∷ []) (Time (one_digit a) (two_digits d e)) = subst (λ (x : ℕ). IsToken (a ∷ x ∷ d ∷ e ∷ []) (Time (one_digit a) (two_digits d e))) (sym (eqb-true c 58 g.1)) (tokens.short_time g.0 g.2 g.3) in
-    front_is (a ∷ c ∷ d ∷ e ∷ []) rest after (Time (one_digit a) (two_digits d e)) t is f.1 f.2
+    let is : IsToken (a ∷ c ∷ d ∷ e ∷ []) (Time (one_digit a) (number_of_two d e)) =
+    subst (λ (x : ℕ). IsToken (a ∷ x ∷ d ∷ e ∷ []) (Time (one_digit a) (number_of_two d e))) (sym (eqb-true c 58 g.1))
+    (tokens.short_time g.0 g.2 g.3) in
+    front_is (a ∷ c ∷ d ∷ e ∷ []) rest after (Time (one_digit a) (number_of_two d e)) t is f.1 f.2
 short_time_front text t after e = absurd cc
 
 long_number_front : (text : List ℕ) (t : Token) (after : List ℕ) → long_number_at text ≡ Some (t, after) → Front text t after
 long_number_front (a ∷ b ∷ rest) t after h =
-    let f = if_some (is_digit a && is_digit b) (Number (two_digits a b)) t rest after h in
+    let f = if_some (is_digit a && is_digit b) (Number (number_of_two a b)) t rest after h in
     let g = both_true (is_digit a) (is_digit b) f.0 in
-    front_is (a ∷ b ∷ []) rest after (Number (two_digits a b)) t (tokens.long_number g.0 g.1) f.1 f.2
+    front_is (a ∷ b ∷ []) rest after (Number (number_of_two a b)) t (tokens.long_number g.0 g.1) f.1 f.2
 long_number_front text t after e = absurd cc
 
 short_number_front : (text : List ℕ) (t : Token) (after : List ℕ) → short_number_at text ≡ Some (t, after) → Front text t after
@@ -97,9 +109,12 @@ mark_front : (text : List ℕ) (t : Token) (after : List ℕ) → mark_at text �
 mark_front (a ∷ rest) t after h = by (a == 45) (a == 44) (a == 59) (a == 58) refl refl refl refl h
   where
     one : (k : ℕ) (u : Token) → (a == k) ≡ true → IsToken (k ∷ []) u → found_one u rest ≡ Some (t, after) → Front (a ∷ rest) t after
-    one k u is token e = let p = some_pair u t rest after e in front_is (a ∷ []) rest after u t (subst (λ (x : ℕ). IsToken (x ∷ []) u) (sym (eqb-true a k is)) token) p.0 p.1
+    one k u is token e = let p = some_pair u t rest after e in
+        front_is (a ∷ []) rest after u t (subst (λ (x : ℕ). IsToken (x ∷ []) u) (sym (eqb-true a k is)) token) p.0 p.1
 
-    by : (b c d f : Bool) → (a == 45) ≡ b → (a == 44) ≡ c → (a == 59) ≡ d → (a == 58) ≡ f → cond b (found_one Dash rest) (cond c (found_one Comma rest) (cond d (found_one Semicolon rest) (cond f (found_one Colon rest) None))) ≡ Some (t, after) → Front (a ∷ rest) t after
+    by : (b c d f : Bool) → (a == 45) ≡ b → (a == 44) ≡ c → (a == 59) ≡ d → (a == 58) ≡ f
+        → cond b (found_one Dash rest) (cond c (found_one Comma rest)
+        (cond d (found_one Semicolon rest) (cond f (found_one Colon rest) None))) ≡ Some (t, after) → Front (a ∷ rest) t after
     by true c d f p q r s e = one 45 Dash p tokens.dash e
     by false true d f p q r s e = one 44 Comma q tokens.comma e
     by false false true f p q r s e = one 59 Semicolon r tokens.semicolon e
@@ -107,7 +122,8 @@ mark_front (a ∷ rest) t after h = by (a == 45) (a == 44) (a == 59) (a == 58) r
     by false false false false p q r s e = absurd cc
 mark_front text t after e = absurd cc
 
-or_front : (text : List ℕ) (o p : Option (Token × List ℕ)) (t : Token) (after : List ℕ) → (o ≡ Some (t, after) → Front text t after) → (p ≡ Some (t, after) → Front text t after) → option_or o p ≡ Some (t, after) → Front text t after
+or_front : (text : List ℕ) (o p : Option (Token × List ℕ)) (t : Token) (after : List ℕ)
+    → (o ≡ Some (t, after) → Front text t after) → (p ≡ Some (t, after) → Front text t after) → option_or o p ≡ Some (t, after) → Front text t after
 or_front text o p t after f g e = elim (or_some o p (t, after) e) [ inl h ↦ f h | inr h ↦ g h ]
 
 pub token_front : (text : List ℕ) (t : Token) (after : List ℕ) → token_at text ≡ Some (t, after) → Front text t after
@@ -134,7 +150,8 @@ prefix_more : (w more : List ℕ) → AreLetters w → length w ≤ prefix_len i
 prefix_more [] more h = omega arith
 prefix_more (b ∷ bs) more h =
     let rest = prefix_more bs more h.1 in
-    let one : prefix_len is_letter (b ∷ (bs ++ more)) ≡ 1 + prefix_len is_letter (bs ++ more) = ap (λ v. cond v (1 + prefix_len is_letter (bs ++ more)) 0) h.0 in
+    let one : prefix_len is_letter (b ∷ (bs ++ more)) ≡ 1 + prefix_len is_letter (bs ++ more) =
+    ap (λ v. cond v (1 + prefix_len is_letter (bs ++ more)) 0) h.0 in
     omega (arith, one, rest)
 
 word_reaches : (b : ℕ) (bs more : List ℕ) → AreLetters (b ∷ bs) → Reaches ((b ∷ bs) ++ more) more
@@ -142,7 +159,8 @@ unfolding token_at word_at
 word_reaches b bs more h =
     let text = (b ∷ bs) ++ more in
     let w = b ∷ take_while is_letter (bs ++ more) in
-    let front : take_while is_letter text ≡ w = take_while-cons is_letter b (bs ++ more) ∙ ap (λ v. cond v (b ∷ take_while is_letter (bs ++ more)) []) h.0 in
+    let front : take_while is_letter text ≡ w = take_while-cons is_letter b (bs ++ more)
+    ∙ ap (λ v. cond v (b ∷ take_while is_letter (bs ++ more)) []) h.0 in
     let rest = drop (length w) text in
     let n : length w ≡ prefix_len is_letter text = ap length (sym front) ∙ length-prefix_len is_letter text in
     let small : length rest ≤ length more = omega (arith, length-drop (length w) text, n, prefix_more (b ∷ bs) more h, length-append (b ∷ bs) more) in
@@ -154,8 +172,26 @@ end_false false = refl
 
 short_time_reaches : (a d e : ℕ) (more : List ℕ) → is_digit a ≡ true → is_digit d ≡ true → is_digit e ≡ true → Reaches (a ∷ 58 ∷ d ∷ e ∷ more) more
 unfolding token_at
-short_time_reaches a d e [] ha hd he = (Time (one_digit a) (two_digits d e), [], rw (no_word a (58 ∷ d ∷ e ∷ []) (digit_dark a ha), ha, hd, he, end_false (a == 50)) refl, omega arith)
-short_time_reaches a d e (x ∷ more) ha hd he = (Time (one_digit a) (two_digits d e), x ∷ more, rw (no_word a (58 ∷ d ∷ e ∷ x ∷ more) (digit_dark a ha), ha, hd, he, end_false (a == 50)) refl, omega arith)
+short_time_reaches a d e [] ha hd he = (
+  Time (one_digit a)
+      (number_of_two d e),
+  [],
+  rw (no_word a (58 ∷ d ∷ e ∷ []) (digit_dark a ha), ha, hd, he, end_false (a == 50)) refl,
+  omega arith,
+)
+short_time_reaches a d e (x ∷ more) ha hd he = (
+  Time (one_digit a) (number_of_two d e),
+  x ∷ more,
+  rw (
+    no_word a (58 ∷ d ∷ e ∷ x ∷ more)
+        (digit_dark a ha),
+    ha,
+    hd,
+    he,
+    end_false (a == 50),
+  ) refl,
+  omega arith,
+)
 
 or_has : {A : Type 0} (o p : Option A) → ((x : A) × (p ≡ Some x)) → (x : A) × (option_or o p ≡ Some x)
 or_has (Some y) p h = (y, refl)
@@ -163,13 +199,18 @@ or_has None p h = h
 
 -- an earlier kind, if it is found, leaves no more than a later one
 or_reaches : (o p : Option (Token × List ℕ)) (bound : ℕ) → ((t : Token) (after : List ℕ) → o ≡ Some (t, after) → length after ≤ bound)
-    → ((t : Token) × (after : List ℕ) × (p ≡ Some (t, after)) × (length after ≤ bound)) → (t : Token) × (after : List ℕ) × (option_or o p ≡ Some (t, after)) × (length after ≤ bound)
+    → ((t : Token) × (after : List ℕ) × (p ≡ Some (t, after)) × (length after ≤ bound)) → (t : Token) × (after : List ℕ)
+    × (option_or o p ≡ Some (t, after)) × (length after ≤ bound)
 or_reaches (Some z) p bound h k = (z.0, z.1, refl, h z.0 z.1 refl)
 or_reaches None p bound h k = k
 
 module _ (a b : ℕ) (t : Token) (after : List ℕ) where
   long_time_leaves : (more : List ℕ) → long_time_at (a ∷ b ∷ more) ≡ Some (t, after) → length after ≤ length more
-  long_time_leaves (c ∷ d ∷ e ∷ rest) h = omega (arith, ap length (if_some (is_digit a && (is_digit b && (c == 58 && (is_digit d && is_digit e)))) (Time (two_digits a b) (two_digits d e)) t rest after h).2)
+  long_time_leaves (c ∷ d ∷ e ∷ rest) h = omega (
+    arith,
+    ap length (if_some (is_digit a && (is_digit b && (c == 58 && (is_digit d && is_digit e))))
+        (Time (number_of_two a b) (number_of_two d e)) t rest after h).2,
+  )
   long_time_leaves more h = absurd cc
 
   always_leaves : (more : List ℕ) → always_at (a ∷ b ∷ more) ≡ Some (t, after) → length after ≤ length more
@@ -177,7 +218,11 @@ module _ (a b : ℕ) (t : Token) (after : List ℕ) where
   always_leaves more h = absurd cc
 
   short_time_leaves : (more : List ℕ) → short_time_at (a ∷ b ∷ more) ≡ Some (t, after) → length after ≤ length more
-  short_time_leaves (d ∷ e ∷ rest) h = omega (arith, ap length (if_some (is_digit a && (b == 58 && (is_digit d && is_digit e))) (Time (one_digit a) (two_digits d e)) t rest after h).2)
+  short_time_leaves (d ∷ e ∷ rest) h = omega (
+    arith,
+    ap length
+        (if_some (is_digit a && (b == 58 && (is_digit d && is_digit e))) (Time (one_digit a) (number_of_two d e)) t rest after h).2,
+  )
   short_time_leaves more h = absurd cc
 
 long_number_reaches : (a b : ℕ) (more : List ℕ) → is_digit a ≡ true → is_digit b ≡ true → Reaches (a ∷ b ∷ more) more
@@ -185,11 +230,11 @@ unfolding token_at
 long_number_reaches a b more ha hb =
     let text = a ∷ b ∷ more in
     let tail = option_or (short_number_at text) (mark_at text) in
-    let number : option_or (long_number_at text) tail ≡ Some (Number (two_digits a b), more) = rw (ha, hb) refl in
+    let number : option_or (long_number_at text) tail ≡ Some (Number (number_of_two a b), more) = rw (ha, hb) refl in
     let found = or_reaches (long_time_at text) _ (length more) (λ t after e. long_time_leaves a b t after more e)
     (or_reaches (always_at text) _ (length more) (λ t after e. always_leaves a b t after more e)
     (or_reaches (short_time_at text) (option_or (long_number_at text) tail) (length more) (λ t after e. short_time_leaves a b t after more e)
-    (Number (two_digits a b), more, number, omega arith))) in
+    (Number (number_of_two a b), more, number, omega arith))) in
     (found.0, found.1, rw (no_word a (b ∷ more) (digit_dark a ha)) found.2, found.3)
 
 short_number_reaches : (a : ℕ) (more : List ℕ) → is_digit a ≡ true → Reaches (a ∷ more) more
@@ -197,14 +242,17 @@ unfolding token_at
 short_number_reaches a more ha =
     let text = a ∷ more in
     let number : option_or (short_number_at text) (mark_at text) ≡ Some (Number (one_digit a), more) = rw ha refl in
-    let found = or_has (word_at text) _ (or_has (long_time_at text) _ (or_has (always_at text) _ (or_has (short_time_at text) _ (or_has (long_number_at text) (option_or (short_number_at text) (mark_at text)) ((Number (one_digit a), more), number))))) in
+    let found = or_has (word_at text) _ (or_has (long_time_at text) _
+    (or_has (always_at text) _ (or_has (short_time_at text) _
+    (or_has (long_number_at text) (option_or (short_number_at text) (mark_at text)) ((Number (one_digit a), more), number))))) in
     let whole : token_at text ≡ Some (found.0.0, found.0.1) = found.1 in
     (found.0.0, found.0.1, whole, omega (arith, token_shorter text found.0.0 found.0.1 whole))
 
 reaches : (other more : List ℕ) (u : Token) → IsToken other u → Reaches (other ++ more) more
 reaches other more u (tokens.word {b = b} {bs = bs} h) = word_reaches b bs more h
 reaches other more u tokens.always = (Always, more, always_first more, omega arith)
-reaches other more u (tokens.long_time {a = a} {b = b} {d = d} {e = e} ha hb hd he) = (Time (two_digits a b) (two_digits d e), more, time_first a b d e more (digit_dark a ha) ha hb hd he, omega arith)
+reaches other more u (tokens.long_time {a = a} {b = b} {d = d} {e = e} ha hb hd he) =
+    (Time (number_of_two a b) (number_of_two d e), more, time_first a b d e more (digit_dark a ha) ha hb hd he, omega arith)
 reaches other more u (tokens.short_time {a = a} {d = d} {e = e} ha hd he) = short_time_reaches a d e more ha hd he
 reaches other more u (tokens.long_number {a = a} {b = b} ha hb) = long_number_reaches a b more ha hb
 reaches other more u (tokens.short_number {a = a} ha) = short_number_reaches a more ha
@@ -229,7 +277,8 @@ found_first text t rest e =
 
 -- Where none is found, none stands at the front.
 pub none_first : (text : List ℕ) → token_at text ≡ None → (other more : List ℕ) (u : Token) → text ≡ other ++ more → IsToken other u → ⊥
-none_first text e other more u parts token = let r = reaches other more u token in let f : token_at text ≡ Some (r.0, r.1) = ap token_at parts ∙ r.2 in cc
+none_first text e other more u parts token = let r = reaches other more u token in
+    let f : token_at text ≡ Some (r.0, r.1) = ap token_at parts ∙ r.2 in cc
 
 -- a token's own bytes give the token
 token_alone : {w : List ℕ} {t : Token} → IsToken w t → token_at (w ++ []) ≡ Some (t, [])
@@ -237,7 +286,8 @@ unfolding token_at
 token_alone (tokens.word {b = b} {bs = bs} h) = word_first (b ∷ bs) b bs [] (word_token (b ∷ bs)) refl h refl tt
 token_alone tokens.always = always_first []
 token_alone (tokens.long_time {a = a} {b = b} {d = d} {e = e} ha hb hd he) = time_first a b d e [] (digit_dark a ha) ha hb hd he
-token_alone (tokens.short_time {a = a} {d = d} {e = e} ha hd he) = rw (no_word a (58 ∷ d ∷ e ∷ []) (digit_dark a ha), ha, hd, he, end_false (a == 50)) refl
+token_alone (tokens.short_time {a = a} {d = d} {e = e} ha hd he) =
+    rw (no_word a (58 ∷ d ∷ e ∷ []) (digit_dark a ha), ha, hd, he, end_false (a == 50)) refl
 token_alone (tokens.long_number {a = a} {b = b} ha hb) = rw (no_word a (b ∷ []) (digit_dark a ha), ha, hb) refl
 token_alone (tokens.short_number {a = a} ha) = rw (no_word a [] (digit_dark a ha), ha) refl
 token_alone tokens.dash = mark_first 45 [] Dash refl refl refl refl

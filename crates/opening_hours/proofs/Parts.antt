@@ -1,5 +1,6 @@
 -- Lists that are cut into pieces, and pieces that are read one after the other.
-use Rattle.std.proofs.Common.{◌≡◌, ℕ, suc, ◌+◌, ◌<◌, ◌≤◌, Bool, true, false, cond, not, List, [], ◌∷◌, ◌++◌, length, take, drop, Option, Some, None, refl, sym, ap, ◌∙◌, append_assoc, arith}
+use Rattle.std.proofs.Common.{◌≡◌, ℕ, suc, ◌+◌, ◌<◌, ◌≤◌, Bool, true, false, cond, not, List, [], ◌∷◌, ◌++◌, length, take}
+use Rattle.std.proofs.Common.{drop, Option, Some, None, refl, sym, ap, ◌∙◌, append_assoc, arith}
 use Rattle.std.specs.Prelude.{option_and_then, option_map}
 use Rattle.std.specs.List.{onto_first, take_while, prefix_len}
 use Rattle.std.proofs.lemmas.Grind.{common_steps}
@@ -9,7 +10,7 @@ use Rattle.opening_hours.specs.declared.tokens.Token.{Token}
 use Rattle.opening_hours.specs.declared.tokens.Part.{Part}
 use Rattle.opening_hours.specs.declared.faults.HoursFault.{HoursFault}
 use Rattle.opening_hours.specs.declared.faults.HoursFault.TheVariants as faults
-use Rattle.opening_hours.specs.Reading.{belongs, behind, tail_of, pieces, all_read, Fails}
+use Rattle.opening_hours.specs.Inside.Parser.{belongs, behind, tail_of, pieces, all_read, Fails}
 
 drop-cond : (b : Bool) (n : ℕ) (t : Token) (ts : List Token) → drop (cond b (1 + n) 0) (t ∷ ts) ≡ cond b (drop n ts) (t ∷ ts)
 drop-cond true n t ts = grind (arith, common_steps)
@@ -54,13 +55,16 @@ pub pieces_are : (part : Part) (ts : List Token) → pieces part ts ≡ take_whi
 pieces_are part [] = refl
 pieces_are part (t ∷ ts) =
     let rest = pieces_are part ts in
-    let by : (b : Bool) → cond (not b) ([] ∷ pieces part ts) (onto_first t (pieces part ts)) ≡ cond b (t ∷ take_while (belongs part) ts) [] ∷ later_pieces part (cond b (behind (belongs part) ts) (t ∷ ts)) =
-    λ b. elim b as (λ v. cond (not v) ([] ∷ pieces part ts) (onto_first t (pieces part ts)) ≡ cond v (t ∷ take_while (belongs part) ts) [] ∷ later_pieces part (cond v (behind (belongs part) ts) (t ∷ ts)))
+    let by : (b : Bool) → cond (not b) ([] ∷ pieces part ts) (onto_first t (pieces part ts)) ≡ cond b
+    (t ∷ take_while (belongs part) ts) [] ∷ later_pieces part (cond b (behind (belongs part) ts) (t ∷ ts)) =
+    λ b. elim b as (λ v. cond (not v) ([] ∷ pieces part ts) (onto_first t (pieces part ts)) ≡ cond v
+    (t ∷ take_while (belongs part) ts) [] ∷ later_pieces part (cond v (behind (belongs part) ts) (t ∷ ts)))
     [ true ↦ ap (onto_first t) rest | false ↦ refl ] in
-    by (belongs part t) ∙ ap (λ (us : List Token). us ∷ later_pieces part (cond (belongs part t) (behind (belongs part) ts) (t ∷ ts))) (sym (take_while-cons (belongs part) t ts))
+    by (belongs part t) ∙ ap (λ (us : List Token).
+    us ∷ later_pieces part (cond (belongs part t) (behind (belongs part) ts) (t ∷ ts))) (sym (take_while-cons (belongs part) t ts))
 
 module _ {A : Type 0} (f : List Token → Option A) (part : Part) where
-  -- what was read before, and what is still read
+  -- the parts that are read, and those still to read
   abbrev pub with_front : List A → Option (List A) → Option (List A)
   with_front front read = option_map (λ xs. front ++ xs) read
 
@@ -71,27 +75,33 @@ module _ {A : Type 0} (f : List Token → Option A) (part : Part) where
   pub all_begins : (ts : List Token) → all_read f (pieces part ts) ≡ with_front [] (all_read f (pieces part ts))
   all_begins ts = elim (all_read f (pieces part ts)) as (λ r. r ≡ with_front [] r) [ Some xs ↦ refl | None ↦ refl ]
 
-  pub all_goes_on : (front : List A) (ts after : List Token) (x : A) (total : Option (List A)) → f (take_while (belongs part) ts) ≡ Some x → tail_of (behind (belongs part) ts) ≡ Some after
+  pub all_goes_on : (front : List A) (ts after : List Token) (x : A) (total : Option (List A))
+      → f (take_while (belongs part) ts) ≡ Some x → tail_of (behind (belongs part) ts) ≡ Some after
       → with_front front (all_read f (pieces part ts)) ≡ total → with_front (front ++ x ∷ []) (all_read f (pieces part after)) ≡ total
   all_goes_on front ts after x total read tail so_far =
       let cut = (tail_is (behind (belongs part) ts) after tail).1 in
-      let e : pieces part ts ≡ take_while (belongs part) ts ∷ pieces part after = pieces_are part ts ∙ ap (λ (us : List Token). take_while (belongs part) ts ∷ later_pieces part us) cut in
+      let e : pieces part ts ≡ take_while (belongs part) ts ∷ pieces part after = pieces_are part ts
+      ∙ ap (λ (us : List Token). take_while (belongs part) ts ∷ later_pieces part us) cut in
       let one : with_front front (all_read f (pieces part ts)) ≡ with_front (front ++ x ∷ []) (all_read f (pieces part after)) =
       ap (λ (ps : List (List Token)). with_front front (all_read f ps)) e
       ∙ ap (λ (o : Option A). with_front front (option_and_then (λ y. option_map (λ xs. y ∷ xs) (all_read f (pieces part after))) o)) read
       ∙ regroup front x (all_read f (pieces part after)) in
       sym one ∙ so_far
 
-  pub all_ends : (front : List A) (ts : List Token) (x : A) (total : Option (List A)) → f (take_while (belongs part) ts) ≡ Some x → tail_of (behind (belongs part) ts) ≡ None
+  pub all_ends : (front : List A) (ts : List Token) (x : A) (total : Option (List A))
+      → f (take_while (belongs part) ts) ≡ Some x → tail_of (behind (belongs part) ts) ≡ None
       → with_front front (all_read f (pieces part ts)) ≡ total → total ≡ Some (front ++ x ∷ [])
   all_ends front ts x total read tail so_far =
       let cut = tail_none (behind (belongs part) ts) tail in
-      let e : pieces part ts ≡ take_while (belongs part) ts ∷ [] = pieces_are part ts ∙ ap (λ (us : List Token). take_while (belongs part) ts ∷ later_pieces part us) cut in
+      let e : pieces part ts ≡ take_while (belongs part) ts ∷ [] = pieces_are part ts
+      ∙ ap (λ (us : List Token). take_while (belongs part) ts ∷ later_pieces part us) cut in
       sym so_far ∙ ap (λ (ps : List (List Token)). with_front front (all_read f ps)) e
       ∙ ap (λ (o : Option A). with_front front (option_and_then (λ y. option_map (λ xs. y ∷ xs) (Some [])) o)) read
 
-  pub all_fails : (e : HoursFault) (front : List A) (ts : List Token) (total : Option (List A)) → Fails e (f (take_while (belongs part) ts)) → with_front front (all_read f (pieces part ts)) ≡ total → Fails e total
+  pub all_fails : (e : HoursFault) (front : List A) (ts : List Token) (total : Option (List A))
+      → Fails e (f (take_while (belongs part) ts)) → with_front front (all_read f (pieces part ts)) ≡ total → Fails e total
   all_fails faults.OutOfMemory front ts total fails so_far = tt
   all_fails faults.NotHours front ts total fails so_far =
       sym so_far ∙ ap (λ (ps : List (List Token)). with_front front (all_read f ps)) (pieces_are part ts)
-      ∙ ap (λ (o : Option A). with_front front (option_and_then (λ y. option_map (λ xs. y ∷ xs) (all_read f (later_pieces part (behind (belongs part) ts)))) o)) fails
+      ∙ ap (λ (o : Option A). with_front front
+      (option_and_then (λ y. option_map (λ xs. y ∷ xs) (all_read f (later_pieces part (behind (belongs part) ts)))) o)) fails

@@ -9,9 +9,10 @@ use Rattle.opening_hours.specs.declared.types.DayItem.{DayItem}
 use Rattle.opening_hours.specs.declared.types.DayItem.TheVariants as items
 use Rattle.opening_hours.specs.declared.types.TimeSpan.{TimeSpan}
 use Rattle.opening_hours.specs.declared.types.LongSpan.{LongSpan}
-use Rattle.opening_hours.specs.Grammar.{IsMonth, IsDayNumber, IsTime, IsDate, IsItem, IsSpan, IsLong, IsOpens, dates_from_to, span_length, long_length}
+use Rattle.opening_hours.specs.Grammar.{IsMonth, IsDayNumber, IsTime, IsDate, IsItem, IsSpan, IsLong, IsOpens, dates_from_to}
+use Rattle.opening_hours.specs.Grammar.{span_length, long_length}
 use Rattle.opening_hours.specs.Grammar as grammar
-use Rattle.opening_hours.specs.Reading.{is_month, is_day_number, is_time, read_date, read_item, read_span, read_long, is_opens}
+use Rattle.opening_hours.specs.Inside.Parser.{is_month, is_day_number, is_time, read_date, read_item, read_span, read_long, is_opens}
 
 pub some_if : {A : Type 0} (b : Bool) (x y : A) → cond b (Some x) None ≡ Some y → (b ≡ true) × (x ≡ y)
 some_if true x y e = (refl, cc)
@@ -29,13 +30,15 @@ month_true : (m : ℕ) → IsMonth m → is_month m ≡ true
 month_true m h = grind (arith, common_steps)
 
 month_is : (m : ℕ) → is_month m ≡ true → IsMonth m
-month_is m e = let h = both_true (nat_le 1 m) (nat_le m 12) e in let low : 1 ≤ m = grind (arith, common_steps) in let high : m ≤ 12 = grind (arith, common_steps) in (low, high)
+month_is m e = let h = both_true (nat_le 1 m) (nat_le m 12) e in let low : 1 ≤ m = grind (arith, common_steps) in
+    let high : m ≤ 12 = grind (arith, common_steps) in (low, high)
 
 day_true : (a : ℕ) → IsDayNumber a → is_day_number a ≡ true
 day_true a h = grind (arith, common_steps)
 
 day_is : (a : ℕ) → is_day_number a ≡ true → IsDayNumber a
-day_is a e = let h = both_true (nat_le 1 a) (nat_le a 31) e in let low : 1 ≤ a = grind (arith, common_steps) in let high : a ≤ 31 = grind (arith, common_steps) in (low, high)
+day_is a e = let h = both_true (nat_le 1 a) (nat_le a 31) e in let low : 1 ≤ a = grind (arith, common_steps) in
+    let high : a ≤ 31 = grind (arith, common_steps) in (low, high)
 
 time_true : (h m limit : ℕ) → IsTime h m limit → is_time h m limit ≡ true
 time_true h m limit t = grind (arith, common_steps)
@@ -76,7 +79,8 @@ date_found (Month m ∷ Number a ∷ Dash ∷ Month n ∷ Number b ∷ []) d e =
     let f = both_true (is_month m) (is_day_number a && (is_month n && is_day_number b)) h.0 in
     let s = both_true (is_day_number a) (is_month n && is_day_number b) f.1 in
     let t = both_true (is_month n) (is_day_number b) s.1 in
-    subst (IsDate (Month m ∷ Number a ∷ Dash ∷ Month n ∷ Number b ∷ [])) h.1 (grammar.days_over (month_is m f.0) (day_is a s.0) (month_is n t.0) (day_is b t.1))
+    subst (IsDate (Month m ∷ Number a ∷ Dash ∷ Month n ∷ Number b ∷ [])) h.1
+    (grammar.days_over (month_is m f.0) (day_is a s.0) (month_is n t.0) (day_is b t.1))
 date_found ts d e = absurd cc
 
 pub item_again : {ts : List Token} {i : DayItem} → IsItem ts i → read_item ts ≡ Some i
@@ -129,5 +133,12 @@ long_found (Day a ∷ Time h m ∷ Dash ∷ Day b ∷ Time g n ∷ os) l e =
     let p = both_true (is_time h m 1439) (is_time g n 1440 && is_opens os) f.0 in
     let q = both_true (is_time g n 1440) (is_opens os) p.1 in
     let found : IsLong (Day a ∷ Time h m ∷ Dash ∷ Day b ∷ Time g n ∷ []) made = grammar.long (time_is h m 1439 p.0) (time_is g n 1440 q.0) in
-    record { span = Day a ∷ Time h m ∷ Dash ∷ Day b ∷ Time g n ∷ []; opens = os; parts = refl; is_long = subst (IsLong (Day a ∷ Time h m ∷ Dash ∷ Day b ∷ Time g n ∷ [])) f.1 found; is_opens = opens_found os q.1 }
+    record {
+      span = Day a ∷ Time h m ∷ Dash ∷ Day b ∷ Time g n ∷ [];
+      opens = os;
+      parts = refl;
+      is_long =
+          subst (IsLong (Day a ∷ Time h m ∷ Dash ∷ Day b ∷ Time g n ∷ [])) f.1 found;
+      is_opens = opens_found os q.1;
+    }
 long_found ts l e = absurd cc

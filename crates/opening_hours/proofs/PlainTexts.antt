@@ -1,5 +1,6 @@
 -- Texts of hours within others.
-use Rattle.std.proofs.Common.{◌≡◌, ◌≢◌, ℕ, ◌<◌, ◌≤◌, Bool, true, false, cond, List, [], ◌∷◌, ◌++◌, Some, refl, sym, ap, subst, ◌∙◌, arith, ◌⊎◌, inl, inr}
+use Rattle.std.proofs.Common.{◌≡◌, ◌≢◌, ℕ, ◌<◌, ◌≤◌, Bool, true, false, cond, List, [], ◌∷◌, ◌++◌, Some, refl, sym, ap}
+use Rattle.std.proofs.Common.{subst, ◌∙◌, arith, ◌⊎◌, inl, inr}
 use Rattle.std.specs.Prelude.{◌==◌, ◌||◌, codes}
 use Rattle.std.specs.List.{list_all}
 use Rattle.std.specs.Str.{bytes_eq}
@@ -9,13 +10,14 @@ use Rattle.std.proofs.lemmas.Slice.Eq.{bytes_eq-Decides}
 use Rattle.opening_hours.specs.declared.tokens.Token.{Token}
 use Rattle.opening_hours.specs.declared.tokens.Token.TheVariants.{Unknown, Open}
 use Rattle.opening_hours.specs.declared.types.HoursRule.{HoursRule}
-use Rattle.opening_hours.specs.Tokens.{is_digit, is_letter, is_blank, months, weekdays, other_words, token_in, other_token, weekday_token, word_token, AreLetters, IsToken, without_blanks}
+use Rattle.opening_hours.specs.Tokens.{is_digit, is_letter, is_blank, months, weekdays, other_words, token_in, other_token}
+use Rattle.opening_hours.specs.Tokens.{weekday_token, word_token, AreLetters, IsToken, without_blanks}
 use Rattle.opening_hours.specs.Tokens as tokens
-use Rattle.opening_hours.specs.Cutting.{token_at, IsMatched}
+use Rattle.opening_hours.specs.Inside.Tokenizer.{token_at, IsMatched}
 use Rattle.opening_hours.specs.Grammar.{IsRules}
 use Rattle.opening_hours.specs.Hours.{IsHours}
-use Rattle.opening_hours.specs.Plain.{is_hours_byte, StartsFilled, EndsFilled, IsPlain}
-use Rattle.opening_hours.specs.Reading.{read_rule, read_rules}
+use Rattle.opening_hours.specs.PlainText.{is_hours_byte, StartsFilled, EndsFilled, IsPlain}
+use Rattle.opening_hours.specs.Inside.Parser.{read_rule, read_rules}
 use Rattle.opening_hours.proofs.Cuts.{some_pair, no_cut}
 use Rattle.opening_hours.proofs.Longest.{match_of, token_front}
 use Rattle.opening_hours.proofs.Spelled.{Calm, Spells, AllSpell, word_first, rules_spell}
@@ -52,8 +54,15 @@ letters_filled (b ∷ bs) h = (letter_no_blank b h.0, hours_letter b h.0, letter
 token_filled : {w : List ℕ} {t : Token} → IsToken w t → AllFilled w
 token_filled (tokens.word {b = b} {bs = bs} h) = letters_filled (b ∷ bs) h
 token_filled tokens.always = (refl, refl, (refl, refl, (refl, refl, (refl, refl, tt))))
-token_filled (tokens.long_time {a = a} {b = b} {d = d} {e = e} ha hb hd he) =
-    (digit_no_blank a ha, hours_digit a ha, (digit_no_blank b hb, hours_digit b hb, (refl, refl, (digit_no_blank d hd, hours_digit d hd, (digit_no_blank e he, hours_digit e he, tt)))))
+token_filled (tokens.long_time {a = a} {b = b} {d = d} {e = e} ha hb hd he) = (
+  digit_no_blank a ha,
+  hours_digit a ha,
+  (
+    digit_no_blank b hb,
+    hours_digit b hb,
+    (refl, refl, (digit_no_blank d hd, hours_digit d hd, (digit_no_blank e he, hours_digit e he, tt))),
+  ),
+)
 token_filled (tokens.short_time {a = a} {d = d} {e = e} ha hd he) =
     (digit_no_blank a ha, hours_digit a ha, (refl, refl, (digit_no_blank d hd, hours_digit d hd, (digit_no_blank e he, hours_digit e he, tt))))
 token_filled (tokens.long_number {a = a} {b = b} ha hb) = (digit_no_blank a ha, hours_digit a ha, (digit_no_blank b hb, hours_digit b hb, tt))
@@ -94,7 +103,7 @@ ends_filled : (b : ℕ) (bs : List ℕ) → AllFilled (b ∷ bs) → EndsFilled 
 ends_filled b [] h = h.0
 ends_filled b (c ∷ cs) h = ends_filled c cs h.2
 
--- what holds behind blanks holds with them
+-- a fact of the text behind blanks holds with them
 bytes_blanks : (text : List ℕ) → list_all is_hours_byte (without_blanks text) ≡ true → list_all is_hours_byte text ≡ true
 bytes_blanks [] h = refl
 bytes_blanks (b ∷ bs) h = by (is_blank b) refl (bytes_blanks bs) h
@@ -149,7 +158,8 @@ ends_text text (t ∷ u ∷ ts) h =
     subst EndsFilled (sym f.1) (ends_within f.0 h.0 (ends_blanks h.0 (ends_text (without_blanks h.0) (u ∷ ts) h.2)))
 
 -- a blank in a text stands behind its first token
-behind_token : (w rest front more : List ℕ) (a : ℕ) → AllFilled w → is_blank a ≡ true → w ++ rest ≡ front ++ a ∷ more → (later : List ℕ) × (rest ≡ later ++ a ∷ more)
+behind_token : (w rest front more : List ℕ) (a : ℕ) → AllFilled w → is_blank a ≡ true → w ++ rest ≡ front ++ a ∷ more
+    → (later : List ℕ) × (rest ≡ later ++ a ∷ more)
 behind_token [] rest front more a h blank e = (front, e)
 behind_token (x ∷ xs) rest [] more a h blank e =
     let same : x ≡ a = cc in
@@ -163,8 +173,10 @@ past_blanks : (front more : List ℕ) (a : ℕ) → is_blank a ≡ true
 past_blanks [] more a h = inl (ap (λ v. cond v (without_blanks more) (a ∷ more)) h)
 past_blanks (f ∷ fs) more a h = by (is_blank f) (past_blanks fs more a h)
   where
-    by : (v : Bool) → (without_blanks (fs ++ a ∷ more) ≡ without_blanks more) ⊎ ((later : List ℕ) × (without_blanks (fs ++ a ∷ more) ≡ later ++ a ∷ more))
-        → (cond v (without_blanks (fs ++ a ∷ more)) (f ∷ (fs ++ a ∷ more)) ≡ without_blanks more) ⊎ ((later : List ℕ) × (cond v (without_blanks (fs ++ a ∷ more)) (f ∷ (fs ++ a ∷ more)) ≡ later ++ a ∷ more))
+    by : (v : Bool) → (without_blanks (fs ++ a ∷ more) ≡ without_blanks more)
+        ⊎ ((later : List ℕ) × (without_blanks (fs ++ a ∷ more) ≡ later ++ a ∷ more))
+        → (cond v (without_blanks (fs ++ a ∷ more)) (f ∷ (fs ++ a ∷ more)) ≡ without_blanks more)
+        ⊎ ((later : List ℕ) × (cond v (without_blanks (fs ++ a ∷ more)) (f ∷ (fs ++ a ∷ more)) ≡ later ++ a ∷ more))
     by true p = p
     by false p = inr (f ∷ fs, refl)
 
@@ -176,9 +188,12 @@ blank_calm b rest h =
     (letter, colon, stroke)
 
 -- a word and something calm behind it are cut after the word
-word_cut : (b : ℕ) (bs rest : List ℕ) (t : Token) (ts : List Token) → AreLetters (b ∷ bs) → Calm rest → IsMatched ((b ∷ bs) ++ rest) (t ∷ ts) → word_token (b ∷ bs) ≡ t
-word_cut b bs rest t [] h calm m = (some_pair (word_token (b ∷ bs)) t rest [] (sym (word_first (b ∷ bs) b bs rest (word_token (b ∷ bs)) refl h refl calm) ∙ m)).0
-word_cut b bs rest t (u ∷ us) h calm m = (some_pair (word_token (b ∷ bs)) t rest m.0 (sym (word_first (b ∷ bs) b bs rest (word_token (b ∷ bs)) refl h refl calm) ∙ m.1)).0
+word_cut : (b : ℕ) (bs rest : List ℕ) (t : Token) (ts : List Token) → AreLetters (b ∷ bs) → Calm rest
+    → IsMatched ((b ∷ bs) ++ rest) (t ∷ ts) → word_token (b ∷ bs) ≡ t
+word_cut b bs rest t [] h calm m = (some_pair (word_token (b ∷ bs)) t rest []
+    (sym (word_first (b ∷ bs) b bs rest (word_token (b ∷ bs)) refl h refl calm) ∙ m)).0
+word_cut b bs rest t (u ∷ us) h calm m = (some_pair (word_token (b ∷ bs)) t rest m.0
+    (sym (word_first (b ∷ bs) b bs rest (word_token (b ∷ bs)) refl h refl calm) ∙ m.1)).0
 
 spells_known : (t : Token) → Spells t → t ≢ Unknown
 spells_known t h e = subst Spells e h
@@ -187,14 +202,16 @@ front_some : (ts us : List ℕ) (u : ℕ) → [] ≢ ts ++ u ∷ us
 front_some [] us u e = absurd cc
 front_some (t ∷ ts) us u e = absurd cc
 
-module _ (before b : ℕ) (bs : List ℕ) (behind : ℕ) (rest : List ℕ) (blank : is_blank before ≡ true) (letters : AreLetters (b ∷ bs)) (gap : is_blank behind ≡ true) where
+module _ (before b : ℕ) (bs : List ℕ) (behind : ℕ) (rest : List ℕ) (blank : is_blank before ≡ true)
+    (letters : AreLetters (b ∷ bs)) (gap : is_blank behind ≡ true) where
   abbrev word_on : List ℕ
   word_on = (b ∷ bs) ++ behind ∷ rest
 
   word_starts : without_blanks word_on ≡ word_on
   word_starts = ap (λ v. cond v (without_blanks (bs ++ behind ∷ rest)) word_on) (letter_no_blank b letters.0)
 
-  words_known : (text : List ℕ) (ts : List Token) (front : List ℕ) → IsMatched text ts → AllSpell ts → text ≡ front ++ before ∷ word_on → word_token (b ∷ bs) ≢ Unknown
+  words_known : (text : List ℕ) (ts : List Token) (front : List ℕ) → IsMatched text ts → AllSpell ts
+      → text ≡ front ++ before ∷ word_on → word_token (b ∷ bs) ≢ Unknown
   words_known text [] front h all e = absurd h
   words_known text (t ∷ []) front h all e =
       let f = token_front text t [] h in
@@ -203,7 +220,8 @@ module _ (before b : ℕ) (bs : List ℕ) (behind : ℕ) (rest : List ℕ) (blan
   words_known text (t ∷ u ∷ ts) front h all e =
       let f = token_front text t h.0 h.1 in
       let p = behind_token f.0 h.0 front word_on before (token_filled f.2) blank (sym f.1 ∙ e) in
-      let cut : IsMatched (without_blanks (p.0 ++ before ∷ word_on)) (u ∷ ts) = subst (λ (r : List ℕ). IsMatched (without_blanks r) (u ∷ ts)) p.1 h.2 in
+      let cut : IsMatched (without_blanks (p.0 ++ before ∷ word_on)) (u ∷ ts) =
+      subst (λ (r : List ℕ). IsMatched (without_blanks r) (u ∷ ts)) p.1 h.2 in
       elim (past_blanks p.0 word_on before blank) [
         | inl same ↦
             let here : IsMatched word_on (u ∷ ts) = subst (λ (r : List ℕ). IsMatched r (u ∷ ts)) (same ∙ word_starts) cut in
@@ -241,7 +259,13 @@ months_capital = (
               λ b bs h. apart b 74 bs _ h (omega arith),
               (
                 λ b bs h. apart b 65 bs _ h (omega arith),
-                (λ b bs h. apart b 83 bs _ h (omega arith), (λ b bs h. apart b 79 bs _ h (omega arith), (λ b bs h. apart b 78 bs _ h (omega arith), (λ b bs h. apart b 68 bs _ h (omega arith), tt)))),
+                (
+                  λ b bs h. apart b 83 bs _ h (omega arith),
+                  (
+                    λ b bs h. apart b 79 bs _ h (omega arith),
+                    (λ b bs h. apart b 78 bs _ h (omega arith), (λ b bs h. apart b 68 bs _ h (omega arith), tt)),
+                  ),
+                ),
               ),
             ),
           ),
@@ -268,17 +292,23 @@ weekdays_capital = (
 
 small_word : (b : ℕ) (bs : List ℕ) → 97 ≤ b → word_token (b ∷ bs) ≡ other_token (b ∷ bs)
 unfolding word_token weekday_token
-small_word b bs h = no_row months (token_in weekdays (other_token (b ∷ bs)) (b ∷ bs)) b bs h months_capital ∙ no_row weekdays (other_token (b ∷ bs)) b bs h weekdays_capital
+small_word b bs h = no_row months (token_in weekdays (other_token (b ∷ bs)) (b ∷ bs)) b bs h months_capital
+    ∙ no_row weekdays (other_token (b ∷ bs)) b bs h weekdays_capital
 
-small_other : (b : ℕ) (bs : List ℕ) → 97 ≤ b → other_token (b ∷ bs) ≢ Unknown → other_token (b ∷ bs) ≢ Open → (b ∷ bs ≡ codes "off") ⊎ (b ∷ bs ≡ codes "closed")
+small_other : (b : ℕ) (bs : List ℕ) → 97 ≤ b → other_token (b ∷ bs) ≢ Unknown → other_token (b ∷ bs) ≢ Open
+    → (b ∷ bs ≡ codes "off") ⊎ (b ∷ bs ≡ codes "closed")
 unfolding other_token
-small_other b bs h known closed = by (bytes_eq (b ∷ bs) (codes "off")) (bytes_eq (b ∷ bs) (codes "closed")) (bytes_eq (b ∷ bs) (codes "open")) refl refl refl
+small_other b bs h known closed = by (bytes_eq (b ∷ bs) (codes "off")) (bytes_eq (b ∷ bs) (codes "closed"))
+    (bytes_eq (b ∷ bs) (codes "open")) refl refl refl
   where
-    by : (u v w : Bool) → bytes_eq (b ∷ bs) (codes "off") ≡ u → bytes_eq (b ∷ bs) (codes "closed") ≡ v → bytes_eq (b ∷ bs) (codes "open") ≡ w → (b ∷ bs ≡ codes "off") ⊎ (b ∷ bs ≡ codes "closed")
+    by : (u v w : Bool) → bytes_eq (b ∷ bs) (codes "off") ≡ u → bytes_eq (b ∷ bs) (codes "closed") ≡ v
+        → bytes_eq (b ∷ bs) (codes "open") ≡ w → (b ∷ bs ≡ codes "off") ⊎ (b ∷ bs ≡ codes "closed")
     by true v w e f g = inl ((bytes_eq-Decides (b ∷ bs) (codes "off")).0 e)
     by false true w e f g = inr ((bytes_eq-Decides (b ∷ bs) (codes "closed")).0 f)
-    by false false true e f g = absurd (closed (rw (apart b 80 bs (codes "H") h (omega arith), apart b 83 bs (codes "H") h (omega arith), e, f, g) refl))
-    by false false false e f g = absurd (known (rw (apart b 80 bs (codes "H") h (omega arith), apart b 83 bs (codes "H") h (omega arith), e, f, g) refl))
+    by false false true e f g = absurd (closed
+        (rw (apart b 80 bs (codes "H") h (omega arith), apart b 83 bs (codes "H") h (omega arith), e, f, g) refl))
+    by false false false e f g = absurd (known
+        (rw (apart b 80 bs (codes "H") h (omega arith), apart b 83 bs (codes "H") h (omega arith), e, f, g) refl))
 
 no_open : (rs : List HoursRule) → IsRules (Open ∷ []) rs → ⊥
 unfolding read_rules read_rule
@@ -295,11 +325,13 @@ one_word b bs (t ∷ []) h m =
     let here : IsMatched ((b ∷ bs) ++ []) (t ∷ []) = subst (λ (text : List ℕ). IsMatched text (t ∷ [])) (sym (nil_behind (b ∷ bs))) m in
     ap (λ (u : Token). u ∷ []) (sym (word_cut b bs [] t [] h tt here))
 one_word b bs (t ∷ u ∷ us) h m =
-    let found : token_at (b ∷ bs) ≡ Some (word_token (b ∷ bs), []) = ap token_at (sym (nil_behind (b ∷ bs))) ∙ word_first (b ∷ bs) b bs [] (word_token (b ∷ bs)) refl h refl tt in
+    let found : token_at (b ∷ bs) ≡ Some (word_token (b ∷ bs), []) = ap token_at (sym (nil_behind (b ∷ bs)))
+    ∙ word_first (b ∷ bs) b bs [] (word_token (b ∷ bs)) refl h refl tt in
     let p = some_pair t (word_token (b ∷ bs)) m.0 [] (sym m.1 ∙ found) in
     absurd (no_cut (u ∷ us) (subst (λ (r : List ℕ). IsMatched (without_blanks r) (u ∷ us)) p.1 m.2))
 
-lone_word : (b : ℕ) (bs : List ℕ) (ts : List Token) (rs : List HoursRule) → 97 ≤ b → AreLetters (b ∷ bs) → IsMatched (b ∷ bs) ts → IsRules ts rs → (b ∷ bs ≡ codes "off") ⊎ (b ∷ bs ≡ codes "closed")
+lone_word : (b : ℕ) (bs : List ℕ) (ts : List Token) (rs : List HoursRule) → 97 ≤ b → AreLetters (b ∷ bs)
+    → IsMatched (b ∷ bs) ts → IsRules ts rs → (b ∷ bs ≡ codes "off") ⊎ (b ∷ bs ≡ codes "closed")
 lone_word b bs ts rs small h m rules =
     let alone : ts ≡ other_token (b ∷ bs) ∷ [] = one_word b bs ts h m ∙ ap (λ (u : Token). u ∷ []) (small_word b bs small) in
     let here : IsRules (other_token (b ∷ bs) ∷ []) rs = subst (λ (us : List Token). IsRules us rs) alone rules in
@@ -314,7 +346,8 @@ hours_plain text rs h =
       bytes = all_bytes text h.0 m;
       starts = starts_text text h.0 m;
       ends = ends_text text h.0 m;
-      words = λ front rest before b bs behind blank letters gap e. words_known before b bs behind rest blank letters gap text h.0 front m (rules_spell h.0 rs h.2) e;
+      words = λ front rest before b bs behind blank letters gap e.
+          words_known before b bs behind rest blank letters gap text h.0 front m (rules_spell h.0 rs h.2) e;
       lone = λ b bs e small letters.
           let here : IsMatched (b ∷ bs) h.0 = subst (λ (t : List ℕ). IsMatched t h.0) e m in
           elim (lone_word b bs h.0 rs small letters here h.2) [ inl off ↦ inl (e ∙ off) | inr closed ↦ inr (e ∙ closed) ];

@@ -1,5 +1,6 @@
 -- A search in a list that rises.
-use Rattle.std.proofs.Common.{◌≡◌, ◌≢◌, ℕ, zero, suc, ◌+◌, ◌-◌, ◌⊎◌, inl, inr, ◌<◌, ◌≤◌, Bool, true, false, List, [], ◌∷◌, length, get_or, Result, Ok, Err, refl, sym, ap, ◌∙◌, arith, nat_cmp, eqb, eq-eqb, ltb}
+use Rattle.std.proofs.Common.{◌≡◌, ◌≢◌, ℕ, zero, suc, ◌+◌, ◌-◌, ◌⊎◌, inl, inr, ◌<◌, ◌≤◌, Bool, true, false, List, [], ◌∷◌}
+use Rattle.std.proofs.Common.{length, get_or, Result, Ok, Err, refl, sym, ap, ◌∙◌, arith, nat_cmp, eqb, eq-eqb, ltb}
 use Rattle.std.specs.Prelude.{◌||◌, MatchResult}
 use Rattle.std.specs.Result.{is_ok}
 use Rattle.std.specs.List.Sorted.{IsStrictlyIncreasing, IsBinarySearchResult}
@@ -37,12 +38,15 @@ below k i = split (ltb k i) refl
     split true e = inl (ltb-true k i e)
     split false e = inr (ltb-false k i e)
 
-pub ok_is_listed : (xs : List ℕ) (x : ℕ) (r : Result ℕ ℕ) → IsBinarySearchResult (λ y. nat_cmp y x) xs r → IsStrictlyIncreasing xs → is_ok r ≡ is_listed x xs
+pub ok_is_listed : (xs : List ℕ) (x : ℕ) (r : Result ℕ ℕ) → IsBinarySearchResult (λ y. nat_cmp y x) xs r
+    → IsStrictlyIncreasing xs → is_ok r ≡ is_listed x xs
 ok_is_listed xs x r found rises = by r (searched xs x r found order)
   where
     order : (i j : ℕ) → i ≤ j → j < length xs → get_or xs i 0 ≤ get_or xs j 0
     order i j le l = let same : i + (j - i) ≡ j = omega arith in let h = rises_to xs rises i (j - i) (omega arith) in let k = rw same at h in k
 
-    by : (r : Result ℕ ℕ) → MatchResult r (λ i. (i < length xs) × (get_or xs i 0 ≡ x)) (λ i. (i ≤ length xs) × ((k : ℕ) → k < i → get_or xs k 0 < x) × ((k : ℕ) → i ≤ k → k < length xs → x < get_or xs k 0)) → is_ok r ≡ is_listed x xs
+    by : (r : Result ℕ ℕ) → MatchResult r (λ i. (i < length xs) × (get_or xs i 0 ≡ x)) (λ i. (i ≤ length xs)
+        × ((k : ℕ) → k < i → get_or xs k 0 < x) × ((k : ℕ) → i ≤ k → k < length xs → x < get_or xs k 0)) → is_ok r ≡ is_listed x xs
     by (Ok i) h = sym (member_at xs x i h.0 h.1)
-    by (Err i) h = sym (no_member xs x (λ k l e. elim (below k i) [ inl lt ↦ let f = h.1 k lt in omega arith | inr ge ↦ let f = h.2 k ge l in omega arith ]))
+    by (Err i) h = sym (no_member xs x (λ k l e.
+        elim (below k i) [ inl lt ↦ let f = h.1 k lt in omega arith | inr ge ↦ let f = h.2 k ge l in omega arith ]))

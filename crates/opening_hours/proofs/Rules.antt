@@ -1,10 +1,13 @@
 -- Rules: reading gives exactly what the grammar says.
-use Rattle.std.proofs.Common.{◌≡◌, ◌≢◌, ℕ, Bool, true, false, cond, List, [], ◌∷◌, ◌++◌, Option, Some, None, refl, sym, ap, subst, ◌∙◌, append_assoc, ◌⊎◌, inl, inr}
+use Rattle.std.proofs.Common.{◌≡◌, ◌≢◌, ℕ, Bool, true, false, cond, List, [], ◌∷◌, ◌++◌, Option, Some, None, refl, sym, ap}
+use Rattle.std.proofs.Common.{subst, ◌∙◌, append_assoc, ◌⊎◌, inl, inr}
 use Rattle.std.specs.Prelude.{option_and_then, option_map}
 use Rattle.std.specs.List.{take_while}
 use Rattle.calendar_days.specs.declared.weekday.Weekday.{Weekday}
+use Rattle.std.proofs.lemmas.Option.{option_and_then_some}
 use Rattle.opening_hours.specs.declared.tokens.Token.{Token}
-use Rattle.opening_hours.specs.declared.tokens.Token.TheVariants.{Month, Day, Public, School, Off, Open, Always, Unknown, Time, Number, Dash, Comma, Semicolon, Colon}
+use Rattle.opening_hours.specs.declared.tokens.Token.TheVariants.{Month, Day, Public, School, Off, Open, Always, Unknown}
+use Rattle.opening_hours.specs.declared.tokens.Token.TheVariants.{Time, Number, Dash, Comma, Semicolon, Colon}
 use Rattle.opening_hours.specs.declared.tokens.Part.TheVariants as parts
 use Rattle.opening_hours.specs.declared.types.DateSpan.{DateSpan}
 use Rattle.opening_hours.specs.declared.types.DayItem.{DayItem}
@@ -15,9 +18,13 @@ use Rattle.opening_hours.specs.declared.types.RuleTimes.TheVariants as times
 use Rattle.opening_hours.specs.declared.types.HoursRule.{HoursRule}
 use Rattle.opening_hours.specs.Grammar.{IsDate, IsItem, IsSpan, IsLong, IsOpens, IsDates, IsDays, IsSpans, IsRule, IsRules, Joined, whole_day}
 use Rattle.opening_hours.specs.Grammar as grammar
-use Rattle.opening_hours.specs.Reading.{belongs, behind, read_date, read_item, read_span, read_list, read_dates, read_days, read_spans, is_opens, is_long, read_long, is_off, read_times, rule_of, read_after, without_colon, read_dated, read_rule, read_rules}
-use Rattle.opening_hours.proofs.Pieces.{some_if, date_again, date_found, item_again, item_found, span_again, span_found, opens_again, opens_found, long_again, long_found}
-use Rattle.opening_hours.proofs.Lists.{Made, Heads, Starts, Stops, Made-append, Made-weaker, Heads-append, Starts-append, Stops-starts, front_made, behind_made, front_behind, list_found, list_again}
+use Rattle.opening_hours.specs.Inside.Parser.{belongs, behind, read_date, read_item, read_span, read_list, read_dates, read_days}
+use Rattle.opening_hours.specs.Inside.Parser.{read_spans, is_opens, is_long, read_long, is_off, read_times, rule_of, read_after}
+use Rattle.opening_hours.specs.Inside.Parser.{without_colon, read_dated, read_rule, read_rules}
+use Rattle.opening_hours.proofs.Pieces.{some_if, date_again, date_found, item_again, item_found, span_again, span_found}
+use Rattle.opening_hours.proofs.Pieces.{opens_again, opens_found, long_again, long_found}
+use Rattle.opening_hours.proofs.Lists.{Made, Heads, Starts, Stops, Made-append, Made-weaker, Heads-append, Starts-append}
+use Rattle.opening_hours.proofs.Lists.{Stops-starts, front_made, behind_made, front_behind, list_found, list_again}
 
 -- where the mark between things is
 comma_ends : (t : Token) → belongs parts.Item t ≡ false → t ≡ Comma
@@ -37,7 +44,7 @@ is_content Unknown = false
 is_content Semicolon = false
 is_content t = true
 
--- what may stand behind dates, and behind days
+-- the tokens that may follow dates, and days
 abbrev pub follows_dates : Token → Bool
 follows_dates (Day a) = true
 follows_dates Public = true
@@ -65,14 +72,17 @@ is_day_token t = false
 
 -- one thing
 module _ (p : Token → Bool) where
-  date_made : p Dash ≡ true → ((m : ℕ) → p (Month m) ≡ true) → ((a : ℕ) → p (Number a) ≡ true) → (ts : List Token) (d : DateSpan) → IsDate ts d → Made p ts
+  date_made : p Dash ≡ true → ((m : ℕ) → p (Month m) ≡ true) → ((a : ℕ) → p (Number a) ≡ true)
+      → (ts : List Token) (d : DateSpan) → IsDate ts d → Made p ts
   date_made dash month number ts d (grammar.month {m = m} _) = (month m, tt)
   date_made dash month number ts d (grammar.months {m = m} {n = n} _ _) = (month m, (dash, (month n, tt)))
   date_made dash month number ts d (grammar.day {m = m} {a = a} _ _) = (month m, (number a, tt))
   date_made dash month number ts d (grammar.days {m = m} {a = a} {b = b} _ _ _) = (month m, (number a, (dash, (number b, tt))))
-  date_made dash month number ts d (grammar.days_over {m = m} {a = a} {n = n} {b = b} _ _ _ _) = (month m, (number a, (dash, (month n, (number b, tt)))))
+  date_made dash month number ts d (grammar.days_over {m = m} {a = a} {n = n} {b = b} _ _ _ _) =
+      (month m, (number a, (dash, (month n, (number b, tt)))))
 
-  item_made : p Dash ≡ true → ((a : Weekday) → p (Day a) ≡ true) → p Public ≡ true → p School ≡ true → (ts : List Token) (i : DayItem) → IsItem ts i → Made p ts
+  item_made : p Dash ≡ true → ((a : Weekday) → p (Day a) ≡ true) → p Public ≡ true → p School ≡ true
+      → (ts : List Token) (i : DayItem) → IsItem ts i → Made p ts
   item_made dash day public school ts i (grammar.weekday {a = a}) = (day a, tt)
   item_made dash day public school ts i (grammar.weekdays {a = a} {b = b}) = (day a, (dash, (day b, tt)))
   item_made dash day public school ts i grammar.public = (public, tt)
@@ -81,14 +91,19 @@ module _ (p : Token → Bool) where
   span_made : p Dash ≡ true → ((h m : ℕ) → p (Time h m) ≡ true) → (ts : List Token) (s : TimeSpan) → IsSpan ts s → Made p ts
   span_made dash time ts s (grammar.span {h = h} {m = m} {g = g} {n = n} _ _) = (time h m, (dash, (time g n, tt)))
 
-  long_made : p Dash ≡ true → ((a : Weekday) → p (Day a) ≡ true) → ((h m : ℕ) → p (Time h m) ≡ true) → (ts : List Token) (l : LongSpan) → IsLong ts l → Made p ts
-  long_made dash day time ts l (grammar.long {a = a} {b = b} {h = h} {m = m} {g = g} {n = n} _ _) = (day a, (time h m, (dash, (day b, (time g n, tt)))))
+  long_made : p Dash ≡ true → ((a : Weekday) → p (Day a) ≡ true) → ((h m : ℕ) → p (Time h m) ≡ true)
+      → (ts : List Token) (l : LongSpan) → IsLong ts l → Made p ts
+  long_made dash day time ts l (grammar.long {a = a} {b = b} {h = h} {m = m} {g = g} {n = n} _ _) =
+      (day a, (time h m, (dash, (day b, (time g n, tt)))))
 
-  joined_made : {A : Type 0} (Is : List Token → A → Type 0) (mark : Token) → p mark ≡ true → ((ts : List Token) (x : A) → Is ts x → Made p ts) → {ts : List Token} {xs : List A} → Joined Is mark ts xs → Made p ts
+  joined_made : {A : Type 0} (Is : List Token → A → Type 0) (mark : Token) → p mark ≡ true
+      → ((ts : List Token) (x : A) → Is ts x → Made p ts) → {ts : List Token} {xs : List A} → Joined Is mark ts xs → Made p ts
   joined_made Is mark passes made (grammar.one {ts = ts} {x = x} h) = made ts x h
-  joined_made Is mark passes made (grammar.more {ts = ts} {us = us} {x = x} h hs) = Made-append p ts (mark ∷ us) (made ts x h) (passes, joined_made Is mark passes made hs)
+  joined_made Is mark passes made (grammar.more {ts = ts} {us = us} {x = x} h hs) =
+      Made-append p ts (mark ∷ us) (made ts x h) (passes, joined_made Is mark passes made hs)
 
-  joined_heads : {A : Type 0} (Is : List Token → A → Type 0) (mark : Token) → ((ts : List Token) (x : A) → Is ts x → Heads p ts) → {ts : List Token} {xs : List A} → Joined Is mark ts xs → Heads p ts
+  joined_heads : {A : Type 0} (Is : List Token → A → Type 0) (mark : Token)
+      → ((ts : List Token) (x : A) → Is ts x → Heads p ts) → {ts : List Token} {xs : List A} → Joined Is mark ts xs → Heads p ts
   joined_heads Is mark heads (grammar.one {ts = ts} {x = x} h) = heads ts x h
   joined_heads Is mark heads (grammar.more {ts = ts} {us = us} {x = x} h hs) = Heads-append p ts (mark ∷ us) (heads ts x h)
 
@@ -111,11 +126,13 @@ span_heads ts s (grammar.span _ _) = refl
 -- lists of things
 dates_again : {ts : List Token} {ds : List DateSpan} → Joined IsDate Comma ts ds → read_list read_date ts ≡ Some ds
 unfolding read_list
-dates_again h = list_again IsDate read_date parts.Item Comma refl (date_made (belongs parts.Item) refl (λ _. refl) (λ _. refl)) (λ ts d p. date_again p) h
+dates_again h = list_again IsDate read_date parts.Item Comma refl
+    (date_made (belongs parts.Item) refl (λ _. refl) (λ _. refl)) (λ ts d p. date_again p) h
 
 items_again : {ts : List Token} {is : List DayItem} → Joined IsItem Comma ts is → read_list read_item ts ≡ Some is
 unfolding read_list
-items_again h = list_again IsItem read_item parts.Item Comma refl (item_made (belongs parts.Item) refl (λ _. refl) refl refl) (λ ts d p. item_again p) h
+items_again h = list_again IsItem read_item parts.Item Comma refl (item_made (belongs parts.Item) refl (λ _. refl) refl refl)
+    (λ ts d p. item_again p) h
 
 spans_again : {ts : List Token} {ss : List TimeSpan} → Joined IsSpan Comma ts ss → read_list read_span ts ≡ Some ss
 unfolding read_list
@@ -181,9 +198,16 @@ module _ (core : List Token) (ds : List DateSpan) (h : Joined IsDate Comma core 
   core_made : Made (belongs parts.Dates) core
   core_made = joined_made (belongs parts.Dates) IsDate Comma refl (date_made (belongs parts.Dates) refl (λ _. refl) (λ _. refl)) h
 
-  dated_core : (rest after : List Token) → Stops (belongs parts.Dates) rest → without_colon core rest ≡ after → read_dated (core ++ rest) ≡ read_after ds after
+  dated_core : (rest after : List Token) → Stops (belongs parts.Dates) rest → without_colon core rest ≡ after
+      → read_dated (core ++ rest) ≡ read_after ds after
   unfolding read_dated
-  dated_core rest after stops cut = rw (front_made (belongs parts.Dates) core rest core_made stops, behind_made (belongs parts.Dates) core rest core_made stops, dates_read, cut) refl
+  dated_core rest after stops cut = rw (
+    front_made (belongs parts.Dates) core rest core_made stops,
+    behind_made
+        (belongs parts.Dates) core rest core_made stops,
+    dates_read,
+    cut,
+  ) refl
 
 colon_cut : (core rest : List Token) → Heads is_content core → without_colon core (Colon ∷ rest) ≡ rest
 colon_cut [] rest h = absurd h
@@ -197,12 +221,15 @@ undated : (rest : List Token) → Stops (belongs parts.Dates) rest → read_date
 unfolding read_dated read_dates
 undated rest stops = rw (front_made (belongs parts.Dates) [] rest tt stops, behind_made (belongs parts.Dates) [] rest tt stops) refl
 
-dated_again : {a : List Token} {ds : List DateSpan} (rest : List Token) → IsDates a ds → Starts follows_dates rest → read_dated (a ++ rest) ≡ read_after ds rest
+dated_again : {a : List Token} {ds : List DateSpan} (rest : List Token) → IsDates a ds → Starts follows_dates rest
+    → read_dated (a ++ rest) ≡ read_after ds rest
 dated_again rest grammar.none s = undated rest (Stops-starts follows_dates (belongs parts.Dates) not_dates rest s)
 dated_again rest (grammar.plain {ts = ts} {ds = ds} h) s =
-    dated_core ts ds h rest rest (Stops-starts follows_dates (belongs parts.Dates) not_dates rest s) (plain_cut ts rest (joined_heads is_content IsDate Comma date_heads h) s)
+    dated_core ts ds h rest rest (Stops-starts follows_dates (belongs parts.Dates) not_dates rest s)
+    (plain_cut ts rest (joined_heads is_content IsDate Comma date_heads h) s)
 dated_again rest (grammar.colon {ts = ts} {ds = ds} h) s =
-    ap read_dated (append_assoc ts (Colon ∷ []) rest) ∙ dated_core ts ds h (Colon ∷ rest) rest refl (colon_cut ts rest (joined_heads is_content IsDate Comma date_heads h))
+    ap read_dated (append_assoc ts (Colon ∷ []) rest)
+    ∙ dated_core ts ds h (Colon ∷ rest) rest refl (colon_cut ts rest (joined_heads is_content IsDate Comma date_heads h))
 
 -- days, and what stands behind them
 not_days : (t : Token) → follows_days t ≡ true → belongs parts.Days t ≡ false
@@ -265,14 +292,22 @@ spans_read : {c os : List Token} {ss : List TimeSpan} → IsSpans c ss → IsOpe
 unfolding read_times
 spans_read {c = c} {os = os} {ss = ss} s o =
     let made = spans_made c ss s in
-    rw (not_off (c ++ os) (spans_then_open s o), front_made (belongs parts.Spans) c os made (opens_stop o), behind_made (belongs parts.Spans) c os made (opens_stop o), opens_again o, times_again s) refl
+    rw (
+      not_off (c ++ os) (spans_then_open s o),
+      front_made (belongs parts.Spans) c os made (opens_stop o),
+      behind_made
+          (belongs parts.Spans) c os made (opens_stop o),
+      opens_again o,
+      times_again s,
+    ) refl
 
 off_read : read_times (Off ∷ []) ≡ Some times.Off
 unfolding read_times
 off_read = refl
 
 -- no long span begins so
-no_long : {b : List Token} {is : List DayItem} → IsDays b is → (rest : List Token) → ((a : Weekday) → is_long (Day a ∷ rest) ≡ false) → is_long rest ≡ false → is_long (b ++ rest) ≡ false
+no_long : {b : List Token} {is : List DayItem} → IsDays b is → (rest : List Token)
+    → ((a : Weekday) → is_long (Day a ∷ rest) ≡ false) → is_long rest ≡ false → is_long (b ++ rest) ≡ false
 no_long grammar.none rest one none = none
 no_long (grammar.some (grammar.one (grammar.weekday {a = a}))) rest one none = one a
 no_long (grammar.some (grammar.one grammar.weekdays)) rest one none = refl
@@ -295,26 +330,36 @@ spans_not_long grammar.none grammar.word = refl
 spans_not_long (grammar.some (grammar.one (grammar.span _ _))) o = refl
 spans_not_long (grammar.some (grammar.more (grammar.span _ _) hs)) o = refl
 
-after_again : {b : List Token} {is : List DayItem} (ds : List DateSpan) (rest : List Token) (t : RuleTimes) → IsDays b is → Starts follows_days rest → is_long (b ++ rest) ≡ false → read_times rest ≡ Some t → read_after ds (b ++ rest) ≡ Some (rule_of ds is t)
+after_again : {b : List Token} {is : List DayItem} (ds : List DateSpan) (rest : List Token) (t : RuleTimes) → IsDays b is
+    → Starts follows_days rest → is_long (b ++ rest) ≡ false → read_times rest ≡ Some t → read_after ds (b ++ rest) ≡ Some (rule_of ds is t)
 unfolding read_after
 after_again {b = b} {is = is} ds rest t d follows short times =
     let stops = Stops-starts follows_days (belongs parts.Days) not_days rest follows in
-    rw (short, front_made (belongs parts.Days) b rest (days_made b is d) stops, behind_made (belongs parts.Days) b rest (days_made b is d) stops, days_again d, times) refl
+    rw (
+      short,
+      front_made (belongs parts.Days) b rest (days_made b is d) stops,
+      behind_made (belongs parts.Days) b rest
+          (days_made b is d) stops,
+      days_again d,
+      times,
+    ) refl
 
 long_is_long : {b : List Token} {l : LongSpan} (os : List Token) → IsLong b l → is_long (b ++ os) ≡ true
 long_is_long os (grammar.long _ _) = refl
 
-long_after : {b os : List Token} {l : LongSpan} (ds : List DateSpan) → IsLong b l → IsOpens os → read_after ds (b ++ os) ≡ Some (rule_of ds [] (times.Long l))
+long_after : {b os : List Token} {l : LongSpan} (ds : List DateSpan) → IsLong b l → IsOpens os
+    → read_after ds (b ++ os) ≡ Some (rule_of ds [] (times.Long l))
 unfolding read_after
 long_after {b = b} {os = os} {l = l} ds h o =
     let e : is_long (b ++ os) ≡ true = long_is_long os h in
     rw (e, long_again h o) refl
 
--- what a rule's tokens are
+-- the tokens of a rule
 dates_content : (ts : List Token) (ds : List DateSpan) → IsDates ts ds → Made is_content ts
 dates_content ts ds grammar.none = tt
 dates_content ts ds (grammar.plain h) = joined_made is_content IsDate Comma refl (date_made is_content refl (λ _. refl) (λ _. refl)) h
-dates_content ts ds (grammar.colon {ts = us} h) = Made-append is_content us (Colon ∷ []) (joined_made is_content IsDate Comma refl (date_made is_content refl (λ _. refl) (λ _. refl)) h) (refl, tt)
+dates_content ts ds (grammar.colon {ts = us} h) =
+    Made-append is_content us (Colon ∷ []) (joined_made is_content IsDate Comma refl (date_made is_content refl (λ _. refl) (λ _. refl)) h) (refl, tt)
 
 days_content : (ts : List Token) (is : List DayItem) → IsDays ts is → Made is_content ts
 days_content ts is grammar.none = tt
@@ -377,12 +422,15 @@ always os o = rw (opens_again o) refl
 pub rule_again : (ts : List Token) (r : HoursRule) → IsRule ts r → read_rule ts ≡ Some r
 rule_again ts r (grammar.always {os = os} o) = always os o
 rule_again ts r (grammar.spans {a = a} {b = b} {c = c} {os = os} {dates = ds} {days = is} {spans = ss} d i s o some) =
-    let whole : a ++ (b ++ (c ++ os)) ≡ (a ++ (b ++ c)) ++ os = ap (λ (us : List Token). a ++ us) (sym (append_assoc b c os)) ∙ sym (append_assoc a (b ++ c) os) in
-    let content = Made-append is_content a (b ++ c) (dates_content a ds d) (Made-append is_content b c (days_content b is i) (spans_content c ss s)) in
+    let whole : a ++ (b ++ (c ++ os)) ≡ (a ++ (b ++ c)) ++ os = ap (λ (us : List Token). a ++ us) (sym (append_assoc b c os))
+    ∙ sym (append_assoc a (b ++ c) os) in
+    let content = Made-append is_content a (b ++ c) (dates_content a ds d)
+    (Made-append is_content b c (days_content b is i) (spans_content c ss s)) in
     let start = spans_then_open s o in
     ap read_rule whole ∙ content_read (a ++ (b ++ c)) os content some ∙ ap read_dated (sym whole)
     ∙ dated_again (b ++ (c ++ os)) d (Starts-append follows_dates b (c ++ os) (days_start i) (open_follows_dates (c ++ os) start))
-    ∙ after_again ds (c ++ os) (times.Spans ss) i (open_follows (c ++ os) start) (no_long i (c ++ os) (spans_no_long s o) (spans_not_long s o)) (spans_read s o)
+    ∙ after_again ds (c ++ os) (times.Spans ss) i (open_follows (c ++ os) start)
+    (no_long i (c ++ os) (spans_no_long s o) (spans_not_long s o)) (spans_read s o)
 rule_again ts r (grammar.off {a = a} {b = b} {dates = ds} {days = is} d i) =
     let whole : a ++ (b ++ Off ∷ []) ≡ (a ++ b) ++ Off ∷ [] = sym (append_assoc a b (Off ∷ [])) in
     let content = Made-append is_content a b (dates_content a ds d) (days_content b is i) in
@@ -402,8 +450,7 @@ if_some true x y e = absurd cc
 if_some false x y e = (refl, e)
 
 then_some : {A B : Type 0} (o : Option A) (f : A → Option B) (y : B) → option_and_then f o ≡ Some y → (x : A) × (o ≡ Some x) × (f x ≡ Some y)
-then_some (Some x) f y e = (x, refl, e)
-then_some None f y e = absurd cc
+then_some o f y e = option_and_then_some f o y e (λ x is found. (x, is, found))
 
 map_some : {A B : Type 0} (o : Option A) (f : A → B) (y : B) → option_map f o ≡ Some y → (x : A) × (o ≡ Some x) × (f x ≡ y)
 map_some (Some x) f y e = (x, refl, cc)
@@ -413,7 +460,7 @@ off_is : (ts : List Token) → is_off ts ≡ true → ts ≡ Off ∷ []
 off_is (Off ∷ []) e = refl
 off_is ts e = absurd cc
 
--- what stands behind days
+-- the tokens behind days
 data Times : List Token → RuleTimes → Type 0 where
   off : Times (Off ∷ []) times.Off
   spans : {c os : List Token} {ss : List TimeSpan} → IsSpans c ss → IsOpens os → Times (c ++ os) (times.Spans ss)
@@ -422,28 +469,35 @@ times_found : (ts : List Token) (t : RuleTimes) → read_times ts ≡ Some t →
 unfolding read_times
 times_found ts t e =
     let p = belongs parts.Spans in
-    let by_opens : (b : Bool) → is_opens (behind p ts) ≡ b → cond b (option_map (λ ss. times.Spans ss) (read_spans (take_while p ts))) None ≡ Some t → Times ts t =
-    λ b. elim b as (λ v. is_opens (behind p ts) ≡ v → cond v (option_map (λ ss. times.Spans ss) (read_spans (take_while p ts))) None ≡ Some t → Times ts t) [
+    let by_opens : (b : Bool) → is_opens (behind p ts) ≡ b
+    → cond b (option_map (λ ss. times.Spans ss) (read_spans (take_while p ts))) None ≡ Some t → Times ts t =
+    λ b. elim b as (λ v. is_opens (behind p ts) ≡ v
+    → cond v (option_map (λ ss. times.Spans ss) (read_spans (take_while p ts))) None ≡ Some t → Times ts t) [
       | true ↦ λ o f.
           let m = map_some (read_spans (take_while p ts)) (λ ss. times.Spans ss) t f in
-          let found : Times (take_while p ts ++ behind p ts) (times.Spans m.0) = spans (spans_found (take_while p ts) m.0 m.1) (opens_found (behind p ts) o) in
+          let found : Times (take_while p ts ++ behind p ts) (times.Spans m.0) =
+          spans (spans_found (take_while p ts) m.0 m.1) (opens_found (behind p ts) o) in
           subst (λ (us : List Token). Times us t) (front_behind p ts) (subst (Times (take_while p ts ++ behind p ts)) m.2 found)
       | false ↦ λ o f. absurd cc
     ] in
-    let by_off : (b : Bool) → is_off ts ≡ b → cond b (Some times.Off) (cond (is_opens (behind p ts)) (option_map (λ ss. times.Spans ss) (read_spans (take_while p ts))) None) ≡ Some t → Times ts t =
-    λ b. elim b as (λ v. is_off ts ≡ v → cond v (Some times.Off) (cond (is_opens (behind p ts)) (option_map (λ ss. times.Spans ss) (read_spans (take_while p ts))) None) ≡ Some t → Times ts t) [
+    let by_off : (b : Bool) → is_off ts ≡ b → cond b (Some times.Off)
+    (cond (is_opens (behind p ts)) (option_map (λ ss. times.Spans ss) (read_spans (take_while p ts))) None) ≡ Some t → Times ts t =
+    λ b. elim b as (λ v. is_off ts ≡ v → cond v (Some times.Off)
+    (cond (is_opens (behind p ts)) (option_map (λ ss. times.Spans ss) (read_spans (take_while p ts))) None) ≡ Some t → Times ts t) [
       | true ↦ λ o f. let g : times.Off ≡ t = cc in subst (λ (us : List Token). Times us t) (sym (off_is ts o)) (subst (Times (Off ∷ [])) g off)
       | false ↦ λ o f. by_opens (is_opens (behind p ts)) refl f
     ] in
     by_off (is_off ts) refl e
 
--- what stands behind dates
+-- the tokens behind dates
 data After (ds : List DateSpan) : List Token → HoursRule → Type 0 where
   long : {b os : List Token} {l : LongSpan} → IsLong b l → IsOpens os → After ds (b ++ os) (rule_of ds [] (times.Long l))
   off : {b : List Token} {is : List DayItem} → IsDays b is → After ds (b ++ Off ∷ []) (rule_of ds is times.Off)
-  spans : {b c os : List Token} {is : List DayItem} {ss : List TimeSpan} → IsDays b is → IsSpans c ss → IsOpens os → After ds (b ++ (c ++ os)) (rule_of ds is (times.Spans ss))
+  spans : {b c os : List Token} {is : List DayItem} {ss : List TimeSpan} → IsDays b is → IsSpans c ss → IsOpens os
+      → After ds (b ++ (c ++ os)) (rule_of ds is (times.Spans ss))
 
-after_times : (ds : List DateSpan) (b rest : List Token) (is : List DayItem) (t : RuleTimes) → IsDays b is → Times rest t → After ds (b ++ rest) (rule_of ds is t)
+after_times : (ds : List DateSpan) (b rest : List Token) (is : List DayItem) (t : RuleTimes) → IsDays b is → Times rest t
+    → After ds (b ++ rest) (rule_of ds is t)
 after_times ds b rest is t d off = off d
 after_times ds b rest is t d (spans s o) = spans d s o
 
@@ -462,16 +516,19 @@ after_found ds ts r e =
       | false ↦ λ f.
           let a = then_some (read_days (take_while p ts)) (λ is. option_map (λ t. rule_of ds is t) (read_times (behind p ts))) r f in
           let m = map_some (read_times (behind p ts)) (λ t. rule_of ds a.0 t) r a.2 in
-          let found = after_times ds (take_while p ts) (behind p ts) a.0 m.0 (days_found (take_while p ts) a.0 a.1) (times_found (behind p ts) m.0 m.1) in
+          let found = after_times ds (take_while p ts) (behind p ts) a.0 m.0 (days_found (take_while p ts) a.0 a.1)
+          (times_found (behind p ts) m.0 m.1) in
           subst (λ (us : List Token). After ds us r) (front_behind p ts) (subst (After ds (take_while p ts ++ behind p ts)) m.2 found)
     ] in
     by (is_long ts) e
 
-rule_made : (a rest : List Token) (ds : List DateSpan) (r : HoursRule) → IsDates a ds → After ds rest r → is_opens (a ++ rest) ≡ false → IsRule (a ++ rest) r
+rule_made : (a rest : List Token) (ds : List DateSpan) (r : HoursRule) → IsDates a ds → After ds rest r
+    → is_opens (a ++ rest) ≡ false → IsRule (a ++ rest) r
 rule_made a rest ds r d (long h o) content = grammar.long d h o
 rule_made a rest ds r d (off i) content = grammar.off d i
 rule_made a rest ds r d (spans {b = b} {c = c} {os = os} i s o) content =
-    let whole : a ++ (b ++ (c ++ os)) ≡ (a ++ (b ++ c)) ++ os = ap (λ (us : List Token). a ++ us) (sym (append_assoc b c os)) ∙ sym (append_assoc a (b ++ c) os) in
+    let whole : a ++ (b ++ (c ++ os)) ≡ (a ++ (b ++ c)) ++ os = ap (λ (us : List Token). a ++ us) (sym (append_assoc b c os))
+    ∙ sym (append_assoc a (b ++ c) os) in
     let some : a ++ (b ++ c) ≢ [] = λ nil.
     let same : is_opens (a ++ (b ++ (c ++ os))) ≡ is_opens os = ap is_opens (whole ∙ ap (λ (us : List Token). us ++ os) nil) in
     let yes_ : is_opens os ≡ true = opens_again o in
@@ -479,10 +536,12 @@ rule_made a rest ds r d (spans {b = b} {c = c} {os = os} i s o) content =
     grammar.spans d i s o some
 
 -- the dates before what stands behind them
-cut_back : (core back : List Token) (ds : List DateSpan) → Joined IsDate Comma core ds → (a : List Token) × IsDates a ds × (core ++ back ≡ a ++ without_colon core back)
+cut_back : (core back : List Token) (ds : List DateSpan) → Joined IsDate Comma core ds → (a : List Token) × IsDates a ds
+    × (core ++ back ≡ a ++ without_colon core back)
 cut_back core back ds h = cut core back (joined_heads is_content IsDate Comma date_heads h) h
   where
-    cut : (core back : List Token) → Heads is_content core → Joined IsDate Comma core ds → (a : List Token) × IsDates a ds × (core ++ back ≡ a ++ without_colon core back)
+    cut : (core back : List Token) → Heads is_content core → Joined IsDate Comma core ds → (a : List Token) × IsDates a ds
+        × (core ++ back ≡ a ++ without_colon core back)
     cut [] back some h = absurd some
     cut (t ∷ ts) [] some h = (t ∷ ts, grammar.plain h, refl)
     cut (t ∷ ts) (Colon ∷ back) some h = ((t ∷ ts) ++ Colon ∷ [], grammar.colon h, sym (append_assoc (t ∷ ts) (Colon ∷ []) back))
@@ -509,7 +568,8 @@ dated_found ts r content e =
           subst (λ (us : List Token). IsRule us r) all (rule_made c.0 (without_colon core back) a.0 r c.1 after (ap is_opens all ∙ content))
     ]
 
-always_found : (os : List Token) (r : HoursRule) → cond (is_opens os) (Some (rule_of [] [] (times.Spans whole_day))) None ≡ Some r → IsRule (Always ∷ os) r
+always_found : (os : List Token) (r : HoursRule)
+    → cond (is_opens os) (Some (rule_of [] [] (times.Spans whole_day))) None ≡ Some r → IsRule (Always ∷ os) r
 always_found os r e =
     let f = some_if (is_opens os) (rule_of [] [] (times.Spans whole_day)) r e in
     subst (IsRule (Always ∷ os)) f.1 (grammar.always (opens_found os f.0))
@@ -535,7 +595,8 @@ rule_tokens : (ts : List Token) (r : HoursRule) → IsRule ts r → Made (belong
 rule_tokens ts r (grammar.always o) = (refl, opens_in_rule o)
 rule_tokens ts r (grammar.spans {a = a} {b = b} {c = c} {os = os} {dates = ds} {days = is} {spans = ss} d i s o some) =
     let p = belongs parts.Rule in let w = Made-weaker is_content p in_rule in
-    Made-append p a (b ++ (c ++ os)) (w a (dates_content a ds d)) (Made-append p b (c ++ os) (w b (days_content b is i)) (Made-append p c os (w c (spans_content c ss s)) (opens_in_rule o)))
+    Made-append p a (b ++ (c ++ os)) (w a (dates_content a ds d))
+    (Made-append p b (c ++ os) (w b (days_content b is i)) (Made-append p c os (w c (spans_content c ss s)) (opens_in_rule o)))
 rule_tokens ts r (grammar.off {a = a} {b = b} {dates = ds} {days = is} d i) =
     let p = belongs parts.Rule in let w = Made-weaker is_content p in_rule in
     Made-append p a (b ++ Off ∷ []) (w a (dates_content a ds d)) (Made-append p b (Off ∷ []) (w b (days_content b is i)) (refl, tt))

@@ -1,5 +1,6 @@
 -- Tokens that are spelled are cut into the same tokens.
-use Rattle.std.proofs.Common.{◌≡◌, ◌≢◌, ℕ, zero, suc, ◌+◌, ◌/◌, ◌%◌, ◌<◌, ◌≤◌, Bool, true, false, cond, List, [], ◌∷◌, ◌++◌, length, drop, Some, None, refl, sym, ap, subst, ◌∙◌, arith}
+use Rattle.std.proofs.Common.{◌≡◌, ◌≢◌, ℕ, zero, suc, ◌+◌, ◌/◌, ◌%◌, ◌<◌, ◌≤◌, Bool, true, false, cond, List, [], ◌∷◌, ◌++◌}
+use Rattle.std.proofs.Common.{length, drop, Some, None, refl, sym, ap, subst, ◌∙◌, arith}
 use Rattle.std.specs.Prelude.{◌==◌, ◌&&◌, ◌||◌, codes}
 use Rattle.std.specs.List.{take_while}
 use Rattle.std.proofs.lemmas.Bool.{le-leb}
@@ -8,19 +9,21 @@ use Rattle.std.proofs.lemmas.List.Sums.{take_while-cons}
 use Rattle.calendar_days.specs.declared.weekday.Weekday.{Weekday}
 use Rattle.calendar_days.specs.declared.weekday.Weekday.TheVariants.{Mo, Tu, We, Th, Fr, Sa, Su}
 use Rattle.opening_hours.specs.declared.tokens.Token.{Token}
-use Rattle.opening_hours.specs.declared.tokens.Token.TheVariants.{Month, Day, Public, School, Off, Open, Always, Unknown, Time, Number, Dash, Comma, Semicolon, Colon}
+use Rattle.opening_hours.specs.declared.tokens.Token.TheVariants.{Month, Day, Public, School, Off, Open, Always, Unknown}
+use Rattle.opening_hours.specs.declared.tokens.Token.TheVariants.{Time, Number, Dash, Comma, Semicolon, Colon}
 use Rattle.opening_hours.specs.declared.types.DateSpan.{DateSpan}
 use Rattle.opening_hours.specs.declared.types.DayItem.{DayItem}
 use Rattle.opening_hours.specs.declared.types.TimeSpan.{TimeSpan}
 use Rattle.opening_hours.specs.declared.types.LongSpan.{LongSpan}
 use Rattle.opening_hours.specs.declared.types.HoursRule.{HoursRule}
-use Rattle.opening_hours.specs.Tokens.{is_digit, is_letter, is_blank, two_digits, other_token, weekday_token, word_token, AreLetters, without_blanks}
-use Rattle.opening_hours.specs.Cutting.{word_of, word_at, mark_at, token_at, IsMatched}
-use Rattle.opening_hours.specs.Spelling.{two, month_text, weekday_text, lexeme, is_tight, is_semicolon, blank_between, spell}
+use Rattle.opening_hours.specs.Tokens.{is_digit, is_letter, is_blank, number_of_two, other_token, weekday_token, word_token, AreLetters, without_blanks}
+use Rattle.opening_hours.specs.Inside.Tokenizer.{word_of, word_at, mark_at, token_at, IsMatched}
+use Rattle.calendar_days.specs.Texts.{two_digits}
+use Rattle.opening_hours.specs.CanonicalText.{month_text, weekday_text, lexeme, is_tight, is_semicolon, blank_between, spell}
 use Rattle.opening_hours.specs.Grammar.{IsMonth, IsTime, IsDate, IsItem, IsSpan, IsLong, IsOpens, IsDates, IsDays, IsSpans, IsRule, IsRules, Joined}
 use Rattle.opening_hours.specs.Grammar as grammar
 
--- what may stand behind a word or a number
+-- the bytes that may follow a word or a number
 abbrev pub Calm : List ℕ → Type 0
 Calm [] = Unit {0}
 Calm (b ∷ bs) = (is_letter b ≡ false) × ((b == 58) ≡ false) × ((b == 47) ≡ false)
@@ -28,15 +31,18 @@ Calm (b ∷ bs) = (is_letter b ≡ false) × ((b == 58) ≡ false) × ((b == 47)
 letters_front : (w rest : List ℕ) → AreLetters w → Calm rest → take_while is_letter (w ++ rest) ≡ w
 letters_front [] [] h c = refl
 letters_front [] (b ∷ bs) h c = take_while-cons is_letter b bs ∙ ap (λ v. cond v (b ∷ take_while is_letter bs) []) c.0
-letters_front (b ∷ bs) rest h c = take_while-cons is_letter b (bs ++ rest) ∙ ap (λ v. cond v (b ∷ take_while is_letter (bs ++ rest)) []) h.0 ∙ ap (λ (ws : List ℕ). b ∷ ws) (letters_front bs rest h.1 c)
+letters_front (b ∷ bs) rest h c = take_while-cons is_letter b (bs ++ rest)
+    ∙ ap (λ v. cond v (b ∷ take_while is_letter (bs ++ rest)) []) h.0 ∙ ap (λ (ws : List ℕ). b ∷ ws) (letters_front bs rest h.1 c)
 
 drop_front : (w rest : List ℕ) → drop (length w) (w ++ rest) ≡ rest
 drop_front w rest = grind (arith, common_steps)
 
-pub word_first : (w : List ℕ) (b : ℕ) (bs rest : List ℕ) (t : Token) → w ≡ b ∷ bs → AreLetters w → word_token w ≡ t → Calm rest → token_at (w ++ rest) ≡ Some (t, rest)
+pub word_first : (w : List ℕ) (b : ℕ) (bs rest : List ℕ) (t : Token) → w ≡ b ∷ bs → AreLetters w → word_token w ≡ t
+    → Calm rest → token_at (w ++ rest) ≡ Some (t, rest)
 unfolding token_at word_at
 word_first w b bs rest t is h means c =
-    let found : word_of w rest ≡ Some (t, rest) = subst (λ (v : List ℕ). word_of v rest ≡ Some (t, rest)) (sym is) (ap (λ (u : Token). Some (u, rest)) (ap word_token (sym is) ∙ means)) in
+    let found : word_of w rest ≡ Some (t, rest) =
+    subst (λ (v : List ℕ). word_of v rest ≡ Some (t, rest)) (sym is) (ap (λ (u : Token). Some (u, rest)) (ap word_token (sym is) ∙ means)) in
     let front = letters_front w rest h c in
     rw (front, drop_front w rest, found) refl
 
@@ -45,7 +51,8 @@ pub no_word : (b : ℕ) (bs : List ℕ) → is_letter b ≡ false → word_at (b
 unfolding word_at
 no_word b bs h = rw (take_while-cons is_letter b bs, h) refl
 
-pub time_first : (a b d e : ℕ) (rest : List ℕ) → is_letter a ≡ false → is_digit a ≡ true → is_digit b ≡ true → is_digit d ≡ true → is_digit e ≡ true → token_at (a ∷ b ∷ 58 ∷ d ∷ e ∷ rest) ≡ Some (Time (two_digits a b) (two_digits d e), rest)
+pub time_first : (a b d e : ℕ) (rest : List ℕ) → is_letter a ≡ false → is_digit a ≡ true → is_digit b ≡ true
+    → is_digit d ≡ true → is_digit e ≡ true → token_at (a ∷ b ∷ 58 ∷ d ∷ e ∷ rest) ≡ Some (Time (number_of_two a b) (number_of_two d e), rest)
 unfolding token_at
 time_first a b d e rest n ha hb hd he = rw (no_word a (b ∷ 58 ∷ d ∷ e ∷ rest) n, ha, hb, hd, he) refl
 
@@ -54,14 +61,17 @@ both_false true true = refl
 both_false true false = refl
 both_false false b = refl
 
-number_first : (a b : ℕ) (rest : List ℕ) → is_letter a ≡ false → is_digit a ≡ true → is_digit b ≡ true → (b == 58) ≡ false → Calm rest → token_at (a ∷ b ∷ rest) ≡ Some (Number (two_digits a b), rest)
+number_first : (a b : ℕ) (rest : List ℕ) → is_letter a ≡ false → is_digit a ≡ true → is_digit b ≡ true → (b == 58) ≡ false
+    → Calm rest → token_at (a ∷ b ∷ rest) ≡ Some (Number (number_of_two a b), rest)
 unfolding token_at
 number_first a b [] n ha hb colon c = rw (no_word a (b ∷ []) n, ha, hb) refl
 number_first a b (x ∷ []) n ha hb colon c = rw (no_word a (b ∷ x ∷ []) n, ha, hb) refl
 number_first a b (x ∷ y ∷ []) n ha hb colon c = rw (no_word a (b ∷ x ∷ y ∷ []) n, ha, hb, colon, c.2, both_false (a == 50) (b == 52)) refl
-number_first a b (x ∷ y ∷ z ∷ rest) n ha hb colon c = rw (no_word a (b ∷ x ∷ y ∷ z ∷ rest) n, ha, hb, colon, c.1, c.2, both_false (a == 50) (b == 52)) refl
+number_first a b (x ∷ y ∷ z ∷ rest) n ha hb colon c =
+    rw (no_word a (b ∷ x ∷ y ∷ z ∷ rest) n, ha, hb, colon, c.1, c.2, both_false (a == 50) (b == 52)) refl
 
-pub mark_first : (a : ℕ) (rest : List ℕ) (t : Token) → is_letter a ≡ false → is_digit a ≡ false → (a == 50) ≡ false → mark_at (a ∷ rest) ≡ Some (t, rest) → token_at (a ∷ rest) ≡ Some (t, rest)
+pub mark_first : (a : ℕ) (rest : List ℕ) (t : Token) → is_letter a ≡ false → is_digit a ≡ false → (a == 50) ≡ false
+    → mark_at (a ∷ rest) ≡ Some (t, rest) → token_at (a ∷ rest) ≡ Some (t, rest)
 unfolding token_at
 mark_first a [] t n h two m = rw (no_word a [] n, h, m) refl
 mark_first a (b ∷ []) t n h two m = rw (no_word a (b ∷ []) n, h, m) refl
@@ -75,7 +85,8 @@ always_first [] = rw (no_word 50 (52 ∷ 47 ∷ 55 ∷ []) refl) refl
 always_first (b ∷ bs) = rw (no_word 50 (52 ∷ 47 ∷ 55 ∷ b ∷ bs) refl) refl
 
 digit_is : (n : ℕ) → n < 10 → is_digit (48 + n) ≡ true
-digit_is n h = let low : 48 ≤ 48 + n = omega arith in let high : 48 + n ≤ 57 = omega arith in rw (le-leb 48 (48 + n) low, le-leb (48 + n) 57 high) refl
+digit_is n h = let low : 48 ≤ 48 + n = omega arith in let high : 48 + n ≤ 57 = omega arith in
+    rw (le-leb 48 (48 + n) low, le-leb (48 + n) 57 high) refl
 
 digit_no_letter : (n : ℕ) → n < 10 → is_letter (48 + n) ≡ false
 digit_no_letter n h = grind (arith, common_steps)
@@ -83,7 +94,7 @@ digit_no_letter n h = grind (arith, common_steps)
 digit_no_colon : (n : ℕ) → n < 10 → (48 + n == 58) ≡ false
 digit_no_colon n h = grind (arith, common_steps)
 
-two_again : (n : ℕ) → n ≤ 99 → two_digits (48 + n / 10 % 10) (48 + n % 10) ≡ n
+two_again : (n : ℕ) → n ≤ 99 → number_of_two (48 + n / 10 % 10) (48 + n % 10) ≡ n
 two_again n h = omega arith
 
 tens : (n : ℕ) → n / 10 % 10 < 10
@@ -92,7 +103,7 @@ tens n = omega arith
 ones : (n : ℕ) → n % 10 < 10
 ones n = omega arith
 
--- what has a spelling that is read again
+-- tokens with a spelling that is read again
 abbrev pub Spells : Token → Type 0
 Spells (Month m) = IsMonth m
 Spells (Number n) = n ≤ 99
@@ -104,7 +115,7 @@ abbrev pub AllSpell : List Token → Type 0
 AllSpell [] = Unit {0}
 AllSpell (t ∷ ts) = Spells t × AllSpell ts
 
--- what stands behind the token doesn't go on with it
+-- the text behind the token does not continue it
 abbrev pub Ends : Token → List ℕ → Type 0
 Ends (Month m) rest = Calm rest
 Ends (Number n) rest = Calm rest
@@ -122,14 +133,22 @@ month_first (suc zero) rest h c = word_first (codes "Jan") 74 (97 ∷ 110 ∷ []
 month_first (suc (suc zero)) rest h c = word_first (codes "Feb") 70 (101 ∷ 98 ∷ []) rest (Month 2) refl (refl, (refl, (refl, tt))) refl c
 month_first (suc (suc (suc zero))) rest h c = word_first (codes "Mar") 77 (97 ∷ 114 ∷ []) rest (Month 3) refl (refl, (refl, (refl, tt))) refl c
 month_first (suc (suc (suc (suc zero)))) rest h c = word_first (codes "Apr") 65 (112 ∷ 114 ∷ []) rest (Month 4) refl (refl, (refl, (refl, tt))) refl c
-month_first (suc (suc (suc (suc (suc zero))))) rest h c = word_first (codes "May") 77 (97 ∷ 121 ∷ []) rest (Month 5) refl (refl, (refl, (refl, tt))) refl c
-month_first (suc (suc (suc (suc (suc (suc zero)))))) rest h c = word_first (codes "Jun") 74 (117 ∷ 110 ∷ []) rest (Month 6) refl (refl, (refl, (refl, tt))) refl c
-month_first (suc (suc (suc (suc (suc (suc (suc zero))))))) rest h c = word_first (codes "Jul") 74 (117 ∷ 108 ∷ []) rest (Month 7) refl (refl, (refl, (refl, tt))) refl c
-month_first (suc (suc (suc (suc (suc (suc (suc (suc zero)))))))) rest h c = word_first (codes "Aug") 65 (117 ∷ 103 ∷ []) rest (Month 8) refl (refl, (refl, (refl, tt))) refl c
-month_first (suc (suc (suc (suc (suc (suc (suc (suc (suc zero))))))))) rest h c = word_first (codes "Sep") 83 (101 ∷ 112 ∷ []) rest (Month 9) refl (refl, (refl, (refl, tt))) refl c
-month_first (suc (suc (suc (suc (suc (suc (suc (suc (suc (suc zero)))))))))) rest h c = word_first (codes "Oct") 79 (99 ∷ 116 ∷ []) rest (Month 10) refl (refl, (refl, (refl, tt))) refl c
-month_first (suc (suc (suc (suc (suc (suc (suc (suc (suc (suc (suc zero))))))))))) rest h c = word_first (codes "Nov") 78 (111 ∷ 118 ∷ []) rest (Month 11) refl (refl, (refl, (refl, tt))) refl c
-month_first (suc (suc (suc (suc (suc (suc (suc (suc (suc (suc (suc (suc zero)))))))))))) rest h c = word_first (codes "Dec") 68 (101 ∷ 99 ∷ []) rest (Month 12) refl (refl, (refl, (refl, tt))) refl c
+month_first (suc (suc (suc (suc (suc zero))))) rest h c =
+    word_first (codes "May") 77 (97 ∷ 121 ∷ []) rest (Month 5) refl (refl, (refl, (refl, tt))) refl c
+month_first (suc (suc (suc (suc (suc (suc zero)))))) rest h c =
+    word_first (codes "Jun") 74 (117 ∷ 110 ∷ []) rest (Month 6) refl (refl, (refl, (refl, tt))) refl c
+month_first (suc (suc (suc (suc (suc (suc (suc zero))))))) rest h c =
+    word_first (codes "Jul") 74 (117 ∷ 108 ∷ []) rest (Month 7) refl (refl, (refl, (refl, tt))) refl c
+month_first (suc (suc (suc (suc (suc (suc (suc (suc zero)))))))) rest h c =
+    word_first (codes "Aug") 65 (117 ∷ 103 ∷ []) rest (Month 8) refl (refl, (refl, (refl, tt))) refl c
+month_first (suc (suc (suc (suc (suc (suc (suc (suc (suc zero))))))))) rest h c =
+    word_first (codes "Sep") 83 (101 ∷ 112 ∷ []) rest (Month 9) refl (refl, (refl, (refl, tt))) refl c
+month_first (suc (suc (suc (suc (suc (suc (suc (suc (suc (suc zero)))))))))) rest h c =
+    word_first (codes "Oct") 79 (99 ∷ 116 ∷ []) rest (Month 10) refl (refl, (refl, (refl, tt))) refl c
+month_first (suc (suc (suc (suc (suc (suc (suc (suc (suc (suc (suc zero))))))))))) rest h c =
+    word_first (codes "Nov") 78 (111 ∷ 118 ∷ []) rest (Month 11) refl (refl, (refl, (refl, tt))) refl c
+month_first (suc (suc (suc (suc (suc (suc (suc (suc (suc (suc (suc (suc zero)))))))))))) rest h c =
+    word_first (codes "Dec") 68 (101 ∷ 99 ∷ []) rest (Month 12) refl (refl, (refl, (refl, tt))) refl c
 month_first (suc (suc (suc (suc (suc (suc (suc (suc (suc (suc (suc (suc (suc m))))))))))))) rest h c = absurd (omega arith)
 
 day_first : (d : Weekday) (rest : List ℕ) → Calm rest → token_at (weekday_text d ++ rest) ≡ Some (Day d, rest)
@@ -153,10 +172,14 @@ token_first Open rest h c = word_first (codes "open") 111 (112 ∷ 101 ∷ 110 �
 token_first Always rest h c = always_first rest
 token_first Unknown rest h c = absurd h
 token_first (Time h m) rest fits c =
-    time_first (48 + h / 10 % 10) (48 + h % 10) (48 + m / 10 % 10) (48 + m % 10) rest (digit_no_letter (h / 10 % 10) (tens h)) (digit_is (h / 10 % 10) (tens h)) (digit_is (h % 10) (ones h)) (digit_is (m / 10 % 10) (tens m)) (digit_is (m % 10) (ones m))
-    ∙ ap (λ k. Some (Time k (two_digits (48 + m / 10 % 10) (48 + m % 10)), rest)) (two_again h fits.0) ∙ ap (λ k. Some (Time h k, rest)) (two_again m fits.1)
+    time_first (48 + h / 10 % 10) (48 + h % 10) (48 + m / 10 % 10) (48 + m % 10) rest
+    (digit_no_letter (h / 10 % 10) (tens h)) (digit_is (h / 10 % 10) (tens h)) (digit_is (h % 10) (ones h))
+    (digit_is (m / 10 % 10) (tens m)) (digit_is (m % 10) (ones m))
+    ∙ ap (λ k. Some (Time k (number_of_two (48 + m / 10 % 10) (48 + m % 10)), rest)) (two_again h fits.0)
+    ∙ ap (λ k. Some (Time h k, rest)) (two_again m fits.1)
 token_first (Number n) rest fits c =
-    number_first (48 + n / 10 % 10) (48 + n % 10) rest (digit_no_letter (n / 10 % 10) (tens n)) (digit_is (n / 10 % 10) (tens n)) (digit_is (n % 10) (ones n)) (digit_no_colon (n % 10) (ones n)) c
+    number_first (48 + n / 10 % 10) (48 + n % 10) rest (digit_no_letter (n / 10 % 10) (tens n))
+    (digit_is (n / 10 % 10) (tens n)) (digit_is (n % 10) (ones n)) (digit_no_colon (n % 10) (ones n)) c
     ∙ ap (λ k. Some (Number k, rest)) (two_again n fits)
 token_first Dash rest h c = mark_first 45 rest Dash refl refl refl refl
 token_first Comma rest h c = mark_first 44 rest Comma refl refl refl refl
@@ -262,7 +285,8 @@ unfolding spell
 spelled_from t [] h = ap token_at (sym (bytes_nil (lexeme t))) ∙ token_first t [] h.0 (calm_ends t [] tt)
 spelled_from t (u ∷ us) h =
     let rest = blank_between t u ++ spell (u ∷ us) in
-    let dark : without_blanks rest ≡ spell (u ∷ us) = after_gap (is_tight t || (is_tight u || is_semicolon u)) (spell (u ∷ us)) ∙ spell_dark u us h.1.0 in
+    let dark : without_blanks rest ≡ spell (u ∷ us) =
+    after_gap (is_tight t || (is_tight u || is_semicolon u)) (spell (u ∷ us)) ∙ spell_dark u us h.1.0 in
     (rest, token_first t rest h.0 (next_ends t u us), subst (λ (text : List ℕ). IsMatched text (u ∷ us)) (sym dark) (spelled_from u us h.1))
 
 -- Tokens that are spelled are cut into the same tokens.
@@ -275,9 +299,11 @@ AllSpell-append : (ts us : List Token) → AllSpell ts → AllSpell us → AllSp
 AllSpell-append [] us h k = k
 AllSpell-append (t ∷ ts) us h k = (h.0, AllSpell-append ts us h.1 k)
 
-joined_spell : {A : Type 0} (Is : List Token → A → Type 0) (mark : Token) → Spells mark → ((ts : List Token) (x : A) → Is ts x → AllSpell ts) → {ts : List Token} {xs : List A} → Joined Is mark ts xs → AllSpell ts
+joined_spell : {A : Type 0} (Is : List Token → A → Type 0) (mark : Token) → Spells mark
+    → ((ts : List Token) (x : A) → Is ts x → AllSpell ts) → {ts : List Token} {xs : List A} → Joined Is mark ts xs → AllSpell ts
 joined_spell Is mark m each (grammar.one {ts = ts} {x = x} h) = each ts x h
-joined_spell Is mark m each (grammar.more {ts = ts} {us = us} {x = x} h hs) = AllSpell-append ts (mark ∷ us) (each ts x h) (m, joined_spell Is mark m each hs)
+joined_spell Is mark m each (grammar.more {ts = ts} {us = us} {x = x} h hs) =
+    AllSpell-append ts (mark ∷ us) (each ts x h) (m, joined_spell Is mark m each hs)
 
 small_day : (a : ℕ) → grammar.IsDayNumber a → a ≤ 99
 small_day a h = omega arith
@@ -299,10 +325,12 @@ item_spell ts i grammar.public = (tt, tt)
 item_spell ts i grammar.school = (tt, tt)
 
 span_spell : (ts : List Token) (s : TimeSpan) → IsSpan ts s → AllSpell ts
-span_spell ts s (grammar.span {h = h} {m = m} {g = g} {n = n} p q) = (small_time h m 1439 (omega arith) p, (tt, (small_time g n 2880 (omega arith) q, tt)))
+span_spell ts s (grammar.span {h = h} {m = m} {g = g} {n = n} p q) =
+    (small_time h m 1439 (omega arith) p, (tt, (small_time g n 2880 (omega arith) q, tt)))
 
 long_spell : (ts : List Token) (l : LongSpan) → IsLong ts l → AllSpell ts
-long_spell ts l (grammar.long {h = h} {m = m} {g = g} {n = n} p q) = (tt, (small_time h m 1439 (omega arith) p, (tt, (tt, (small_time g n 1440 (omega arith) q, tt)))))
+long_spell ts l (grammar.long {h = h} {m = m} {g = g} {n = n} p q) =
+    (tt, (small_time h m 1439 (omega arith) p, (tt, (tt, (small_time g n 1440 (omega arith) q, tt)))))
 
 dates_spell : (ts : List Token) (ds : List DateSpan) → IsDates ts ds → AllSpell ts
 dates_spell ts ds grammar.none = tt
@@ -324,9 +352,12 @@ opens_spell ts grammar.word = (tt, tt)
 rule_spell : (ts : List Token) (r : HoursRule) → IsRule ts r → AllSpell ts
 rule_spell ts r (grammar.always {os = os} o) = (tt, opens_spell os o)
 rule_spell ts r (grammar.spans {a = a} {b = b} {c = c} {os = os} {dates = ds} {days = is} {spans = ss} d i s o some) =
-    AllSpell-append a (b ++ (c ++ os)) (dates_spell a ds d) (AllSpell-append b (c ++ os) (days_spell b is i) (AllSpell-append c os (spans_spell c ss s) (opens_spell os o)))
-rule_spell ts r (grammar.off {a = a} {b = b} {dates = ds} {days = is} d i) = AllSpell-append a (b ++ Off ∷ []) (dates_spell a ds d) (AllSpell-append b (Off ∷ []) (days_spell b is i) (tt, tt))
-rule_spell ts r (grammar.long {a = a} {b = b} {os = os} {dates = ds} {l = l} d h o) = AllSpell-append a (b ++ os) (dates_spell a ds d) (AllSpell-append b os (long_spell b l h) (opens_spell os o))
+    AllSpell-append a (b ++ (c ++ os)) (dates_spell a ds d)
+    (AllSpell-append b (c ++ os) (days_spell b is i) (AllSpell-append c os (spans_spell c ss s) (opens_spell os o)))
+rule_spell ts r (grammar.off {a = a} {b = b} {dates = ds} {days = is} d i) =
+    AllSpell-append a (b ++ Off ∷ []) (dates_spell a ds d) (AllSpell-append b (Off ∷ []) (days_spell b is i) (tt, tt))
+rule_spell ts r (grammar.long {a = a} {b = b} {os = os} {dates = ds} {l = l} d h o) =
+    AllSpell-append a (b ++ os) (dates_spell a ds d) (AllSpell-append b os (long_spell b l h) (opens_spell os o))
 
 pub rules_spell : (ts : List Token) (rs : List HoursRule) → IsRules ts rs → AllSpell ts
 rules_spell ts rs h = joined_spell IsRule Semicolon tt rule_spell h

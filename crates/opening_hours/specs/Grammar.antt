@@ -1,10 +1,11 @@
--- The grammar of hours over tokens, with the meaning of each form: one constructor for each form (a subset of the `opening_hours`
--- specification of OpenStreetMap; the long span is this project's own form).
+-- The grammar of hours over tokens, one constructor a form, with its meaning (source: OpenStreetMap wiki, `opening_hours`, a subset;
+-- the long span is this project's own form).
 use Rattle.std.specs.Prelude.{◌≢◌, ℕ, ◌+◌, ◌-◌, ◌*◌, ◌≤◌, nat_lt, List, [], ◌∷◌, ◌++◌, if◌then◌else◌}
 use Rattle.calendar_days.specs.declared.weekday.Weekday.{Weekday}
 use Rattle.calendar_days.specs.Weekdays.{days_forward}
 use Rattle.opening_hours.specs.declared.tokens.Token.{Token}
-use Rattle.opening_hours.specs.declared.tokens.Token.TheVariants.{Month, Day, Public, School, Off, Open, Always, Time, Number, Dash, Comma, Semicolon, Colon}
+use Rattle.opening_hours.specs.declared.tokens.Token.TheVariants.{Month, Day, Public, School, Off, Open, Always, Time}
+use Rattle.opening_hours.specs.declared.tokens.Token.TheVariants.{Number, Dash, Comma, Semicolon, Colon}
 use Rattle.opening_hours.specs.declared.types.DateSpan.{DateSpan}
 use Rattle.opening_hours.specs.declared.types.DayItem.{DayItem}
 use Rattle.opening_hours.specs.declared.types.DayItem.TheVariants as items
@@ -42,7 +43,8 @@ pub data IsDate : List Token → DateSpan → Type 0 where
   months : {m n : ℕ} → IsMonth m → IsMonth n → IsDate (Month m ∷ Dash ∷ Month n ∷ []) (dates_from_to m 1 n 31)
   day : {m a : ℕ} → IsMonth m → IsDayNumber a → IsDate (Month m ∷ Number a ∷ []) (dates_from_to m a m a)
   days : {m a b : ℕ} → IsMonth m → IsDayNumber a → IsDayNumber b → IsDate (Month m ∷ Number a ∷ Dash ∷ Number b ∷ []) (dates_from_to m a m b)
-  days_over : {m a n b : ℕ} → IsMonth m → IsDayNumber a → IsMonth n → IsDayNumber b → IsDate (Month m ∷ Number a ∷ Dash ∷ Month n ∷ Number b ∷ []) (dates_from_to m a n b)
+  days_over : {m a n b : ℕ} → IsMonth m → IsDayNumber a → IsMonth n → IsDayNumber b
+      → IsDate (Month m ∷ Number a ∷ Dash ∷ Month n ∷ Number b ∷ []) (dates_from_to m a n b)
 
 -- Mo, Mo-Fr, PH, SH
 pub data IsItem : List Token → DayItem → Type 0 where
@@ -53,12 +55,14 @@ pub data IsItem : List Token → DayItem → Type 0 where
 
 -- 22:00-06:00: the start is before 24:00, and the end at 48:00 at the latest
 pub data IsSpan : List Token → TimeSpan → Type 0 where
-  span : {h m g n : ℕ} → IsTime h m 1439 → IsTime g n 2880 → IsSpan (Time h m ∷ Dash ∷ Time g n ∷ []) (record { start = 60 * h + m; length = span_length (60 * h + m) (60 * g + n) })
+  span : {h m g n : ℕ} → IsTime h m 1439 → IsTime g n 2880
+      → IsSpan (Time h m ∷ Dash ∷ Time g n ∷ []) (record { start = 60 * h + m; length = span_length (60 * h + m) (60 * g + n) })
 
 -- Sa 22:00-Su 22:00: the start is before 24:00, and the end at 24:00 at the latest
 pub data IsLong : List Token → LongSpan → Type 0 where
   long : {a b : Weekday} {h m g n : ℕ} → IsTime h m 1439 → IsTime g n 1440
-      → IsLong (Day a ∷ Time h m ∷ Dash ∷ Day b ∷ Time g n ∷ []) (record { weekday = a; start = 60 * h + m; length = long_length a (60 * h + m) b (60 * g + n) })
+      → IsLong (Day a ∷ Time h m ∷ Dash ∷ Day b ∷ Time g n ∷ [])
+      (record { weekday = a; start = 60 * h + m; length = long_length a (60 * h + m) b (60 * g + n) })
 
 -- One thing, or several with the mark between them.
 pub data Joined {A : Type 0} (Is : List Token → A → Type 0) (mark : Token) : List Token → List A → Type 0 where

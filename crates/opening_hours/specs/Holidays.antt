@@ -1,4 +1,4 @@
--- Holidays as lists of day numbers.
+-- Holidays as lists of day numbers (source: own).
 use Rattle.std.specs.Prelude.{ℕ, ◌==◌, Bool, List}
 use Rattle.std.specs.List.{list_any}
 

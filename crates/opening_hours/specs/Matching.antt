@@ -1,4 +1,4 @@
--- Which rule governs a day.
+-- The rule that governs a day (source: OpenStreetMap wiki, `opening_hours`; that the last match governs the whole day is own).
 use Rattle.std.specs.Prelude.{ℕ, ◌==◌, ◌&&◌, ◌||◌, Bool, nat_le, nat_lt, length, Option, Some, None, List, [], ◌∷◌, if◌then◌else◌}
 use Rattle.std.specs.List.{list_any}
 use Rattle.std.specs.Option.{option_or}
@@ -25,9 +25,15 @@ in_dates date s =
     let to_last = is_not_later date.month date.day s.last_month s.last_day in
     if is_not_later s.first_month s.first_day s.last_month s.last_day then from_first && to_last else from_first || to_last
 
--- what a rule sees of a day
+-- the facts about a day that a rule depends on
 abbrev pub facts_of : HolidayLists → ℕ → DayFacts
-facts_of holidays day = record { date = date_on day; weekday = weekday_on day; public = is_listed day holidays.public; school = is_listed day holidays.school }
+facts_of holidays day = record {
+  date = date_on day;
+  weekday = weekday_on day;
+  public =
+      is_listed day holidays.public;
+  school = is_listed day holidays.school;
+}
 
 -- weekday a to weekday b is each day from a forward to b
 abbrev pub in_item : DayFacts → DayItem → Bool

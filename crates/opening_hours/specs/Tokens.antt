@@ -1,9 +1,10 @@
--- The tokens of hours, and how a text is cut into them (after the `opening_hours` specification of OpenStreetMap).
+-- The tokens of hours, and how a text is cut into them (source: OpenStreetMap wiki, `opening_hours`).
 use Rattle.std.specs.Prelude.{◌≡◌, ℕ, ◌+◌, ◌-◌, ◌*◌, ◌≤◌, ◌==◌, ◌&&◌, ◌||◌, Bool, true, nat_le, List, [], ◌∷◌, ◌++◌, length, codes, if◌then◌else◌}
 use Rattle.std.specs.Str.{bytes_eq}
 use Rattle.calendar_days.specs.declared.weekday.Weekday.TheVariants.{Mo, Tu, We, Th, Fr, Sa, Su}
 use Rattle.opening_hours.specs.declared.tokens.Token.{Token}
-use Rattle.opening_hours.specs.declared.tokens.Token.TheVariants.{Month, Day, Public, School, Off, Open, Always, Unknown, Time, Number, Dash, Comma, Semicolon, Colon}
+use Rattle.opening_hours.specs.declared.tokens.Token.TheVariants.{Month, Day, Public, School, Off, Open, Always, Unknown}
+use Rattle.opening_hours.specs.declared.tokens.Token.TheVariants.{Time, Number, Dash, Comma, Semicolon, Colon}
 
 -- 0 to 9
 abbrev pub is_digit : ℕ → Bool
@@ -21,8 +22,8 @@ is_blank b = b == 32 || b == 9
 abbrev pub one_digit : ℕ → ℕ
 one_digit a = a - 48
 
-abbrev pub two_digits : ℕ → ℕ → ℕ
-two_digits a b = 10 * (a - 48) + (b - 48)
+abbrev pub number_of_two : ℕ → ℕ → ℕ
+number_of_two a b = 10 * (a - 48) + (b - 48)
 
 -- The words that mean something, as they are written, each with its token.
 abbrev pub months : List (List ℕ × Token)
@@ -64,9 +65,11 @@ AreLetters (b ∷ bs) = (is_letter b ≡ true) × AreLetters bs
 pub data IsToken : List ℕ → Token → Type 0 where
   word : {b : ℕ} {bs : List ℕ} → AreLetters (b ∷ bs) → IsToken (b ∷ bs) (word_token (b ∷ bs))
   always : IsToken (codes "24/7") Always
-  long_time : {a b d e : ℕ} → is_digit a ≡ true → is_digit b ≡ true → is_digit d ≡ true → is_digit e ≡ true → IsToken (a ∷ b ∷ (codes ":" ++ d ∷ e ∷ [])) (Time (two_digits a b) (two_digits d e))
-  short_time : {a d e : ℕ} → is_digit a ≡ true → is_digit d ≡ true → is_digit e ≡ true → IsToken (a ∷ (codes ":" ++ d ∷ e ∷ [])) (Time (one_digit a) (two_digits d e))
-  long_number : {a b : ℕ} → is_digit a ≡ true → is_digit b ≡ true → IsToken (a ∷ b ∷ []) (Number (two_digits a b))
+  long_time : {a b d e : ℕ} → is_digit a ≡ true → is_digit b ≡ true → is_digit d ≡ true → is_digit e ≡ true
+      → IsToken (a ∷ b ∷ (codes ":" ++ d ∷ e ∷ [])) (Time (number_of_two a b) (number_of_two d e))
+  short_time : {a d e : ℕ} → is_digit a ≡ true → is_digit d ≡ true → is_digit e ≡ true
+      → IsToken (a ∷ (codes ":" ++ d ∷ e ∷ [])) (Time (one_digit a) (number_of_two d e))
+  long_number : {a b : ℕ} → is_digit a ≡ true → is_digit b ≡ true → IsToken (a ∷ b ∷ []) (Number (number_of_two a b))
   short_number : {a : ℕ} → is_digit a ≡ true → IsToken (a ∷ []) (Number (one_digit a))
   dash : IsToken (codes "-") Dash
   comma : IsToken (codes ",") Comma

@@ -1,7 +1,7 @@
-// Which minutes hours cover.
+// The minutes that hours cover.
 ghost use Rattle.std.specs.Prelude.{◌≡◌, ◌+◌, ◌*◌, ◌<◌, ◌≤◌, IfOk, IsTrue, ◌↔◌};
 ghost use Rattle.std.specs.List.{list_any};
-ghost use Rattle.opening_hours.specs.Covering.{spans_of_times, day_spans, holds, IsCovered};
+ghost use Rattle.opening_hours.specs.Coverage.{spans_of_times, day_spans, holds, IsCovered};
 
 use crate::holidays::Holidays;
 use crate::hours::Hours;
@@ -10,12 +10,14 @@ use crate::types::{HoursRule, RuleTimes, Spans, TimeSpan};
 use route_base::{Listing, OutOfMemory};
 use std::alloc::Global;
 
-fn holds_at(at: u32, s: TimeSpan) -> bool
-    ensures { result ≡ holds at s }
+// Whether a span holds a minute, counted from the start of the span's day.
+fn holds_at(at: u32, span: TimeSpan) -> bool
+    ensures { result ≡ holds at span }
 {
-    s.start <= at && at - s.start < s.length
+    span.start <= at && at - span.start < span.length
 }
 
+// Whether one of the spans of a rule holds a minute.
 fn times_hold(at: u32, times: &RuleTimes) -> bool
     ensures { result ≡ list_any (holds at) (spans_of_times times.now) }
 {
@@ -62,6 +64,7 @@ pub fn covers(hours: &Hours, day: u32, minute: u32, holidays: &Holidays) -> bool
     false
 }
 
+// A copy of the spans.
 fn copied(alloc: Global, spans: &[TimeSpan]) -> Result<Spans, OutOfMemory>
     ensures { IfOk result (λ s. s ≡ spans.now) }
 {
@@ -72,6 +75,7 @@ fn copied(alloc: Global, spans: &[TimeSpan]) -> Result<Spans, OutOfMemory>
     Ok(out)
 }
 
+// The spans of a rule.
 fn spans_of_rule(alloc: Global, times: &RuleTimes) -> Result<Spans, OutOfMemory>
     ensures { IfOk result (λ s. s ≡ spans_of_times times.now) }
 {

@@ -1,12 +1,12 @@
-// Why a text gives no hours.
+// The fault of a text that has no hours.
 use route_base::OutOfMemory;
 
-/// Why a text gives no hours.
+/// The fault of a text that has no hours.
 #[derive(Clone, Copy, Debug, PartialEq, Eq)]
 pub enum HoursFault {
     /// The text has no rules.
     NotHours,
-    /// Want of memory.
+    /// Out of memory.
     OutOfMemory,
 }
 

@@ -24,6 +24,7 @@ impl Model for Holidays {
     ghost invariant = { λ a. IsStrictlyIncreasing a.public.items × IsStrictlyIncreasing a.school.items };
 }
 
+// Whether a day is on a list, by binary search.
 fn is_in(days: &[u32], day: u32) -> bool
     requires { IsStrictlyIncreasing days.now }
     ensures { result ≡ is_listed day days.now }

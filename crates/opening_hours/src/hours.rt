@@ -1,12 +1,12 @@
 // Hours, and the reading of their texts.
-ghost use Rattle.std.specs.Prelude.{◌≡◌, List, IfOk, length, option_map, slice_get};
+ghost use Rattle.std.specs.Prelude.{◌≡◌, ◌≤◌, List, IfOk, length, option_map, slice_get};
 ghost use Rattle.std.specs.Result.{IsErrOf};
 ghost use Rattle.opening_hours.specs.declared.types.HoursRule.{HoursRule as Rule};
-ghost use Rattle.opening_hours.specs.Hours.{IsHours, IsRead};
+ghost use Rattle.opening_hours.specs.Hours.{IsHours, IsParsed};
 
-use crate::cutting::cut;
 use crate::faults::HoursFault;
-use crate::grammar::rules;
+use crate::parser::rules::rules;
+use crate::tokenizer::cut;
 use crate::types::HoursRule;
 use route_base::Listing;
 use std::alloc::Global;
@@ -21,19 +21,20 @@ pub struct Hours {
 impl Model for Hours {
     ghost use Rattle.std.specs.Prelude.{List};
     ghost use Rattle.opening_hours.specs.declared.types.HoursRule.{HoursRule};
-    ghost use Rattle.opening_hours.specs.Hours.{IsRead};
+    ghost use Rattle.opening_hours.specs.Hours.{IsParsed};
 
     ghost Value = { List HoursRule };
 
     ghost view = { λ a. a.rules };
 
-    ghost invariant = { λ a. IsRead a.rules };
+    ghost invariant = { λ a. IsParsed a.rules };
 }
 
 impl Hours {
     /// The number of rules, one at least.
     pub fn len(&self) -> usize
-        ensures { result ≡ length self.now }
+        ensures value { result ≡ length self.now }
+        ensures some { 1 ≤ result }
     {
         self.rules.len()
     }
@@ -49,7 +50,7 @@ impl Hours {
     pub(crate) fn rules(&self) -> &[HoursRule]
         ensures same { result.now ≡ self.now }
         // Hours come from a text.
-        ensures read { IsRead self.now }
+        ensures read { IsParsed self.now }
     {
         self.rules.as_slice()
     }

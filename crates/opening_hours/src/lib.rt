@@ -2,39 +2,39 @@
 //!
 //! The notation is a subset of OpenStreetMap's `opening_hours` (its specification on the OpenStreetMap wiki): `24/7`, months and
 //! dates, weekdays, `PH` and `SH`, time spans, `off` and `closed`, with `;` between rules. Whatever is outside the subset is
-//! refused and never passed over. One form is this project's own: the long span from a time of one weekday to a time of
+//! refused and never ignored. One form is this project's own: the long span from a time of one weekday to a time of
 //! another, as `Sa 22:00-Su 22:00`. Which minutes a text covers is this project's own rule too: the last rule that matches a
 //! day governs the whole of it, a span belongs to the day on which it starts, and an `off` on the next day doesn't cut it.
 //! Agreement with other evaluators of the notation isn't claimed.
 //!
 //! The law is in `specs/`. `Tokens` says how a text is cut by the longest match, `Grammar` which rules the tokens are, one case
-//! for each form, and `Hours` puts both together as `IsHours`: `parse` meets it, and no text has two lists of rules. `Printing`
-//! and `Spelling` are the canonical text, met by `print`, which is read as the same rules and can stand within another text
-//! (`Plain`). `Holidays`, `Matching` (the governing rule of a day) and `Covering` are met by `covers` and `spans_on`. `Cutting`
-//! and `Reading` are no law: they say what the functions inside compute, step by step, and `proofs/` shows that this meets the
-//! law.
+//! for each form, and `Hours` puts both together as `IsHours`: `parse` meets it, and no text has two lists of rules
+//! (`one_reading`). `CanonicalTokens` and `CanonicalText` are the canonical text, met by `print`: it is read as the same rules
+//! (`canonical_reading`) and is safe to embed in a longer text (`PlainText`). `Holidays`, `Matching` (the governing rule of a day)
+//! and `Coverage` are met by `covers` and `spans_on`. `Inside` is no law: its modules `Tokenizer` and `Parser` say what the
+//! functions of these names compute, step by step, and `proofs/` shows that this meets the law.
 #![tactic(auto)]
 
 mod covering;
-mod cutting;
-mod elements;
 mod faults;
-mod grammar;
 mod holidays;
 mod hours;
+mod laws;
 mod matching;
-mod printing;
-mod spelling;
+mod parser;
+mod printer;
 mod threads;
+mod tokenizer;
 mod tokens;
 mod types;
-mod words;
+mod vocabulary;
 
 pub use covering::{covers, spans_on};
 pub use faults::HoursFault;
 pub use holidays::Holidays;
 pub use hours::{Hours, parse};
-pub use printing::print;
+pub use laws::{canonical_reading, one_reading};
+pub use printer::tokens::print;
 pub use types::{
     DateSpan, DateSpans, DayItem, DayItems, HoursRule, LongSpan, RuleTimes, Spans, TimeSpan,
 };

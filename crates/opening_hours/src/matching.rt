@@ -1,4 +1,4 @@
-// Which rule governs a day.
+// The rule that governs a day.
 ghost use Rattle.std.specs.Prelude.{◌≡◌, ◌≤◌, option_map};
 ghost use Rattle.std.specs.List.{list_any};
 ghost use Rattle.opening_hours.specs.Matching.{facts_of, is_not_later, in_dates, in_item, in_days, one_or_none, matches, governing};
@@ -7,7 +7,7 @@ use crate::holidays::Holidays;
 use crate::types::{DateSpan, DayItem, HoursRule, RuleTimes};
 use calendar_days::{CivilDate, Weekday, date_of, weekday_of};
 
-/// What a rule sees of a day.
+/// The facts about a day that a rule depends on.
 #[derive(Clone, Copy)]
 pub struct DayFacts {
     pub date: CivilDate,
@@ -16,82 +16,97 @@ pub struct DayFacts {
     pub school: bool,
 }
 
-fn not_later(m: u32, a: u32, n: u32, b: u32) -> bool
-    ensures { result ≡ is_not_later m a n b }
+// Whether a day of the year is not later than another.
+fn not_later(month: u32, day: u32, other_month: u32, other_day: u32) -> bool
+    ensures { result ≡ is_not_later month day other_month other_day }
 {
-    m < n || (m == n && a <= b)
+    month < other_month || (month == other_month && day <= other_day)
 }
 
-fn dates_hold(date: CivilDate, s: DateSpan) -> bool
-    ensures { result ≡ in_dates date s }
+// Whether a date lies in a date span.
+fn dates_hold(date: CivilDate, span: DateSpan) -> bool
+    ensures { result ≡ in_dates date span }
 {
-    let from_first = not_later(s.first_month, s.first_day, date.month, date.day);
-    let to_last = not_later(date.month, date.day, s.last_month, s.last_day);
-    if not_later(s.first_month, s.first_day, s.last_month, s.last_day) {
+    let from_first = not_later(span.first_month, span.first_day, date.month, date.day);
+    let to_last = not_later(date.month, date.day, span.last_month, span.last_day);
+    if not_later(
+        span.first_month,
+        span.first_day,
+        span.last_month,
+        span.last_day,
+    ) {
         from_first && to_last
     } else {
         from_first || to_last
     }
 }
 
-fn item_holds(f: DayFacts, item: DayItem) -> bool
-    ensures { result ≡ in_item f item }
+// Whether a day item holds the day.
+fn item_holds(facts: DayFacts, item: DayItem) -> bool
+    ensures { result ≡ in_item facts item }
 {
     match item {
-        DayItem::Week(a, b) => a.days_to(f.weekday) <= a.days_to(b),
-        DayItem::Public => f.public,
-        DayItem::School => f.school,
+        DayItem::Week(a, b) => a.days_to(facts.weekday) <= a.days_to(b),
+        DayItem::Public => facts.public,
+        DayItem::School => facts.school,
     }
 }
 
+// Whether there are no date spans, or one that the date lies in.
 fn any_date(date: CivilDate, dates: &[DateSpan]) -> bool
     ensures { result ≡ one_or_none (in_dates date) dates.now }
 {
     dates.is_empty() || some_date(date, dates)
 }
 
+// Whether the date lies in one of the date spans.
 fn some_date(date: CivilDate, dates: &[DateSpan]) -> bool
     ensures { result ≡ list_any (in_dates date) dates.now }
 {
     dates.iter().any(|s| dates_hold(date, *s))
 }
 
-fn any_item(f: DayFacts, items: &[DayItem]) -> bool
-    ensures { result ≡ one_or_none (in_item f) items.now }
+// Whether there are no day items, or one that holds the day.
+fn any_item(facts: DayFacts, items: &[DayItem]) -> bool
+    ensures { result ≡ one_or_none (in_item facts) items.now }
 {
-    items.is_empty() || some_item(f, items)
+    items.is_empty() || some_item(facts, items)
 }
 
-fn some_item(f: DayFacts, items: &[DayItem]) -> bool
-    ensures { result ≡ list_any (in_item f) items.now }
+// Whether one of the day items holds the day.
+fn some_item(facts: DayFacts, items: &[DayItem]) -> bool
+    ensures { result ≡ list_any (in_item facts) items.now }
 {
-    items.iter().any(|i| item_holds(f, *i))
+    items.iter().any(|i| item_holds(facts, *i))
 }
 
-fn days_hold(f: DayFacts, items: &[DayItem], times: &RuleTimes) -> bool
-    ensures { result ≡ in_days f items.now times.now }
+// Whether the days of a rule, or the first weekday of its long span, hold the day.
+fn days_hold(facts: DayFacts, items: &[DayItem], times: &RuleTimes) -> bool
+    ensures { result ≡ in_days facts items.now times.now }
 {
     match times {
-        RuleTimes::Long(l) => f.weekday.index() == l.weekday.index(),
-        RuleTimes::Off => any_item(f, items),
-        RuleTimes::Spans(_) => any_item(f, items),
+        RuleTimes::Long(l) => facts.weekday.index() == l.weekday.index(),
+        RuleTimes::Off => any_item(facts, items),
+        RuleTimes::Spans(_) => any_item(facts, items),
     }
 }
 
-fn rule_matches(f: DayFacts, rule: &HoursRule) -> bool
-    ensures { result ≡ matches f rule.now }
+// Whether a rule matches the day.
+fn rule_matches(facts: DayFacts, rule: &HoursRule) -> bool
+    ensures { result ≡ matches facts rule.now }
 {
-    any_date(f.date, rule.dates.as_slice()) && days_hold(f, rule.days.as_slice(), &rule.times)
+    any_date(facts.date, rule.dates.as_slice())
+        && days_hold(facts, rule.days.as_slice(), &rule.times)
 }
 
 /// The last rule that matches.
-pub(crate) fn last_match<'a>(f: DayFacts, rules: &'a [HoursRule]) -> Option<&'a HoursRule>
-    ensures { option_map (λ r. r.now) result ≡ governing f rules.now }
+pub(crate) fn last_match<'a>(facts: DayFacts, rules: &'a [HoursRule]) -> Option<&'a HoursRule>
+    ensures { option_map (λ r. r.now) result ≡ governing facts rules.now }
 {
     let mut found = None;
     let mut rest = rules;
     while let [rule, after @ ..] = rest {
-        if rule_matches(f, rule) {
+        if rule_matches(facts, rule) {
             found = Some(rule);
         }
         rest = after;
@@ -99,7 +114,7 @@ pub(crate) fn last_match<'a>(f: DayFacts, rules: &'a [HoursRule]) -> Option<&'a 
     found
 }
 
-/// What a rule sees of the day.
+/// The facts about the day that a rule depends on.
 pub(crate) fn day_facts(day: u32, holidays: &Holidays) -> DayFacts
     requires { day ≤ 84370 }
     ensures { result ≡ facts_of holidays.now day }

@@ -1,11 +1,11 @@
-// Types that threads may share and hand over: the calls below are refused where one may not.
+// Compile-time check that these types are Send and Sync.
 use crate::{
     DateSpan, DateSpans, DayItem, DayItems, Holidays, Hours, HoursFault, HoursRule, LongSpan,
     RuleTimes, Spans, TimeSpan,
 };
+use route_base::crosses_threads;
 
-fn crosses_threads<T: Send + Sync>() {}
-
+// Compiles only if all these types cross threads.
 fn all_cross_threads() {
     crosses_threads::<Hours>();
     crosses_threads::<Holidays>();

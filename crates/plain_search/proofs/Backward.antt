@@ -7,7 +7,7 @@ use Rattle.route_base.specs.Legs.{steps_of, steps_of_leg}
 use Rattle.route_base.specs.Net.{Net, setting_of}
 use Rattle.route_base.specs.declared.types.Leg.{Leg}
 use Rattle.route_base.proofs.Walking.{walk-append}
-use Rattle.plain_search.specs.Costs.{none, at, ComesBy}
+use Rattle.plain_search.specs.Inside.Costs.{none, at, ComesByStep}
 
 -- a wait of one minute ends here
 pub record WaitsHere (s : Setting) (until : ℕ) (cost : ℕ → ℕ → ℕ) (v t : ℕ) : Type 0 where
@@ -20,7 +20,8 @@ module _ (net : Net) (until : ℕ) (cost : ℕ → ℕ → ℕ) (v t : ℕ) wher
   abbrev pub NoDrive : Type 0
   NoDrive = (a u k : ℕ) → 1 ≤ a → cost u k < none → Drives (setting_of net) until a (at cost u k) (at cost v t) → ⊥
 
-  no_step : NoDrive → (x : Step) (u k : ℕ) → cost u k < none → Moves (setting_of net) until x (at cost u k) (at cost v t) → WaitsHere (setting_of net) until cost v t
+  no_step : NoDrive → (x : Step) (u k : ℕ) → cost u k < none → Moves (setting_of net) until x (at cost u k) (at cost v t)
+      → WaitsHere (setting_of net) until cost v t
   no_step free (drive zero) u k known move = let bad = move.is in cc
   no_step free (drive (suc a)) u k known move = absurd (free (suc a) u k (omega arith) known move)
   no_step free wait u k known move =
@@ -29,13 +30,15 @@ module _ (net : Net) (until : ℕ) (cost : ℕ → ℕ → ℕ) (v t : ℕ) wher
       record {
         begun = omega (arith, move.minute);
         known = subst (λ (n : ℕ). cost v n < none) before (subst (λ (n : ℕ). cost n k < none) place known);
-        move = subst (λ (n : ℕ). Waits (setting_of net) until (at cost v n) (at cost v t)) before (subst (λ (n : ℕ). Waits (setting_of net) until (at cost n k) (at cost v t)) place move);
+        move = subst (λ (n : ℕ). Waits (setting_of net) until (at cost v n) (at cost v t)) before
+            (subst (λ (n : ℕ). Waits (setting_of net) until (at cost n k) (at cost v t)) place move);
       }
 
-  pub waits_here : (now : ℕ) → ComesBy (setting_of net) until cost now v t → NoDrive → WaitsHere (setting_of net) until cost v t
+  pub waits_here : (now : ℕ) → ComesByStep (setting_of net) until cost now v t → NoDrive → WaitsHere (setting_of net) until cost v t
   waits_here now from free = no_step free from.step from.node from.minute from.known from.move
 
 -- one leg more at the front of legs that are kept in reverse
-pub walk-reverse_push : (s : Setting) (until : ℕ) (legs : List Leg) (leg : Leg) (p q r : Position) → Walks s until (steps_of_leg leg) p q → Walks s until (steps_of (reverse legs)) q r → Walks s until (steps_of (reverse (legs ++ leg ∷ []))) p r
+pub walk-reverse_push : (s : Setting) (until : ℕ) (legs : List Leg) (leg : Leg) (p q r : Position) → Walks s until (steps_of_leg leg) p q
+    → Walks s until (steps_of (reverse legs)) q r → Walks s until (steps_of (reverse (legs ++ leg ∷ []))) p r
 walk-reverse_push s until legs leg p q r one more =
     rw (reverse-append legs (leg ∷ [])) (walk-append s until (steps_of_leg leg) (steps_of (reverse legs)) p q r one more)

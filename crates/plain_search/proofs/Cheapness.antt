@@ -6,7 +6,7 @@ use Rattle.route_base.specs.Net.{road_of, setting_of}
 use Rattle.route_base.specs.Setting.{Setting, Road}
 use Rattle.route_base.specs.declared.types.Request.{Request}
 use Rattle.route_base.proofs.Walking.{along, walk_in_time}
-use Rattle.plain_search.specs.Small.{arc_of, small}
+use Rattle.plain_search.specs.Inside.SmallNet.{small_arc, small}
 
 module _ (s : Setting) (r : Request) where
   abbrev IsCheapTo : Position → Type 0
@@ -25,9 +25,12 @@ module _ (s : Setting) (r : Request) where
 
 cheap_road : (a : ℕ) (road : Road) → (setting_of small).road a ≡ Some road → road.cost ≤ 2000 * road.minutes
 cheap_road zero road is = absurd (cc)
-cheap_road (suc zero) road is = let same : road_of (arc_of 1 2 60 0) ≡ road = cc in omega (arith, ap (λ (w : Road). w.cost) same, ap (λ (w : Road). w.minutes) same)
-cheap_road (suc (suc zero)) road is = let same : road_of (arc_of 2 3 60 1) ≡ road = cc in omega (arith, ap (λ (w : Road). w.cost) same, ap (λ (w : Road). w.minutes) same)
-cheap_road (suc (suc (suc zero))) road is = let same : road_of (arc_of 1 3 300 0) ≡ road = cc in omega (arith, ap (λ (w : Road). w.cost) same, ap (λ (w : Road). w.minutes) same)
+cheap_road (suc zero) road is = let same : road_of (small_arc 1 2 60 0) ≡ road = cc
+    in omega (arith, ap (λ (w : Road). w.cost) same, ap (λ (w : Road). w.minutes) same)
+cheap_road (suc (suc zero)) road is = let same : road_of (small_arc 2 3 60 1) ≡ road = cc
+    in omega (arith, ap (λ (w : Road). w.cost) same, ap (λ (w : Road). w.minutes) same)
+cheap_road (suc (suc (suc zero))) road is = let same : road_of (small_arc 1 3 300 0) ≡ road = cc
+    in omega (arith, ap (λ (w : Road). w.cost) same, ap (λ (w : Road). w.minutes) same)
 cheap_road (suc (suc (suc (suc k)))) road is = absurd (cc)
 
 cheap_weight : (v w : ℕ) → (setting_of small).weight v ≡ Some w → w ≤ 2000

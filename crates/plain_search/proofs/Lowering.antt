@@ -1,12 +1,14 @@
 -- A write to a cell lowers the cost at one node and minute.
-use Rattle.std.proofs.Common.{◌≡◌, ◌⊎◌, inl, inr, ⊎_elim, ℕ, ◌-◌, ◌≤◌, ◌<◌, min, List, length, get_or, set, refl, sym, ◌∙◌, ap, arith, get_or-set_other, get_or-set_same}
+use Rattle.std.proofs.Common.{◌≡◌, ◌⊎◌, inl, inr, ⊎_elim, ℕ, ◌-◌, ◌≤◌, ◌<◌, min, List, length, get_or, set, refl, sym, ◌∙◌, ap}
+use Rattle.std.proofs.Common.{arith, get_or-set_other, get_or-set_same}
 use Rattle.std.proofs.lemmas.Bool.{lt-ltb, le-ltb, le-leb, lt-leb, cases_lt}
 use Rattle.std.proofs.lemmas.Nat.{same_from_place}
-use Rattle.plain_search.specs.Costs.{none, Lowers}
-use Rattle.plain_search.specs.Table.{place_of, cost_in}
+use Rattle.plain_search.specs.Inside.Costs.{none, Lowers}
+use Rattle.plain_search.specs.Inside.CostTable.{place_of, cost_in}
 
 module _ (width depart : ℕ) where
-  pub in_range : (cells : List ℕ) (v t : ℕ) → 1 ≤ v → v ≤ width → depart ≤ t → cost_in width depart cells v t ≡ get_or cells (place_of width depart v t) none
+  pub in_range : (cells : List ℕ) (v t : ℕ) → 1 ≤ v → v ≤ width → depart ≤ t
+      → cost_in width depart cells v t ≡ get_or cells (place_of width depart v t) none
   in_range cells v t low high row = rw (lt-ltb 0 v (omega arith), le-leb v width high, le-leb depart t row) refl
 
   -- the cell is one of the table
@@ -34,7 +36,8 @@ module _ (width depart : ℕ) where
       (λ (outside : (xs : List ℕ) → cost_in width depart xs v t ≡ none). absurd (omega (arith, known, outside cells)))
       (inside_cases v t)
 
-  pub lowered : (cells : List ℕ) (v t x : ℕ) → 1 ≤ v → v ≤ width → depart ≤ t → place_of width depart v t < length cells → x < get_or cells (place_of width depart v t) none
+  pub lowered : (cells : List ℕ) (v t x : ℕ) → 1 ≤ v → v ≤ width → depart ≤ t → place_of width depart v t < length cells
+      → x < get_or cells (place_of width depart v t) none
       → Lowers (cost_in width depart cells) (cost_in width depart (set cells (place_of width depart v t) x)) v t x
   lowered cells v t x low high row within lower = record {
     here = in_range (set cells (place_of width depart v t) x) v t low high row
@@ -53,7 +56,8 @@ module _ (width depart : ℕ) where
       least : (n : ℕ) → x < n → x ≡ min n x
       least n lt = omega arith
 
-      other : (w k : ℕ) → IsInside w k → (w ≡ v → k ≡ t → ⊥) → get_or (set cells (place_of width depart v t) x) (place_of width depart w k) none ≡ get_or cells (place_of width depart w k) none
+      other : (w k : ℕ) → IsInside w k → (w ≡ v → k ≡ t → ⊥)
+          → get_or (set cells (place_of width depart v t) x) (place_of width depart w k) none ≡ get_or cells (place_of width depart w k) none
       other w k inside ne =
           let apart : place_of width depart w k ≡ place_of width depart v t → ⊥ = λ same.
           let column : w - 1 < width = omega (arith, inside.low, inside.high) in

@@ -8,15 +8,16 @@ use Rattle.route_base.specs.declared.types.TimedArc.{TimedArc}
 use Rattle.plain_search.proofs.Founding.{TakesTime}
 
 -- the arc of a road
-arc_of : (o : Option TimedArc) (road : Road) → option_map road_of o ≡ Some road → (arc : TimedArc) × (o ≡ Some arc) × (road_of arc ≡ road)
-arc_of None road is = cc
-arc_of (Some arc) road is = (arc, refl, cc)
+small_arc : (o : Option TimedArc) (road : Road) → option_map road_of o ≡ Some road → (arc : TimedArc) × (o ≡ Some arc) × (road_of arc ≡ road)
+small_arc None road is = cc
+small_arc (Some arc) road is = (arc, refl, cc)
 
 pub good_arc : (net : Net) (a : ℕ) (arc : TimedArc) → IsGoodNet net → at_number net.arcs a ≡ Some arc → IsGoodArc net arc
 good_arc net zero arc good is = cc
-good_arc net (suc k) arc good is = subst (λ (w : TimedArc). IsGoodArc net w) (get_or_from_slice_get net.arcs k arc arc is) (good.each_arc k arc (slice_get_within net.arcs k arc is))
+good_arc net (suc k) arc good is = subst (λ (w : TimedArc). IsGoodArc net w) (get_or_from_slice_get net.arcs k arc arc is)
+    (good.each_arc k arc (slice_get_within net.arcs k arc is))
 
 pub takes_time : (net : Net) → IsGoodNet net → TakesTime (setting_of net)
 takes_time net good a road is =
-    let arc = arc_of (at_number net.arcs a) road is in
+    let arc = small_arc (at_number net.arcs a) road is in
     omega (arith, (good_arc net a arc.0 good arc.1).minutes.0, ap (λ (w : Road). w.minutes) arc.2)

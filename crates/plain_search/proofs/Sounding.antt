@@ -3,23 +3,25 @@ use Rattle.std.proofs.Common.{ℕ, ◌≤◌, ◌<◌, ◌∙◌}
 use Rattle.route_base.specs.Itinerary.{Step, Moves}
 use Rattle.route_base.specs.Net.{Net, setting_of}
 use Rattle.route_base.specs.declared.types.Request.{Request}
-use Rattle.plain_search.specs.Costs.{none, at, Lowers}
-use Rattle.plain_search.specs.Sound.{IsSound}
-use Rattle.plain_search.specs.Table.{cost_of, HasShape}
-use Rattle.plain_search.specs.declared.table.Table.{Table}
+use Rattle.plain_search.specs.Inside.Costs.{none, at, Lowers}
+use Rattle.plain_search.specs.Inside.Soundness.{IsSoundTable}
+use Rattle.plain_search.specs.Inside.CostTable.{cost_of, HasShape}
+use Rattle.plain_search.specs.declared.cost_table.CostTable.{CostTable}
 use Rattle.plain_search.proofs.Founding.{founded_lower}
 use Rattle.plain_search.proofs.Staying.{founded_later}
 
 module _ (net : Net) (r : Request) where
-  pub sound_later : (table : Table) (now later : ℕ) → now ≤ later → IsSound net r now table → IsSound net r later table
+  pub sound_later : (table : CostTable) (now later : ℕ) → now ≤ later → IsSoundTable net r now table → IsSoundTable net r later table
   sound_later table now later le sound = record {
     shape = sound.shape;
     founded = founded_later (setting_of net) r (cost_of table) now later le sound.founded;
   }
 
-  pub sound_lower : (old new : Table) (now v t x : ℕ) → IsSound net r now old → HasShape old.width old.depart old.until new → Lowers (cost_of old) (cost_of new) v t x → r.depart < now → now ≤ t
-      → (y : Step) (u k : ℕ) → k < now → cost_of old u k < none → Moves (setting_of net) r.until y (at (cost_of old) u k) (record { node = v; minute = t; cost = x })
-      → IsSound net r now new
+  pub sound_lower : (old new : CostTable) (now v t x : ℕ) → IsSoundTable net r now old → HasShape old.width old.depart old.until new
+      → Lowers (cost_of old) (cost_of new) v t x → r.depart < now → now ≤ t
+      → (y : Step) (u k : ℕ) → k < now → cost_of old u k < none
+      → Moves (setting_of net) r.until y (at (cost_of old) u k) (record { node = v; minute = t; cost = x })
+      → IsSoundTable net r now new
   sound_lower old new now v t x sound same lowers begun later y u k early known move = record {
     shape = record { columns = same.columns ∙ sound.shape.columns; first = same.first ∙ sound.shape.first; last = same.last ∙ sound.shape.last };
     founded = founded_lower (setting_of net) r (cost_of old) (cost_of new) now v t x sound.founded lowers begun later y u k early known move;

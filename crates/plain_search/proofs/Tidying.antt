@@ -4,13 +4,13 @@ use Rattle.std.proofs.lemmas.List.{replicate-append-replicate, length-replicate,
 use Rattle.std.proofs.Math.Seq.{drop-cons}
 use Rattle.std.proofs.Common.{get_or, drop, reverse}
 use Rattle.route_base.specs.Itinerary.{Step, wait}
-use Rattle.plain_search.specs.Back.{IsSingle}
+use Rattle.plain_search.specs.Inside.Predecessors.{IsSingle}
 use Rattle.route_base.specs.Legs.{steps_of, steps_of_leg, HasNoEmptyWait, HasNoNeighbouringWaits, DrivesFirst}
 use Rattle.route_base.specs.declared.types.Leg.{Leg}
 use Rattle.route_base.specs.declared.types.Leg.TheVariants.{Drive, Wait}
 use Rattle.route_base.specs.declared.types.ArcId.{ArcId}
 use Rattle.route_base.proofs.LegLists.{steps_of-push, no_empty-push}
-use Rattle.plain_search.specs.Tidy.{IsTidy}
+use Rattle.plain_search.specs.Inside.Tidiness.{IsTidy}
 
 pub waits-add : (k m : ℕ) → steps_of_leg (Wait (k + m)) ≡ steps_of_leg (Wait k) ++ steps_of_leg (Wait m)
 waits-add k m = sym (replicate-append-replicate k m wait)
@@ -45,22 +45,36 @@ drives_first-longer : (xs : List Leg) (a : ArcId) (m : ℕ) → DrivesFirst (xs 
 drives_first-longer [] a m first = first
 drives_first-longer (y ∷ xs) a m first = first
 
-no_neighbours-after : (xs : List Leg) (a : ArcId) (m : ℕ) → HasNoNeighbouringWaits (xs ++ Drive a ∷ []) → HasNoNeighbouringWaits ((xs ++ Drive a ∷ []) ++ Wait m ∷ [])
+no_neighbours-after : (xs : List Leg) (a : ArcId) (m : ℕ) → HasNoNeighbouringWaits (xs ++ Drive a ∷ [])
+    → HasNoNeighbouringWaits ((xs ++ Drive a ∷ []) ++ Wait m ∷ [])
 no_neighbours-after [] a m tidy = (tt, tt)
 no_neighbours-after (Drive b ∷ xs) a m tidy = no_neighbours-after xs a m tidy
 no_neighbours-after (Wait j ∷ xs) a m tidy = (drives_first-longer xs a m tidy.0, no_neighbours-after xs a m tidy.1)
 
 pub tidy-drive : (xs : List Leg) (a : ArcId) → IsTidy xs → IsTidy (xs ++ Drive a ∷ [])
-tidy-drive xs a tidy = record { no_empty_wait = no_empty-push xs (Drive a) (λ same. cc) tidy.no_empty_wait; no_neighbours = no_neighbours-drive xs a tidy.no_neighbours }
+tidy-drive xs a tidy = record {
+  no_empty_wait = no_empty-push xs (Drive a)
+      (λ same. cc) tidy.no_empty_wait;
+  no_neighbours = no_neighbours-drive xs a tidy.no_neighbours;
+}
 
 pub tidy-wait : (xs : List Leg) (k m : ℕ) → 1 ≤ m → IsTidy (xs ++ Wait k ∷ []) → IsTidy (xs ++ Wait m ∷ [])
-tidy-wait xs k m some tidy = record { no_empty_wait = no_empty-push xs (Wait m) (some_wait m some) (no_empty-front xs (Wait k) tidy.no_empty_wait); no_neighbours = no_neighbours-wait xs k m tidy.no_neighbours }
+tidy-wait xs k m some tidy = record {
+  no_empty_wait = no_empty-push xs (Wait m) (some_wait m some)
+      (no_empty-front xs (Wait k) tidy.no_empty_wait);
+  no_neighbours = no_neighbours-wait xs k m tidy.no_neighbours;
+}
 
 pub tidy-after : (xs : List Leg) (a : ArcId) (m : ℕ) → 1 ≤ m → IsTidy (xs ++ Drive a ∷ []) → IsTidy ((xs ++ Drive a ∷ []) ++ Wait m ∷ [])
-tidy-after xs a m some tidy = record { no_empty_wait = no_empty-push (xs ++ Drive a ∷ []) (Wait m) (some_wait m some) tidy.no_empty_wait; no_neighbours = no_neighbours-after xs a m tidy.no_neighbours }
+tidy-after xs a m some tidy = record {
+  no_empty_wait = no_empty-push (xs ++ Drive a ∷ []) (Wait m)
+      (some_wait m some) tidy.no_empty_wait;
+  no_neighbours = no_neighbours-after xs a m tidy.no_neighbours;
+}
 
 -- a wait that joins the one before it
-pub steps-join : (old new front : List Leg) (k m : ℕ) → old ≡ front ++ Wait k ∷ [] → new ≡ front ++ Wait (k + m) ∷ [] → steps_of new ≡ steps_of old ++ steps_of_leg (Wait m)
+pub steps-join : (old new front : List Leg) (k m : ℕ) → old ≡ front ++ Wait k ∷ [] → new ≡ front ++ Wait (k + m) ∷ []
+    → steps_of new ≡ steps_of old ++ steps_of_leg (Wait m)
 steps-join old new front k m was now =
     ap steps_of now ∙ steps_of-push front (Wait (k + m)) ∙ ap (λ (w : List Step). steps_of front ++ w) (waits-add k m)
     ∙ sym (append_assoc (steps_of front) (steps_of_leg (Wait k)) (steps_of_leg (Wait m)))
@@ -68,7 +82,14 @@ steps-join old new front k m was now =
 
 pub length-join : (old front : List Leg) (k : ℕ) → old ≡ front ++ Wait k ∷ [] → k ≤ length (steps_of old)
 length-join old front k was =
-    omega (arith, ap (λ (w : List Leg). length (steps_of w)) was, ap (λ (w : List Step). length w) (steps_of-push front (Wait k)), length-append (steps_of front) (steps_of_leg (Wait k)), length-replicate k wait)
+    omega (
+      arith,
+      ap (λ (w : List Leg). length (steps_of w)) was,
+      ap (λ (w : List Step). length w)
+          (steps_of-push front (Wait k)),
+      length-append (steps_of front) (steps_of_leg (Wait k)),
+      length-replicate k wait,
+    )
 
 pub length-single : (leg : Leg) → IsSingle leg → length (steps_of_leg leg) ≡ 1
 length-single (Drive a) single = refl
@@ -84,5 +105,7 @@ pub steps-next : (back : List Leg) (left : ℕ) (leg : Leg) → 1 ≤ left → l
 steps-next back left leg some within is =
     let same : suc (left - 1) ≡ left = omega arith in
     let here : drop (left - 1) back ≡ leg ∷ drop left back =
-    drop-cons back (left - 1) leg (omega arith) ∙ ap (λ (w : Leg). w ∷ drop (suc (left - 1)) back) (sym is) ∙ ap (λ (n : ℕ). leg ∷ drop n back) same in
-    ap (λ (w : List Leg). steps_of (reverse w)) here ∙ ap steps_of (reverse-append (leg ∷ []) (drop left back)) ∙ steps_of-push (reverse (drop left back)) leg
+    drop-cons back (left - 1) leg (omega arith) ∙ ap (λ (w : Leg). w ∷ drop (suc (left - 1)) back) (sym is)
+    ∙ ap (λ (n : ℕ). leg ∷ drop n back) same in
+    ap (λ (w : List Leg). steps_of (reverse w)) here ∙ ap steps_of (reverse-append (leg ∷ []) (drop left back))
+    ∙ steps_of-push (reverse (drop left back)) leg

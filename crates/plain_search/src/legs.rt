@@ -1,20 +1,18 @@
-// Single steps put together as legs.
+// Puts single steps together as legs.
 ghost use Rattle.std.specs.Prelude.{◌≡◌, ◌≢◌, ◌+◌, ◌<◌, ◌≤◌, ◌++◌, ◌^◌, length, reverse, All, IfOk, OnOk};
-ghost use Rattle.route_base.specs.Legs.{steps_of, steps_of_leg};
 ghost use Rattle.route_base.specs.declared.types.Leg.TheVariants.{Wait};
-ghost use Rattle.plain_search.specs.Back.{IsSingle};
-ghost use Rattle.plain_search.specs.Tidy.{IsTidy};
+ghost use Rattle.plain_search.specs.Words.{steps_of, steps_of_leg, IsSingle, IsTidy, HasRoom};
 
 use route_base::Leg;
 use std::alloc::{AllocError, Global};
 
 /// Adds a leg at the end; a wait after a wait joins it.
 pub fn push_leg(legs: &mut Vec<Leg>, leg: Leg) -> Result<(), AllocError>
-    requires tidy { IsTidy legs.old.items }
     requires some { leg ≢ Leg.Wait 0 }
-    requires short { length (steps_of legs.old.items) + length (steps_of_leg leg) < 2 ^ 63 }
+    requires room { HasRoom legs.old.items (length (steps_of_leg leg)) }
     ensures tidy { OnOk result (IsTidy legs.new.items) }
-    ensures steps { OnOk result (steps_of legs.new.items ≡ steps_of legs.old.items ++ steps_of_leg leg) }
+    ensures steps { OnOk result
+        (steps_of legs.new.items ≡ steps_of legs.old.items ++ steps_of_leg leg) }
 {
     match leg {
         Leg::Drive(a) => {
@@ -25,12 +23,13 @@ pub fn push_leg(legs: &mut Vec<Leg>, leg: Leg) -> Result<(), AllocError>
     }
 }
 
+// Adds a wait at the end; it joins a wait before it.
 fn push_wait(legs: &mut Vec<Leg>, more: u64) -> Result<(), AllocError>
-    requires tidy { IsTidy legs.old.items }
     requires some { 1 ≤ more }
-    requires short { length (steps_of legs.old.items) + more < 2 ^ 63 }
+    requires room { HasRoom legs.old.items more }
     ensures tidy { OnOk result (IsTidy legs.new.items) }
-    ensures steps { OnOk result (steps_of legs.new.items ≡ steps_of legs.old.items ++ steps_of_leg (Leg.Wait more)) }
+    ensures steps { OnOk result
+        (steps_of legs.new.items ≡ steps_of legs.old.items ++ steps_of_leg (Leg.Wait more)) }
 {
     match legs.pop() {
         None => {
@@ -47,7 +46,7 @@ fn push_wait(legs: &mut Vec<Leg>, more: u64) -> Result<(), AllocError>
     Ok(())
 }
 
-/// The legs of single steps that stand in reverse.
+/// Reverses single-step legs and merges neighbouring waits. Linear in their number.
 pub fn tidied(alloc: Global, back: &[Leg]) -> Result<Vec<Leg>, AllocError>
     requires single { All IsSingle back.now }
     requires short { length back.now < 2 ^ 62 }

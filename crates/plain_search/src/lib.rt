@@ -1,24 +1,27 @@
-//! The table engine: a search with a cost for each node and each minute from the departure to the horizon.
+//! The table engine: a label-setting search with a cost for each node and each minute from the departure to the horizon.
 //!
-//! Each step of an itinerary takes time. So the minutes are taken in order, and at each minute all steps from the nodes
-//! that have a cost: `steps` takes those from one node, along the chains of `chains`, and `fill` those of all minutes. A
-//! minute's costs then stand when it comes. The front is read from the goal's column (`engine`), and each of its routes is
-//! found backwards, over costs that agree (`back`), and put together as legs (`legs`).
+//! The law is `IsRight` of `route_base`, a clause of the trait `FrontSearch`: the pairs are the Pareto front of all lawful
+//! itineraries, and each route has lawful legs with its pair. It is proved here for `TableEngine`, which is all that the crate
+//! offers.
 //!
-//! The law is `IsRight` of `route_base`, on the trait `FrontSearch`: the pairs are the front of all lawful itineraries,
-//! and each route has lawful legs with its pair. It is proved here for `TableEngine`, which is all that the crate offers.
-//! The proof keeps three facts of the table (`specs/Costs`): each cost but the first comes by a lawful step, of exactly
-//! its cost, from an earlier minute (`IsFounded`); the steps of a minute change later minutes alone (`ChangesLater`); and
-//! where a step leads, the cost is no higher than it brings (`LandsFrom`, and `IsDoneBefore` for all minutes so far).
+//! Each step of an itinerary takes time, so the minutes are taken in order, and a minute's labels are final when it is
+//! processed. `search` holds a request over a net with its forward and backward star (`incidence`); `forward` relaxes all
+//! steps from all minutes; `engine` reads the front from the goal's column of the table (`cost_table`); `reconstruct` finds
+//! the path of each pair backwards, and `legs` puts its steps together.
+//!
+//! `specs/Inside` is no law. It has the three facts that the proof keeps (`Costs`): each label but the first comes by a lawful
+//! step, at exactly its cost, from an earlier minute (`ComesBySteps`); the steps of a minute change later minutes alone
+//! (`ChangesLater`); and every step from an earlier minute is relaxed (`IsRelaxedBefore`). `Soundness`, `CostTable`,
+//! `Incidence`, `Predecessors`, `Routes`, `Tidiness` and `SmallNet` name the rest; `Words` passes on the words of the clauses.
 #![tactic(auto)]
 
-mod back;
-mod chains;
+mod cost_table;
 mod engine;
-mod fill;
+mod forward;
+mod incidence;
 mod legs;
-mod steps;
-mod table;
+mod reconstruct;
+mod search;
 
 pub use engine::TableEngine;
 

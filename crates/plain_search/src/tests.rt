@@ -1,12 +1,14 @@
 // A worked case: a wait until an arc opens, against a longer way that is never closed.
-ghost use Rattle.std.specs.Prelude.{◌≡◌, ◌<◌, IfOk};
-ghost use Rattle.plain_search.specs.Small.{arc_of, small};
+ghost use Rattle.std.specs.Prelude.{◌≡◌, ◌-◌, ◌<◌, ◌≤◌, IfOk};
+ghost use Rattle.plain_search.specs.Words.{IsAsked};
+ghost use Rattle.plain_search.specs.Inside.SmallNet.{small_arc, small};
 
 use crate::TableEngine;
 use route_base::{
     ArcId, FrontSearch, Leg, NodeId, OutOfMemory, Pair, Request, Run, TimedArc, TimedNet,
 };
 use std::alloc::Global;
+use std::process::Abort;
 use std::test::Fail;
 
 const ALWAYS_OPEN: u32 = 0;
@@ -15,7 +17,7 @@ const CLOSED_AT_FIRST: u32 = 1;
 
 fn arc(tail: u32, head: u32, minutes: u64, closed: u32) -> TimedArc
     requires { minutes < 1000 }
-    ensures { result ≡ arc_of tail head minutes closed }
+    ensures { result ≡ small_arc tail head minutes closed }
 {
     TimedArc {
         tail: NodeId(tail),
@@ -46,6 +48,27 @@ fn small_net(alloc: Global) -> Result<TimedNet, OutOfMemory>
     Ok(TimedNet::new(3, arcs, closed, weights))
 }
 
+// Expects an engine to find exactly these pairs, each with these legs.
+fn expect_front<E: FrontSearch>(
+    rt: &impl Abort,
+    alloc: Global,
+    engine: &E,
+    net: &TimedNet,
+    request: Request,
+    wants: &[(Pair, &[Leg])],
+) -> Result<(), Fail>
+    requires asked { IsAsked net.now request }
+    requires horizon { request.until - request.depart ≤ 86400 }
+{
+    let routes = engine.front(alloc, net, request)?;
+    assert_eq!(rt; routes.len(), wants.len());
+    for (route, (pair, legs)) in routes.as_slice().iter().zip(wants) {
+        assert_eq!(rt; route.pair, *pair);
+        assert_eq!(rt; route.legs.as_slice(), *legs);
+    }
+    Ok(())
+}
+
 #[test]
 fn waits_for_an_arc_or_goes_round(rt: HostRuntime) -> Result<(), Fail> {
     let alloc = rt.alloc();
@@ -56,7 +79,6 @@ fn waits_for_an_arc_or_goes_round(rt: HostRuntime) -> Result<(), Fail> {
         depart: 26563680,
         until: 26564080,
     };
-    let routes = TableEngine.front(alloc, &net, request)?;
     let wants = [
         (
             Pair {
@@ -73,10 +95,5 @@ fn waits_for_an_arc_or_goes_round(rt: HostRuntime) -> Result<(), Fail> {
             [Leg::Drive(ArcId(3))].as_slice(),
         ),
     ];
-    assert_eq!(rt; routes.len(), wants.len());
-    for (route, (pair, legs)) in routes.as_slice().iter().zip(&wants) {
-        assert_eq!(rt; route.pair, *pair);
-        assert_eq!(rt; route.legs.as_slice(), *legs);
-    }
-    Ok(())
+    expect_front(&rt, alloc, &TableEngine, &net, request, &wants)
 }

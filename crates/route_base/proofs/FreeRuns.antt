@@ -19,7 +19,8 @@ module _ (runs : List Run) (rising : AreRuns runs) where
       omega (arith, rising.apart i j d before within, rising.filled j d within))
       (cases_eq i j)
 
-  module _ (t minutes i : ℕ) (some : 1 ≤ minutes) (before : AllWithin (λ r. leb r.hi t ≡ true) runs 0 i) (after : AllWithin (λ r. leb r.hi t ≡ false) runs i (length runs)) where
+  module _ (t minutes i : ℕ) (some : 1 ≤ minutes) (before : AllWithin (λ r. leb r.hi t ≡ true) runs 0 i)
+      (after : AllWithin (λ r. leb r.hi t ≡ false) runs i (length runs)) where
     -- nothing has a minute that is before the next run
     free_from : (u : ℕ) → t ≤ u → ((d : Run) → i < length runs → u < (get_or runs i d).lo) → any_has runs u ≡ false
     free_from u from next = list_any_none (has_minute u) runs (λ k d within.
@@ -36,7 +37,8 @@ module _ (runs : List Run) (rising : AreRuns runs) where
         (cases_lt k i))
 
     pub free_before : (run : Run) → i < length runs → run ≡ get_or runs i run → t + minutes ≤ run.lo → IsFree runs t minutes
-    free_before run within is late u from upto = free_from u from (λ d w. omega (arith, upto, late, ap (λ (r : Run). r.lo) (is ∙ get_or_default runs i run d within)))
+    free_before run within is late u from upto = free_from u from
+        (λ d w. omega (arith, upto, late, ap (λ (r : Run). r.lo) (is ∙ get_or_default runs i run d within)))
 
     pub free_behind : length runs ≤ i → IsFree runs t minutes
     free_behind end u from upto = free_from u from (λ d w. absurd (omega (arith, w, end)))
@@ -52,8 +54,13 @@ module _ (runs : List Run) (rising : AreRuns runs) where
         (λ (soon : run.lo < t).
         let one : t < t + minutes = omega (arith, some) in
         let same : t ≤ t = omega arith in
-        absurd (both_ways (any_has runs t) (free t same one) (list_any_at (has_minute t) runs i run within (and_from _ _ (le-leb (get_or runs i run).lo t (omega (arith, soon, lo))) (lt-ltb t (get_or runs i run).hi ends)))))
-        (λ (then : t ≤ run.lo). absurd (both_ways (any_has runs run.lo) (free run.lo then hit) (list_any_at (has_minute run.lo) runs i run within (and_from _ _ (le-leb (get_or runs i run).lo run.lo (omega (arith, lo))) (lt-ltb run.lo (get_or runs i run).hi (omega (arith, lo, filled)))))))
+        absurd (both_ways (any_has runs t) (free t same one)
+        (list_any_at (has_minute t) runs i run within
+        (and_from _ _ (le-leb (get_or runs i run).lo t (omega (arith, soon, lo))) (lt-ltb t (get_or runs i run).hi ends)))))
+        (λ (then : t ≤ run.lo). absurd (both_ways (any_has runs run.lo) (free run.lo then hit)
+        (list_any_at (has_minute run.lo) runs i run within
+        (and_from _ _ (le-leb (get_or runs i run).lo run.lo (omega (arith, lo)))
+        (lt-ltb run.lo (get_or runs i run).hi (omega (arith, lo, filled)))))))
         (cases_lt run.lo t))
         (λ (past : t + minutes ≤ run.lo). past)
         (cases_lt run.lo (t + minutes))

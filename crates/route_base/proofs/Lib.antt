@@ -1,8 +1,10 @@
+pub mod AgreeingWalks
 pub mod Costs
 pub mod Covering
 pub mod Cuts
 pub mod FreeRuns
 pub mod Fronts
+pub mod FolderStates
 pub mod FormRows
 pub mod LegLists
 pub mod Numbered

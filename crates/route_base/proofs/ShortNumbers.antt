@@ -1,5 +1,6 @@
 -- How large a number of few digits is.
-use Rattle.std.proofs.Common.{◌≡◌, ℕ, ◌+◌, ◌-◌, ◌*◌, ◌≤◌, ◌&&◌, Bool, true, false, cond, leb, Option, None, List, [], ◌∷◌, length, IfSome, refl, arith}
+use Rattle.std.proofs.Common.{◌≡◌, ℕ, ◌+◌, ◌-◌, ◌*◌, ◌≤◌, ◌&&◌, Bool, true, false, cond, leb, Option, None, List, [], ◌∷◌, length}
+use Rattle.std.proofs.Common.{IfSome, refl, arith}
 use Rattle.std.proofs.lemmas.Bool.{leb-true, false≢true}
 use Rattle.route_base.specs.Digits.{digits_from, number_of}
 use Rattle.route_base.specs.Forms.{short_number_of, thousandths_in}
@@ -12,9 +13,11 @@ second : (a b : Bool) → (a && b) ≡ true → b ≡ true
 second true b h = h
 second false b h = absurd (false≢true h)
 
-one_more : (P : ℕ → Type 0) (n m b : ℕ) (bs : List ℕ) → n ≤ m → ((k : ℕ) → k ≤ 10 * m + 9 → IfSome (digits_from k bs) P) → IfSome (digits_from n (b ∷ bs)) P
+one_more : (P : ℕ → Type 0) (n m b : ℕ) (bs : List ℕ) → n ≤ m → ((k : ℕ) → k ≤ 10 * m + 9 → IfSome (digits_from k bs) P) → IfSome
+    (digits_from n (b ∷ bs)) P
 one_more P n m b bs small rest =
-    when_true P (leb 48 b && leb b 57) (digits_from (10 * n + (b - 48)) bs) (λ digit. rest (10 * n + (b - 48)) (omega (arith, leb-true b 57 (second (leb 48 b) (leb b 57) digit))))
+    when_true P (leb 48 b && leb b 57) (digits_from (10 * n + (b - 48)) bs)
+    (λ digit. rest (10 * n + (b - 48)) (omega (arith, leb-true b 57 (second (leb 48 b) (leb b 57) digit))))
 
 pub short_of_one : (bs : List ℕ) → length bs ≡ 1 → IfSome (short_number_of bs) (λ n. n ≤ 9)
 short_of_one [] h = tt
@@ -35,7 +38,8 @@ number_of_three (a ∷ []) h =
 number_of_three (a ∷ b ∷ []) h =
     one_more (λ n. n ≤ 999) 0 0 a (b ∷ []) (omega arith) (λ k s. one_more (λ n. n ≤ 999) k 9 b [] (omega arith) (λ k s. omega arith))
 number_of_three (a ∷ b ∷ c ∷ []) h =
-    one_more (λ n. n ≤ 999) 0 0 a (b ∷ c ∷ []) (omega arith) (λ k s. one_more (λ n. n ≤ 999) k 9 b (c ∷ []) (omega arith) (λ k s. one_more (λ n. n ≤ 999) k 99 c [] (omega arith) (λ k s. omega arith)))
+    one_more (λ n. n ≤ 999) 0 0 a (b ∷ c ∷ []) (omega arith)
+    (λ k s. one_more (λ n. n ≤ 999) k 9 b (c ∷ []) (omega arith) (λ k s. one_more (λ n. n ≤ 999) k 99 c [] (omega arith) (λ k s. omega arith)))
 number_of_three (a ∷ b ∷ c ∷ d ∷ bs) h = absurd (omega arith)
 
 pub many_parts : (whole decimals : List ℕ) (more : List (List ℕ)) → 1 ≤ length more → thousandths_in (whole ∷ decimals ∷ more) ≡ None

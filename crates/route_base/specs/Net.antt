@@ -1,9 +1,11 @@
--- A timed net as data, and the setting that it is.
-use Rattle.std.specs.Prelude.{◌≡◌, ℕ, ◌^◌, ◌≤◌, ◌<◌, zero, suc, Option, Some, None, List, [], length, slice_get, All, unwrap_or}
-use Rattle.std.specs.Option.{option_map}
+-- Timed nets as data, and their settings (source: SEA 2020).
+use Rattle.std.specs.Prelude.{◌≡◌, ℕ, ◌^◌, ◌≤◌, ◌<◌, zero, suc, Option, Some, None, List, [], map, length, slice_get, All, Vec, unwrap_or}
+use Rattle.std.specs.declared.alloc.Global.{Global}
+use Rattle.std.specs.Option.{option_map, option_flatten}
 use Rattle.route_base.specs.Runs.{any_has, AreRuns}
 use Rattle.route_base.specs.Time.{last_instant}
 use Rattle.route_base.specs.Setting.{Setting, Road}
+use Rattle.route_base.specs.declared.limits.TheConstants.{HEAVIEST_WEIGHT, HIGHEST_COST, LONGEST_DRIVE, MOST_NET_NODES}
 use Rattle.route_base.specs.declared.types.TimedArc.{TimedArc}
 use Rattle.route_base.specs.declared.types.Run.{Run}
 use Rattle.route_base.specs.declared.types.Request.{Request}
@@ -14,6 +16,10 @@ pub record Net : Type 0 where
   pub arcs : List TimedArc
   pub closed : List (List Run)
   pub weights : List (Option ℕ)
+
+-- the net of a list of arcs, lists of closed runs and weights
+abbrev pub net_from : ℕ → List TimedArc → List (Vec Run Global) → List (Option ℕ) → Net
+net_from nodes arcs closed weights = record { nodes = nodes; arcs = arcs; closed = map (λ v. v.items) closed; weights = weights }
 
 -- the arc without its closures
 abbrev pub road_of : TimedArc → Road
@@ -36,11 +42,6 @@ runs_by net (Some a) = runs_of net a
 abbrev pub runs_at : Net → ℕ → List Run
 runs_at net a = runs_by net (at_number net.arcs a)
 
--- the value inside, where there is one
-abbrev pub joined : {A : Type 0} → Option (Option A) → Option A
-joined None = None
-joined (Some o) = o
-
 -- the setting that the net is
 abbrev pub setting_of : Net → Setting
 setting_of net = record {
@@ -48,28 +49,28 @@ setting_of net = record {
   arcs = length net.arcs;
   road = λ a. option_map road_of (at_number net.arcs a);
   shut = λ a t. any_has (runs_at net a) t;
-  weight = λ v. joined (at_number net.weights v);
+  weight = λ v. option_flatten (at_number net.weights v);
 }
 
--- what each arc of a net keeps
+-- each arc has its ends among the nodes, a length, a cost and a list of closed runs
 pub record IsGoodArc (net : Net) (a : TimedArc) : Type 0 where
   pub tail : (1 ≤ a.tail.0) × (a.tail.0 ≤ net.nodes)
   pub head : (1 ≤ a.head.0) × (a.head.0 ≤ net.nodes)
-  pub minutes : (1 ≤ a.minutes) × (a.minutes ≤ 10080)
-  pub cost : a.cost ≤ 10000000000
+  pub minutes : (1 ≤ a.minutes) × (a.minutes ≤ LONGEST_DRIVE)
+  pub cost : a.cost ≤ HIGHEST_COST
   pub closed : a.closed < length net.closed
 
--- what each net keeps
+-- a well-formed net
 pub record IsGoodNet (net : Net) : Type 0 where
-  pub nodes : net.nodes ≤ 40000000
+  pub nodes : net.nodes ≤ MOST_NET_NODES
   pub arcs : length net.arcs < 2 ^ 32
   pub closed : length net.closed < 2 ^ 32
   pub weights : length net.weights ≡ net.nodes
   pub each_arc : All (IsGoodArc net) net.arcs
   pub each_runs : All AreRuns net.closed
-  pub each_weight : (v w : ℕ) → joined (at_number net.weights v) ≡ Some w → w ≤ 100000
+  pub each_weight : (v w : ℕ) → option_flatten (at_number net.weights v) ≡ Some w → w ≤ HEAVIEST_WEIGHT
 
--- what is asked of a request
+-- a request between nodes of the net, at instants
 pub record IsGoodRequest (net : Net) (r : Request) : Type 0 where
   pub origin : (1 ≤ r.origin.0) × (r.origin.0 ≤ net.nodes)
   pub goal : (1 ≤ r.goal.0) × (r.goal.0 ≤ net.nodes)

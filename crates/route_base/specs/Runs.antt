@@ -1,4 +1,4 @@
--- Runs of minutes.
+-- Runs of minutes (source: own).
 use Rattle.std.specs.Prelude.{◌≡◌, ℕ, ◌+◌, ◌<◌, ◌≤◌, Bool, false, ◌&&◌, nat_le, nat_lt, List, All, AllPairs}
 use Rattle.std.specs.List.{list_any}
 use Rattle.route_base.specs.declared.types.Run.{Run}

@@ -1,6 +1,7 @@
 // Bounds to a goal, one place for each node.
 ghost use Rattle.std.specs.Prelude.{◌≡◌, ◌∷◌, ◌++◌, [], List, Option, OnOk, OnErr};
-ghost use Rattle.route_base.specs.Net.{at_number, joined};
+ghost use Rattle.std.specs.Option.{option_flatten};
+ghost use Rattle.route_base.specs.Net.{at_number};
 
 use crate::{Bound, NodeId, OutOfMemory};
 use std::alloc::Global;
@@ -33,7 +34,7 @@ impl Bounds {
 
     /// The bound of a node in constant time; `None` where it has none or is outside the list.
     pub fn get(&self, node: NodeId) -> Option<Bound>
-        ensures { result ≡ joined (at_number self.now node.0) }
+        ensures { result ≡ option_flatten (at_number self.now node.0) }
     {
         if node.0 == 0 {
             return None;

@@ -1,9 +1,9 @@
-// Why an input or a request is refused.
+// The causes for which an input or a request is refused, with their names.
 ghost use Rattle.std.specs.Prelude.{◌≡◌};
 
 use std::alloc::{AllocError, AllocFailed};
 
-/// What is wrong with a file, or with one of its lines or rows.
+/// The fault of a file, or of one of its lines or rows.
 #[derive(Clone, Copy, Debug, PartialEq, Eq)]
 pub enum Cause {
     Missing,
@@ -22,11 +22,40 @@ pub enum Cause {
     Unknown,
     Duplicate,
     NotRising,
-    /// The program can't read files of this kind yet.
+    /// Files of this kind are not supported yet.
     NotBuilt,
 }
 
-/// The files of a folder in the order in which they are read; then the two that a command may name.
+impl Cause {
+    ghost use Rattle.route_base.specs.Labels.{cause_name_of};
+
+    /// The name of the cause in a refusal.
+    pub fn name(self) -> &'static str
+        ensures { result.now ≡ cause_name_of self }
+    {
+        match self {
+            Cause::Missing => "Missing",
+            Cause::TooLong => "TooLong",
+            Cause::NoProblemLine => "NoProblemLine",
+            Cause::SecondProblemLine => "SecondProblemLine",
+            Cause::BadForm => "BadForm",
+            Cause::NodeRange => "NodeRange",
+            Cause::WeightRange => "WeightRange",
+            Cause::ArcCount => "ArcCount",
+            Cause::SizeLimit => "SizeLimit",
+            Cause::BadHeader => "BadHeader",
+            Cause::FieldCount => "FieldCount",
+            Cause::BadField => "BadField",
+            Cause::NotConditional => "NotConditional",
+            Cause::Unknown => "Unknown",
+            Cause::Duplicate => "Duplicate",
+            Cause::NotRising => "NotRising",
+            Cause::NotBuilt => "NotBuilt",
+        }
+    }
+}
+
+/// The files of a folder in the order in which they are read, and then the two that a command may name.
 #[derive(Clone, Copy, Debug, PartialEq, Eq)]
 pub enum FileKind {
     Graph,
@@ -43,6 +72,31 @@ pub enum FileKind {
     Certificate,
 }
 
+impl FileKind {
+    ghost use Rattle.route_base.specs.Labels.{label_of};
+
+    /// The label of the file in a refusal: its name below the folder, but `jobs` and `certificate` for the two files that the
+    /// words of a command name.
+    pub fn label(self) -> &'static str
+        ensures { result.now ≡ label_of self }
+    {
+        match self {
+            FileKind::Graph => "graph.gr",
+            FileKind::Zones => "zones.csv",
+            FileKind::Areas => "areas.csv",
+            FileKind::Roads => "roads.csv",
+            FileKind::Vehicles => "vehicles.csv",
+            FileKind::Rules => "rules.csv",
+            FileKind::Closures => "closures.csv",
+            FileKind::Ratings => "ratings.csv",
+            FileKind::Parking => "parking.csv",
+            FileKind::Holidays => "holidays.csv",
+            FileKind::Jobs => "jobs",
+            FileKind::Certificate => "certificate",
+        }
+    }
+}
+
 /// A file's fault. The row is the number of the line or the record from 1, or 0 for the file as a whole.
 #[derive(Clone, Copy, Debug, PartialEq, Eq)]
 pub struct BadInput {
@@ -51,7 +105,7 @@ pub struct BadInput {
     pub cause: Cause,
 }
 
-/// The first test that a request fails, in the order of the variants.
+/// The first check that a request fails, in the order of the variants.
 #[derive(Clone, Copy, Debug, PartialEq, Eq)]
 pub enum RequestFault {
     UnknownVehicle,
@@ -62,7 +116,25 @@ pub enum RequestFault {
     HorizonTooLong,
 }
 
-/// Want of memory.
+impl RequestFault {
+    ghost use Rattle.route_base.specs.Labels.{request_fault_name_of};
+
+    /// The name of the failed check in a refusal.
+    pub fn name(self) -> &'static str
+        ensures { result.now ≡ request_fault_name_of self }
+    {
+        match self {
+            RequestFault::UnknownVehicle => "UnknownVehicle",
+            RequestFault::UnknownArc => "UnknownArc",
+            RequestFault::OriginRange => "OriginRange",
+            RequestFault::GoalRange => "GoalRange",
+            RequestFault::UntilBeforeDepart => "UntilBeforeDepart",
+            RequestFault::HorizonTooLong => "HorizonTooLong",
+        }
+    }
+}
+
+/// Out of memory.
 #[derive(Clone, Copy, Debug, PartialEq, Eq)]
 pub struct OutOfMemory;
 
@@ -78,12 +150,12 @@ impl<T: Drop> From<AllocFailed<T>> for OutOfMemory {
     }
 }
 
-/// Why a table isn't read.
+/// Why a table can't be read.
 #[derive(Clone, Copy, Debug, PartialEq, Eq)]
 pub enum TableFault {
-    /// A row's fault; the rows count from 1, and row 0 is the file as a whole.
+    /// A row's fault; rows are numbered from 1, and row 0 stands for the whole file.
     BadRow { row: u64, cause: Cause },
-    /// Want of memory.
+    /// Out of memory.
     OutOfMemory,
 }
 

@@ -2,25 +2,21 @@
 ghost use Rattle.std.specs.Prelude.{◌≡◌, ◌==◌, ◌∷◌, [], IfSome, IfNone, ◌≤◌};
 ghost use Rattle.std.specs.List.{slice_split, list_all};
 ghost use Rattle.route_base.specs.Time.{IsInstant};
-ghost use Rattle.route_base.specs.Forms.{is_name_byte, is_name, table_number_of, minute_of, short_number_of, decimals_of, thousandths_in, weight_of};
+ghost use Rattle.route_base.specs.Forms.{is_name_byte, is_name, table_number_of, minute_of, short_number_of};
+ghost use Rattle.route_base.specs.Forms.{decimals_of, thousandths_in, weight_of};
 
-use crate::cutting::cut;
+use crate::limits::{FIRST_INSTANT, HEAVIEST_WEIGHT, LAST_INSTANT, LONGEST_NAME};
+use crate::split::cut;
 use crate::{Cost, Minute, read_number, read_plain_number};
 
-const FIRST_INSTANT: Minute = 525_600;
-
-const LAST_INSTANT: Minute = 120_968_639;
-
-const LONGEST_NAME: usize = 64;
-
-const HEAVIEST: Cost = 100_000;
-
+// Whether a byte may stand in a name.
 fn is_byte_of_name(b: u8) -> bool
     ensures { result ≡ is_name_byte b }
 {
     matches!(b, b'a'..=b'z' | b'A'..=b'Z' | b'0'..=b'9' | b'_' | b'-' | b'.')
 }
 
+// Whether all bytes may stand in a name.
 fn are_bytes_of_name(field: &[u8]) -> bool
     ensures { result ≡ list_all is_name_byte field.now }
 {
@@ -67,6 +63,7 @@ pub fn read_minute(field: &[u8]) -> Option<Minute>
     }
 }
 
+// The number of 1 to 3 digits.
 fn read_short_number(digits: &[u8]) -> Option<u64>
     ensures value { result ≡ short_number_of digits.now }
     ensures short { IfSome result (λ n. n ≤ 999) }
@@ -77,6 +74,7 @@ fn read_short_number(digits: &[u8]) -> Option<u64>
     read_number(digits)
 }
 
+// The thousandths of 1 to 3 digits behind a point.
 fn read_decimals(digits: &[u8]) -> Option<u64>
     ensures value { result ≡ decimals_of digits.now }
     ensures short { IfSome result (λ n. n ≤ 999) }
@@ -90,6 +88,7 @@ fn read_decimals(digits: &[u8]) -> Option<u64>
     Some(unit * read_short_number(digits)?)
 }
 
+// The thousandths of digits with or without a point.
 fn read_thousandths(field: &[u8]) -> Option<Cost>
     ensures { result ≡ thousandths_in (slice_split (λ b. b == 46) field.now) }
 {
@@ -106,10 +105,10 @@ fn read_thousandths(field: &[u8]) -> Option<Cost>
 /// 100. Linear in their number.
 pub fn read_weight(field: &[u8]) -> Option<Cost>
     ensures value { result ≡ weight_of field.now }
-    ensures small { IfSome result (λ w. w ≤ 100000) }
+    ensures small { IfSome result (λ w. w ≤ HEAVIEST_WEIGHT) }
 {
     let weight = read_thousandths(field)?;
-    if weight <= HEAVIEST {
+    if weight <= HEAVIEST_WEIGHT {
         Some(weight)
     } else {
         None

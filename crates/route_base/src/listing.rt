@@ -1,4 +1,4 @@
-// A list type: one for all items, so that each named list is an alias of it.
+// One generic list type; the named lists are aliases of it.
 ghost use Rattle.std.specs.Prelude.{◌≡◌, ◌∷◌, ◌++◌, [], List, ℕ, length, slice_get, option_copied, OnOk, OnErr};
 
 use crate::OutOfMemory;

@@ -1,6 +1,7 @@
-// A net with the minutes at which its arcs are closed.
-ghost use Rattle.std.specs.Prelude.{◌≡◌, ◌↔◌, ◌+◌, ◌<◌, ◌≤◌, ◌^◌, IsTrue, IsSome, IfSome, length, map};
-ghost use Rattle.route_base.specs.Net.{Net, IsGoodNet, IsGoodArc, setting_of, at_number, joined, runs_at};
+// Timed nets: a road graph with the minutes at which its arcs are closed.
+ghost use Rattle.std.specs.Prelude.{◌≡◌, ◌↔◌, ◌≤◌, IsTrue, IsSome, IfSome, length};
+ghost use Rattle.std.specs.Option.{option_flatten};
+ghost use Rattle.route_base.specs.Net.{IsGoodNet, IsGoodArc, net_from, setting_of, at_number, runs_at};
 ghost use Rattle.route_base.specs.Open.{IsOpen};
 ghost use Rattle.route_base.specs.Runs.{AreRuns};
 
@@ -18,14 +19,13 @@ pub struct TimedNet {
 }
 
 impl Model for TimedNet {
-    ghost use Rattle.std.specs.Prelude.{map};
-    ghost use Rattle.route_base.specs.Net.{Net, IsGoodNet};
+    ghost use Rattle.route_base.specs.Net.{Net, IsGoodNet, net_from};
 
     ghost Value = { Net };
 
-    ghost view = { λ a. record { nodes = a.nodes; arcs = a.arcs.items; closed = map (λ v. v.items) a.closed.items; weights = a.weights.items } };
+    ghost view = { λ a. net_from a.nodes a.arcs.items a.closed.items a.weights.items };
 
-    ghost invariant = { λ a. IsGoodNet (record { nodes = a.nodes; arcs = a.arcs.items; closed = map (λ v. v.items) a.closed.items; weights = a.weights.items }) };
+    ghost invariant = { λ a. IsGoodNet (net_from a.nodes a.arcs.items a.closed.items a.weights.items) };
 }
 
 impl TimedNet {
@@ -37,8 +37,8 @@ impl TimedNet {
         closed: Vec<Vec<Run>>,
         weights: Vec<Option<Cost>>,
     ) -> TimedNet
-        requires { IsGoodNet (record { nodes = nodes; arcs = arcs.items; closed = map (λ v. v.items) closed.items; weights = weights.items }) }
-        ensures { result ≡ record { nodes = nodes; arcs = arcs.items; closed = map (λ v. v.items) closed.items; weights = weights.items } }
+        requires { IsGoodNet (net_from nodes arcs.items closed.items weights.items) }
+        ensures { result ≡ net_from nodes arcs.items closed.items weights.items }
     {
         TimedNet {
             nodes,
@@ -75,11 +75,11 @@ impl TimedNet {
         self.arcs.get(a.0 as usize - 1).copied()
     }
 
-    /// What a minute's wait at the node costs, in thousandths; `None` exactly where it isn't rated. In constant time.
+    /// The cost of a minute's wait at the node, in thousandths; `None` exactly where it isn't rated. In constant time.
     pub fn weight(&self, v: NodeId) -> Option<Cost>
         requires low { 1 ≤ v.0 }
         requires high { v.0 ≤ self.now.nodes }
-        ensures value { result ≡ joined (at_number self.now.weights v.0) }
+        ensures value { result ≡ option_flatten (at_number self.now.weights v.0) }
         ensures good { IsGoodNet self.now }
     {
         self.weights[v.0 as usize - 1]
@@ -96,20 +96,18 @@ impl TimedNet {
         self.closed[arc.closed as usize].as_slice()
     }
 
-    /// Whether the arc is closed at a minute. By halving its runs.
+    /// Whether the arc is closed at a minute, by a binary search in its runs.
     pub fn is_closed(&self, a: ArcId, t: Minute) -> bool
-        requires arc { IsSome (at_number self.now.arcs a.0) }
-        requires small { t < 2 ^ 63 }
+        requires { IsSome (at_number self.now.arcs a.0) }
         ensures { result ≡ (setting_of self.now).shut a.0 t }
     {
         !is_free(self.closed_runs(a), t, 1)
     }
 
-    /// Whether the arc is open from minute t on for as many minutes as these. By halving its runs.
+    /// Whether the arc is open at the `minutes` minutes from t on, by a binary search in its runs.
     pub fn is_open(&self, a: ArcId, t: Minute, minutes: u64) -> bool
         requires arc { IsSome (at_number self.now.arcs a.0) }
         requires some { 1 ≤ minutes }
-        requires small { t + minutes < 2 ^ 64 }
         ensures { IsTrue result ↔ IsOpen (setting_of self.now) a.0 t minutes }
     {
         is_free(self.closed_runs(a), t, minutes)

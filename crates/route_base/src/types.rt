@@ -1,4 +1,4 @@
-// The words that all crates share.
+// Types shared by all crates.
 use crate::Listing;
 
 /// A Unix minute in UTC.

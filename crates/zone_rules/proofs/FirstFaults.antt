@@ -17,7 +17,8 @@ abbrev pub IsFaultlessBefore : List ZoneRow → ℕ → Type 0
 IsFaultlessBefore rows i = filter_map (fault_at rows) (range_with_len 0 i) ≡ []
 
 faults-split : (rows : List ZoneRow) (i n : ℕ) → i < n → IsFaultlessBefore rows i
-    → filter_map (fault_at rows) (range_with_len 0 n) ≡ cons_option (fault_at rows i) (filter_map (fault_at rows) (range_with_len (i + 1) (n - (i + 1))))
+    → filter_map (fault_at rows) (range_with_len 0 n) ≡ cons_option (fault_at rows i)
+    (filter_map (fault_at rows) (range_with_len (i + 1) (n - (i + 1))))
 faults-split rows i n h before =
     ap (filter_map (fault_at rows)) (range-split 0 i (n - (i + 1)) n i (omega arith) (omega arith))
     ∙ filter_map-append (fault_at rows) (range_with_len 0 i) (i ∷ range_with_len (i + 1) (n - (i + 1)))
@@ -38,7 +39,8 @@ no_rows [] e = refl
 no_rows (row ∷ rows) e = absurd (omega arith)
 
 -- the first fault
-pub first_fault : (rows : List ZoneRow) (i : ℕ) (fault : ZoneFault) → i < length rows → IsFaultlessBefore rows i → fault_at rows i ≡ Some fault → zone_fault_of rows ≡ Some fault
+pub first_fault : (rows : List ZoneRow) (i : ℕ) (fault : ZoneFault) → i < length rows → IsFaultlessBefore rows i
+    → fault_at rows i ≡ Some fault → zone_fault_of rows ≡ Some fault
 unfolding zone_fault_of
 first_fault [] i fault h before here = absurd (omega arith)
 first_fault (row ∷ rows) i fault h before here =

@@ -1,5 +1,6 @@
 -- The last row that starts at a minute or before.
-use Rattle.std.proofs.Common.{◌≡◌, ℕ, zero, suc, ◌-◌, ◌<◌, ◌≤◌, Bool, true, false, leb, Option, Some, List, [], ◌∷◌, length, get_or, refl, sym, ◌∙◌, ap, arith}
+use Rattle.std.proofs.Common.{◌≡◌, ℕ, zero, suc, ◌-◌, ◌<◌, ◌≤◌, Bool, true, false, leb, Option, Some, List, [], ◌∷◌, length}
+use Rattle.std.proofs.Common.{get_or, refl, sym, ◌∙◌, ap, arith}
 use Rattle.std.specs.List.{filter, last_or, slice_get, AllWithin}
 use Rattle.std.proofs.lemmas.Option.{slice_get-get_or}
 use Rattle.zone_rules.specs.Zones.{row_at}
@@ -32,7 +33,7 @@ last-filter p (x ∷ xs) (suc i) d o h before after =
     from zero = refl
     from (suc j) = refl
 
--- the row that counts is the one before the place where later starts begin, or the first
+-- the row in force is the one before the place where later starts begin, or the first
 pub row_found : (rows : List ZoneRow) (t i : ℕ) (d : ZoneRow) → 0 < length rows → i ≤ length rows
     → AllWithin (λ r. leb r.start t ≡ true) rows 0 i → AllWithin (λ r. leb r.start t ≡ false) rows i (length rows)
     → row_at rows t ≡ Some (get_or rows (i - 1) d)

@@ -1,5 +1,6 @@
 -- Rows without a fault are a zone.
-use Rattle.std.proofs.Common.{◌≡◌, ⊎_elim, pos, ℕ, zero, suc, ◌+◌, ◌<◌, Bool, true, false, cond, map, Option, Some, None, List, [], ◌∷◌, length, get_or, refl, sym, ◌∙◌, ap, add-one, arith}
+use Rattle.std.proofs.Common.{◌≡◌, ⊎_elim, pos, ℕ, zero, suc, ◌+◌, ◌<◌, Bool, true, false, cond, map, Option, Some, None}
+use Rattle.std.proofs.Common.{List, [], ◌∷◌, length, get_or, refl, sym, ◌∙◌, ap, add-one, arith}
 use Rattle.std.specs.List.{filter_map, range_with_len, slice_get, cons_option}
 use Rattle.std.specs.Option.{option_and_then}
 use Rattle.std.proofs.lemmas.Option.{slice_get-get_or}
@@ -26,7 +27,8 @@ nothing_behind (Some x) xs e = cc
 nothing_at : {A : Type 0} (h : ℕ → Option A) (a n i : ℕ) → filter_map h (range_with_len a n) ≡ [] → i < n → h (a + i) ≡ None
 nothing_at h a zero i e w = absurd (omega arith)
 nothing_at h a (suc n) zero e w = let same : a + 0 ≡ a = omega arith in ap h same ∙ nothing_first (h a) _ e
-nothing_at h a (suc n) (suc i) e w = let same : a + suc i ≡ a + 1 + i = omega arith in ap h same ∙ nothing_at h (a + 1) n i (nothing_behind (h a) _ e) (omega arith)
+nothing_at h a (suc n) (suc i) e w = let same : a + suc i ≡ a + 1 + i = omega arith in ap h same
+    ∙ nothing_at h (a + 1) n i (nothing_behind (h a) _ e) (omega arith)
 
 some_rows : (rows : List ZoneRow) → zone_fault_of rows ≡ None → rows ≡ [] → ⊥
 unfolding zone_fault_of
@@ -36,7 +38,8 @@ some_rows (row ∷ rows) e f = cc
 pub faultless_at : (rows : List ZoneRow) → zone_fault_of rows ≡ None → (i : ℕ) → i < length rows → fault_at rows i ≡ None
 unfolding zone_fault_of
 faultless_at [] e i h = absurd (omega arith)
-faultless_at (row ∷ rows) e i h = let same : 0 + i ≡ i = omega arith in ap (fault_at (row ∷ rows)) (sym same) ∙ nothing_at (fault_at (row ∷ rows)) 0 (length (row ∷ rows)) i (none_got _ e) h
+faultless_at (row ∷ rows) e i h = let same : 0 + i ≡ i = omega arith in ap (fault_at (row ∷ rows)) (sym same)
+    ∙ nothing_at (fault_at (row ∷ rows)) 0 (length (row ∷ rows)) i (none_got _ e) h
 
 offset_good : (i : ℕ) (b later : Bool) → cond b (cond later None (Some (NotRising i))) (Some (OffsetRange i)) ≡ None → b ≡ true
 offset_good i true later e = refl
@@ -66,7 +69,12 @@ module _ (rows : List ZoneRow) (faultless : zone_fault_of rows ≡ None) where
     rising = λ k h.
         let none : ZoneRow = record { start = 0; offset = pos 0 } in
         let within : k + 1 < length rows = omega (arith, h, length-map rows (λ r. r.start)) in
-        rw (get_or-map (λ r. r.start) rows k none 0 (omega arith), get_or-map (λ r. r.start) rows (k + 1) none 0 within, add-one) (start_good k none (omega arith));
+        rw (
+          get_or-map (λ r. r.start) rows k none 0 (omega arith),
+          get_or-map (λ r. r.start) rows
+              (k + 1) none 0 within,
+          add-one,
+        ) (start_good k none (omega arith));
   }
 
 pub some_there : {A : Type 0} (xs : List A) → (xs ≡ [] → ⊥) → 0 < length xs
@@ -82,5 +90,11 @@ starts_rise rows zone i j d le within =
     (λ (same : i ≡ j). omega (arith, ap (λ n. (get_or rows n d).start) same))
     (λ (other : i ≡ j → ⊥).
     let before : i < j = omega (arith, other) in
-    omega (arith, AllPairs-from_increasing starts zone.rising i j 0 before long, get_or-map (λ r. r.start) rows i d 0 (omega arith), get_or-map (λ r. r.start) rows j d 0 within))
+    omega (
+      arith,
+      AllPairs-from_increasing starts zone.rising i j 0 before long,
+      get_or-map (λ r. r.start) rows i d 0
+          (omega arith),
+      get_or-map (λ r. r.start) rows j d 0 within,
+    ))
     (cases_eq i j)

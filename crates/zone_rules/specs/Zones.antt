@@ -1,5 +1,7 @@
--- Time zones as tables of offsets from UTC.
-use Rattle.std.specs.Prelude.{◌≢◌, ℕ, zero, suc, ◌/◌, ◌%◌, ◌&&◌, Bool, true, nat_le, nat_lt, int_le, Option, Some, None, List, [], length, map, All, filter, slice_get, unwrap_or, if◌then◌else◌, IsTrue, ℤ, pos, neg_ℤ, unsigned_abs, ◌+ℤ◌}
+-- Time zones as tables of offsets from UTC (source: own).
+use Rattle.std.specs.Prelude.{◌≢◌, ℕ, zero, suc, ◌/◌, ◌%◌, ◌&&◌, Bool, true, nat_le, nat_lt, int_le, Option, Some, None}
+use Rattle.std.specs.Prelude.{List, [], length, map, All, filter, slice_get, unwrap_or, if◌then◌else◌, IsTrue, ℤ, pos, neg_ℤ}
+use Rattle.std.specs.Prelude.{unsigned_abs, ◌+ℤ◌}
 use Rattle.std.specs.List.{last_or, filter_map, range_with_len}
 use Rattle.std.specs.List.Sorted.{IsStrictlyIncreasing}
 use Rattle.std.specs.Option.{option_map, option_and_then}
@@ -23,7 +25,7 @@ abbrev pub is_later : Option ZoneRow → ZoneRow → Bool
 is_later None row = true
 is_later (Some before) row = nat_lt before.start row.start
 
--- why the row at a place, behind the row before it, is refused
+-- the fault of the row at a place that follows this row, if it has one
 abbrev pub row_fault : ℕ → Option ZoneRow → ZoneRow → Option ZoneFault
 row_fault i before row =
     if is_offset row.offset then (if is_later before row then None else Some (NotRising i)) else Some (OffsetRange i)
@@ -32,11 +34,11 @@ abbrev pub row_before : List ZoneRow → ℕ → Option ZoneRow
 row_before rows zero = None
 row_before rows (suc i) = slice_get rows i
 
--- why the row at a place from 0 is refused
+-- the fault of the row at a place, counted from 0
 abbrev pub fault_at : List ZoneRow → ℕ → Option ZoneFault
 fault_at rows i = option_and_then (row_fault i (row_before rows i)) (slice_get rows i)
 
--- why rows are no zone: there are none, or the fault of the least place that has one
+-- the reason why rows are no zone: there are none, or it is the first fault of a row
 unfoldable pub zone_fault_of : List ZoneRow → Option ZoneFault
 zone_fault_of [] = Some Empty
 zone_fault_of rows = slice_get (filter_map (fault_at rows) (range_with_len 0 (length rows))) 0
@@ -45,7 +47,7 @@ zone_fault_of rows = slice_get (filter_map (fault_at rows) (range_with_len 0 (le
 abbrev pub started : List ZoneRow → ℕ → List ZoneRow
 started rows t = filter (λ r. nat_le r.start t) rows
 
--- the last of them; before all starts the first row
+-- the row in force: the last one that has started, or the first row before all starts
 abbrev pub row_at : List ZoneRow → ℕ → Option ZoneRow
 row_at rows t = last_or (slice_get rows 0) (started rows t)
 

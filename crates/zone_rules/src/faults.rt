@@ -1,10 +1,10 @@
-// The faults of rows that are no zone.
+// Checks that rows are a zone.
 ghost use Rattle.std.specs.Prelude.{◌≡◌, ◌<◌, None, Some, OnOk, IfErr, length};
 ghost use Rattle.zone_rules.specs.Zones.{fault_at, zone_fault_of};
 
 use crate::{ZoneFault, ZoneRow};
 
-// Why the row at a place is refused.
+// The fault of the row at a place, if it has one.
 fn row_fault(rows: &[ZoneRow], i: usize) -> Option<ZoneFault>
     requires { i < length rows.now }
     ensures { result ≡ fault_at rows.now i }
@@ -19,7 +19,7 @@ fn row_fault(rows: &[ZoneRow], i: usize) -> Option<ZoneFault>
     None
 }
 
-/// Refuses rows that are no zone. Linear in the rows; no memory.
+/// Checks that rows are a zone, and names the first fault. Linear in the rows; it takes no memory.
 pub fn check_rows(rows: &[ZoneRow]) -> Result<(), ZoneFault>
     ensures faultless { OnOk result (zone_fault_of rows.now ≡ None) }
     ensures refused { IfErr result (λ fault. zone_fault_of rows.now ≡ Some fault) }

@@ -1,7 +1,7 @@
 //! Time zones as tables of offsets: from a minute in UTC to the local day and minute of the day.
 //!
-//! The law is in `specs/Zones`: which rows are a zone, the offset at a minute, and the wall reading of a minute. It is met here
-//! by `Zone::from_rows`, `offset` and `wall`.
+//! The law is in `specs/Zones`: which rows are a zone, the offset at a minute, and the local day and minute of the day. It is
+//! met here by `Zone::from_rows`, `rows`, `offset` and `wall`.
 #![tactic(auto)]
 
 mod faults;

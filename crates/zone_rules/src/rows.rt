@@ -1,8 +1,8 @@
-// The rows of a zone, and what a clock on the wall shows.
+// A zone's rows, a wall clock's reading, and the faults of rows.
 use route_base::Minute;
 use std::alloc::AllocError;
 
-/// From the minute `start` on, local time is UTC plus `offset` minutes.
+/// A row of a zone: from minute `start` on, local time is UTC plus `offset` minutes.
 #[derive(Clone, Copy, Debug, PartialEq, Eq)]
 pub struct ZoneRow {
     pub start: Minute,
@@ -16,7 +16,7 @@ pub struct Wall {
     pub minute: u32,
 }
 
-/// Why rows are no zone. The number is the place of the row from 0.
+/// The reason why rows are no zone, with the place of the row, counted from 0.
 #[derive(Clone, Copy, Debug, PartialEq, Eq)]
 pub enum ZoneFault {
     /// There are no rows.

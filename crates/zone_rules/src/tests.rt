@@ -5,7 +5,7 @@ fn row(start: u64, offset: i64) -> ZoneRow {
     ZoneRow { start, offset }
 }
 
-// Why rows are refused.
+// The fault of rows, if they have one.
 fn fault_of(alloc: Global, rows: &[ZoneRow]) -> Option<ZoneFault> {
     match Zone::from_rows(alloc, rows) {
         Ok(_) => None,

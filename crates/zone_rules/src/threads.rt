@@ -1,8 +1,8 @@
-// Types that threads may share and hand over: the calls below are refused where one may not.
+// Compile-time check that these types are Send and Sync.
 use crate::{Wall, Zone, ZoneFault, ZoneRow};
+use route_base::crosses_threads;
 
-fn crosses_threads<T: Send + Sync>() {}
-
+// Compiles only if all these types cross threads.
 fn all_cross_threads() {
     crosses_threads::<Zone>();
     crosses_threads::<ZoneRow>();

@@ -1,4 +1,4 @@
-// A zone as a table of offsets.
+// Zones: offsets, local days and minutes.
 ghost use Rattle.std.specs.Prelude.{◌≡◌, ◌<◌, ◌≤◌, ◌⊎◌, ◌≤ℤ◌, None, Some, IfOk, OnOk, IfErr, IsTrue, pos, neg_ℤ};
 ghost use Rattle.route_base.specs.Time.{IsInstant};
 ghost use Rattle.zone_rules.specs.declared.rows.ZoneFault.TheVariants.{OutOfMemory};
@@ -10,8 +10,8 @@ use route_base::Minute;
 use std::alloc::Global;
 use std::marker::Model;
 
-/// A time zone: rows with rising starts, which contracts see as the list of its rows. The offset at a minute is that of the last
-/// row that starts at it or before, and before the first start that of the first row.
+/// A time zone: rows in the order of their starts, which contracts see as a list. At any minute the latest row that has started
+/// is in force; before the first start, the first row is.
 #[derive(Drop)]
 pub struct Zone {
     rows: Vec<ZoneRow>,
@@ -32,9 +32,9 @@ impl Model for Zone {
 impl Zone {
     /// The zone of these rows. Linear in them, in time and memory.
     ///
-    /// `Empty` comes where there are none. Else the least row that is refused is named: by `OffsetRange` for an offset that isn't
-    /// from -1,080 to 1,080 minutes, else by `NotRising` for a start that isn't above that of the row before. `OutOfMemory`
-    /// comes where the rows can't be kept.
+    /// It fails with `Empty` if there are no rows, and otherwise with the fault of the first faulty row: `OffsetRange` if its offset
+    /// isn't from -1,080 to 1,080 minutes, else `NotRising` if it doesn't start after the row before it. `OutOfMemory` means
+    /// that there was no memory for the rows.
     pub fn from_rows(alloc: Global, rows: &[ZoneRow]) -> Result<Zone, ZoneFault>
         ensures same { IfOk result (λ zone. zone ≡ rows.now) }
         ensures faultless { OnOk result (zone_fault_of rows.now ≡ None) }
@@ -44,6 +44,14 @@ impl Zone {
         Ok(Zone {
             rows: Vec::from_slice(alloc, rows)?,
         })
+    }
+
+    /// The rows, in the order of their starts. In constant time.
+    pub fn rows(&self) -> &[ZoneRow]
+        ensures same { result.now ≡ self.now }
+        ensures zone { IsZone self.now }
+    {
+        &self.rows
     }
 
     /// The minutes that local time is ahead of UTC. Logarithmic in the rows; no memory.
@@ -72,7 +80,7 @@ impl Zone {
     }
 }
 
-// The row that counts at a minute. Logarithmic in the rows.
+// The row in force at minute t, found by binary search.
 fn current_row(rows: &[ZoneRow], t: Minute) -> ZoneRow
     requires { IsZone rows.now }
     ensures value { row_at rows.now t ≡ Some result }

@@ -4,8 +4,8 @@ use route_base::{Bound, Bounds, Folder, Listing, NodeId, ReadAllFault};
 use std::test::Fail;
 
 #[test]
-fn reads_whole_files(rt: HostRuntime) {
-    let mut folder = sure_folder(&rt, &[("abc", "abc"), ("empty", "")]);
+fn reads_whole_files(rt: HostRuntime) -> Result<(), Fail> {
+    let mut folder = sure_folder(rt.alloc(), &[("abc", "abc"), ("empty", "")])?;
     let cases = [
         ("abc", 3, Ok("abc")),
         ("abc", 4, Ok("abc")),
@@ -17,11 +17,12 @@ fn reads_whole_files(rt: HostRuntime) {
     for (name, limit, want) in cases {
         expect_whole(&rt, &mut folder, name, limit, want);
     }
+    Ok(())
 }
 
 #[test]
 fn reads_files_of_several_parts(rt: HostRuntime) -> Result<(), Fail> {
-    let mut folder = sure_folder(&rt, &[("abc", "abc")]);
+    let mut folder = sure_folder(rt.alloc(), &[("abc", "abc")])?;
     let mut long = String::new(rt.alloc());
     for i in 0..200_000u32 {
         long.push((b'a' + (i % 26) as u8) as char)?;

@@ -6,7 +6,15 @@ use Rattle.calendar_days.proofs.instants.instant_text.Goals as goal
 pub returns-clause-text : goal.returns-clause-text
 unfolding instant_text_of
 returns-clause-text c =
-    rw (c.two_digits.ensures, c.two_digits-2.ensures, c.two_digits-3.ensures, c.two_digits-4.ensures, c.two_digits-5.ensures, c.two_digits-6.ensures, c.date_of-date.ensures.value) refl
+    rw (
+      c.two_digits.ensures,
+      c.two_digits-2.ensures,
+      c.two_digits-3.ensures,
+      c.two_digits-4.ensures,
+      c.two_digits-5.ensures,
+      c.two_digits-6.ensures,
+      c.date_of-date.ensures.value,
+    ) refl
 
 pub returns-clause-read : goal.returns-clause-read
 returns-clause-read c =

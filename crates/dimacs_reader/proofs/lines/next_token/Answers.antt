@@ -16,7 +16,9 @@ pub returns-clause-cut : goal.returns-clause-cut
 returns-clause-cut c =
     let part = take (length c.args.line.now - c.in_ok-line.field-0) (drop c.in_ok-line.field-0 c.args.line.now) in
     let end = c.unwrap_or-end.result in
-    let cut : tokens_of c.args.line.now ≡ take end part ∷ tokens_of (drop end part) = token_cut c.args.line.now part c.in_ok-line.field-0 end c.in_ok-line.ensures refl (c.unwrap_or-end.ensures ∙ ap (λ o. unwrap_or o (length part)) c.place_of_blank.ensures) in
+    let cut : tokens_of c.args.line.now ≡ take end part ∷ tokens_of
+    (drop end part) = token_cut c.args.line.now part c.in_ok-line.field-0 end c.in_ok-line.ensures refl
+    (c.unwrap_or-end.ensures ∙ ap (λ o. unwrap_or o (length part)) c.place_of_blank.ensures) in
     let front = c.split_at.ensures.front in
     let back = c.split_at.ensures.back in
     cc

@@ -2,7 +2,7 @@ use Rattle.std.proofs.Common.{◌≡◌, ◌++◌, ◌∷◌, [], sym, ◌∙◌
 use Rattle.route_base.specs.Legs.{steps_of, steps_of_leg}
 use Rattle.route_base.specs.declared.types.Leg.{Leg}
 use Rattle.route_base.specs.declared.types.Leg.TheVariants.{Drive}
-use Rattle.plain_search.specs.Tidy.{IsTidy}
+use Rattle.plain_search.specs.Inside.Tidiness.{IsTidy}
 use Rattle.route_base.proofs.LegLists.{steps_of-push}
 use Rattle.plain_search.proofs.Tidying.{tidy-drive}
 use Rattle.plain_search.proofs.legs.push_leg.Goals as goal
@@ -10,9 +10,10 @@ use Rattle.plain_search.proofs.legs.push_leg.Goals as goal
 pub returns-in_ok-push-in-Drive-clause-tidy : goal.returns-in_ok-push-in-Drive-clause-tidy
 returns-in_ok-push-in-Drive-clause-tidy c =
     let now : c.push.new.self.items ≡ c.args.legs.now.items ++ Drive c.in-Drive.a ∷ [] = search rules in
-    subst IsTidy (sym now) (tidy-drive c.args.legs.now.items c.in-Drive.a c.requires.tidy)
+    subst IsTidy (sym now) (tidy-drive c.args.legs.now.items c.in-Drive.a c.requires.room.tidy)
 
 pub returns-in_ok-push-in-Drive-clause-steps : goal.returns-in_ok-push-in-Drive-clause-steps
 returns-in_ok-push-in-Drive-clause-steps c =
     let now : c.push.new.self.items ≡ c.args.legs.now.items ++ Drive c.in-Drive.a ∷ [] = search rules in
-    ap steps_of now ∙ steps_of-push c.args.legs.now.items (Drive c.in-Drive.a) ∙ ap (λ (w : Leg). steps_of c.args.legs.now.items ++ steps_of_leg w) (sym c.in-Drive.is)
+    ap steps_of now ∙ steps_of-push c.args.legs.now.items (Drive c.in-Drive.a)
+    ∙ ap (λ (w : Leg). steps_of c.args.legs.now.items ++ steps_of_leg w) (sym c.in-Drive.is)

@@ -8,4 +8,5 @@ pub returns-in-Some-cut : goal.returns-in-Some-cut
 returns-in-Some-cut c =
     let rest = c.in-Some-cut.field-0.1.now in
     let more : 1 ≤ length (slice_split (λ b. b == 46) rest) = omega (arith, length-slice_split (λ b. b == 46) rest) in
-    rw (c.in-Some.ensures.parts, c.in-Some-cut.ensures.parts) (sym (many_parts c.in-Some.whole.now c.in-Some-cut.field-0.0.now (slice_split (λ b. b == 46) rest) more))
+    rw (c.in-Some.ensures.parts, c.in-Some-cut.ensures.parts)
+    (sym (many_parts c.in-Some.whole.now c.in-Some-cut.field-0.0.now (slice_split (λ b. b == 46) rest) more))

@@ -6,7 +6,8 @@ pub returns-then-is_empty-clause-refused : goal.returns-then-is_empty-clause-ref
 returns-then-is_empty-clause-refused c = let none : length c.args.rows.now ≡ 0 = search rules in no_rows c.args.rows.now none
 
 pub returns-in-Some-clause-refused : goal.returns-in-Some-clause-refused
-returns-in-Some-clause-refused c = first_fault c.args.rows.now c.loop-i.i c.in-Some.fault (omega arith) c.loop-i.invariant (sym c.row_fault.ensures ∙ c.in-Some.is)
+returns-in-Some-clause-refused c = first_fault c.args.rows.now c.loop-i.i c.in-Some.fault (omega arith) c.loop-i.invariant
+    (sym c.row_fault.ensures ∙ c.in-Some.is)
 
 pub loop-i-preserved : goal.loop-i-preserved
 loop-i-preserved c = faultless_more c.args.rows.now c.loop-i.i c.loop-i.invariant (sym c.row_fault.ensures ∙ c.in_default.is)

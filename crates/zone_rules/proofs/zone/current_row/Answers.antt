@@ -15,7 +15,9 @@ pub returns-clause-value : goal.returns-clause-value
 returns-clause-value c =
     let rows = c.args.rows.now in
     let some = some_there rows c.requires.some in
-    let parts = IsPartitionPoint-from_clause (λ r. leb r.start c.args.t) rows c.partition_point-started.result c.partition_point-started.ensures.partitioned (IsPartitionedBy-leb (λ r. r.start) rows c.args.t (starts_rise rows c.requires)) (λ a r f called. search rules) in
+    let parts = IsPartitionPoint-from_clause (λ r.
+    leb r.start c.args.t) rows c.partition_point-started.result c.partition_point-started.ensures.partitioned
+    (IsPartitionedBy-leb (λ r. r.start) rows c.args.t (starts_rise rows c.requires)) (λ a r f called. search rules) in
     row_found rows c.args.t c.partition_point-started.result none some (omega arith) parts.0 parts.1
     ∙ ap (λ i. Some (get_or rows i none)) (sym c.saturating_sub.ensures)
 

@@ -1,7 +1,7 @@
 use Rattle.std.proofs.Common.{[], ◌∷◌, ◌++◌, List, ap, sym, ◌∙◌}
 use Rattle.std.proofs.lemmas.Result.{on_ok_weaker}
 use Rattle.network_tables.specs.Ratings.{Rating, rating_of}
-use Rattle.network_tables.proofs.Lists.{filter_map-push}
+use Rattle.table_reader.proofs.Lists.{filter_map-push}
 use Rattle.network_tables.proofs.ratings.RatingTableTable.add.Goals as goal
 
 pub returns-clause-added : goal.returns-clause-added

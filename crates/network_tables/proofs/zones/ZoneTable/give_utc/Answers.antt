@@ -1,20 +1,27 @@
 use Rattle.std.proofs.Common.{ap, sym, ◌∙◌}
 use Rattle.std.specs.Prelude.{codes}
 use Rattle.std.specs.Option.{is_some}
-use Rattle.network_tables.proofs.NameRows.{none_from, value_seen}
-use Rattle.network_tables.proofs.ZoneRows.{HasZones-there, HasZones-given, on_ok}
+use Rattle.table_reader.specs.NameIndex.{value_of}
+use Rattle.table_reader.proofs.NameRows.{none_from}
+use Rattle.network_tables.specs.Zones.{ZoneList}
+use Rattle.network_tables.proofs.ZoneRows.{HasZones-there, HasZones-given, lookup_pushed, on_ok}
 use Rattle.network_tables.proofs.zones.ZoneTable.give_utc.Goals as goal
 
-pub returns-then-contains_key : goal.returns-then-contains_key
-returns-then-contains_key c = λ entries has.
+pub returns-then-contains : goal.returns-then-contains
+returns-then-contains c = λ entries has.
     HasZones-there c.args.self.now entries has
-    (ap is_some (sym (value_seen (λ k. k.items) c.self.inside.held.entries _ c.self.view_is (codes "UTC"))) ∙ sym c.contains_key.ensures ∙ c.if-contains_key.true)
+    (sym (ap (λ (zones : ZoneList). is_some (value_of zones (codes "UTC"))) c.self.view_is) ∙ sym c.contains.ensures ∙ c.if-contains.true)
 
 pub start-requires-clause-fresh : goal.start-requires-clause-fresh
 start-requires-clause-fresh c =
-    none_from _ (ap is_some (sym (value_seen (λ k. k.items) c.self.inside.held.entries _ c.self.view_is (codes "UTC"))) ∙ sym c.contains_key.ensures ∙ c.if-contains_key.false)
+    none_from _ (sym (ap (λ (zones : ZoneList). is_some (value_of zones (codes "UTC"))) c.self.view_is) ∙ sym c.contains.ensures ∙ c.if-contains.false)
 
 pub returns : goal.returns
 returns c =
-    let none = none_from _ (ap is_some (sym (value_seen (λ k. k.items) c.self.inside.held.entries _ c.self.view_is (codes "UTC"))) ∙ sym c.contains_key.ensures ∙ c.if-contains_key.false) in
-    on_ok c.start.result (λ added entries has. HasZones-given c.args.self.now entries has c.start.new.self none added) c.start.ensures
+    let zones = c.args.self.now in
+    let none =
+    none_from (value_of zones (codes "UTC"))
+    (sym (ap (λ (z : ZoneList). is_some (value_of z (codes "UTC"))) c.self.view_is) ∙ sym c.contains.ensures ∙ c.if-contains.false) in
+    on_ok c.start.result (λ added entries has.
+    HasZones-given zones entries has c.start.new.self none (λ other.
+    ap (λ (z : ZoneList). value_of z other) added ∙ lookup_pushed zones (codes "UTC") other _ none)) c.start.ensures

@@ -1,7 +1,7 @@
 use Rattle.std.proofs.Common.{sym, subst}
 use Rattle.csv.specs.Records.{fields_of}
 use Rattle.network_tables.specs.Zones.{ZoneEntry, HasRows, zone_entry_of, zone_entries_in}
-use Rattle.network_tables.proofs.Lists.{filter_map-push}
+use Rattle.table_reader.proofs.Lists.{filter_map-push}
 use Rattle.network_tables.proofs.ZoneRows.{HasRows-more, on_ok}
 use Rattle.network_tables.proofs.zones.ZoneTableTable.add.Goals as goal
 

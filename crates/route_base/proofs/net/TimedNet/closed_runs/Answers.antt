@@ -14,4 +14,5 @@ returns-clause-rising c =
     let at : (get_or c.self.inside.arcs.items (c.args.a.0 - 1) arc).closed ≡ arc.closed = ap (λ (a : TimedArc). a.closed) (sym c.index-arc.ensures) in
     let within : arc.closed < length c.self.inside.closed.items = omega (arith, named.closed, at, size) in
     let runs = c.self.invariant.each_runs arc.closed c.index.result.now.items (omega (arith, within, size)) in
-    subst AreRuns (get_or-map (λ v. v.items) c.self.inside.closed.items arc.closed c.index.result.now c.index.result.now.items within ∙ ap (λ v. v.items) (sym c.index.ensures) ∙ sym c.as_slice.ensures.value) runs
+    subst AreRuns (get_or-map (λ v. v.items) c.self.inside.closed.items arc.closed c.index.result.now c.index.result.now.items within ∙ ap
+    (λ v. v.items) (sym c.index.ensures) ∙ sym c.as_slice.ensures.value) runs

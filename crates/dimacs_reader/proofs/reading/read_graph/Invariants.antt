@@ -1,9 +1,0 @@
-use Rattle.std.proofs.Common.{length}
-use Rattle.dimacs_reader.proofs.ReadSoFar.{HasRead}
-use Rattle.dimacs_reader.proofs.reading.read_graph.Given as goal
-
-abbrev pub invariant-lines : goal.invariant-lines
-invariant-lines l = HasRead l.bytes l.rest l.number l.draft
-
-abbrev pub decreases-lines : goal.decreases-lines
-decreases-lines l = length l.rest

@@ -1,0 +1,69 @@
+-- The words of the command line, and the commands that they are (source: own).
+use Rattle.std.specs.Prelude.{◌≡◌, ℕ, ◌==◌, ◌&&◌, Bool, false, not, nat_le, Option, None, List, [], ◌∷◌, length, codes}
+use Rattle.std.specs.Prelude.{if◌then◌else◌, option_and_then, option_map, bytes_eq}
+use Rattle.route_base.specs.Digits.{plain_number_of}
+use Rattle.route_base.specs.Forms.{at_most}
+use Rattle.route_base.specs.Time.{IsInstant}
+use Rattle.route_base.specs.declared.types.Form.{Form}
+use Rattle.route_base.specs.declared.types.Form.TheVariants.{Plain}
+use Rattle.calendar_days.specs.Texts.{instant_of}
+use Rattle.front_desk.specs.Trips.{Trip, trip_in}
+use Rattle.front_desk.specs.declared.command_line.Command.{Command as CommandWords}
+use Rattle.front_desk.specs.declared.command_line.Command.TheVariants.{Plan as PlanVariant}
+use Rattle.front_desk.specs.declared.command_line.Plan.{Plan as PlanWords}
+
+-- the command that plans a trip over the files of a folder, and reports it in a form
+pub record Plan : Type 0 where
+  pub dir : List ℕ
+  pub trip : Trip
+  pub form : Form
+
+-- a command, with the values of its words
+pub data Command : Type 0 where
+  to_plan : Plan → Command
+
+-- 1 to 4,096 bytes, the first not `-`
+abbrev pub is_folder_name : List ℕ → Bool
+is_folder_name [] = false
+is_folder_name (b ∷ bs) = not (b == 45) && nat_le (length (b ∷ bs)) 4096
+
+-- a number of 32 bits without a leading zero
+abbrev pub node_of : List ℕ → Option ℕ
+node_of word = at_most 4294967295 (plain_number_of word)
+
+-- the trip that a vehicle's word, two nodes' words and two instants' words give
+abbrev pub trip_of : List ℕ → List ℕ → List ℕ → List ℕ → List ℕ → Option Trip
+trip_of vehicle from to start end =
+    option_and_then (λ o. option_and_then (λ g. option_and_then (λ d. option_map
+    (λ u. record { vehicle = vehicle; origin = o; goal = g; depart = d; until = u })
+    (instant_of end)) (instant_of start)) (node_of to)) (node_of from)
+
+-- the plan of the words `DIR any FROM TO DEPART UNTIL`, and nothing for any other words
+abbrev pub plan_of : List (List ℕ) → Option Plan
+plan_of (dir ∷ vehicle ∷ from ∷ to ∷ start ∷ end ∷ []) =
+    if bytes_eq vehicle (codes "any") && is_folder_name dir
+    then option_map (λ trip. record { dir = dir; trip = trip; form = Plain }) (trip_of vehicle from to start end) else None
+plan_of words = None
+
+-- the command of words: its name and then its own words; nothing for words that are no command
+abbrev pub command_of : List (List ℕ) → Option Command
+command_of (name ∷ words) = if bytes_eq name (codes "plan") then option_map to_plan (plan_of words) else None
+command_of [] = None
+
+-- the plan that the code holds
+abbrev pub plan_in : PlanWords → Plan
+plan_in words = record { dir = words.dir.now; trip = trip_in words.trip; form = words.form }
+
+-- the command that the code holds
+abbrev pub command_in : CommandWords → Command
+command_in (PlanVariant words) = to_plan (plan_in words)
+
+-- the trip's minutes are instants, and the form is one that is supported
+pub record IsSupported (p : Plan) : Type 0 where
+  pub depart : IsInstant p.trip.depart
+  pub until : IsInstant p.trip.until
+  pub form : p.form ≡ Plain
+
+-- all that the command asks for is supported
+abbrev pub AsksSupported : Command → Type 0
+AsksSupported (to_plan p) = IsSupported p

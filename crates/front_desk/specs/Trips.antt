@@ -1,0 +1,49 @@
+-- Trips, and the checks of a request (source: own).
+use Rattle.std.specs.Prelude.{ℕ, ◌+◌, ◌-◌, ◌≤◌, ◌&&◌, Bool, not, nat_le, nat_lt, Option, Some, None, List, if◌then◌else◌}
+use Rattle.route_base.specs.declared.types.Request.{Request}
+use Rattle.route_base.specs.declared.faults.RequestFault.{RequestFault}
+use Rattle.route_base.specs.declared.faults.RequestFault.TheVariants.{OriginRange, GoalRange, UntilBeforeDepart, HorizonTooLong}
+use Rattle.network_tables.specs.NetworkModel.{NetworkModel}
+use Rattle.front_desk.specs.declared.requests.Trip.{Trip as TripWords}
+
+-- a trip of a vehicle from a node at a minute to a node, by a minute at the latest
+pub record Trip : Type 0 where
+  pub vehicle : List ℕ
+  pub origin : ℕ
+  pub goal : ℕ
+  pub depart : ℕ
+  pub until : ℕ
+
+-- one of n nodes
+abbrev pub is_node : ℕ → ℕ → Bool
+is_node n node = nat_le 1 node && nat_le node n
+
+-- the first check that a trip over n nodes fails
+abbrev pub failed_check_over : ℕ → Trip → Option RequestFault
+failed_check_over n trip =
+    if not (is_node n trip.origin) then Some OriginRange
+    else if not (is_node n trip.goal) then Some GoalRange
+    else if nat_lt trip.until trip.depart then Some UntilBeforeDepart
+    else if nat_lt 86400 (trip.until - trip.depart) then Some HorizonTooLong
+    else None
+
+-- the first check that a trip over a network fails; the one vehicle so far, `any`, is known
+abbrev pub failed_check : NetworkModel → Trip → Option RequestFault
+failed_check network trip = failed_check_over network.graph.nodes trip
+
+-- the trip as a request
+abbrev pub request_of : Trip → Request
+request_of trip = record { origin = record { 0 = trip.origin }; goal = record { 0 = trip.goal }; depart = trip.depart; until = trip.until }
+
+-- the trip that the code holds
+abbrev pub trip_in : TripWords → Trip
+trip_in words = record { vehicle = words.vehicle.now; origin = words.origin; goal = words.goal; depart = words.depart; until = words.until }
+
+-- a trip between nodes that are there, over a time of at most 60 days
+pub record IsGoodTrip (n : ℕ) (trip : Trip) : Type 0 where
+  pub origin_low : 1 ≤ trip.origin
+  pub origin_high : trip.origin ≤ n
+  pub goal_low : 1 ≤ trip.goal
+  pub goal_high : trip.goal ≤ n
+  pub in_order : trip.depart ≤ trip.until
+  pub short : trip.until ≤ trip.depart + 86400

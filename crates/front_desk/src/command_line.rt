@@ -1,0 +1,109 @@
+// Reads the words of the command line.
+ghost use Rattle.std.specs.Prelude.{◌≡◌, IfSome, option_map};
+ghost use Rattle.front_desk.specs.Words.{is_folder_name, node_of, trip_of, plan_of, plan_in, command_of, command_in};
+ghost use Rattle.front_desk.specs.Words.{IsSupported, AsksSupported, IsInstant, trip_in};
+
+use crate::requests::Trip;
+use calendar_days::read_instant;
+use route_base::limits::LONGEST_FOLDER;
+use route_base::{Form, Text, read_plain_number};
+
+/// The command that plans a trip over the files of the folder `dir` and reports it in a form.
+#[derive(Clone, Copy)]
+pub struct Plan<'a> {
+    pub dir: &'a str,
+    pub trip: Trip<'a>,
+    pub form: Form,
+}
+
+/// A command, as its words give it.
+#[derive(Clone, Copy)]
+pub enum Command<'a> {
+    Plan(Plan<'a>),
+}
+
+// Whether a word names a folder.
+fn is_folder_word(word: &str) -> bool
+    ensures { result ≡ is_folder_name word.now }
+{
+    match word.as_bytes() {
+        [] => false,
+        [first, ..] => *first != b'-' && word.len() <= LONGEST_FOLDER,
+    }
+}
+
+// The number of a node.
+fn node_word(word: &str) -> Option<u32>
+    ensures { result ≡ node_of word.now }
+{
+    let number = read_plain_number(word.as_bytes())?;
+    if number <= u32::MAX as u64 {
+        Some(number as u32)
+    } else {
+        None
+    }
+}
+
+// The trip of five words.
+fn trip_words<'a>(
+    vehicle: &'a str,
+    origin: &str,
+    goal: &str,
+    depart: &str,
+    until: &str,
+) -> Option<Trip<'a>>
+    ensures trip { option_map trip_in result
+        ≡ trip_of vehicle.now origin.now goal.now depart.now until.now }
+    ensures instants { IfSome result (λ trip. IsInstant trip.depart × IsInstant trip.until) }
+{
+    Some(Trip {
+        vehicle,
+        origin: node_word(origin)?,
+        goal: node_word(goal)?,
+        depart: read_instant(depart.as_bytes()).ok()?,
+        until: read_instant(until.as_bytes()).ok()?,
+    })
+}
+
+// The plan of the words behind the command's name.
+fn plan_words(words: &[Text]) -> Option<Plan<'_>>
+    ensures plan { option_map plan_in result ≡ plan_of words.now }
+    ensures supported { IfSome result (λ p. IsSupported (plan_in p)) }
+{
+    let [dir, vehicle, origin, goal, depart, until] = words else {
+        return None;
+    };
+    if vehicle.as_str() != "any" || !is_folder_word(dir.as_str()) {
+        return None;
+    }
+    let trip = trip_words(
+        vehicle.as_str(),
+        origin.as_str(),
+        goal.as_str(),
+        depart.as_str(),
+        until.as_str(),
+    )?;
+    Some(Plan {
+        dir: dir.as_str(),
+        trip,
+        form: Form::Plain,
+    })
+}
+
+/// The command that the words are; `None` exactly where they are none. Linear in the length of the words.
+///
+/// The one command so far is `plan DIR any FROM TO DEPART UNTIL`. DIR has 1 to 4,096 bytes and doesn't begin with `-`; FROM and
+/// TO are numbers of 32 bits without a leading zero; DEPART and UNTIL are instants, as texts or as Unix minutes.
+pub fn read_command(words: &[Text]) -> Option<Command<'_>>
+    ensures command { option_map command_in result ≡ command_of words.now }
+    ensures supported { IfSome result (λ c. AsksSupported (command_in c)) }
+{
+    let [name, rest @ ..] = words else {
+        return None;
+    };
+    if name.as_str() != "plan" {
+        return None;
+    }
+    let plan = plan_words(rest)?;
+    Some(Command::Plan(plan))
+}

@@ -1,0 +1,63 @@
+// A file that a command reads, and how it may be.
+ghost use Rattle.std.specs.Prelude.{◌≢◌};
+ghost use Rattle.route_base.specs.declared.faults.Cause.TheVariants.{Missing};
+
+use route_base::limits::LONGEST_FILE;
+use route_base::{Cause, FileKind};
+
+/// A file to read: its kind, its name below the folder, whether it has to be there, the most bytes that it may have, and the
+/// cause of its refusal where it has more.
+#[derive(Clone, Copy)]
+pub struct FileToRead<'a> {
+    pub kind: FileKind,
+    pub name: &'a str,
+    pub required: bool,
+    pub limit: u64,
+    pub beyond: Cause,
+    ghost not_missing: { beyond ≢ Missing },
+}
+
+impl FileToRead<'static> {
+    ghost use Rattle.std.specs.Prelude.{◌≡◌};
+    ghost use Rattle.front_desk.specs.Files.{file_in};
+    ghost use Rattle.front_desk.specs.ReadingOrder.{required_file, table_file, unsupported_file};
+
+    /// A file that has to be there.
+    pub fn required(kind: FileKind) -> FileToRead<'static>
+        ensures { file_in result ≡ required_file kind }
+    {
+        FileToRead {
+            kind,
+            name: kind.label(),
+            required: true,
+            limit: LONGEST_FILE,
+            beyond: Cause::TooLong,
+        }
+    }
+
+    /// A table, which may be missing.
+    pub fn table(kind: FileKind) -> FileToRead<'static>
+        ensures { file_in result ≡ table_file kind }
+    {
+        FileToRead {
+            kind,
+            name: kind.label(),
+            required: false,
+            limit: LONGEST_FILE,
+            beyond: Cause::TooLong,
+        }
+    }
+
+    /// A table that isn't supported yet, and may not have a byte.
+    pub fn unsupported(kind: FileKind) -> FileToRead<'static>
+        ensures { file_in result ≡ unsupported_file kind }
+    {
+        FileToRead {
+            kind,
+            name: kind.label(),
+            required: false,
+            limit: 0,
+            beyond: Cause::NotBuilt,
+        }
+    }
+}

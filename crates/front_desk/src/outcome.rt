@@ -1,0 +1,44 @@
+// Why a command ends without its text.
+ghost use Rattle.std.specs.Prelude.{◌≡◌};
+ghost use Rattle.front_desk.specs.Run.{status_of};
+
+use route_base::{BadInput, OutOfMemory, RequestFault, Status};
+
+/// Why nothing is answered: the words are no command, a file has a fault, or the request fails a check.
+#[derive(Clone, Copy, Debug, PartialEq, Eq)]
+pub enum Refusal {
+    Usage,
+    Input(BadInput),
+    Request(RequestFault),
+}
+
+impl Refusal {
+    /// The status of the refusal.
+    pub fn status(self) -> Status
+        ensures { result ≡ status_of self }
+    {
+        match self {
+            Refusal::Usage => Status::Usage,
+            Refusal::Input(_) => Status::BadInput,
+            Refusal::Request(_) => Status::BadRequest,
+        }
+    }
+}
+
+/// Why a command ends before its text is there: it is refused, reading failed, or memory ran out.
+#[derive(Clone, Copy, Debug, PartialEq, Eq)]
+pub enum Halt {
+    Refused(Refusal),
+    ReadFault,
+    NoMemory,
+}
+
+impl From<OutOfMemory> for Halt {
+    ghost use Rattle.front_desk.specs.declared.outcome.Halt.TheVariants.{NoMemory};
+
+    ghost from_gives = { λ _ e. e ≡ NoMemory };
+
+    fn from(_: OutOfMemory) -> Self {
+        Halt::NoMemory
+    }
+}

@@ -1,0 +1,24 @@
+// areas.csv: each cause for which it is refused.
+use super::ZONES;
+use crate::tests::{TRIANGLE, expect_refusals};
+use std::test::Fail;
+
+#[test]
+fn refuses_areas_with_their_first_fault(rt: HostRuntime) -> Result<(), Fail> {
+    let cases = [
+        ("x", "1 BadHeader"),
+        ("area,zone\nde\n", "2 FieldCount"),
+        ("area,zone\nd e,cet\n", "2 BadField"),
+        ("area,zone\nde,-\n", "2 BadField"),
+        ("area,zone\nde,Cet\n", "2 Unknown"),
+        ("area,zone\nde,utc\n", "2 Unknown"),
+        ("area,zone\nde,cet\nde,cet\n", "3 Duplicate"),
+        ("area,zone\nde,cet\nde,wet\n", "3 Unknown"),
+    ];
+    let base = [
+        ("d/graph.gr", TRIANGLE),
+        ("d/zones.csv", ZONES),
+        ("d/roads.csv", "x"),
+    ];
+    expect_refusals(&rt, &base, "areas.csv", &cases)
+}

@@ -1,0 +1,32 @@
+// roads.csv: each cause for which it is refused.
+use super::{AREAS, ZONES};
+use crate::tests::{TRIANGLE, expect_refusals};
+use std::test::Fail;
+
+#[test]
+fn refuses_roads_with_their_first_fault(rt: HostRuntime) -> Result<(), Fail> {
+    let cases = [
+        ("area,arc\n", "1 BadHeader"),
+        ("arc,area\n1,de,\n", "2 FieldCount"),
+        ("arc,area\nx,de\n", "2 BadField"),
+        ("arc,area\n1,\n", "2 BadField"),
+        ("arc,area\n0,de\n", "2 Unknown"),
+        ("arc,area\n4,de\n", "2 Unknown"),
+        ("arc,area\n1,default\n", "2 Unknown"),
+        ("arc,area\n2,de\n02,sea\n", "3 Duplicate"),
+    ];
+    let base = [
+        ("d/graph.gr", TRIANGLE),
+        ("d/zones.csv", ZONES),
+        ("d/areas.csv", AREAS),
+    ];
+    expect_refusals(&rt, &base, "roads.csv", &cases)?;
+    // Without rows for areas there is the area default alone.
+    let without = [
+        ("d/graph.gr", TRIANGLE),
+        ("d/zones.csv", ZONES),
+        ("d/areas.csv", ""),
+    ];
+    let unknown = [("arc,area\n1,de\n", "2 Unknown")];
+    expect_refusals(&rt, &without, "roads.csv", &unknown)
+}

@@ -1,0 +1,84 @@
+// The words of the command line.
+use super::{Case, GRAPH, NETWORK, TWO_PAIRS, expect};
+use route_base::Status;
+use std::test::Fail;
+
+#[test]
+fn refuses_words_that_are_no_command(rt: HostRuntime) -> Result<(), Fail> {
+    let lines = [
+        "",
+        "plan",
+        "--help",
+        "-h",
+        "--version",
+        "help",
+        "bans d any 1 26563680 26563690",
+        "check d any 1 3 26563680 26564080 c.cert",
+        "batch d jobs.csv --workers 2",
+        "gen d 7 1 2",
+        "breaks d any 1 3 26563680 26564180",
+        "Plan d any 1 3 26563680 26564080",
+        "plan d x 1 3 26563680 26564080",
+        "plan d any 1 3 26563680",
+        "plan d any 1 3 26563680 26564080 more",
+        "plan d any 1 3 26563680 26564080 -h",
+        "plan d any 1 3 26563680 26564080 --form",
+        "plan d any 1 3 26563680 26564080 --form xml",
+        "plan d any 1 3 26563680 26564080 --form=plain",
+        "plan --certificate c.cert d any 1 3 26563680 26564080",
+        "plan d any 01 3 26563680 26564080",
+        "plan d any 1 03 26563680 26564080",
+        "plan d any 1 3 026563680 26564080",
+        "plan d any -1 3 26563680 26564080",
+        "plan d any +1 3 26563680 26564080",
+        "plan d any  3 26563680 26564080",
+        "plan d any 1 4294967296 26563680 26564080",
+        "plan d any 1 3 2020-07-04T00:00 2020-07-04T06:40",
+        "plan d any 1 3 2020-07-04T00:00Z 2020-07-04T24:00Z",
+        "plan d any 1 3 2020-07-04T00:00Z 2020-07-04T06:60Z",
+        "plan d any 1 3 2020-07-04T00:00Z 2020-07-04T06:40:01Z",
+        "plan d any 1 3 2020-07-04T00:00Z 2020-02-30T06:40Z",
+        "plan d any 1 3 2020-7-4T00:00Z 2020-07-04T06:40Z",
+        "plan d any 1 3 1970-12-31T23:59Z 1971-01-01T06:40Z",
+        "plan d any 1 3 2199-12-31T23:59Z 2200-01-01T00:00Z",
+        "plan d any 1 3 120968519 120968640",
+        "plan d any 1 3 525599 525700",
+        "plan -d any 1 3 26563680 26564080",
+        "plan  any 1 3 26563680 26564080",
+    ];
+    for line in lines {
+        let case = Case {
+            more: &[],
+            words: line,
+            status: Status::Usage,
+            text: "refused usage\n",
+        };
+        expect(&rt, GRAPH, case)?;
+    }
+    Ok(())
+}
+
+#[test]
+fn takes_instants_as_texts(rt: HostRuntime) -> Result<(), Fail> {
+    let lines = [
+        "plan d any 1 3 2020-07-04T00:00Z 2020-07-04T06:40Z",
+        "plan d any 1 3 2020-07-04T00:00:00Z 26564080",
+        "plan d any 1 3 26563680 2020-07-04T06:40:00Z",
+    ];
+    for line in lines {
+        let case = Case {
+            more: &[],
+            words: line,
+            status: Status::Done,
+            text: TWO_PAIRS,
+        };
+        expect(&rt, NETWORK, case)?;
+    }
+    let far = Case {
+        more: &[],
+        words: "plan d any 1 3 2020-07-04T00:00Z 2020-09-02T00:01Z",
+        status: Status::BadRequest,
+        text: "refused request HorizonTooLong\n",
+    };
+    expect(&rt, NETWORK, far)
+}

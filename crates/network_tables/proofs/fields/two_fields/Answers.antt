@@ -1,5 +1,0 @@
-use Rattle.network_tables.proofs.FieldLists.{two}
-use Rattle.network_tables.proofs.fields.two_fields.Goals as goal
-
-pub returns : goal.returns
-returns c = two _ _ _ c.requires c.field.ensures c.field-2.ensures

@@ -1,9 +1,0 @@
-use Rattle.std.proofs.Common.{rules, ◌≡◌, ◌∙◌}
-use Rattle.indexmap.specs.IndexMap.{values}
-use Rattle.network_tables.proofs.NameRows.{values_seen}
-use Rattle.network_tables.proofs.names.Names.into_values.Goals as goal
-
-pub returns : goal.returns
-returns g c =
-    let all : c.in_ok-collect.field-0.items ≡ values c.self.inside.held = search rules in
-    all ∙ values_seen (λ k. k.items) c.self.inside.held.entries _ c.self.view_is

@@ -1,0 +1,41 @@
+-- Road networks as contracts see them (source: own).
+use Rattle.std.specs.Prelude.{◌≡◌, ℕ, ◌≤◌, ◌<◌, Option, Some, List, [], length, unwrap_or, All}
+use Rattle.route_base.specs.Net.{at_number}
+use Rattle.route_base.specs.declared.types.Run.{Run}
+use Rattle.dimacs_reader.specs.GraphModel.{GraphModel}
+use Rattle.opening_hours.specs.Holidays.{HolidayLists}
+use Rattle.zone_rules.specs.declared.rows.ZoneRow.{ZoneRow}
+
+-- an area: the rows of its zone, and its holidays
+pub record Area : Type 0 where
+  pub zone : List ZoneRow
+  pub holidays : HolidayLists
+
+-- a graph, the areas, for each arc the place of its area, for each arc its closed minutes, and for each node its weight where one
+-- may wait
+pub record NetworkModel : Type 0 where
+  pub graph : GraphModel
+  pub areas : List Area
+  pub roads : List ℕ
+  pub closures : List (List Run)
+  pub weights : List (Option ℕ)
+
+-- the closed minutes of the arc of this number, in the order of its rows
+abbrev pub closures_of : NetworkModel → ℕ → List Run
+closures_of net a = unwrap_or (at_number net.closures a) []
+
+-- a weight is at most 100 for a minute
+abbrev pub IsSmall : Option ℕ → Type 0
+IsSmall o = (w : ℕ) → o ≡ Some w → w ≤ 100000
+
+-- each of these places is below n
+abbrev pub AreBelow : ℕ → List ℕ → Type 0
+AreBelow n places = All (λ i. i < n) places
+
+-- a well-formed network: each arc has an area and closures, each node a weight or none, and weights are small
+pub record IsGoodNetwork (net : NetworkModel) : Type 0 where
+  pub roads : length net.roads ≡ length net.graph.arcs
+  pub placed : AreBelow (length net.areas) net.roads
+  pub closures : length net.closures ≡ length net.graph.arcs
+  pub weights : length net.weights ≡ net.graph.nodes
+  pub small : All IsSmall net.weights

@@ -1,0 +1,31 @@
+-- How a network is held: each zone once, and areas by the places of their zones (source: own).
+use Rattle.std.specs.Prelude.{◌≡◌, ℕ, List, [], length, map, unwrap_or, slice_get}
+use Rattle.std.specs.List.{zip}
+use Rattle.opening_hours.specs.Holidays.{HolidayLists}
+use Rattle.zone_rules.specs.declared.rows.ZoneRow.{ZoneRow}
+use Rattle.network_tables.specs.NetworkModel.{Area, NetworkModel, AreBelow, IsGoodNetwork}
+use Rattle.network_tables.specs.declared.network.NetworkParts.{NetworkParts}
+
+-- the zones at these places
+abbrev pub zones_at : List (List ZoneRow) → List ℕ → List (List ZoneRow)
+zones_at zones places = map (λ i. unwrap_or (slice_get zones i) []) places
+
+-- the areas in these zones, with these holidays
+abbrev pub areas_with : List (List ZoneRow) → List HolidayLists → List Area
+areas_with zones holidays = map (λ p. record { zone = p.0; holidays = p.1 }) (zip zones holidays)
+
+-- the network that has these parts
+abbrev pub network_with : NetworkParts → NetworkModel
+network_with parts = record {
+  graph = parts.graph;
+  areas = areas_with (zones_at parts.zones.items parts.zone_places.items) parts.holidays.items;
+  roads = parts.roads.items;
+  closures = map (λ v. v.items) parts.closures.items;
+  weights = parts.weights.items;
+}
+
+-- a well-formed network: each area's zone is the one at its place in `zones`, and there is one entry of holidays per area
+pub record HoldsNetwork (parts : NetworkParts) : Type 0 where
+  pub good : IsGoodNetwork (network_with parts)
+  pub zoned : AreBelow (length parts.zones.items) parts.zone_places.items
+  pub dated : length parts.holidays.items ≡ length parts.zone_places.items

@@ -1,0 +1,23 @@
+-- The road setting: trips are planned over the arcs of a network and its rated nodes (source: SEA 2020).
+use Rattle.std.specs.Prelude.{◌*◌, length}
+use Rattle.std.specs.Option.{option_map, option_flatten}
+use Rattle.route_base.specs.Net.{at_number}
+use Rattle.route_base.specs.Runs.{any_has}
+use Rattle.route_base.specs.Setting.{Setting, Road}
+use Rattle.route_base.specs.declared.limits.TheConstants.{COST_OF_MINUTE}
+use Rattle.dimacs_reader.specs.declared.graph.GraphArc.{GraphArc}
+use Rattle.network_tables.specs.NetworkModel.{NetworkModel, closures_of}
+
+-- a minute of driving costs 1,000 thousandths
+abbrev pub road_over : GraphArc → Road
+road_over arc = record { tail = arc.tail.0; head = arc.head.0; minutes = arc.minutes; cost = COST_OF_MINUTE * arc.minutes }
+
+-- the network's arcs, shut in the minutes of their closures; one may wait at the nodes with a weight
+abbrev pub road_setting : NetworkModel → Setting
+road_setting net = record {
+  nodes = net.graph.nodes;
+  arcs = length net.graph.arcs;
+  road = λ a. option_map road_over (at_number net.graph.arcs a);
+  shut = λ a t. any_has (closures_of net a) t;
+  weight = λ v. option_flatten (at_number net.weights v);
+}

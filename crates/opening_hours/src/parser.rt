@@ -1,0 +1,3 @@
+// From tokens to rules.
+mod parts;
+pub(crate) mod rules;

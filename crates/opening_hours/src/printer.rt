@@ -1,0 +1,3 @@
+// From rules to their canonical text.
+mod text;
+pub(crate) mod tokens;

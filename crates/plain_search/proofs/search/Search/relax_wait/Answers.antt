@@ -1,0 +1,40 @@
+use Rattle.std.proofs.Common.{◌≡◌, ◌+◌, ◌≤◌, Some, refl, sym, ◌∙◌, arith}
+use Rattle.route_base.specs.Itinerary.{wait}
+use Rattle.std.specs.Option.{option_flatten}
+use Rattle.route_base.specs.Net.{setting_of, at_number}
+use Rattle.plain_search.specs.Inside.CostTable.{cost_of}
+use Rattle.plain_search.proofs.Founding.{cost_fits, later_of}
+use Rattle.plain_search.proofs.NetFacts.{takes_time}
+use Rattle.plain_search.proofs.Sounding.{sound_lower}
+use Rattle.plain_search.proofs.search.Search.relax_wait.Goals as goal
+
+pub overflow_add-cost : goal.overflow_add-cost
+overflow_add-cost c =
+    let small : cost_of c.args.table.now c.args.node.0 c.args.minute ≤ 10000000000 =
+    cost_fits (setting_of c.args.self.now.net.now) c.args.self.now.request
+    (takes_time c.args.self.now.net.now c.args.self.now.good) c.args.self.now.asked.fit (cost_of c.args.table.now)
+    (c.args.minute + 1) c.requires.sound.founded c.args.node.0 c.args.minute c.requires.reached.known in
+    let here : option_flatten (at_number c.args.self.now.net.now.weights c.args.node.0) ≡ Some c.in-Some.weight = sym
+    c.weight_to_wait.ensures.value ∙ c.in-Some.is in
+    let cheap = c.args.self.now.good.each_weight c.args.node.0 c.in-Some.weight here in
+    omega (arith, c.cost-cost.ensures, small, cheap)
+
+pub returns-clause-later : goal.returns-clause-later
+returns-clause-later c = later_of (cost_of c.args.table.now) (cost_of c.lower.new.self) c.args.node.0 c.args.minute (c.args.minute + 1)
+    (c.cost-cost.result + c.in-Some.weight) c.lower.ensures.lowers (omega arith)
+
+pub returns-clause-sound : goal.returns-clause-sound
+returns-clause-sound c =
+    let here : option_flatten (at_number c.args.self.now.net.now.weights c.args.node.0) ≡ Some c.in-Some.weight = sym
+    c.weight_to_wait.ensures.value ∙ c.in-Some.is in
+    let in_time : c.args.minute + 1 ≤ c.args.self.now.request.until = omega arith in
+    sound_lower c.args.self.now.net.now c.args.self.now.request c.args.table.now c.lower.new.self (c.args.minute + 1) c.args.node.0 (c.args.minute + 1)
+    (c.cost-cost.result + c.in-Some.weight) c.requires.sound c.lower.ensures.shape c.lower.ensures.lowers (omega arith) (omega arith)
+    wait c.args.node.0 c.args.minute (omega arith) c.requires.reached.known (record {
+      weight = c.in-Some.weight;
+      rated = here;
+      in_time = in_time;
+      node = refl;
+      minute = refl;
+      cost = omega (arith, c.cost-cost.ensures);
+    })

@@ -1,0 +1,110 @@
+// Path reconstruction: from a label back to the origin, without parent pointers; predecessors are found by equal cost.
+ghost use Rattle.std.specs.Prelude.{◌≡◌, ◌+◌, ◌<◌, ◌≤◌, ℕ, length, None, IfOk, IfSome, reverse, All};
+ghost use Rattle.plain_search.specs.Words.{Drives, Walks, setting_of, steps_of, start_of, EndsAt, none, at, cost_of};
+ghost use Rattle.plain_search.specs.Words.{LeadsTo, IsSingle, IsFinalTable, IsMinute, IsReached};
+ghost use Rattle.plain_search.specs.declared.incidence.End.TheVariants.{Head};
+
+use crate::cost_table::{CostTable, NONE};
+use crate::search::Search;
+use route_base::{ArcId, Leg, Minute, NodeId};
+use std::alloc::{AllocError, Global};
+
+/// The node and minute at which a step begins, and the step as a leg.
+#[derive(Clone, Copy)]
+pub struct Source {
+    pub leg: Leg,
+    pub node: NodeId,
+    pub minute: Minute,
+}
+
+impl Search<'_> {
+    // The start of a drive over the arc that ends at its head at this minute, at exactly this label.
+    fn drive_into(
+        &self,
+        table: &CostTable,
+        id: ArcId,
+        node: NodeId,
+        minute: Minute,
+    ) -> Option<Source>
+        requires sound { IsFinalTable self.now.net.now self.now.request table.now }
+        requires head { EndsAt self.now.net.now Head node.0 id.0 }
+        requires minute { IsMinute self.now.request minute }
+        ensures some { IfSome result
+            (LeadsTo (setting_of self.now.net.now) self.now.request.until (cost_of table.now) node.0 minute) }
+        ensures none { result ≡ None → (u k : ℕ) → cost_of table.now u k < none
+            → Drives (setting_of self.now.net.now) self.now.request.until id.0
+            (at (cost_of table.now) u k) (at (cost_of table.now) node.0 minute) → ⊥ }
+    {
+        let arc = self.net.arc(id)?;
+        if arc.minutes > minute - self.request.depart {
+            return None;
+        }
+        let start = minute - arc.minutes;
+        let before = table.cost(arc.tail, start);
+        if before == NONE {
+            return None;
+        }
+        if before + arc.cost != table.cost(node, minute) {
+            return None;
+        }
+        if !self.net.is_open(id, start, arc.minutes) {
+            return None;
+        }
+        Some(Source {
+            leg: Leg::Drive(id),
+            node: arc.tail,
+            minute: start,
+        })
+    }
+
+    // The predecessor: the step that ends here, at exactly this label.
+    fn predecessor(&self, table: &CostTable, node: NodeId, minute: Minute) -> Source
+        requires sound { IsFinalTable self.now.net.now self.now.request table.now }
+        requires reached { IsReached self.now.net.now self.now.request table.now node.0 minute }
+        requires later { node.0 ≡ self.now.request.origin.0
+            → minute ≡ self.now.request.depart → ⊥ }
+        ensures { LeadsTo (setting_of self.now.net.now) self.now.request.until
+            (cost_of table.now) node.0 minute result }
+    {
+        let mut next = self.heads.last_at(node);
+        'arcs: while let Some(a) = next {
+            if let Some(found) = self.drive_into(table, a, node, minute) {
+                return found;
+            }
+            next = self.heads.before(a);
+        }
+        Source {
+            leg: Leg::Wait(1),
+            node,
+            minute: minute - 1,
+        }
+    }
+
+    /// The steps to the goal at a minute, the last first.
+    pub fn steps_back(
+        &self,
+        alloc: Global,
+        table: &CostTable,
+        arrival: Minute,
+    ) -> Result<Vec<Leg>, AllocError>
+        requires sound { IsFinalTable self.now.net.now self.now.request table.now }
+        requires reached { IsReached self.now.net.now self.now.request table.now
+            self.now.request.goal.0 arrival }
+        ensures single { IfOk result (λ legs. All IsSingle legs.items) }
+        ensures short { IfOk result (λ legs. length legs.items ≤ arrival) }
+        ensures walk { IfOk result (λ legs. Walks (setting_of self.now.net.now)
+            self.now.request.until (steps_of (reverse legs.items)) (start_of self.now.request)
+            (at (cost_of table.now) self.now.request.goal.0 arrival)) }
+    {
+        let mut legs = Vec::new(alloc);
+        let mut node = self.request.goal;
+        let mut minute = arrival;
+        'back: while node.0 != self.request.origin.0 || minute != self.request.depart {
+            let from = self.predecessor(table, node, minute);
+            legs.push(from.leg)?;
+            node = from.node;
+            minute = from.minute;
+        }
+        Ok(legs)
+    }
+}

@@ -1,0 +1,72 @@
+-- Files and bytes in memory, with the counts that their objects keep (source: own).
+use Rattle.std.specs.Prelude.{◌≡◌, ℕ, ◌+◌, ◌-◌, ◌^◌, min, Option, Some, None, List, [], ◌∷◌, if◌then◌else◌}
+use Rattle.std.specs.Str.{bytes_eq}
+use Rattle.route_base.specs.Contents.{Holds}
+use Rattle.route_base.specs.FolderState.{FolderState}
+use Rattle.route_base.specs.SinkState.{SinkState}
+use Rattle.route_base.specs.declared.memory.folders.File.{File}
+
+-- what the first file of this name has
+abbrev pub held_in : List File → List ℕ → Option (List ℕ)
+held_in [] name = None
+held_in (f ∷ files) name = if bytes_eq f.name name then Some f.bytes else held_in files name
+
+-- a folder that never fails
+pub record SureFiles : Type 0 where
+  pub files : List File
+  pub missing : ℕ
+
+-- a folder that fails at some calls
+pub record FailingFiles : Type 0 where
+  pub files : List File
+  pub failing : List ℕ
+  pub calls : ℕ
+  pub missing : ℕ
+  pub read_faults : ℕ
+  pub write_faults : ℕ
+
+-- a sink that fails at some calls
+pub record FailingBytes : Type 0 where
+  pub bytes : List ℕ
+  pub failing : List ℕ
+  pub calls : ℕ
+  pub faults : ℕ
+
+-- the folder before its first call
+abbrev pub uncalled_files : List File → List ℕ → FailingFiles
+uncalled_files files failing =
+    record { files = files; failing = failing; calls = 0; missing = 0; read_faults = 0; write_faults = 0 }
+
+-- the bytes are now held under the name, and every other name holds what it held
+abbrev pub PutsUnder : List File → List File → List ℕ → List ℕ → Type 0
+PutsUnder old new name bytes = Holds (Some (held_in old)) (Some (held_in new)) name bytes
+
+-- the state of a folder that never fails
+abbrev pub sure_state : SureFiles → FolderState
+sure_state s = record { contents = Some (held_in s.files); missing = s.missing; read_faults = 0; write_faults = 0 }
+
+-- the state of a folder that fails at some calls
+abbrev pub failing_state : FailingFiles → FolderState
+failing_state s = record { contents = Some (held_in s.files); missing = s.missing; read_faults = s.read_faults; write_faults = s.write_faults }
+
+-- the state of a sink that never fails
+abbrev pub sure_sink_state : List ℕ → SinkState
+sure_sink_state bytes = record { written = Some bytes; faults = 0 }
+
+-- the state of a sink that fails at some calls
+abbrev pub failing_sink_state : FailingBytes → SinkState
+failing_sink_state s = record { written = Some s.bytes; faults = s.faults }
+
+-- the ordinal of the call after this many; the count stays at the last number of 64 bits
+abbrev pub next_ordinal : ℕ → ℕ
+next_ordinal calls = min (calls + 1) (2 ^ 64 - 1)
+
+-- one call more is counted, and the same calls are to fail
+pub record CountsCall (old new : FailingFiles) : Type 0 where
+  pub calls : new.calls ≡ next_ordinal old.calls
+  pub failing : new.failing ≡ old.failing
+
+-- one write more is counted, and the same writes are to fail
+pub record CountsWrite (old new : FailingBytes) : Type 0 where
+  pub calls : new.calls ≡ next_ordinal old.calls
+  pub failing : new.failing ≡ old.failing

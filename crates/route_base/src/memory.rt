@@ -1,0 +1,3 @@
+// The traits' objects in memory: folders and sinks for tests and for callers without files.
+pub mod folders;
+pub mod sinks;

@@ -1,0 +1,7 @@
+pub mod ByNumber
+pub mod NameIndex
+pub mod NameLends
+pub mod Records
+pub mod Refusals
+pub mod Schema
+pub mod Words
