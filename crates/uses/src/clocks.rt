@@ -1,7 +1,8 @@
-// Time zones: what a clock on the wall shows.
-ghost use Rattle.std.specs.Prelude.{◌≡◌, IfOk, None, OnOk};
+// Time zones: the local day and minute.
+ghost use Rattle.std.specs.Prelude.{◌≡◌, ◌⊎◌, IfOk, IfErr, Some, None, OnOk};
 ghost use Rattle.route_base.specs.Time.{IsInstant};
 ghost use Rattle.zone_rules.specs.Zones.{wall_at, zone_fault_of};
+ghost use Rattle.zone_rules.specs.declared.rows.ZoneFault.TheVariants.{OutOfMemory};
 
 use route_base::Minute;
 use std::alloc::Global;
@@ -12,6 +13,11 @@ pub fn clock_shows(alloc: Global, rows: &[ZoneRow], t: Minute) -> Result<Wall, Z
     requires { IsInstant t }
     ensures wall { IfOk result (λ wall. wall ≡ wall_at rows.now t) }
     ensures faultless { OnOk result (zone_fault_of rows.now ≡ None) }
+    ensures refused { IfErr result (λ fault.
+        (fault ≡ OutOfMemory) ⊎ (zone_fault_of rows.now ≡ Some fault)) }
 {
-    Ok(Zone::from_rows(alloc, rows)?.wall(t))
+    match Zone::from_rows(alloc, rows) {
+        Ok(zone) => Ok(zone.wall(t)),
+        Err(fault) => Err(fault),
+    }
 }

@@ -1,5 +1,6 @@
 // Opening hours: whether a ban holds at an instant.
 ghost use Rattle.std.specs.Prelude.{◌↔◌, List, IsTrue, IfOk};
+ghost use Rattle.std.specs.Result.{IsErrOf};
 ghost use Rattle.route_base.specs.Time.{IsInstant};
 ghost use Rattle.opening_hours.specs.Hours.{IsHours};
 ghost use Rattle.opening_hours.specs.declared.types.HoursRule.{HoursRule};
@@ -20,10 +21,15 @@ pub fn is_banned(
     t: Minute,
 ) -> Result<bool, HoursFault>
     requires { IsInstant t }
-    ensures { IfOk result (λ banned. (rules : List HoursRule) → IsHours hours.now rules
+    ensures banned { IfOk result (λ banned. (rules : List HoursRule) → IsHours hours.now rules
         → IsTrue banned ↔ IsBannedAt rules zone.now holidays.now t) }
+    ensures read { IfOk result (λ banned. (rules : List HoursRule) × IsHours hours.now rules) }
+    ensures refused { IsErrOf result HoursFault.NotHours
+        → (rules : List HoursRule) → IsHours hours.now rules → ⊥ }
 {
     let wall = zone.wall(t);
-    let hours = parse(alloc, hours)?;
-    Ok(covers(&hours, wall.day, wall.minute, holidays))
+    match parse(alloc, hours) {
+        Ok(rules) => Ok(covers(&rules, wall.day, wall.minute, holidays)),
+        Err(fault) => Err(fault),
+    }
 }
