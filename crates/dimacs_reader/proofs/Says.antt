@@ -1,4 +1,4 @@
--- What a line says, by its tokens.
+-- The meaning of a line, by its tokens.
 use Rattle.std.proofs.Common.{◌≡◌, List, [], ◌∷◌, ℕ, length, true, false, refl, ap, ◌∙◌}
 use Rattle.std.proofs.lemmas.Bool.{cond-true, cond-false}
 use Rattle.dimacs_reader.specs.declared.lines.Line.TheVariants.{Ignored, Bad}

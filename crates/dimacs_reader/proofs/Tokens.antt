@@ -11,7 +11,8 @@ use Rattle.std.proofs.lemmas.Option.{cond_some}
 use Rattle.std.proofs.lemmas.List.{take_all, drop_all}
 use Rattle.std.proofs.lemmas.List.Splits.{slice_split_first, slice_split_none, slice_split-cons_yes}
 use Rattle.std.proofs.lemmas.List.Sums.{fails_before_first, passes_at_first, prefix_len-le-length}
-use Rattle.dimacs_reader.specs.Lines.{tokens_of, is_blank, has_bytes}
+use Rattle.dimacs_reader.specs.Lines.{tokens_of, has_bytes}
+use Rattle.route_base.specs.Forms.{is_blank}
 
 was_true : (t : Bool) → not t ≡ false → t ≡ true
 was_true true e = refl

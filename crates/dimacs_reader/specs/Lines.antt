@@ -4,16 +4,13 @@ use Rattle.std.specs.List.{slice_split, filter}
 use Rattle.std.specs.Str.{bytes_eq}
 use Rattle.std.specs.Str.Lines.{lines}
 use Rattle.route_base.specs.Digits.{number_of}
+use Rattle.route_base.specs.Forms.{is_blank}
 use Rattle.dimacs_reader.specs.declared.lines.Line.{Line}
 use Rattle.dimacs_reader.specs.declared.lines.Line.TheVariants.{Ignored, Problem, Arc, Bad}
 
 -- cut at line feeds; a carriage return right before one belongs to the line end; what follows the last is a line unless it is empty
 abbrev pub lines_of : List ℕ → List (List ℕ)
 lines_of bytes = lines bytes
-
--- whether the byte is a space or a tab
-abbrev pub is_blank : ℕ → Bool
-is_blank b = b == 32 || b == 9
 
 -- whether there is a byte
 abbrev pub has_bytes : List ℕ → Bool

@@ -2,10 +2,11 @@
 ghost use Rattle.std.specs.Prelude.{◌≡◌, ◌≢◌, ◌<◌, ◌∷◌, ◌==◌, [], IfSome, IfNone, length, not};
 ghost use Rattle.std.specs.List.{position};
 ghost use Rattle.std.specs.Str.Lines.{strip_carriage_return};
-ghost use Rattle.dimacs_reader.specs.Lines.{lines_of, line_of, tokens_of, is_blank, is_comment};
+ghost use Rattle.dimacs_reader.specs.Lines.{lines_of, line_of, tokens_of, is_comment};
+ghost use Rattle.route_base.specs.Forms.{is_blank};
 ghost use Rattle.dimacs_reader.specs.Lines.{line_of_four, problem_of, arc_of};
 
-use route_base::{cut, read_number};
+use route_base::{cut, is_blank, read_number};
 
 /// A line of a graph file.
 #[derive(Clone, Copy, Debug, PartialEq, Eq)]
@@ -72,13 +73,6 @@ fn place_of_blank(line: &[u8]) -> Option<usize>
     ensures { result ≡ position is_blank line.now }
 {
     line.iter().position(|b| is_blank(*b))
-}
-
-// Whether the byte is a space or a tab.
-fn is_blank(b: u8) -> bool
-    ensures { result ≡ is_blank b }
-{
-    b == b' ' || b == b'\t'
 }
 
 // Whether the token begins a comment.

@@ -1,6 +1,7 @@
 -- The words of the command line, and the commands that they are (source: own).
 use Rattle.std.specs.Prelude.{◌≡◌, ℕ, ◌==◌, ◌&&◌, Bool, false, not, nat_le, Option, None, List, [], ◌∷◌, length, codes}
 use Rattle.std.specs.Prelude.{if◌then◌else◌, option_and_then, option_map, bytes_eq}
+use Rattle.route_base.specs.declared.limits.TheConstants.{LONGEST_FOLDER}
 use Rattle.route_base.specs.Digits.{plain_number_of}
 use Rattle.route_base.specs.Forms.{at_most}
 use Rattle.route_base.specs.Time.{IsInstant}
@@ -25,7 +26,7 @@ pub data Command : Type 0 where
 -- 1 to 4,096 bytes, the first not `-`
 abbrev pub is_folder_name : List ℕ → Bool
 is_folder_name [] = false
-is_folder_name (b ∷ bs) = not (b == 45) && nat_le (length (b ∷ bs)) 4096
+is_folder_name (b ∷ bs) = not (b == 45) && nat_le (length (b ∷ bs)) LONGEST_FOLDER
 
 -- a number of 32 bits without a leading zero
 abbrev pub node_of : List ℕ → Option ℕ

@@ -1,5 +1,6 @@
 -- Trips, and the checks of a request (source: own).
 use Rattle.std.specs.Prelude.{ℕ, ◌+◌, ◌-◌, ◌≤◌, ◌&&◌, Bool, not, nat_le, nat_lt, Option, Some, None, List, if◌then◌else◌}
+use Rattle.route_base.specs.declared.limits.TheConstants.{LONGEST_HORIZON}
 use Rattle.route_base.specs.declared.types.Request.{Request}
 use Rattle.route_base.specs.declared.faults.RequestFault.{RequestFault}
 use Rattle.route_base.specs.declared.faults.RequestFault.TheVariants.{OriginRange, GoalRange, UntilBeforeDepart, HorizonTooLong}
@@ -24,7 +25,7 @@ failed_check_over n trip =
     if not (is_node n trip.origin) then Some OriginRange
     else if not (is_node n trip.goal) then Some GoalRange
     else if nat_lt trip.until trip.depart then Some UntilBeforeDepart
-    else if nat_lt 86400 (trip.until - trip.depart) then Some HorizonTooLong
+    else if nat_lt LONGEST_HORIZON (trip.until - trip.depart) then Some HorizonTooLong
     else None
 
 -- the first check that a trip over a network fails; the one vehicle so far, `any`, is known
@@ -46,4 +47,4 @@ pub record IsGoodTrip (n : ℕ) (trip : Trip) : Type 0 where
   pub goal_low : 1 ≤ trip.goal
   pub goal_high : trip.goal ≤ n
   pub in_order : trip.depart ≤ trip.until
-  pub short : trip.until ≤ trip.depart + 86400
+  pub short : trip.until ≤ trip.depart + LONGEST_HORIZON

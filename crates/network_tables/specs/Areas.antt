@@ -4,6 +4,7 @@ use Rattle.std.specs.List.{filter_map}
 use Rattle.route_base.specs.Forms.{is_name}
 use Rattle.route_base.specs.declared.faults.Cause.{Cause}
 use Rattle.route_base.specs.declared.faults.Cause.TheVariants.{BadField, Unknown, Duplicate}
+use Rattle.route_base.specs.declared.limits.TheConstants.{MOST_AREAS}
 use Rattle.table_reader.specs.Schema.{Schema}
 use Rattle.table_reader.specs.NameIndex.{value_of}
 use Rattle.table_reader.specs.Records.{Record}
@@ -31,7 +32,7 @@ areas_in rows = filter_map area_of_record rows
 abbrev pub areas_schema : {Z : Type 0} → (List ℕ → Option Z) → Schema
 areas_schema zones = record {
   headers = (codes "area" ∷ codes "zone" ∷ []) ∷ [];
-  limit = 1000;
+  limit = MOST_AREAS;
   cause = λ header before row. cause_of_area zones (areas_in before) (area_of_record row);
 }
 

@@ -7,6 +7,7 @@ use Rattle.route_base.specs.declared.faults.Cause.TheVariants.{BadField, Unknown
 use Rattle.route_base.specs.declared.types.Run.{Run}
 use Rattle.calendar_days.specs.Texts.{instant_of}
 use Rattle.network_tables.specs.declared.closures.Closure.{Closure}
+use Rattle.route_base.specs.declared.limits.TheConstants.{MOST_CLOSURES}
 use Rattle.table_reader.specs.Schema.{Schema}
 use Rattle.table_reader.specs.Records.{Record}
 
@@ -32,7 +33,7 @@ cause_of_closure arcs (Some c) =
 abbrev pub closures_schema : ℕ → Schema
 closures_schema arcs = record {
   headers = (codes "arc" ∷ codes "from" ∷ codes "to" ∷ []) ∷ [];
-  limit = 100000;
+  limit = MOST_CLOSURES;
   cause = λ header before row. cause_of_closure arcs (closure_of row);
 }
 

@@ -10,6 +10,7 @@ use Rattle.opening_hours.specs.Holidays.{HolidayLists, is_listed}
 use Rattle.network_tables.specs.declared.holidays.row.Holiday.{Holiday}
 use Rattle.network_tables.specs.declared.holidays.row.HolidayKind.{HolidayKind}
 use Rattle.network_tables.specs.declared.holidays.row.HolidayKind.TheVariants.{Public, School}
+use Rattle.route_base.specs.declared.limits.TheConstants.{MOST_HOLIDAYS}
 use Rattle.table_reader.specs.Schema.{Schema}
 use Rattle.table_reader.specs.NameIndex.{place_among}
 use Rattle.table_reader.specs.Records.{Record}
@@ -39,7 +40,7 @@ cause_of_holiday areas (Some h) = if is_some (place_among areas h.0) then None e
 abbrev pub holidays_schema : List (List ℕ) → Schema
 holidays_schema areas = record {
   headers = (codes "area" ∷ codes "kind" ∷ codes "date" ∷ []) ∷ [];
-  limit = 100000;
+  limit = MOST_HOLIDAYS;
   cause = λ header before row. cause_of_holiday areas (holiday_of row);
 }
 

@@ -5,6 +5,7 @@ use Rattle.std.specs.Option.{option_map}
 use Rattle.route_base.specs.Forms.{is_name, weight_of}
 use Rattle.route_base.specs.declared.faults.Cause.{Cause}
 use Rattle.route_base.specs.declared.faults.Cause.TheVariants.{BadField, Duplicate}
+use Rattle.route_base.specs.declared.limits.TheConstants.{MOST_RATINGS}
 use Rattle.table_reader.specs.Schema.{Schema}
 use Rattle.table_reader.specs.NameIndex.{value_of}
 use Rattle.table_reader.specs.Records.{Record}
@@ -31,6 +32,6 @@ ratings_in rows = filter_map rating_of rows
 abbrev pub ratings_schema : Schema
 ratings_schema = record {
   headers = (codes "rating" ∷ codes "weight" ∷ []) ∷ [];
-  limit = 1000;
+  limit = MOST_RATINGS;
   cause = λ header before row. cause_of_rating (ratings_in before) (rating_of row);
 }

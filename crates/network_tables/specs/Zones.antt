@@ -12,6 +12,7 @@ use Rattle.calendar_days.specs.Texts.{instant_of}
 use Rattle.zone_rules.specs.Zones.{is_later}
 use Rattle.zone_rules.specs.declared.rows.ZoneRow.{ZoneRow}
 use Rattle.table_reader.specs.NameIndex.{value_of}
+use Rattle.route_base.specs.declared.limits.TheConstants.{MOST_ZONE_ROWS}
 use Rattle.table_reader.specs.Schema.{Schema}
 use Rattle.table_reader.specs.Records.{Record}
 
@@ -68,7 +69,7 @@ zone_entries_in rows = filter_map zone_entry_of rows
 abbrev pub zones_schema : Schema
 zones_schema = record {
   headers = (codes "zone" ∷ codes "from" ∷ codes "offset" ∷ []) ∷ [];
-  limit = 10000;
+  limit = MOST_ZONE_ROWS;
   cause = λ header before row. cause_of_entry (zone_entries_in before) (zone_entry_of row);
 }
 

@@ -9,6 +9,7 @@ use crate::files::read_file;
 use crate::zones::Zones;
 use crate::{Files, NetworkFault};
 use csv::ByteRecord;
+use route_base::limits::MOST_AREAS;
 use route_base::{Cause, FileKind, OutOfMemory, is_name_field};
 use std::alloc::Global;
 use std::marker::Model;
@@ -140,7 +141,7 @@ impl Table for AreaTable {
     }
 
     fn limit(&self) -> u32 {
-        1_000
+        MOST_AREAS
     }
 
     fn add(&mut self, alloc: Global, _header: &[&str], row: &ByteRecord) -> Result<(), RowFault> {

@@ -7,6 +7,7 @@ use crate::files::read_file;
 use crate::{Files, NetworkFault};
 use calendar_days::read_instant;
 use csv::ByteRecord;
+use route_base::limits::MOST_CLOSURES;
 use route_base::{ArcId, Cause, FileKind, OutOfMemory, Run, read_table_number};
 use std::alloc::Global;
 use std::marker::Model;
@@ -79,7 +80,7 @@ impl Table for ClosureTable {
     }
 
     fn limit(&self) -> u32 {
-        100_000
+        MOST_CLOSURES
     }
 
     fn add(&mut self, _alloc: Global, _header: &[&str], row: &ByteRecord) -> Result<(), RowFault> {

@@ -12,6 +12,7 @@ use crate::{Files, NetworkFault};
 use csv::ByteRecord;
 use days::AreaDays;
 use opening_hours::Holidays;
+use route_base::limits::MOST_HOLIDAYS;
 use route_base::{Cause, FileKind, OutOfMemory};
 use row::read_holiday;
 use std::alloc::Global;
@@ -70,7 +71,7 @@ impl Table for HolidayTable {
     }
 
     fn limit(&self) -> u32 {
-        100_000
+        MOST_HOLIDAYS
     }
 
     fn add(&mut self, _alloc: Global, _header: &[&str], row: &ByteRecord) -> Result<(), RowFault> {

@@ -1,5 +1,6 @@
 // parking.csv: the nodes where one may wait.
 ghost use Rattle.std.specs.Prelude.{◌≡◌, codes};
+ghost use Rattle.route_base.specs.declared.limits.TheConstants.{MOST_PARKING_ROWS};
 ghost use Rattle.table_reader.specs.NameIndex.{value_of};
 ghost use Rattle.network_tables.specs.NetworkFiles.{node_count_of, ratings_of, weights_of, parking_fault};
 ghost use Rattle.network_tables.specs.Refusals.{Reads};
@@ -7,6 +8,7 @@ ghost use Rattle.network_tables.specs.Refusals.{Reads};
 use crate::files::read_file;
 use crate::ratings::RatingTable;
 use crate::{Files, NetworkFault};
+use route_base::limits::MOST_PARKING_ROWS;
 use route_base::{Cost, FileKind};
 use std::alloc::Global;
 use table_reader::{Naming, NumberedTable};
@@ -17,7 +19,7 @@ impl Naming<Cost> for RatingTable {
 
     ghost names = { codes "rating" };
 
-    ghost limit = { 500000 };
+    ghost limit = { MOST_PARKING_ROWS };
 
     ghost named = { value_of };
 
@@ -26,7 +28,7 @@ impl Naming<Cost> for RatingTable {
     }
 
     fn most_rows(&self) -> u32 {
-        500_000
+        MOST_PARKING_ROWS
     }
 
     fn find(&self, name: &[u8]) -> Option<Cost> {

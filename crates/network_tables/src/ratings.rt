@@ -6,6 +6,7 @@ ghost use Rattle.network_tables.specs.Words.{ratings_schema, ratings_in};
 use crate::files::read_file;
 use crate::{Files, NetworkFault};
 use csv::ByteRecord;
+use route_base::limits::MOST_RATINGS;
 use route_base::{Cause, Cost, FileKind, is_name_field, read_weight};
 use std::alloc::Global;
 use std::marker::Model;
@@ -65,7 +66,7 @@ impl Table for RatingTable {
     }
 
     fn limit(&self) -> u32 {
-        1_000
+        MOST_RATINGS
     }
 
     fn add(&mut self, alloc: Global, _header: &[&str], row: &ByteRecord) -> Result<(), RowFault> {

@@ -1,5 +1,6 @@
 // roads.csv: the area of each arc.
 ghost use Rattle.std.specs.Prelude.{◌≡◌, codes, map, unwrap_or, IfOk};
+ghost use Rattle.route_base.specs.declared.limits.TheConstants.{MOST_ROAD_ROWS};
 ghost use Rattle.table_reader.specs.NameIndex.{names_of, place_among};
 ghost use Rattle.network_tables.specs.NetworkFiles.{arc_count_of, areas_of, roads_of, roads_fault};
 ghost use Rattle.network_tables.specs.Refusals.{Reads};
@@ -7,6 +8,7 @@ ghost use Rattle.network_tables.specs.Refusals.{Reads};
 use crate::areas::Areas;
 use crate::files::read_file;
 use crate::{Files, NetworkFault};
+use route_base::limits::MOST_ROAD_ROWS;
 use route_base::{FileKind, OutOfMemory};
 use std::alloc::Global;
 use table_reader::{Naming, NumberedTable};
@@ -17,7 +19,7 @@ impl Naming<u32> for Areas {
 
     ghost names = { codes "area" };
 
-    ghost limit = { 1000000 };
+    ghost limit = { MOST_ROAD_ROWS };
 
     ghost named = { λ areas. place_among (names_of areas) };
 
@@ -26,7 +28,7 @@ impl Naming<u32> for Areas {
     }
 
     fn most_rows(&self) -> u32 {
-        1_000_000
+        MOST_ROAD_ROWS
     }
 
     fn find(&self, name: &[u8]) -> Option<u32> {

@@ -12,7 +12,7 @@ use crate::{Files, NetworkFault};
 use calendar_days::read_instant;
 use csv::ByteRecord;
 use offset::read_offset;
-use route_base::limits::FIRST_INSTANT;
+use route_base::limits::{FIRST_INSTANT, MOST_ZONE_ROWS};
 use route_base::{Cause, FileKind, OutOfMemory, is_name_field};
 use rows::ZoneRows;
 use std::alloc::Global;
@@ -130,7 +130,7 @@ impl Table for ZoneTable {
     }
 
     fn limit(&self) -> u32 {
-        10_000
+        MOST_ZONE_ROWS
     }
 
     fn add(&mut self, alloc: Global, _header: &[&str], row: &ByteRecord) -> Result<(), RowFault> {

@@ -9,7 +9,8 @@ use Rattle.std.proofs.lemmas.List.Folds.{length-prefix_len}
 use Rattle.std.proofs.lemmas.List.Sums.{prefix_len-le-length}
 use Rattle.opening_hours.specs.declared.tokens.Token.{Token}
 use Rattle.opening_hours.specs.declared.tokens.Token.TheVariants.{Always, Time, Number, Dash, Comma, Semicolon, Colon}
-use Rattle.opening_hours.specs.Tokens.{is_digit, is_letter, is_blank, one_digit, number_of_two, word_token, without_blanks}
+use Rattle.opening_hours.specs.Tokens.{is_digit, is_letter, one_digit, number_of_two, word_token, without_blanks}
+use Rattle.route_base.specs.Forms.{is_blank}
 use Rattle.opening_hours.specs.Inside.Tokenizer.{word_of, word_at, always_at, long_time_at, short_time_at, long_number_at}
 use Rattle.opening_hours.specs.Inside.Tokenizer.{short_number_at, mark_at, token_at, IsMatched}
 

@@ -2,7 +2,8 @@
 use Rattle.std.specs.Prelude.{◌≡◌, ◌≢◌, ◌⊎◌, ℕ, ◌≤◌, ◌==◌, ◌||◌, Bool, true, false, List, [], ◌∷◌, ◌++◌, codes}
 use Rattle.std.specs.List.{list_all}
 use Rattle.opening_hours.specs.declared.tokens.Token.TheVariants.{Unknown}
-use Rattle.opening_hours.specs.Tokens.{is_digit, is_letter, is_blank, word_token, AreLetters}
+use Rattle.opening_hours.specs.Tokens.{is_digit, is_letter, word_token, AreLetters}
+use Rattle.route_base.specs.Forms.{is_blank}
 
 -- a letter, a digit, a blank, or one of - , ; : and /
 abbrev pub is_hours_byte : ℕ → Bool

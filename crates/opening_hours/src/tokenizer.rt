@@ -3,14 +3,15 @@ ghost use Rattle.std.specs.Prelude.{◌≡◌, ℕ, ◌++◌, ◌≤◌, ◌+◌
 ghost use Rattle.std.specs.List.{take_while};
 ghost use Rattle.std.specs.Result.{IsErrOf};
 ghost use Rattle.opening_hours.specs.declared.tokens.Token.{Token as Lexeme};
-ghost use Rattle.opening_hours.specs.Tokens.{is_digit, is_letter, is_blank, one_digit, number_of_two, without_blanks, IsCut};
+ghost use Rattle.opening_hours.specs.Tokens.{is_digit, is_letter, one_digit, number_of_two, without_blanks, IsCut};
+ghost use Rattle.route_base.specs.Forms.{is_blank};
 ghost use Rattle.opening_hours.specs.Inside.Tokenizer.{word_of, word_at, always_at, long_time_at, short_time_at, long_number_at};
 ghost use Rattle.opening_hours.specs.Inside.Tokenizer.{short_number_at, mark_at, token_at};
 
 use crate::faults::HoursFault;
 use crate::tokens::Token;
 use crate::vocabulary::word;
-use route_base::Listing;
+use route_base::{Listing, is_blank};
 use std::alloc::Global;
 
 // Whether a byte is a decimal digit.
@@ -25,13 +26,6 @@ fn letter(byte: u8) -> bool
     ensures { result ≡ is_letter byte }
 {
     (b'A' <= byte && byte <= b'Z') || (b'a' <= byte && byte <= b'z')
-}
-
-// Whether a byte is a space or a tab.
-fn blank(byte: u8) -> bool
-    ensures { result ≡ is_blank byte }
-{
-    byte == b' ' || byte == b'\t'
 }
 
 // The number of a digit, and 0 of another byte.
@@ -210,7 +204,7 @@ fn behind_blanks(text: &[u8]) -> &[u8]
 {
     let mut rest = text;
     while let [b, after @ ..] = rest {
-        if !blank(*b) {
+        if !is_blank(*b) {
             return rest;
         }
         rest = after;

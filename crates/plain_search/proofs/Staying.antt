@@ -1,4 +1,4 @@
--- What has landed stays so while only later costs change.
+-- Landed points stay landed while only later costs change.
 use Rattle.std.proofs.Common.{◌≡◌, inl, inr, ⊎_elim, ℕ, ◌≤◌, ◌∙◌, subst, arith}
 use Rattle.route_base.specs.Setting.{Setting}
 use Rattle.route_base.specs.Itinerary.{Step, drive, Moves}

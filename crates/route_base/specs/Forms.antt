@@ -10,6 +10,10 @@ use Rattle.route_base.specs.declared.limits.TheConstants.{HEAVIEST_WEIGHT, LONGE
 abbrev pub is_from_to : ℕ → ℕ → ℕ → Bool
 is_from_to low high n = nat_le low n && nat_le n high
 
+-- space and tab
+abbrev pub is_blank : ℕ → Bool
+is_blank b = b == 32 || b == 9
+
 -- whether the byte is a letter, a digit, `_`, `-` or `.`
 abbrev pub is_name_byte : ℕ → Bool
 is_name_byte b = is_from_to 97 122 b || is_from_to 65 90 b || is_from_to 48 57 b || b == 95 || b == 45 || b == 46

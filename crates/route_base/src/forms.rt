@@ -2,12 +2,19 @@
 ghost use Rattle.std.specs.Prelude.{◌≡◌, ◌==◌, ◌∷◌, [], IfSome, IfNone, ◌≤◌};
 ghost use Rattle.std.specs.List.{slice_split, list_all};
 ghost use Rattle.route_base.specs.Time.{IsInstant};
-ghost use Rattle.route_base.specs.Forms.{is_name_byte, is_name, table_number_of, minute_of, short_number_of};
+ghost use Rattle.route_base.specs.Forms.{is_blank, is_name_byte, is_name, table_number_of, minute_of, short_number_of};
 ghost use Rattle.route_base.specs.Forms.{decimals_of, thousandths_in, weight_of};
 
 use crate::limits::{FIRST_INSTANT, HEAVIEST_WEIGHT, LAST_INSTANT, LONGEST_NAME};
 use crate::split::cut;
 use crate::{Cost, Minute, read_number, read_plain_number};
+
+/// Whether the byte is a blank: a space or a tab.
+pub fn is_blank(b: u8) -> bool
+    ensures { result ≡ is_blank b }
+{
+    b == b' ' || b == b'\t'
+}
 
 // Whether a byte may stand in a name.
 fn is_byte_of_name(b: u8) -> bool

@@ -39,7 +39,7 @@ pub use bounds::Bounds;
 pub use digits::{read_number, read_plain_number};
 pub use faults::{BadInput, Cause, FileKind, OutOfMemory, RequestFault, TableFault};
 pub use folder::{Folder, PartError};
-pub use forms::{is_name_field, read_minute, read_table_number, read_weight};
+pub use forms::{is_blank, is_name_field, read_minute, read_table_number, read_weight};
 pub use front_search::FrontSearch;
 pub use itinerary::{NotLawful, replay};
 pub use listing::Listing;

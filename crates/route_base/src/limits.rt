@@ -37,6 +37,39 @@ pub const MOST_ARCS: u32 = 1_000_000;
 /// The most nodes of a net in memory, which may be larger than a graph file's.
 pub const MOST_NET_NODES: u32 = 40_000_000;
 
+/// The most data rows of `zones.csv`.
+pub const MOST_ZONE_ROWS: u32 = 10_000;
+
+/// The most areas.
+pub const MOST_AREAS: u32 = 1_000;
+
+/// The most data rows of `roads.csv`.
+pub const MOST_ROAD_ROWS: u32 = 1_000_000;
+
+/// The most vehicles of `vehicles.csv`.
+pub const MOST_VEHICLES: u32 = 10_000;
+
+/// The most data rows of `rules.csv`.
+pub const MOST_RULES: u32 = 20_000;
+
+/// The most data rows of `closures.csv`.
+pub const MOST_CLOSURES: u32 = 100_000;
+
+/// The most ratings.
+pub const MOST_RATINGS: u32 = 1_000;
+
+/// The most data rows of `parking.csv`.
+pub const MOST_PARKING_ROWS: u32 = 500_000;
+
+/// The most data rows of `holidays.csv`.
+pub const MOST_HOLIDAYS: u32 = 100_000;
+
+/// The largest size of a vehicle, in kilograms, centimetres or axles.
+pub const LARGEST_SIZE: u32 = 1_000_000;
+
+/// The most bytes of a rule's value.
+pub const LONGEST_RULE: usize = 65_536;
+
 /// The most bytes of a name in a table.
 pub const LONGEST_NAME: usize = 64;
 

@@ -1,4 +1,4 @@
--- What numbers are given after one row more.
+-- The values of numbers after one more row.
 use Rattle.std.proofs.Common.{◌≡◌, ℕ, zero, suc, ◌+◌, ◌-◌, ◌<◌, ◌≤◌, Bool, cond, eqb, Option, Some, None, List, [], ◌∷◌, ◌++◌, length, map, get_or}
 use Rattle.std.proofs.Common.{refl, sym, ◌∙◌, ap, arith, eq-eqb, ⊎_elim}
 use Rattle.std.proofs.Math.ListN.{set, replicate}
