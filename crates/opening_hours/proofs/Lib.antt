@@ -10,3 +10,4 @@ pub mod Rising
 pub mod Rules
 pub mod Spelled
 pub mod CoverTests
+pub mod ComputedHours
