@@ -1,5 +1,6 @@
--- How a vehicle is held (source: own).
-use Rattle.std.specs.Prelude.{ℕ, List}
+-- How vehicles are held (source: own).
+use Rattle.std.specs.Prelude.{◌≡◌, ℕ, List, map}
+use Rattle.table_reader.specs.NameIndex.{names_of}
 use Rattle.vehicle_classes.specs.declared.classes.Class.{Class}
 use Rattle.vehicle_classes.specs.declared.classes.Purpose.{Purpose}
 use Rattle.vehicle_classes.specs.declared.vehicle.Sizes.{Sizes}
@@ -18,3 +19,13 @@ vehicle_with class purpose sizes flags = record {
   axles = sizes.axles;
   flags = flags;
 }
+
+-- names, and a vehicle for each
+pub record NamedVehicles : Type 0 where
+  pub names : List (List ℕ)
+  pub vehicles : List VehicleModel
+
+-- they are the names and the vehicles of these pairs
+pub record HoldVehicles (held : NamedVehicles) (pairs : List (List ℕ × VehicleModel)) : Type 0 where
+  pub names : held.names ≡ names_of pairs
+  pub vehicles : held.vehicles ≡ map (λ p. p.1) pairs

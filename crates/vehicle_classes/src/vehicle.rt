@@ -1,10 +1,12 @@
 // A vehicle: its class, its purpose, its sizes and its flags.
-ghost use Rattle.std.specs.Prelude.{◌≡◌, ◌≤◌, IfSome};
+ghost use Rattle.std.specs.Prelude.{◌≡◌, ◌≤◌, [], map, IfSome};
 ghost use Rattle.std.specs.List.{list_any};
 ghost use Rattle.std.specs.Str.{bytes_eq};
-ghost use Rattle.vehicle_classes.specs.VehicleModel.{size_of, has_flag, any_vehicle};
+ghost use Rattle.vehicle_classes.specs.VehicleModel.{size_of, has_flag, any_vehicle, HasSmallSizes};
+ghost use Rattle.vehicle_classes.specs.VehicleParts.{vehicle_with};
 
 use crate::{Class, Purpose, Quantity};
+use route_base::limits::LARGEST_SIZE;
 use std::alloc::Global;
 use std::marker::Model;
 
@@ -41,6 +43,19 @@ impl Model for Vehicle {
 }
 
 impl Vehicle {
+    /// The vehicle of these parts. In constant time.
+    pub fn new(class: Class, purpose: Purpose, sizes: Sizes, flags: Vec<Vec<u8>>) -> Self
+        requires { HasSmallSizes (vehicle_with class purpose sizes []) }
+        ensures { result ≡ vehicle_with class purpose sizes (map (λ f. f.items) flags.items) }
+    {
+        Vehicle {
+            class,
+            purpose,
+            sizes,
+            flags,
+        }
+    }
+
     /// The vehicle of which only the class is known: `Hgv`.
     pub fn any(alloc: Global) -> Self
         ensures { result ≡ any_vehicle }
@@ -77,7 +92,7 @@ impl Vehicle {
     /// A size in kilograms, centimetres or a count, at most 1,000,000; `None` exactly where it isn't known. In constant time.
     pub fn size(&self, q: Quantity) -> Option<u64>
         ensures value { result ≡ size_of self.now q }
-        ensures small { IfSome result (λ n. n ≤ 1000000) }
+        ensures small { IfSome result (λ n. n ≤ LARGEST_SIZE) }
     {
         match q {
             Quantity::Weight => self.sizes.weight_kg,
@@ -99,7 +114,7 @@ impl Vehicle {
 
 // Whether the word is one of these.
 fn is_among(flags: &[Vec<u8>], word: &[u8]) -> bool
-    ensures { result ≡ list_any (λ flag. bytes_eq word flag.items) flags.now }
+    ensures { result ≡ list_any (λ flag. bytes_eq word.now flag.items) flags.now }
 {
     flags.iter().any(|flag| word == flag.as_slice())
 }
