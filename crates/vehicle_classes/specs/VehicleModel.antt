@@ -35,11 +35,6 @@ size_of v quantity.Axles = v.axles
 abbrev pub IsSmall : Option ℕ → Type 0
 IsSmall o = IfSome o (λ n. n ≤ LARGEST_SIZE)
 
--- no size is too large
-abbrev pub HasSmallSizes : VehicleModel → Type 0
-HasSmallSizes v = IsSmall v.weight_kg × IsSmall v.axleload_kg × IsSmall v.height_cm × IsSmall v.width_cm
-    × IsSmall v.length_cm × IsSmall v.axles
-
 -- whether the vehicle is flagged with this word
 abbrev pub has_flag : VehicleModel → List ℕ → Bool
 has_flag v word = list_any (bytes_eq word) v.flags

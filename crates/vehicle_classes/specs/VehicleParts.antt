@@ -4,7 +4,7 @@ use Rattle.table_reader.specs.NameIndex.{names_of}
 use Rattle.vehicle_classes.specs.declared.classes.Class.{Class}
 use Rattle.vehicle_classes.specs.declared.classes.Purpose.{Purpose}
 use Rattle.vehicle_classes.specs.declared.vehicle.Sizes.{Sizes}
-use Rattle.vehicle_classes.specs.VehicleModel.{VehicleModel}
+use Rattle.vehicle_classes.specs.VehicleModel.{VehicleModel, IsSmall}
 
 -- the vehicle that has these sizes
 abbrev pub vehicle_with : Class → Purpose → Sizes → List (List ℕ) → VehicleModel
@@ -19,6 +19,11 @@ vehicle_with class purpose sizes flags = record {
   axles = sizes.axles;
   flags = flags;
 }
+
+-- no size is too large
+abbrev pub AreSmall : Sizes → Type 0
+AreSmall sizes = IsSmall sizes.weight_kg × IsSmall sizes.axleload_kg × IsSmall sizes.height_cm × IsSmall sizes.width_cm
+    × IsSmall sizes.length_cm × IsSmall sizes.axles
 
 -- names, and a vehicle for each
 pub record NamedVehicles : Type 0 where

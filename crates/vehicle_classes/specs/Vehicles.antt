@@ -33,10 +33,10 @@ class_of word =
 
 -- the purpose that a word names; without a word it is to pass through
 abbrev pub purpose_of : List ℕ → Option Purpose
-purpose_of word =
-    if bytes_eq word [] then Some Through
-    else if bytes_eq word (codes "through") then Some Through
-    else if bytes_eq word (codes "delivery") then Some Delivery
+purpose_of [] = Some Through
+purpose_of (b ∷ bs) =
+    if bytes_eq (b ∷ bs) (codes "through") then Some Through
+    else if bytes_eq (b ∷ bs) (codes "delivery") then Some Delivery
     else None
 
 -- a size that isn't too large, or none in an empty field
@@ -73,7 +73,7 @@ words_in field = filter (λ word. nat_lt 0 (length word)) (slice_split is_blank 
 -- the words of flags, with one or more blanks between them
 abbrev pub flags_of : List ℕ → Option (List (List ℕ))
 flags_of field =
-    if not (has_blank_end field) && list_all (λ b. is_flag_byte b || is_blank b) field then Some (words_in field) else None
+    if has_blank_end field || not (list_all (λ b. is_flag_byte b || is_blank b) field) then None else Some (words_in field)
 
 -- a name, a class, six sizes, a purpose and flags
 abbrev pub vehicle_of : Record → Option VehicleEntry

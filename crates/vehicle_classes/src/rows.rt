@@ -1,10 +1,10 @@
 // A data row of vehicles.csv.
-ghost use Rattle.std.specs.Prelude.{◌≡◌, ◌||◌, ◌&&◌, not, nat_lt, length, map, filter, option_map, IfSome, IfOk};
+ghost use Rattle.std.specs.Prelude.{◌≡◌, ◌∷◌, [], ◌||◌, nat_lt, length, map, filter, option_map, IfSome, IfOk};
 ghost use Rattle.std.specs.List.{list_all, slice_split};
 ghost use Rattle.csv.specs.Records.{fields_of};
 ghost use Rattle.route_base.specs.Forms.{is_blank};
-ghost use Rattle.vehicle_classes.specs.VehicleModel.{IsSmall, HasSmallSizes};
-ghost use Rattle.vehicle_classes.specs.VehicleParts.{vehicle_with};
+ghost use Rattle.vehicle_classes.specs.VehicleModel.{IsSmall};
+ghost use Rattle.vehicle_classes.specs.VehicleParts.{AreSmall};
 ghost use Rattle.vehicle_classes.specs.Vehicles.{class_of, purpose_of, size_in, sizes_in, is_flag_byte, has_blank_end};
 ghost use Rattle.vehicle_classes.specs.Vehicles.{words_in, flags_of, vehicle_of};
 
@@ -13,19 +13,23 @@ use crate::{Class, Purpose};
 use csv::ByteRecord;
 use route_base::limits::LARGEST_SIZE;
 use route_base::{OutOfMemory, is_blank, is_name_field, read_table_number};
-use std::alloc::Global;
+use std::alloc::{AllocError, Global};
 use table_reader::field;
 
 // The class that a word names.
 fn read_class(word: &[u8]) -> Option<Class>
     ensures { result ≡ class_of word.now }
 {
-    match word {
-        b"hgv" => Some(Class::Hgv),
-        b"hgv_articulated" => Some(Class::HgvArticulated),
-        b"goods" => Some(Class::Goods),
-        b"bus" => Some(Class::Bus),
-        _ => None,
+    if word == b"hgv".as_slice() {
+        Some(Class::Hgv)
+    } else if word == b"hgv_articulated".as_slice() {
+        Some(Class::HgvArticulated)
+    } else if word == b"goods".as_slice() {
+        Some(Class::Goods)
+    } else if word == b"bus".as_slice() {
+        Some(Class::Bus)
+    } else {
+        None
     }
 }
 
@@ -33,10 +37,12 @@ fn read_class(word: &[u8]) -> Option<Class>
 fn read_purpose(word: &[u8]) -> Option<Purpose>
     ensures { result ≡ purpose_of word.now }
 {
-    match word {
-        b"" | b"through" => Some(Purpose::Through),
-        b"delivery" => Some(Purpose::Delivery),
-        _ => None,
+    if word.is_empty() || word == b"through".as_slice() {
+        Some(Purpose::Through)
+    } else if word == b"delivery".as_slice() {
+        Some(Purpose::Delivery)
+    } else {
+        None
     }
 }
 
@@ -56,30 +62,6 @@ fn read_size(field: &[u8]) -> Option<Option<u64>>
     }
 }
 
-// The sizes that six fields give.
-fn read_sizes(
-    weight: &[u8],
-    axleload: &[u8],
-    height: &[u8],
-    width: &[u8],
-    length: &[u8],
-    axles: &[u8],
-) -> Option<Sizes>
-    ensures value { result ≡ sizes_in weight.now axleload.now height.now width.now length.now axles.now }
-    ensures small { IfSome result (λ sizes.
-        IsSmall sizes.weight_kg × IsSmall sizes.axleload_kg × IsSmall sizes.height_cm
-        × IsSmall sizes.width_cm × IsSmall sizes.length_cm × IsSmall sizes.axles) }
-{
-    Some(Sizes {
-        weight_kg: read_size(weight)?,
-        axleload_kg: read_size(axleload)?,
-        height_cm: read_size(height)?,
-        width_cm: read_size(width)?,
-        length_cm: read_size(length)?,
-        axles: read_size(axles)?,
-    })
-}
-
 // Whether a byte may stand in a field of flags.
 fn is_byte_of_flags(b: u8) -> bool
     ensures { result ≡ (is_flag_byte b || is_blank b) }
@@ -97,19 +79,19 @@ fn has_blank_end(field: &[u8]) -> bool
     }
 }
 
-// Whether a field is words of flags, with one or more blanks between them.
-fn are_flags(field: &[u8]) -> bool
-    ensures { result ≡ (not (has_blank_end field.now) && list_all (λ b. is_flag_byte b || is_blank b) field.now) }
+// Whether all bytes may stand in a field of flags.
+fn are_bytes_of_flags(field: &[u8]) -> bool
+    ensures { result ≡ list_all (λ b. is_flag_byte b || is_blank b) field.now }
 {
-    !has_blank_end(field) && field.iter().all(|b| is_byte_of_flags(*b))
+    field.iter().all(|b| is_byte_of_flags(*b))
 }
 
 // The pieces between single blanks.
-fn pieces_of(alloc: Global, field: &[u8]) -> Result<Vec<&[u8]>, OutOfMemory>
+fn pieces_of(alloc: Global, field: &[u8]) -> Result<Vec<&[u8]>, AllocError>
     ensures { IfOk result (λ pieces.
         map (λ p. p.now) pieces.items ≡ slice_split is_blank field.now) }
 {
-    Ok(field.split(|b| is_blank(*b)).collect(alloc)?)
+    field.split(|b| is_blank(*b)).collect(alloc)
 }
 
 // Copies the pieces that aren't empty.
@@ -131,53 +113,89 @@ fn read_flags(alloc: Global, field: &[u8]) -> Result<Option<Vec<Vec<u8>>>, OutOf
     ensures { IfOk result (λ flags.
         option_map (λ words. map (λ w. w.items) words.items) flags ≡ flags_of field.now) }
 {
-    if !are_flags(field) {
+    if has_blank_end(field) || !are_bytes_of_flags(field) {
         return Ok(None);
     }
     let pieces = pieces_of(alloc, field)?;
     Ok(Some(copied_words(alloc, &pieces)?))
 }
 
+// The fields of a row.
+#[derive(Clone, Copy)]
+struct RowFields<'a> {
+    name: &'a [u8],
+    class: &'a [u8],
+    weight_kg: &'a [u8],
+    axleload_kg: &'a [u8],
+    height_cm: &'a [u8],
+    width_cm: &'a [u8],
+    length_cm: &'a [u8],
+    axles: &'a [u8],
+    purpose: &'a [u8],
+    flags: &'a [u8],
+}
+
 // The ten fields of a row.
-fn ten_fields(row: &ByteRecord) -> [&[u8]; 10]
+fn ten_fields(row: &ByteRecord) -> RowFields<'_>
     requires { length (fields_of row.now) ≡ 10 }
-    ensures { fields_of row.now ≡ map (λ f. f.now) result }
+    ensures { fields_of row.now ≡ result.name.now ∷ result.class.now ∷ result.weight_kg.now
+        ∷ result.axleload_kg.now ∷ result.height_cm.now ∷ result.width_cm.now ∷ result.length_cm.now
+        ∷ result.axles.now ∷ result.purpose.now ∷ result.flags.now ∷ [] }
 {
-    [
-        field(row, 0),
-        field(row, 1),
-        field(row, 2),
-        field(row, 3),
-        field(row, 4),
-        field(row, 5),
-        field(row, 6),
-        field(row, 7),
-        field(row, 8),
-        field(row, 9),
-    ]
+    RowFields {
+        name: field(row, 0),
+        class: field(row, 1),
+        weight_kg: field(row, 2),
+        axleload_kg: field(row, 3),
+        height_cm: field(row, 4),
+        width_cm: field(row, 5),
+        length_cm: field(row, 6),
+        axles: field(row, 7),
+        purpose: field(row, 8),
+        flags: field(row, 9),
+    }
+}
+
+// The sizes that six fields of a row give.
+fn read_sizes(row: &RowFields<'_>) -> Option<Sizes>
+    ensures value { result ≡ sizes_in row.now.weight_kg.now row.now.axleload_kg.now row.now.height_cm.now
+        row.now.width_cm.now row.now.length_cm.now row.now.axles.now }
+    ensures small { IfSome result (λ sizes. AreSmall sizes) }
+{
+    Some(Sizes {
+        weight_kg: read_size(row.weight_kg)?,
+        axleload_kg: read_size(row.axleload_kg)?,
+        height_cm: read_size(row.height_cm)?,
+        width_cm: read_size(row.width_cm)?,
+        length_cm: read_size(row.length_cm)?,
+        axles: read_size(row.axles)?,
+    })
 }
 
 // Parses a data row.
-pub fn read_vehicle(alloc: Global, row: &ByteRecord) -> Result<Option<(&[u8], Vehicle)>, OutOfMemory>
+pub fn read_vehicle(
+    alloc: Global,
+    row: &ByteRecord,
+) -> Result<Option<(&[u8], Vehicle)>, OutOfMemory>
     requires { length (fields_of row.now) ≡ 10 }
     ensures { IfOk result (λ entry.
         option_map (λ e. (e.0.now, e.1)) entry ≡ vehicle_of (fields_of row.now)) }
 {
-    let [name, class, weight, axleload, height, width, length, axles, purpose, flags] = ten_fields(row);
-    if !is_name_field(name) {
+    let row = ten_fields(row);
+    if !is_name_field(row.name) {
         return Ok(None);
     }
-    let Some(class) = read_class(class) else {
+    let Some(class) = read_class(row.class) else {
         return Ok(None);
     };
-    let Some(sizes) = read_sizes(weight, axleload, height, width, length, axles) else {
+    let Some(sizes) = read_sizes(&row) else {
         return Ok(None);
     };
-    let Some(purpose) = read_purpose(purpose) else {
+    let Some(purpose) = read_purpose(row.purpose) else {
         return Ok(None);
     };
-    let Some(flags) = read_flags(alloc, flags)? else {
+    let Some(flags) = read_flags(alloc, row.flags)? else {
         return Ok(None);
     };
-    Ok(Some((name, Vehicle::new(class, purpose, sizes, flags))))
+    Ok(Some((row.name, Vehicle::new(class, purpose, sizes, flags))))
 }

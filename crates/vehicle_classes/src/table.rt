@@ -123,9 +123,8 @@ impl Table for VehicleTable {
         let Some((name, vehicle)) = read_vehicle(alloc, row)? else {
             return Err(RowFault::Bad(Cause::BadField));
         };
-        self.names.add(alloc, name, ())?;
         self.vehicles.push(vehicle)?;
-        Ok(())
+        self.names.add(alloc, name, ())
     }
 }
 

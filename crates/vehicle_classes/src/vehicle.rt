@@ -2,8 +2,8 @@
 ghost use Rattle.std.specs.Prelude.{◌≡◌, ◌≤◌, [], map, IfSome};
 ghost use Rattle.std.specs.List.{list_any};
 ghost use Rattle.std.specs.Str.{bytes_eq};
-ghost use Rattle.vehicle_classes.specs.VehicleModel.{size_of, has_flag, any_vehicle, HasSmallSizes};
-ghost use Rattle.vehicle_classes.specs.VehicleParts.{vehicle_with};
+ghost use Rattle.vehicle_classes.specs.VehicleModel.{size_of, has_flag, any_vehicle};
+ghost use Rattle.vehicle_classes.specs.VehicleParts.{vehicle_with, AreSmall};
 
 use crate::{Class, Purpose, Quantity};
 use route_base::limits::LARGEST_SIZE;
@@ -31,21 +31,21 @@ pub struct Sizes {
 }
 
 impl Model for Vehicle {
-    ghost use Rattle.vehicle_classes.specs.VehicleModel.{VehicleModel, HasSmallSizes};
-    ghost use Rattle.vehicle_classes.specs.VehicleParts.{vehicle_with};
+    ghost use Rattle.vehicle_classes.specs.VehicleModel.{VehicleModel};
+    ghost use Rattle.vehicle_classes.specs.VehicleParts.{vehicle_with, AreSmall};
     ghost use Rattle.std.specs.Prelude.{map};
 
     ghost Value = { VehicleModel };
 
     ghost view = { λ v. vehicle_with v.class v.purpose v.sizes (map (λ f. f.items) v.flags.items) };
 
-    ghost invariant = { λ v. HasSmallSizes (vehicle_with v.class v.purpose v.sizes (map (λ f. f.items) v.flags.items)) };
+    ghost invariant = { λ v. AreSmall v.sizes };
 }
 
 impl Vehicle {
     /// The vehicle of these parts. In constant time.
     pub fn new(class: Class, purpose: Purpose, sizes: Sizes, flags: Vec<Vec<u8>>) -> Self
-        requires { HasSmallSizes (vehicle_with class purpose sizes []) }
+        requires { AreSmall sizes }
         ensures { result ≡ vehicle_with class purpose sizes (map (λ f. f.items) flags.items) }
     {
         Vehicle {
@@ -116,5 +116,12 @@ impl Vehicle {
 fn is_among(flags: &[Vec<u8>], word: &[u8]) -> bool
     ensures { result ≡ list_any (λ flag. bytes_eq word.now flag.items) flags.now }
 {
-    flags.iter().any(|flag| word == flag.as_slice())
+    flags.iter().any(|flag| is_same(word, flag))
+}
+
+// Whether the words are the same.
+fn is_same(word: &[u8], flag: &[u8]) -> bool
+    ensures { result ≡ bytes_eq word.now flag.now }
+{
+    word == flag
 }
