@@ -1,12 +1,11 @@
 -- A row of the table, field by field, and the vehicles after one row more.
-use Rattle.std.proofs.Common.{◌≡◌, ℕ, ◌||◌, Bool, true, cond, Result, Ok, Err, IfErr, Option, Some, None, List, [], ◌∷◌, ◌++◌, map, refl, sym, ◌∙◌, ap}
+use Rattle.std.proofs.Common.{◌≡◌, ℕ, ◌||◌, Bool, cond, Result, Ok, Err, IfErr, Some, None, List, [], ◌∷◌, ◌++◌, map, refl, sym, ◌∙◌, ap}
 use Rattle.std.specs.Prelude.{codes}
 use Rattle.std.specs.List.{list_any, zip}
-use Rattle.std.specs.Option.{option_map, option_and_then, is_some}
+use Rattle.std.specs.Option.{is_some}
 use Rattle.std.specs.Str.{bytes_eq}
 use Rattle.std.proofs.lemmas.List.{map-append}
 use Rattle.std.proofs.lemmas.Map.Made.{is_some-lookup}
-use Rattle.route_base.specs.Forms.{is_name}
 use Rattle.route_base.specs.declared.faults.Cause.{Cause}
 use Rattle.route_base.specs.declared.faults.Cause.TheVariants.{Duplicate}
 use Rattle.table_reader.specs.declared.faults.RowFault.{RowFault}
@@ -15,12 +14,9 @@ use Rattle.table_reader.specs.Refusals.{IfBadCause}
 use Rattle.table_reader.specs.NameIndex.{names_of, value_of}
 use Rattle.table_reader.specs.Records.{Record}
 use Rattle.table_reader.proofs.Lists.{filter_map-push}
-use Rattle.vehicle_classes.specs.declared.classes.Class.{Class}
-use Rattle.vehicle_classes.specs.declared.classes.Purpose.{Purpose}
-use Rattle.vehicle_classes.specs.declared.vehicle.Sizes.{Sizes}
 use Rattle.vehicle_classes.specs.VehicleModel.{VehicleModel, any_vehicle}
-use Rattle.vehicle_classes.specs.VehicleParts.{vehicle_with, NamedVehicles, HoldVehicles}
-use Rattle.vehicle_classes.specs.Vehicles.{VehicleEntry, class_of, purpose_of, sizes_in, flags_of, vehicle_of, vehicles_in, cause_of_vehicle}
+use Rattle.vehicle_classes.specs.VehicleParts.{NamedVehicles, HoldVehicles}
+use Rattle.vehicle_classes.specs.Vehicles.{VehicleEntry, vehicle_of, vehicles_in, cause_of_vehicle}
 use Rattle.vehicle_classes.proofs.Named.{zip_parts}
 
 -- whether one passes, in elements that are seen through a function

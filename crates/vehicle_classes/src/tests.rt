@@ -89,7 +89,15 @@ fn refuses_rows(rt: HostRuntime) -> Result<(), TableFault> {
         assert_eq!(rt; fault_of(alloc, rows), Some((row, cause)));
     }
     let header = read_vehicles(alloc, b"name,class\n");
-    assert!(rt; matches!(header, Err(TableFault::BadRow { row: 1, cause: Cause::BadHeader })));
+    assert!(rt;
+        matches!(
+            header,
+            Err(TableFault::BadRow {
+                row: 1,
+                cause: Cause::BadHeader
+            })
+        )
+    );
     assert_eq!(rt; read_vehicles(alloc, b"")?.len(), 1);
     Ok(())
 }
