@@ -18,7 +18,8 @@ not_empty : (x : List ℕ) → false ≡ (length x == 0) → is_word x ≡ true
 not_empty [] e = grind arith
 not_empty (b ∷ x) e = grind arith
 
-module _ (ps : List (Bor (List ℕ))) (i : ℕ) (d : Bor (List ℕ)) (words : List (List ℕ)) (within : i < length ps) (is : words ≡ filter is_word (take i (bytes ps))) where
+module _ (ps : List (Bor (List ℕ))) (i : ℕ) (d : Bor (List ℕ)) (words : List (List ℕ)) (within : i < length ps)
+    (is : words ≡ filter is_word (take i (bytes ps))) where
   next : (b : Bool) → is_word (get_or ps i d).now ≡ b → words ++ cond b ((get_or ps i d).now ∷ []) [] ≡ filter is_word (take (i + 1) (bytes ps))
   next b e =
       ap (λ (ws : List (List ℕ)). ws ++ cond b ((get_or ps i d).now ∷ []) []) is

@@ -60,4 +60,6 @@ module _ (held : NamedVehicles) (pairs : List VehicleEntry) (hold : HoldVehicles
 
   -- the names beside the vehicles
   pub zipped : zip held.names held.vehicles ≡ pairs
-  zipped = ap (λ (ns : List (List ℕ)). zip ns held.vehicles) hold.names ∙ ap (λ (vs : List VehicleModel). zip (names_of pairs) vs) hold.vehicles ∙ zip_parts pairs
+  zipped =
+      ap (λ (ns : List (List ℕ)). zip ns held.vehicles) hold.names ∙ ap (λ (vs : List VehicleModel). zip (names_of pairs) vs) hold.vehicles
+      ∙ zip_parts pairs

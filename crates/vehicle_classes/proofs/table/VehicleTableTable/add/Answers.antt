@@ -15,7 +15,8 @@ returns-clause-faultless c =
     let is : vehicle_of (fields_of c.args.row.now) ≡ Some v = search rules in
     on_ok_weaker c.add.result (λ free start before hold.
     ap (cause_of_vehicle (vehicles_in before)) is
-    ∙ cause_held c.args.self.now (vehicles_in before) hold c.self.inside.names v false (ap (λ (t : NamedVehicles). t.names) c.self.view_is) (ap is_some free)) c.add.ensures.free
+    ∙ cause_held c.args.self.now (vehicles_in before) hold c.self.inside.names v false (ap (λ (t : NamedVehicles). t.names) c.self.view_is)
+    (ap is_some free)) c.add.ensures.free
 
 pub returns-clause-added : goal.returns-clause-added
 returns-clause-added c =
