@@ -1,0 +1,5 @@
+pub mod Accesses
+pub mod Cutting
+pub mod Comparisons
+pub mod Conditions
+pub mod CanonicalText

@@ -1,0 +1,10 @@
+//! Conditional values of access keys: a list of clauses that is read from a text, and the clause that decides.
+#![tactic(auto)]
+
+mod access;
+mod conditional;
+mod faults;
+
+pub use access::Access;
+pub use conditional::{Clause, Comparison, Conditional, Part, Parts, Word};
+pub use faults::ConditionalFault;

@@ -1,0 +1,6 @@
+//! Vehicles and their classes.
+#![tactic(auto)]
+
+mod classes;
+
+pub use classes::{Class, Key, Purpose, Quantity};
