@@ -2,8 +2,10 @@
 #![tactic(auto)]
 
 mod access;
+mod comparisons;
 mod conditional;
 mod faults;
+mod parts;
 
 pub use access::Access;
 pub use conditional::{Clause, Comparison, Conditional, Part, Parts, Word};
