@@ -1,12 +1,12 @@
 -- Parts: a text is one part at most.
-use Rattle.std.proofs.Common.{◌≡◌, ℕ, true, false, List, refl, ap, ◌∙◌, sym, subst}
+use Rattle.std.proofs.Common.{◌≡◌, ℕ, true, false, List, refl, ap, ◌∙◌}
 use Rattle.opening_hours.specs.Hours.{IsHours}
 use Rattle.opening_hours.specs.declared.types.HoursRule.{HoursRule}
 use Rattle.opening_hours.proofs.Whole.{one_reading}
 use Rattle.vehicle_classes.specs.declared.classes.Quantity.{Quantity}
 use Rattle.conditional_rules.specs.declared.conditional.Comparison.{Comparison}
 use Rattle.conditional_rules.specs.declared.conditional.Part.{Part}
-use Rattle.conditional_rules.specs.declared.conditional.Part.TheVariants.{Compare, Flag, Times}
+use Rattle.conditional_rules.specs.declared.conditional.Part.TheVariants.{Compare, Times}
 use Rattle.conditional_rules.specs.Comparisons.{IsComparison}
 use Rattle.conditional_rules.specs.Conditions.{has_sign, is_flag, IsPart}
 use Rattle.conditional_rules.specs.Conditions as law

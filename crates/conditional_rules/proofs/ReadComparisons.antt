@@ -1,7 +1,7 @@
 -- Comparisons: reading gives exactly the one that the text is.
 use Rattle.std.proofs.Common.{◌≡◌, ◌⊎◌, inl, inr, ℕ, ◌+◌, ◌-◌, ◌*◌, ◌^◌, ◌≤◌, Bool, true, false, cond, List, [], ◌∷◌, ◌++◌}
-use Rattle.std.proofs.Common.{length, drop, Option, Some, None, refl, sym, ap, subst, ◌∙◌, arith, append_assoc}
-use Rattle.std.specs.Prelude.{◌==◌, ◌&&◌, ◌||◌, nat_le, codes, option_and_then, option_map}
+use Rattle.std.proofs.Common.{length, Option, Some, None, refl, sym, ap, subst, ◌∙◌, arith, append_assoc}
+use Rattle.std.specs.Prelude.{◌==◌, nat_le, option_map}
 use Rattle.std.specs.List.{take_while, list_all}
 use Rattle.std.specs.Str.{bytes_eq}
 use Rattle.std.proofs.lemmas.Bool.{eqb-true, leb-true, le-leb, or_cases}
@@ -236,6 +236,7 @@ decimals_found decimals n digits bs v rest short is e = by (short_number_of deci
   where
     more : List ℕ
     more = take_while is_digit bs
+
     by : (o : Option ℕ) → short_number_of decimals more ≡ o
         → option_map {U = ℕ × List ℕ} (λ d. (n * 10 ^ decimals + d * 10 ^ (decimals - length more), behind is_digit bs)) o ≡ Some (v, rest)
         → Measured decimals (digits ++ 46 ∷ bs) v rest
@@ -243,9 +244,11 @@ decimals_found decimals n digits bs v rest short is e = by (short_number_of deci
     by (Some d) f e =
         let p = some_pair_parts (n * 10 ^ decimals + d * 10 ^ (decimals - length more)) v (behind is_digit bs) rest e in
         let few = short_number_found decimals more d f in
-        let whole : bs ≡ more ++ rest = run_whole is_digit bs ∙ ap (λ (r : List ℕ). more ++ r) p.1 in
-        (digits ++ 46 ∷ more, ap (λ (r : List ℕ). digits ++ 46 ∷ r) whole ∙ sym (append_assoc digits (46 ∷ more) rest),
-        subst (IsMeasure decimals (digits ++ 46 ∷ more)) p.0 (law.decimal digits more short is few.0 few.1))
+        let whole : bs ≡ more ++ rest = run_whole is_digit bs ∙ ap (λ (r : List ℕ). more ++ r) p.1 in (
+          digits ++ 46 ∷ more,
+          ap (λ (r : List ℕ). digits ++ 46 ∷ r) whole ∙ sym (append_assoc digits (46 ∷ more) rest),
+          subst (IsMeasure decimals (digits ++ 46 ∷ more)) p.0 (law.decimal digits more short is few.0 few.1),
+        )
 
 point_found : (decimals n : ℕ) (digits text : List ℕ) (v : ℕ) (rest : List ℕ) → length digits ≤ 6 → number_of digits ≡ Some n
     → point_at decimals n text ≡ Some (v, rest) → Measured decimals (digits ++ text) v rest
@@ -269,9 +272,9 @@ measure_found decimals text v rest e =
     let digits = take_while is_digit text in
     option_and_then_some (λ n. point_at decimals n (behind is_digit text)) (short_number_of 6 digits) (v, rest) e
     (λ n found after.
-        let short = short_number_found 6 digits n found in
-        subst (λ (t : List ℕ). Measured decimals t v rest) (sym (run_whole is_digit text))
-        (point_found decimals n digits (behind is_digit text) v rest short.0 short.1 after))
+    let short = short_number_found 6 digits n found in
+    subst (λ (t : List ℕ). Measured decimals t v rest) (sym (run_whole is_digit text))
+    (point_found decimals n digits (behind is_digit text) v rest short.0 short.1 after))
 
 unit_found : (q : Quantity) (unit : List ℕ) → is_unit q unit ≡ true → (unit ≡ []) ⊎ (unit ≡ unit_text q)
 unit_found q unit e = by (or_cases (bytes_eq unit []) (bytes_eq unit (unit_text q)) e)
@@ -289,9 +292,11 @@ Ends q s text p t v =
 three : (q p : Quantity) (s t : Comparison) (w v : ℕ) → ◌≡◌ {A = Option (Compared)} (Some (q, s, w)) (Some (p, t, v))
     → (q ≡ p) × (s ≡ t) × (w ≡ v)
 three q p s t w v e =
-    let f : ◌≡◌ {A = Compared} (q, s, w) (p, t, v) = cc in
-    (ap (λ (x : Compared). x.0) f, ap (λ (x : Compared). x.1) f,
-    ap (λ (x : Compared). x.2) f)
+    let f : ◌≡◌ {A = Compared} (q, s, w) (p, t, v) = cc in (
+      ap (λ (x : Compared). x.0) f,
+      ap (λ (x : Compared). x.1) f,
+      ap (λ (x : Compared). x.2) f,
+    )
 
 measured_found : (q p : Quantity) (s t : Comparison) (text : List ℕ) (v : ℕ) → measured q s text ≡ Some (p, t, v) → Ends q s text p t v
 unfolding measured
@@ -304,9 +309,17 @@ measured_found q p s t text v e =
     by w rest true unit found e =
         let same = three q p s t w v e in
         let m = measure_found (decimals_in q) text w rest found in
-        let whole : text ≡ m.0 ++ (take_while is_blank rest ++ behind is_blank rest) = m.1 ∙ ap (λ (r : List ℕ). m.0 ++ r) (run_whole is_blank rest) in
-        (same.0, same.1, m.0, take_while is_blank rest, behind is_blank rest, whole, subst (IsMeasure (decimals_in q) m.0) same.2 m.2,
-        run_all is_blank rest, unit_found q (behind is_blank rest) unit)
+        let whole : text ≡ m.0 ++ (take_while is_blank rest ++ behind is_blank rest) = m.1 ∙ ap (λ (r : List ℕ). m.0 ++ r) (run_whole is_blank rest) in (
+          same.0,
+          same.1,
+          m.0,
+          take_while is_blank rest,
+          behind is_blank rest,
+          whole,
+          subst (IsMeasure (decimals_in q) m.0) same.2 m.2,
+          run_all is_blank rest,
+          unit_found q (behind is_blank rest) unit,
+        )
     by w rest false unit found e = absurd cc
 
 -- a sign, blanks and the rest, with the three that are read
@@ -320,10 +333,17 @@ unfolding signed
 signed_found q p t text v e =
     option_and_then_some (λ f. measured q f.0 (behind is_blank f.1)) (sign_at text) (p, t, v) e
     (λ f found after.
-        let sign = sign_found text f.0 f.1 found in
-        let whole : text ≡ sign.0 ++ (take_while is_blank f.1 ++ behind is_blank f.1) = sign.1 ∙ ap (λ (r : List ℕ). sign.0 ++ r) (run_whole is_blank f.1) in
-        (sign.0, take_while is_blank f.1, behind is_blank f.1, f.0, whole, sign.2, run_all is_blank f.1,
-        measured_found q p f.0 t (behind is_blank f.1) v after))
+    let sign = sign_found text f.0 f.1 found in
+    let whole : text ≡ sign.0 ++ (take_while is_blank f.1 ++ behind is_blank f.1) = sign.1 ∙ ap (λ (r : List ℕ). sign.0 ++ r) (run_whole is_blank f.1) in (
+      sign.0,
+      take_while is_blank f.1,
+      behind is_blank f.1,
+      f.0,
+      whole,
+      sign.2,
+      run_all is_blank f.1,
+      measured_found q p f.0 t (behind is_blank f.1) v after,
+    ))
 
 built : (text a after : List ℕ) (q p : Quantity) (t : Comparison) (v : ℕ) → text ≡ quantity_text q ++ (a ++ after) → AreBlanks a
     → Begins q after p t v → IsComparison text p t v
@@ -342,11 +362,11 @@ comparison_found text p t v e =
     let rest = behind is_small_letter text in
     option_and_then_some (λ q. signed q (behind is_blank rest)) (quantity_of word) (p, t, v) e
     (λ q found after.
-        let whole : text ≡ quantity_text q ++ (take_while is_blank rest ++ behind is_blank rest) =
-        run_whole is_small_letter text ∙ ap (λ (w : List ℕ). w ++ rest) (quantity_found word q found)
-        ∙ ap (λ (r : List ℕ). quantity_text q ++ r) (run_whole is_blank rest) in
-        built text (take_while is_blank rest) (behind is_blank rest) q p t v whole (run_all is_blank rest)
-        (signed_found q p t (behind is_blank rest) v after))
+    let whole : text ≡ quantity_text q ++ (take_while is_blank rest ++ behind is_blank rest) =
+    run_whole is_small_letter text ∙ ap (λ (w : List ℕ). w ++ rest) (quantity_found word q found)
+    ∙ ap (λ (r : List ℕ). quantity_text q ++ r) (run_whole is_blank rest) in
+    built text (take_while is_blank rest) (behind is_blank rest) q p t v whole (run_all is_blank rest)
+    (signed_found q p t (behind is_blank rest) v after))
 
 pub comparison_only : (text : List ℕ) (a c : Compared) → comparison_of text ≡ Some c → IsComparison text a.0 a.1 a.2 → a ≡ c
 comparison_only text a c e h = let f = comparison_read h in cc

@@ -224,14 +224,7 @@ fn comparison(text: &[u8]) -> Option<(Quantity, Comparison, u64)>
 
 /// The size, the sign and the value of a comparison; `None` exactly where the text is none. The value is in kilograms,
 /// centimetres or axles. Linear in the text's length.
-#[tactic(
-    auto,
-    using(
-        crate::proofs::ReadComparisons::comparison_found,
-        crate::proofs::ReadComparisons::comparison_only,
-        crate::proofs::ReadComparisons::comparison_read
-    )
-)]
+#[tactic(auto, using(crate::proofs::ReadComparisons::comparison_found, crate::proofs::ReadComparisons::comparison_only, crate::proofs::ReadComparisons::comparison_read))]
 pub(crate) fn read_comparison(text: &[u8]) -> Option<(Quantity, Comparison, u64)>
     // The text is this comparison.
     ensures found { IfSome result (λ c. IsComparison text.now c.0 c.1 c.2) }

@@ -44,9 +44,7 @@ fn flag(text: &[u8]) -> bool
 {
     match text {
         [] => false,
-        [first, rest @ ..] => {
-            small_letter(*first) && of_flag_bytes(rest) && !is_reserved(text)
-        }
+        [first, rest @ ..] => { small_letter(*first) && of_flag_bytes(rest) && !is_reserved(text) }
     }
 }
 
