@@ -7,8 +7,9 @@ ghost use Rattle.vehicle_classes.specs.declared.classes.Quantity.{Quantity as Si
 ghost use Rattle.conditional_rules.specs.declared.conditional.Comparison.{Comparison as Sign};
 ghost use Rattle.conditional_rules.specs.Comparisons.{decimals_in, unit_text, IsComparison};
 ghost use Rattle.conditional_rules.specs.Conditions.{is_small_letter};
-ghost use Rattle.conditional_rules.specs.Inside.Comparisons.{quantity_of, sign_at, short_number_of, decimals_at, point_at, measure_at};
-ghost use Rattle.conditional_rules.specs.Inside.Comparisons.{Compared, behind, is_unit, measured, signed, comparison_of};
+ghost use Rattle.conditional_rules.specs.Inside.Comparisons.{behind, quantity_of, sign_at, is_unit, short_number_of};
+ghost use Rattle.conditional_rules.specs.Inside.Comparisons.{decimals_at, point_at, measure_at};
+ghost use Rattle.conditional_rules.specs.Inside.Comparisons.{Compared, measured, signed, comparison_of};
 
 use crate::conditional::Comparison;
 use route_base::{is_blank, read_number};

@@ -97,8 +97,8 @@ fn any_part(alloc: Global, text: &[u8]) -> Result<Part, ConditionalFault>
     }
 }
 
-/// The part that the text is: a comparison where it has a sign, or else a flag, or else hours. Linear in the text's length,
-/// in time and memory.
+/// The part that the text is: a comparison where it has a sign, or else a flag, or else hours. `NotConditional` exactly where
+/// it is none. Linear in the text's length, in time and memory.
 #[tactic(auto, using(crate::proofs::OnePart::one_part))]
 pub(crate) fn read_part(alloc: Global, text: &[u8]) -> Result<Part, ConditionalFault>
     // The text is this part.
