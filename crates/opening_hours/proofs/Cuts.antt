@@ -148,7 +148,7 @@ pub record SoFar (text rest : List ℕ) (front : List Token) : Type 0 where
 pub begins : (text : List ℕ) → SoFar text text []
 begins text = record { found = λ us h. h; only = λ us h. (us, refl, h) }
 
-then_cut : (rest after : List ℕ) (t : Token) (us : List Token) → token_at rest ≡ Some (t, after)
+pub then_cut : (rest after : List ℕ) (t : Token) (us : List Token) → token_at rest ≡ Some (t, after)
     → IsMatched (without_blanks after) us → IsMatched rest (t ∷ us)
 then_cut rest after t [] e h = absurd h
 then_cut rest after t (u ∷ us) e h = (after, e, h)

@@ -449,10 +449,10 @@ if_some : {A : Type 0} (b : Bool) (x : Option A) (y : A) → cond b None x ≡ S
 if_some true x y e = absurd cc
 if_some false x y e = (refl, e)
 
-then_some : {A B : Type 0} (o : Option A) (f : A → Option B) (y : B) → option_and_then f o ≡ Some y → (x : A) × (o ≡ Some x) × (f x ≡ Some y)
+pub then_some : {A B : Type 0} (o : Option A) (f : A → Option B) (y : B) → option_and_then f o ≡ Some y → (x : A) × (o ≡ Some x) × (f x ≡ Some y)
 then_some o f y e = option_and_then_some f o y e (λ x is found. (x, is, found))
 
-map_some : {A B : Type 0} (o : Option A) (f : A → B) (y : B) → option_map f o ≡ Some y → (x : A) × (o ≡ Some x) × (f x ≡ y)
+pub map_some : {A B : Type 0} (o : Option A) (f : A → B) (y : B) → option_map f o ≡ Some y → (x : A) × (o ≡ Some x) × (f x ≡ y)
 map_some (Some x) f y e = (x, refl, cc)
 map_some None f y e = absurd cc
 

@@ -1,4 +1,5 @@
 pub mod Hours
+pub mod Reading
 pub mod Tokens
 pub mod Grammar
 pub mod Holidays

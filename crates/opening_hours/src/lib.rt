@@ -9,7 +9,8 @@
 //!
 //! The law is in `specs/`. `Tokens` says how a text is cut by the longest match, `Grammar` which rules the tokens are, one case
 //! for each form, and `Hours` puts both together as `IsHours`: `parse` meets it, and no text has two lists of rules
-//! (`one_reading`). `CanonicalTokens` and `CanonicalText` are the canonical text, met by `print`: it is read as the same rules
+//! (`one_reading`). `Reading` is the same as a function, `hours_of`: it gives exactly the rules that a text has
+//! (`computed_reading`). `CanonicalTokens` and `CanonicalText` are the canonical text, met by `print`: it is read as the same rules
 //! (`canonical_reading`) and is safe to embed in a longer text (`PlainText`). `Holidays`, `Matching` (the governing rule of a day)
 //! and `Coverage` are met by `covers` and `spans_on`. `Inside` is no law: its modules `Tokenizer` and `Parser` say what the
 //! functions of these names compute, step by step, and `proofs/` shows that this meets the law.
@@ -33,7 +34,7 @@ pub use covering::{covers, spans_on};
 pub use faults::HoursFault;
 pub use holidays::Holidays;
 pub use hours::{Hours, parse};
-pub use laws::{canonical_reading, one_reading};
+pub use laws::{canonical_reading, computed_reading, one_reading};
 pub use printer::tokens::print;
 pub use types::{
     DateSpan, DateSpans, DayItem, DayItems, HoursRule, LongSpan, RuleTimes, Spans, TimeSpan,
