@@ -3,7 +3,10 @@
 
 mod access;
 mod conditional;
+mod cutting;
 mod faults;
+mod parser;
+mod parts;
 
 pub use access::Access;
 pub use conditional::{Clause, Comparison, Conditional, Part, Parts, Word};
