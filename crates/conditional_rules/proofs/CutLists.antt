@@ -56,21 +56,20 @@ module _ {B : Type 0} (first_mark : List ℕ → Option ℕ) (width : ℕ) (Is :
 
   pub fails : (text rest piece behind : List ℕ) (front : List B) → Parted rest piece behind → ((y : B) → Is piece y → ⊥)
       → SoFar first_mark width Is text rest front → (ys : List B) → Cut first_mark width Is text ys → ⊥
-  fails text rest piece behind front p no s ys h =
+  fails text rest piece behind front p none s ys h =
       let w = cut_then p.0 p.1 (s.only ys h).2 in
-      no w.0 (subst (λ (r : List ℕ). Is r w.0) (sym p.2) w.3)
+      none w.0 (subst (λ (r : List ℕ). Is r w.0) (sym p.2) w.3)
 
   pub fails_last : (text rest : List ℕ) (front : List B) → first_mark rest ≡ None → ((y : B) → Is rest y → ⊥)
       → SoFar first_mark width Is text rest front → (ys : List B) → Cut first_mark width Is text ys → ⊥
-  fails_last text rest front none no s ys h = let w = cut_last none (s.only ys h).2 in no w.0 w.2
+  fails_last text rest front ends never s ys h = let w = cut_last ends (s.only ys h).2 in never w.0 w.2
 
   -- where a piece is one thing at most, a text has one list of them at most
-  pub one_list : ((text : List ℕ) (x y : B) → Is text x → Is text y → x ≡ y) → (text : List ℕ) (xs ys : List B)
+  pub one_list : ((text : List ℕ) (x y : B) → Is text x → Is text y → x ≡ y) → {text : List ℕ} {xs : List B} (ys : List B)
       → Cut first_mark width Is text xs → Cut first_mark width Is text ys → xs ≡ ys
-  one_list one text (x ∷ []) ys (cutting.last none is) k =
+  one_list one {text = text} ys (cutting.last {x = x} none is) k =
       let w = cut_last none k in
       sym (w.1 ∙ ap (λ (y : B). y ∷ []) (one text w.0 x w.2 is))
-  one_list one text (x ∷ xs) ys (cutting.more {i = i} some is h) k =
+  one_list one {text = text} ys (cutting.more {i = i} {x = x} {xs = xs} some is h) k =
       let w = cut_then i some k in
-      sym (w.2 ∙ ap (λ (y : B). y ∷ w.1) (one (take i text) w.0 x w.3 is)
-      ∙ ap (λ (us : List B). x ∷ us) (sym (one_list one (drop (i + width) text) xs w.1 h w.4)))
+      sym (w.2 ∙ ap (λ (y : B). y ∷ w.1) (one (take i text) w.0 x w.3 is) ∙ ap (λ (us : List B). x ∷ us) (sym (one_list one w.1 h w.4)))

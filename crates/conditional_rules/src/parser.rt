@@ -1,5 +1,5 @@
 // Parses clauses and conditions from texts that are cut at marks.
-ghost use Rattle.std.specs.Prelude.{◌≡◌, ◌+◌, ◌<◌, ◌∷◌, ◌++◌, ℕ, List, Option, Some, None, IfOk, false, IfSome, IfNone, length, take, drop};
+ghost use Rattle.std.specs.Prelude.{◌≡◌, ◌==◌, ◌+◌, ◌<◌, ◌∷◌, ◌++◌, ℕ, List, Option, Some, None, IfOk, false, IfSome, IfNone, length, take, drop};
 ghost use Rattle.std.specs.Result.{IsErrOf};
 ghost use Rattle.std.specs.List.{position};
 ghost use Rattle.conditional_rules.specs.declared.conditional.Clause.{Clause as ClauseOf};
@@ -81,10 +81,12 @@ fn cut_pieces<T: Piece + Drop>(alloc: Global, text: &[u8]) -> Result<Listing<T>,
     let mut rest = text;
     loop {
         let Some((piece, behind)) = T::cut_once(rest) else {
-            out.push(T::read(alloc, rest)?)?;
+            let last = T::read(alloc, rest)?;
+            out.push(last)?;
             return Ok(out);
         };
-        out.push(T::read(alloc, piece)?)?;
+        let item = T::read(alloc, piece)?;
+        out.push(item)?;
         rest = behind;
     }
 }
