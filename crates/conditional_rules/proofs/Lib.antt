@@ -1,1 +1,3 @@
 mod CutLists
+mod FirstAt
+mod Parentheses

@@ -1,5 +1,5 @@
 // Parses clauses and conditions from texts that are cut at marks.
-ghost use Rattle.std.specs.Prelude.{◌≡◌, ◌==◌, ◌+◌, ◌<◌, ◌∷◌, ◌++◌, ℕ, List, Option, Some, None, IfOk, false, IfSome, IfNone, length, take, drop};
+ghost use Rattle.std.specs.Prelude.{◌≡◌, ◌==◌, ◌+◌, ◌<◌, ◌∷◌, [], ◌++◌, ℕ, List, Option, Some, None, IfOk, false, IfSome, IfNone, length, take, drop};
 ghost use Rattle.std.specs.Result.{IsErrOf};
 ghost use Rattle.std.specs.List.{position};
 ghost use Rattle.conditional_rules.specs.declared.conditional.Clause.{Clause as ClauseOf};
@@ -98,8 +98,22 @@ fn has_parentheses(text: &[u8]) -> bool
     text.iter().any(|b| *b == b'(' || *b == b')')
 }
 
+// The text between an opening parenthesis at the front and a closing one at the end.
+fn between_parentheses(text: &[u8]) -> Option<&[u8]>
+    ensures found { IfSome result (λ s. text.now ≡ 40 ∷ (s.now ++ 41 ∷ [])) }
+    ensures none { IfNone result ((inner : List ℕ) → text.now ≡ 40 ∷ (inner ++ 41 ∷ []) → ⊥) }
+{
+    let [b'(', after @ ..] = text else {
+        return None;
+    };
+    let [inner @ .., b')'] = after else {
+        return None;
+    };
+    Some(inner)
+}
+
 // The text of the parts of a condition, if its parentheses allow any.
-fn without_parentheses(text: &[u8]) -> Option<&[u8]>
+fn parts_text(text: &[u8]) -> Option<&[u8]>
     ensures found { IfSome result (λ s. (parts : List PartOf) → IsParts s.now parts → IsCondition text.now parts) }
     ensures only { IfSome result (λ s. (parts : List PartOf) → IsCondition text.now parts → IsParts s.now parts) }
     ensures none { IfNone result ((parts : List PartOf) → IsCondition text.now parts → ⊥) }
@@ -107,16 +121,11 @@ fn without_parentheses(text: &[u8]) -> Option<&[u8]>
     if !has_parentheses(text) {
         return Some(text);
     }
-    match text {
-        [b'(', inner @ .., b')'] => {
-            if has_parentheses(inner) {
-                None
-            } else {
-                Some(trim(inner))
-            }
-        }
-        _ => None,
+    let inner = between_parentheses(text)?;
+    if has_parentheses(inner) {
+        return None;
     }
+    Some(trim(inner))
 }
 
 // The parts of a condition.
@@ -126,7 +135,7 @@ fn read_condition(alloc: Global, text: &[u8]) -> Result<Parts, ConditionalFault>
     ensures none { IsErrOf result ConditionalFault.NotConditional
         → (parts : List PartOf) → IsCondition text.now parts → ⊥ }
 {
-    let Some(inner) = without_parentheses(text) else {
+    let Some(inner) = parts_text(text) else {
         return Err(ConditionalFault::NotConditional);
     };
     cut_pieces(alloc, inner)
@@ -140,6 +149,7 @@ fn first_at(text: &[u8]) -> Option<usize>
 }
 
 // The text before the first @, and the text behind it.
+#[tactic(auto, using(crate::proofs::FirstAt::at_parts, crate::proofs::FirstAt::at_before, crate::proofs::FirstAt::no_at))]
 fn cut_at(text: &[u8]) -> Option<(&[u8], &[u8])>
     ensures parts { IfSome result (λ p. text.now ≡ p.0.now ++ 64 ∷ p.1.now) }
     ensures before { IfSome result (λ p. has_at p.0.now ≡ false) }
