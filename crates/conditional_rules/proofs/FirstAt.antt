@@ -1,5 +1,5 @@
 -- A text that is cut at its first @.
-use Rattle.std.proofs.Common.{◌≡◌, ℕ, ◌+◌, ◌-◌, ◌≤◌, Bool, true, false, cond, not, ltb, List, [], ◌∷◌, ◌++◌, length, take, drop, Some, None, refl, sym}
+use Rattle.std.proofs.Common.{◌≡◌, ℕ, suc, ◌+◌, ◌-◌, ◌≤◌, Bool, true, false, cond, not, ltb, List, [], ◌∷◌, ◌++◌, length, take, drop, Some, None, refl, sym}
 use Rattle.std.proofs.Common.{ap, subst, ◌∙◌, arith, length-drop, get_or}
 use Rattle.std.specs.Prelude.{◌==◌, ◌||◌}
 use Rattle.std.specs.List.{position, position_or_len, list_any}
@@ -12,13 +12,21 @@ use Rattle.conditional_rules.specs.Conditions.{has_at}
 abbrev is_at : ℕ → Bool
 is_at b = b == 64
 
+neither : (v w : Bool) → v ≡ false → w ≡ false → (v || w) ≡ false
+neither v w p q = rw (p, q) refl
+
+one_more : (n : ℕ) → suc n ≡ 1 + n
+one_more n = omega arith
+
 none_before : (bs : List ℕ) → has_at (take (position_or_len is_at bs) bs) ≡ false
 none_before [] = refl
-none_before (b ∷ bs) = by (b == 64) refl
+none_before (b ∷ bs) = by (b == 64) refl (none_before bs)
   where
-    by : (v : Bool) → (b == 64) ≡ v → has_at (take (cond (not v) (1 + position_or_len is_at bs) 0) (b ∷ bs)) ≡ false
-    by true e = refl
-    by false e = rw e (none_before bs)
+    by : (v : Bool) → (b == 64) ≡ v → has_at (take (position_or_len is_at bs) bs) ≡ false
+        → has_at (take (cond (not v) (1 + position_or_len is_at bs) 0) (b ∷ bs)) ≡ false
+    by true e rest = refl
+    by false e rest = subst (λ (n : ℕ). has_at (take n (b ∷ bs)) ≡ false) (one_more (position_or_len is_at bs))
+        (neither (b == 64) (has_at (take (position_or_len is_at bs) bs)) e rest)
 
 pub at_parts : (bs : List ℕ) (i : ℕ) → Some i ≡ position is_at bs → bs ≡ take i bs ++ 64 ∷ take (length bs - (i + 1)) (drop (i + 1) bs)
 at_parts bs i e =

@@ -1,3 +1,6 @@
+mod Clauses
 mod CutLists
 mod FirstAt
+mod OnePart
+mod OneReading
 mod Parentheses

@@ -5,9 +5,11 @@ mod access;
 mod conditional;
 mod cutting;
 mod faults;
+mod laws;
 mod parser;
 mod parts;
 
-pub use access::Access;
-pub use conditional::{Clause, Comparison, Conditional, Part, Parts, Word};
+pub use access::{Access, read_value};
+pub use conditional::{Clause, Comparison, Conditional, Part, Parts, Word, parse};
 pub use faults::ConditionalFault;
+pub use laws::one_reading;
