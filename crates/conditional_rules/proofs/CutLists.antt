@@ -38,9 +38,11 @@ module _ {B : Type 0} (first_mark : List ℕ → Option ℕ) (width : ℕ) (Is :
     only = λ ys h.
         let v = s.only ys h in
         let w = cut_then p.0 p.1 v.2 in
-        let same = one w.0 (subst (λ (r : List ℕ). Is r w.0) (sym p.2) w.3) in
-        (w.1, v.1 ∙ ap (λ (xs : List B). front ++ xs) (w.2 ∙ ap (λ (y : B). y ∷ w.1) same) ∙ sym (append_assoc front (x ∷ []) w.1),
-        subst (λ (r : List ℕ). Cut first_mark width Is r w.1) (sym p.3) w.4);
+        let same = one w.0 (subst (λ (r : List ℕ). Is r w.0) (sym p.2) w.3) in (
+          w.1,
+          v.1 ∙ ap (λ (xs : List B). front ++ xs) (w.2 ∙ ap (λ (y : B). y ∷ w.1) same) ∙ sym (append_assoc front (x ∷ []) w.1),
+          subst (λ (r : List ℕ). Cut first_mark width Is r w.1) (sym p.3) w.4,
+        );
   }
 
   pub ends : (text rest : List ℕ) (front : List B) (x : B) → first_mark rest ≡ None → Is rest x

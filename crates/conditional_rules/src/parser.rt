@@ -22,6 +22,7 @@ trait Piece {
 
     // The place of the first mark of a text, and the length of a mark.
     ghost first_mark: { List ℕ → Option ℕ };
+
     ghost width: { ℕ };
     // What the text of a thing is.
     ghost Is: { List ℕ → Self → Type 0 };
@@ -42,7 +43,9 @@ trait Piece {
 
 impl Piece for Part {
     ghost first_mark = { first_and };
+
     ghost width = { 4 };
+
     ghost Is = { IsSpacedPart };
 
     fn cut_once(text: &[u8]) -> Option<(&[u8], &[u8])> {
@@ -57,7 +60,9 @@ impl Piece for Part {
 
 impl Piece for Clause {
     ghost first_mark = { first_semicolon };
+
     ghost width = { 1 };
+
     ghost Is = { IsClause };
 
     fn cut_once(text: &[u8]) -> Option<(&[u8], &[u8])> {
