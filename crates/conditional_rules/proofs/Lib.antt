@@ -1,3 +1,8 @@
 pub mod Runs
 pub mod ReadComparisons
 pub mod OnePart
+mod Clauses
+mod CutLists
+mod FirstAt
+mod OneReading
+mod Parentheses

@@ -1,7 +1,15 @@
-// Conditional values as data.
+// Conditional values as data, and the reading of their texts.
+ghost use Rattle.std.specs.Prelude.{◌≡◌, ◌≤◌, List, IfOk, length, option_map, slice_get};
+ghost use Rattle.std.specs.Result.{IsErrOf};
+ghost use Rattle.conditional_rules.specs.declared.conditional.Clause.{Clause as ClauseOf};
+ghost use Rattle.conditional_rules.specs.Conditions.{IsConditional, IsParsed};
+
 use crate::access::Access;
+use crate::faults::ConditionalFault;
+use crate::parser::read_clauses;
 use opening_hours::Hours;
 use route_base::Listing;
+use std::alloc::Global;
 use std::marker::Model;
 use vehicle_classes::Quantity;
 
@@ -52,4 +60,45 @@ impl Model for Conditional {
     ghost view = { λ a. a.clauses };
 
     ghost invariant = { λ a. IsParsed a.clauses };
+}
+
+impl Conditional {
+    /// The number of clauses, one at least.
+    pub fn len(&self) -> usize
+        ensures value { result ≡ length self.now }
+        ensures some { 1 ≤ result }
+    {
+        self.clauses.len()
+    }
+
+    /// The clause at place i from 0; `None` exactly where i isn't below the length.
+    pub fn get(&self, i: usize) -> Option<&Clause>
+        ensures { option_map (λ c. c.now) result ≡ slice_get self.now i }
+    {
+        self.clauses.get(i)
+    }
+
+    /// The clauses, in their order.
+    pub(crate) fn clauses(&self) -> &[Clause]
+        ensures same { result.now ≡ self.now }
+        // Clauses come from a text.
+        ensures read { IsParsed self.now }
+    {
+        self.clauses.as_slice()
+    }
+}
+
+/// The clauses of a text of a conditional value. Linear in the text's length, in time and memory.
+pub fn parse(alloc: Global, text: &[u8]) -> Result<Conditional, ConditionalFault>
+    // The text has these clauses.
+    ensures found { IfOk result (λ conditional. IsConditional text.now conditional) }
+    // It has no others.
+    ensures only { IfOk result (λ conditional.
+        (clauses : List ClauseOf) → IsConditional text.now clauses → clauses ≡ conditional) }
+    // A text that is refused has none.
+    ensures none { IsErrOf result ConditionalFault.NotConditional
+        → (clauses : List ClauseOf) → IsConditional text.now clauses → ⊥ }
+{
+    let clauses = read_clauses(alloc, text)?;
+    Ok(Conditional { clauses })
 }
