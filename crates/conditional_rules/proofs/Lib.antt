@@ -4,3 +4,5 @@ mod FirstAt
 mod OnePart
 mod OneReading
 mod Parentheses
+pub mod Runs
+pub mod ReadComparisons

@@ -16,6 +16,7 @@
 #![tactic(auto)]
 
 mod access;
+mod comparisons;
 mod conditional;
 mod cutting;
 mod faults;
