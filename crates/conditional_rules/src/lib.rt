@@ -28,3 +28,6 @@ pub use access::{Access, read_value};
 pub use conditional::{Clause, Comparison, Conditional, Part, Parts, Word, parse};
 pub use faults::ConditionalFault;
 pub use laws::one_reading;
+
+#[cfg(test)]
+mod tests;
