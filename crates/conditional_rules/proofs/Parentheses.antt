@@ -1,5 +1,5 @@
 -- Conditions within parentheses, and without any.
-use Rattle.std.proofs.Common.{◌≡◌, ℕ, Bool, true, false, List, [], ◌∷◌, ◌++◌, refl, sym, ap, subst, ◌∙◌}
+use Rattle.std.proofs.Common.{◌≡◌, ℕ, true, false, List, [], ◌∷◌, ◌++◌, refl, sym, subst, ◌∙◌}
 use Rattle.std.proofs.lemmas.List.{append_cancel_right}
 use Rattle.conditional_rules.specs.declared.conditional.Part.{Part}
 use Rattle.conditional_rules.specs.Cutting.{trimmed}

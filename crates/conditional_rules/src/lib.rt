@@ -3,9 +3,9 @@
 //! The notation is a subset of OpenStreetMap's conditional restrictions (their page on the OpenStreetMap wiki). A clause is
 //! `value @ (condition)`, and `;` stands between clauses. A condition has parts with `AND` or `and` between them, within
 //! parentheses or without any. A part is a comparison of the vehicle's weight, axleload, height, width, length or axles with a
-//! number (`weight>7.5`), a flag in small letters and underscores (`articulated`), or opening hours (`Mo-Fr 06:00-09:00`).
-//! Whatever is outside the subset is refused and never ignored. Two rules are this project's own: each value of an access key
-//! counts as one of three accesses (`Free`, `Barred`, `Purpose`), and hours with a semicolon are only read within parentheses.
+//! number (`weight>7.5`), a flag in small letters and underscores (`articulated`), or opening hours (`Mo-Fr 06:00-09:00`),
+//! which stand within parentheses where they have a semicolon. Whatever is outside the subset is refused and never ignored.
+//! One rule is this project's own: each value of an access key counts as one of three accesses (`Free`, `Barred`, `Purpose`).
 //! Agreement with other evaluators of the notation isn't claimed.
 //!
 //! The law is in `specs/`. `Accesses` gives the access of each value, `Cutting` says how a text is cut at its marks,
@@ -28,3 +28,6 @@ pub use access::{Access, read_value};
 pub use conditional::{Clause, Comparison, Conditional, Part, Parts, Word, parse};
 pub use faults::ConditionalFault;
 pub use laws::one_reading;
+
+#[cfg(test)]
+mod tests;

@@ -20,11 +20,13 @@ trait Piece {
     ghost use Rattle.std.specs.Prelude.{◌≡◌, ◌+◌, ◌<◌, ℕ, List, Option, Some, None, IfOk, IfSome, IfNone, length, take, drop};
     ghost use Rattle.std.specs.Result.{IsErrOf};
 
-    // The place of the first mark of a text, and the length of a mark.
+    // The place of the first mark of a text.
     ghost first_mark: { List ℕ → Option ℕ };
 
+    // The length of a mark.
     ghost width: { ℕ };
-    // What the text of a thing is.
+
+    // The things that a text is.
     ghost Is: { List ℕ → Self → Type 0 };
 
     // The text before the first mark, and the text behind it.
@@ -38,7 +40,8 @@ trait Piece {
     fn read(alloc: Global, piece: &[u8]) -> Result<Self, ConditionalFault>
         ensures found { IfOk result (λ x. Is piece.now x) }
         ensures only { IfOk result (λ x. (other : Self) → Is piece.now other → other ≡ x) }
-        ensures none { IsErrOf result ConditionalFault.NotConditional → (x : Self) → Is piece.now x → ⊥ };
+        ensures none { IsErrOf result ConditionalFault.NotConditional
+            → (x : Self) → Is piece.now x → ⊥ };
 }
 
 impl Piece for Part {
@@ -78,7 +81,8 @@ impl Piece for Clause {
 // Reads the pieces of a text, each in its turn. Linear in the text's length, beside the reading of the pieces.
 fn cut_pieces<T: Piece + Drop>(alloc: Global, text: &[u8]) -> Result<Listing<T>, ConditionalFault>
     ensures found { IfOk result (λ v. Cut T.first_mark T.width T.Is text.now v) }
-    ensures only { IfOk result (λ v. (other : List T) → Cut T.first_mark T.width T.Is text.now other → other ≡ v) }
+    ensures only { IfOk result (λ v. (other : List T)
+        → Cut T.first_mark T.width T.Is text.now other → other ≡ v) }
     ensures none { IsErrOf result ConditionalFault.NotConditional
         → (v : List T) → Cut T.first_mark T.width T.Is text.now v → ⊥ }
 {
@@ -119,8 +123,10 @@ fn between_parentheses(text: &[u8]) -> Option<&[u8]>
 
 // The text of the parts of a condition, if its parentheses allow any.
 fn parts_text(text: &[u8]) -> Option<&[u8]>
-    ensures found { IfSome result (λ s. (parts : List PartOf) → IsParts s.now parts → IsCondition text.now parts) }
-    ensures only { IfSome result (λ s. (parts : List PartOf) → IsCondition text.now parts → IsParts s.now parts) }
+    ensures found { IfSome result (λ s. (parts : List PartOf)
+        → IsParts s.now parts → IsCondition text.now parts) }
+    ensures only { IfSome result (λ s. (parts : List PartOf)
+        → IsCondition text.now parts → IsParts s.now parts) }
     ensures none { IfNone result ((parts : List PartOf) → IsCondition text.now parts → ⊥) }
 {
     if !has_parentheses(text) {
@@ -136,7 +142,8 @@ fn parts_text(text: &[u8]) -> Option<&[u8]>
 // The parts of a condition.
 fn read_condition(alloc: Global, text: &[u8]) -> Result<Parts, ConditionalFault>
     ensures found { IfOk result (λ parts. IsCondition text.now parts) }
-    ensures only { IfOk result (λ parts. (other : List PartOf) → IsCondition text.now other → other ≡ parts) }
+    ensures only { IfOk result (λ parts. (other : List PartOf)
+        → IsCondition text.now other → other ≡ parts) }
     ensures none { IsErrOf result ConditionalFault.NotConditional
         → (parts : List PartOf) → IsCondition text.now parts → ⊥ }
 {
@@ -167,8 +174,10 @@ fn cut_at(text: &[u8]) -> Option<(&[u8], &[u8])>
 // The clause that a text is.
 fn read_clause(alloc: Global, text: &[u8]) -> Result<Clause, ConditionalFault>
     ensures found { IfOk result (λ clause. IsClause text.now clause) }
-    ensures only { IfOk result (λ clause. (other : ClauseOf) → IsClause text.now other → other ≡ clause) }
-    ensures none { IsErrOf result ConditionalFault.NotConditional → (clause : ClauseOf) → IsClause text.now clause → ⊥ }
+    ensures only { IfOk result (λ clause. (other : ClauseOf)
+        → IsClause text.now other → other ≡ clause) }
+    ensures none { IsErrOf result ConditionalFault.NotConditional
+        → (clause : ClauseOf) → IsClause text.now clause → ⊥ }
 {
     let Some((value, condition)) = cut_at(text) else {
         return Err(ConditionalFault::NotConditional);
@@ -183,7 +192,8 @@ fn read_clause(alloc: Global, text: &[u8]) -> Result<Clause, ConditionalFault>
 /// The clauses that a text is. Linear in the text's length.
 pub(crate) fn read_clauses(alloc: Global, text: &[u8]) -> Result<Listing<Clause>, ConditionalFault>
     ensures found { IfOk result (λ clauses. IsConditional text.now clauses) }
-    ensures only { IfOk result (λ clauses. (other : List ClauseOf) → IsConditional text.now other → other ≡ clauses) }
+    ensures only { IfOk result (λ clauses. (other : List ClauseOf)
+        → IsConditional text.now other → other ≡ clauses) }
     ensures none { IsErrOf result ConditionalFault.NotConditional
         → (clauses : List ClauseOf) → IsConditional text.now clauses → ⊥ }
 {
