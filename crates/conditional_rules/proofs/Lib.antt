@@ -1,2 +1,5 @@
 pub mod Tight
 pub mod TightHours
+pub mod PrintedComparisons
+pub mod ComparisonBytes
+pub mod PartsAgain

@@ -1,7 +1,7 @@
 -- Texts that can stand between the words AND, and within parentheses.
 use Rattle.std.proofs.Common.{◌≡◌, ℕ, suc, ◌+◌, Bool, true, false, cond, List, [], ◌∷◌, ◌++◌, length, reverse, Option, Some, None, refl, sym, ap}
 use Rattle.std.proofs.Common.{subst, ◌∙◌, arith}
-use Rattle.std.specs.Prelude.{◌||◌, ◌==◌, codes}
+use Rattle.std.specs.Prelude.{◌==◌, ◌&&◌, ◌||◌}
 use Rattle.std.specs.List.{list_all, list_any}
 use Rattle.std.specs.Option.{option_map}
 use Rattle.std.proofs.lemmas.Grind.{reverse_onto}
@@ -33,6 +33,11 @@ pub record IsTight (text : List ℕ) : Type 0 where
 abbrev pub IsDark : List ℕ → Type 0
 IsDark [] = Unit {0}
 IsDark (b ∷ bs) = (is_blank b ≡ false) × IsDark bs
+
+pub both_true : (a b : Bool) → a && b ≡ true → (a ≡ true) × (b ≡ true)
+both_true true true h = (refl, refl)
+both_true true false h = absurd cc
+both_true false b h = absurd cc
 
 -- a byte that is no blank begins no word AND
 no_blank_no_and : (b : ℕ) (bs : List ℕ) → is_blank b ≡ false → starts_with_and (b ∷ bs) ≡ false

@@ -30,7 +30,7 @@ use Rattle.conditional_rules.specs.declared.conditional.Part.{Part}
 use Rattle.conditional_rules.specs.declared.conditional.Part.TheVariants.{Times}
 use Rattle.route_base.specs.Forms.{is_blank}
 use Rattle.conditional_rules.specs.Cutting.{is_and, starts_with_and, first_and}
-use Rattle.conditional_rules.proofs.Tight.{IsTight, IsDark, Passes, step, dark_passes, both_pass}
+use Rattle.conditional_rules.proofs.Tight.{IsTight, IsDark, Passes, step, dark_passes, both_pass, both_true}
 
 -- a digit is no blank
 digit_dark : (n : ℕ) → is_blank (48 + n % 10) ≡ false
@@ -153,17 +153,12 @@ spell_passes (t ∷ u ∷ us) more h =
     both_pass (lexeme t) (gap ++ later) more (dark_passes (lexeme t) ((gap ++ later) ++ more) (token_dark t))
     (both_pass gap later more passed (spell_passes (u ∷ us) more h.1))
 
-both : (a b : Bool) → a && b ≡ true → (a ≡ true) × (b ≡ true)
-both true true h = (refl, refl)
-both true false h = absurd cc
-both false b h = absurd cc
-
 -- what holds of no byte of hours
 no_byte : (p : ℕ → Bool) → ((b : ℕ) → is_hours_byte b ≡ true → p b ≡ false) → (text : List ℕ) → list_all is_hours_byte text ≡ true
     → list_any p text ≡ false
 no_byte p none [] h = refl
 no_byte p none (b ∷ bs) h =
-    let parts = both (is_hours_byte b) (list_all is_hours_byte bs) h in
+    let parts = both_true (is_hours_byte b) (list_all is_hours_byte bs) h in
     rw (none b parts.0, no_byte p none bs parts.1) refl
 
 sign_no_hours : (b : ℕ) → is_hours_byte b ≡ true → (b == 60 || (b == 61 || b == 62)) ≡ false
@@ -179,8 +174,8 @@ hours_no_sign text h = no_byte (λ b. b == 60 || (b == 61 || b == 62)) sign_no_h
 flag_letters : (bs : List ℕ) → list_all is_hours_byte bs ≡ true → list_all (λ c. is_small_letter c || c == 95) bs ≡ true → AreLetters bs
 flag_letters [] h k = tt
 flag_letters (b ∷ bs) h k =
-    let hours = both (is_hours_byte b) (list_all is_hours_byte bs) h in
-    let flag = both (is_small_letter b || b == 95) (list_all (λ c. is_small_letter c || c == 95) bs) k in
+    let hours = both_true (is_hours_byte b) (list_all is_hours_byte bs) h in
+    let flag = both_true (is_small_letter b || b == 95) (list_all (λ c. is_small_letter c || c == 95) bs) k in
     (letter hours.0 flag.0, flag_letters bs hours.1 flag.1)
   where
     letter : is_hours_byte b ≡ true → (is_small_letter b || b == 95) ≡ true → is_letter b ≡ true
