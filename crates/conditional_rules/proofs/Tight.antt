@@ -10,6 +10,7 @@ use Rattle.route_base.specs.Forms.{is_blank}
 use Rattle.opening_hours.specs.Tokens.{without_blanks}
 use Rattle.opening_hours.specs.PlainText.{StartsFilled, EndsFilled}
 use Rattle.conditional_rules.specs.Cutting.{trimmed, starts_with_and, first_and}
+use Rattle.conditional_rules.proofs.Over.{IsOver, empty_over, both_over}
 use Rattle.conditional_rules.specs.Conditions.{has_parenthesis}
 
 -- nothing, or a text that begins with a blank
@@ -19,7 +20,7 @@ IsGap (b ∷ bs) = is_blank b ≡ true
 
 -- no word AND begins within the text, before what follows it
 abbrev pub Passes : List ℕ → List ℕ → Type 0
-Passes text rest = first_and (text ++ rest) ≡ option_map (λ i. length text + i) (first_and rest)
+Passes text rest = IsOver first_and first_and text rest
 
 -- no blank at the ends, no parenthesis, and no word AND where a gap is behind the text
 pub record IsTight (text : List ℕ) : Type 0 where
@@ -47,31 +48,15 @@ no_blank_no_and b (c ∷ d ∷ []) h = refl
 no_blank_no_and b (c ∷ d ∷ e ∷ []) h = refl
 no_blank_no_and b (c ∷ d ∷ e ∷ f ∷ bs) h = rw h refl
 
-pub step : (b : ℕ) (bs : List ℕ) → starts_with_and (b ∷ bs) ≡ false → first_and (b ∷ bs) ≡ option_map (λ i. 1 + i) (first_and bs)
+pub step : (b : ℕ) (bs : List ℕ) → starts_with_and (b ∷ bs) ≡ false → Passes (b ∷ []) bs
 step b bs h = ap (λ v. cond v (Some 0) (option_map (λ i. 1 + i) (first_and bs))) h
-
-add_up : (m n : ℕ) (o : Option ℕ) → option_map (λ i. m + i) (option_map (λ i. n + i) o) ≡ option_map (λ i. (m + n) + i) o
-add_up m n None = refl
-add_up m n (Some i) = ap Some (omega arith)
-
-add_none : (o : Option ℕ) → option_map (λ i. 0 + i) o ≡ o
-add_none None = refl
-add_none (Some i) = ap Some (omega arith)
-
-one_more : (n : ℕ) (o : Option ℕ) → option_map (λ i. 1 + i) (option_map (λ i. n + i) o) ≡ option_map (λ i. suc n + i) o
-one_more n None = refl
-one_more n (Some i) = ap Some (omega arith)
 
 -- a word is passed over
 pub dark_passes : (w rest : List ℕ) → IsDark w → Passes w rest
-dark_passes [] rest h = sym (add_none (first_and rest))
-dark_passes (b ∷ bs) rest h = step b (bs ++ rest) (no_blank_no_and b (bs ++ rest) h.0)
-    ∙ ap (option_map (λ i. 1 + i)) (dark_passes bs rest h.1) ∙ one_more (length bs) (first_and rest)
-
--- what passes over a text and over the text behind it passes over both
-pub both_pass : (a b rest : List ℕ) → Passes a (b ++ rest) → Passes b rest → Passes (a ++ b) rest
-both_pass a b rest h k = ap first_and (append_assoc a b rest) ∙ h ∙ ap (option_map (λ i. length a + i)) k
-    ∙ add_up (length a) (length b) (first_and rest) ∙ ap (λ n. option_map (λ i. n + i) (first_and rest)) (sym (length-append a b))
+dark_passes [] rest h = empty_over first_and rest
+dark_passes (b ∷ bs) rest h =
+    let front = step b (bs ++ rest) (no_blank_no_and b (bs ++ rest) h.0) in
+    both_over first_and first_and first_and (b ∷ []) bs rest front (dark_passes bs rest h.1)
 
 pub starts_before : (a b : List ℕ) → StartsFilled a → StartsFilled (a ++ b)
 starts_before [] b h = absurd h

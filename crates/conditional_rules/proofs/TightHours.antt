@@ -30,7 +30,8 @@ use Rattle.conditional_rules.specs.declared.conditional.Part.{Part}
 use Rattle.conditional_rules.specs.declared.conditional.Part.TheVariants.{Times}
 use Rattle.route_base.specs.Forms.{is_blank}
 use Rattle.conditional_rules.specs.Cutting.{is_and, starts_with_and, first_and}
-use Rattle.conditional_rules.proofs.Tight.{IsTight, IsDark, Passes, step, dark_passes, both_pass, both_true}
+use Rattle.conditional_rules.proofs.Over.{both_over}
+use Rattle.conditional_rules.proofs.Tight.{IsTight, IsDark, Passes, step, dark_passes, both_true}
 
 -- a digit is no blank
 digit_dark : (n : ℕ) → is_blank (48 + n % 10) ≡ false
@@ -150,8 +151,9 @@ spell_passes (t ∷ u ∷ us) more h =
     let gap = blank_between t u in
     let later = spell (u ∷ us) in
     let passed = gap_passes (is_tight t || (is_tight u || is_semicolon u)) (later ++ more) (spell_other u us more h.1.0) in
-    both_pass (lexeme t) (gap ++ later) more (dark_passes (lexeme t) ((gap ++ later) ++ more) (token_dark t))
-    (both_pass gap later more passed (spell_passes (u ∷ us) more h.1))
+    let first = dark_passes (lexeme t) ((gap ++ later) ++ more) (token_dark t) in
+    let behind = both_over first_and first_and first_and gap later more passed (spell_passes (u ∷ us) more h.1) in
+    both_over first_and first_and first_and (lexeme t) (gap ++ later) more first behind
 
 -- what holds of no byte of hours
 no_byte : (p : ℕ → Bool) → ((b : ℕ) → is_hours_byte b ≡ true → p b ≡ false) → (text : List ℕ) → list_all is_hours_byte text ≡ true
