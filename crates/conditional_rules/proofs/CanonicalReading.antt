@@ -84,17 +84,74 @@ clause_is Barred condition parts h =
 clause_is ForPurpose condition parts h =
     (conditions.clause (codes "destination ") (32 ∷ condition) refl refl h, conditions.clause (codes " destination ") (32 ∷ condition) refl refl h)
 
--- within parentheses a text without any is passed over
-within_over : (text rest : List ℕ) → has_parenthesis text ≡ false → IsOver (semicolon_from true) (semicolon_from true) text rest
-within_over [] rest h = empty_over (semicolon_from true) rest
-within_over (b ∷ bs) rest h = by (b == 40) (b == 41) (has_parenthesis bs) refl refl refl h (within_over bs rest)
+-- bytes behind which one stays within parentheses, or outside, and of which none is a semicolon outside
+abbrev IsQuiet : Bool → List ℕ → Type 0
+IsQuiet within [] = Unit {0}
+IsQuiet within (b ∷ bs) = ((not within && b == 59) ≡ false) × (is_within within b ≡ within) × IsQuiet within bs
+
+quiet_over : (within : Bool) (text rest : List ℕ) → IsQuiet within text → IsOver (semicolon_from within) (semicolon_from within) text rest
+quiet_over within [] rest h = empty_over (semicolon_from within) rest
+quiet_over within (b ∷ bs) rest h =
+    let place = semicolon_from within in
+    let front : IsOver place place (b ∷ []) (bs ++ rest) = rw (h.0, h.1) refl in
+    both_over place place place (b ∷ []) bs rest front (quiet_over within bs rest h.2)
+
+quiet_within : (text : List ℕ) → has_parenthesis text ≡ false → IsQuiet true text
+quiet_within [] h = tt
+quiet_within (b ∷ bs) h = by (b == 40) (b == 41) (has_parenthesis bs) refl refl refl h (quiet_within bs)
   where
     by : (u v w : Bool) → (b == 40) ≡ u → (b == 41) ≡ v → has_parenthesis bs ≡ w → ((u || v) || w) ≡ false
-        → (has_parenthesis bs ≡ false → IsOver (semicolon_from true) (semicolon_from true) bs rest)
-        → IsOver (semicolon_from true) (semicolon_from true) (b ∷ bs) rest
+        → (has_parenthesis bs ≡ false → IsQuiet true bs) → IsQuiet true (b ∷ bs)
     by true v w e f g k later = absurd cc
     by false true w e f g k later = absurd cc
     by false false true e f g k later = absurd cc
-    by false false false e f g k later =
-        let front : IsOver (semicolon_from true) (semicolon_from true) (b ∷ []) (bs ++ rest) = rw (e, f) refl in
-        both_over (semicolon_from true) (semicolon_from true) (semicolon_from true) (b ∷ []) bs rest front (later g)
+    by false false false e f g k later = (refl, rw (e, f) refl, later g)
+
+access_quiet : (access : Access) → IsQuiet false (access_text access)
+access_quiet Free = (refl, refl, (refl, refl, (refl, refl, tt)))
+access_quiet Barred = (refl, refl, (refl, refl, tt))
+access_quiet ForPurpose =
+    (refl, refl, (refl, refl, (refl, refl, (refl, refl, (refl, refl, (refl, refl, (refl, refl, (refl, refl, (refl, refl, (refl, refl, (refl, refl, tt)))))))))))
+
+-- a clause has no semicolon outside parentheses
+clause_over : (clause : Clause) (rest : List ℕ) → Each IsAgain clause.parts → IsOver first_semicolon first_semicolon (clause_text clause) rest
+clause_over clause rest h =
+    let outside = semicolon_from false in
+    let within = semicolon_from true in
+    let access = access_text clause.access in
+    let parts = parts_text clause.parts in
+    let closed : IsOver within outside (parts ++ codes ")") rest =
+    both_over within within outside parts (codes ")") rest (quiet_over true parts (codes ")" ++ rest) (quiet_within parts (parts_plain clause.parts h))) refl in
+    let opened : IsOver outside outside (codes "(" ++ (parts ++ codes ")")) rest =
+    both_over outside within outside (codes "(") (parts ++ codes ")") rest refl closed in
+    let marked : IsOver outside outside (codes " @ (" ++ (parts ++ codes ")")) rest =
+    both_over outside outside outside (codes " @ ") (codes "(" ++ (parts ++ codes ")")) rest
+    (quiet_over false (codes " @ ") ((codes "(" ++ (parts ++ codes ")")) ++ rest) (refl, refl, (refl, refl, (refl, refl, tt)))) opened in
+    both_over outside outside outside access (codes " @ (" ++ (parts ++ codes ")")) rest
+    (quiet_over false access ((codes " @ (" ++ (parts ++ codes ")")) ++ rest) (access_quiet clause.access)) marked
+
+abbrev AreClausePieces : Clause → Type 0
+AreClausePieces clause =
+    IsPiece first_semicolon (codes "; ") IsClause (clause_text clause) clause × IsPiece first_semicolon (codes "; ") IsClause (32 ∷ clause_text clause) clause
+
+clause_pieces : (clause : Clause) → Each IsAgain clause.parts → AreClausePieces clause
+clause_pieces clause h =
+    let is = clause_is clause.access (bracketed_text clause.parts) clause.parts (condition_again clause.parts h) in
+    pieces first_semicolon (codes "; ") IsClause (λ rest. Unit {0}) refl (λ more. refl) tt (λ more. tt) (clause_text clause) clause is.0 is.1
+    (λ rest any. clause_over clause rest h) (λ rest any. refl)
+
+each_part : (text : List ℕ) (parts : List Part) → IsParts text parts → Each IsAgain parts
+each_part text parts h = each_of IsAgain (λ t part is. part_again (trimmed t) part is) h
+
+parts_again : (text : List ℕ) (parts : List Part) → IsCondition text parts → Each IsAgain parts
+parts_again text parts (conditions.bracketed inner plain h) = each_part (trimmed inner) parts h
+parts_again text parts (conditions.bare plain h) = each_part text parts h
+
+clause_again : (text : List ℕ) (clause : Clause) → IsClause text clause → AreClausePieces clause
+clause_again text clause (conditions.clause value condition {access = access} {parts = parts} at is h) =
+    clause_pieces (record { access = access; parts = parts }) (parts_again (trimmed condition) parts h)
+
+-- The canonical text of clauses that some text has is read as these clauses.
+pub canonical_again : (clauses : List Clause) → IsParsed clauses → IsConditional (conditional_text clauses) clauses
+canonical_again clauses h =
+    joined_cut first_semicolon (codes "; ") 1 IsClause clause_text (λ more. refl) clauses (each_of AreClausePieces clause_again h.1)
