@@ -1,0 +1,3 @@
+pub mod PrintedNumbers
+pub mod PrintedComparisons
+pub mod ComparisonBytes

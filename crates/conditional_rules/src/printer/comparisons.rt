@@ -1,5 +1,5 @@
 // Writes comparisons.
-ghost use Rattle.std.specs.Prelude.{◌≡◌, ◌+◌, ◌-◌, ◌++◌, ◌≤◌, OnOk, decimal, drop, take};
+ghost use Rattle.std.specs.Prelude.{◌≡◌, ◌++◌, OnOk, decimal};
 ghost use Rattle.conditional_rules.specs.declared.conditional.Part.TheVariants.{Compare};
 ghost use Rattle.conditional_rules.specs.Comparisons.{quantity_text, decimals_in};
 ghost use Rattle.conditional_rules.specs.CanonicalText.{sign_text, measure_text, part_text};
@@ -64,7 +64,11 @@ fn push_thousandths(out: &mut Vec<u8>, value: u64) -> Result<(), OutOfMemory>
 fn push_hundredths(out: &mut Vec<u8>, value: u64) -> Result<(), OutOfMemory>
     ensures { OnOk result (out.new.items ≡ out.old.items ++ measure_text 2 value) }
 {
-    let part = [b'.', b'0' + (value / 10 % 10) as u8, b'0' + (value % 10) as u8];
+    let part = [
+        b'.',
+        b'0' + (value / 10 % 10) as u8,
+        b'0' + (value % 10) as u8,
+    ];
     push_number(out, value / 100)?;
     out.extend_from_slice(&part)?;
     Ok(())
@@ -72,7 +76,8 @@ fn push_hundredths(out: &mut Vec<u8>, value: u64) -> Result<(), OutOfMemory>
 
 // Appends a value with the decimals of its size.
 fn push_value(out: &mut Vec<u8>, quantity: Quantity, value: u64) -> Result<(), OutOfMemory>
-    ensures { OnOk result (out.new.items ≡ out.old.items ++ measure_text (decimals_in quantity) value) }
+    ensures { OnOk result (
+        out.new.items ≡ out.old.items ++ measure_text (decimals_in quantity) value) }
 {
     match quantity {
         Quantity::Weight | Quantity::Axleload => push_thousandths(out, value),
@@ -81,7 +86,7 @@ fn push_value(out: &mut Vec<u8>, quantity: Quantity, value: u64) -> Result<(), O
     }
 }
 
-/// Appends a comparison: the size, the sign, and the value with all its decimals, with no unit and no blanks.
+/// Appends a comparison: the size, the sign, and the value with all its decimals; it writes no unit and no blanks.
 pub(crate) fn push_comparison(
     out: &mut Vec<u8>,
     quantity: Quantity,
