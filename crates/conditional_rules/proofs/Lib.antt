@@ -1,6 +1,7 @@
 pub mod Over
 pub mod Tight
 pub mod TightHours
+pub mod PrintedNumbers
 pub mod PrintedComparisons
 pub mod ComparisonBytes
 pub mod PartsAgain

@@ -4,6 +4,7 @@
 mod access;
 mod conditional;
 mod faults;
+mod printer;
 
 pub use access::Access;
 pub use conditional::{Clause, Comparison, Conditional, Part, Parts, Word};

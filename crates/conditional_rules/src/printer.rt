@@ -1,0 +1,2 @@
+// Writes conditional values as text.
+pub mod comparisons;
