@@ -7,3 +7,4 @@ pub mod ComparisonBytes
 pub mod PartsAgain
 pub mod Joined
 pub mod CanonicalReading
+pub mod OneReading

@@ -1,4 +1,7 @@
 // Conditional values as data.
+ghost use Rattle.std.specs.Prelude.{◌≡◌};
+ghost use Rattle.conditional_rules.specs.Conditions.{IsParsed};
+
 use crate::access::Access;
 use opening_hours::Hours;
 use route_base::Listing;
@@ -52,4 +55,15 @@ impl Model for Conditional {
     ghost view = { λ a. a.clauses };
 
     ghost invariant = { λ a. IsParsed a.clauses };
+}
+
+impl Conditional {
+    /// The clauses, in their order.
+    pub(crate) fn clauses(&self) -> &[Clause]
+        ensures same { result.now ≡ self.now }
+        // A conditional value comes from a text.
+        ensures read { IsParsed self.now }
+    {
+        self.clauses.as_slice()
+    }
 }
