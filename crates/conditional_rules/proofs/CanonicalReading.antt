@@ -1,9 +1,10 @@
 -- The canonical text of clauses is read as these clauses.
-use Rattle.std.proofs.Common.{◌≡◌, ℕ, ◌+◌, Bool, true, false, Option, Some, None, List, [], ◌∷◌, ◌++◌, length, take, drop, map, refl, sym, ap}
+use Rattle.std.proofs.Common.{◌≡◌, ℕ, ◌+◌, Bool, true, false, cond, Option, Some, None, List, [], ◌∷◌, ◌++◌, length, take, drop, map, refl, sym, ap}
 use Rattle.std.proofs.Common.{subst, ◌∙◌, arith}
 use Rattle.std.specs.Prelude.{◌==◌, ◌&&◌, ◌||◌, not, codes}
-use Rattle.std.specs.List.{list_any}
+use Rattle.std.specs.List.{list_all, list_any}
 use Rattle.std.specs.Option.{option_map}
+use Rattle.std.proofs.lemmas.Bool.{and_parts, or_parts}
 use Rattle.std.proofs.lemmas.List.Folds.{list_any-append}
 use Rattle.opening_hours.specs.PlainText.{StartsFilled, EndsFilled}
 use Rattle.conditional_rules.specs.declared.access.Access.{Access}
@@ -84,34 +85,39 @@ clause_is Barred condition parts h =
 clause_is ForPurpose condition parts h =
     (conditions.clause (codes "destination ") (32 ∷ condition) refl refl h, conditions.clause (codes " destination ") (32 ∷ condition) refl refl h)
 
--- bytes behind which one stays within parentheses, or outside, and of which none is a semicolon outside
-abbrev IsQuiet : Bool → List ℕ → Type 0
-IsQuiet within [] = Unit {0}
-IsQuiet within (b ∷ bs) = ((not within && b == 59) ≡ false) × (is_within within b ≡ within) × IsQuiet within bs
+-- whether a byte is no parenthesis, and no semicolon outside of them
+abbrev is_quiet : Bool → ℕ → Bool
+is_quiet within b = not (b == 40 || b == 41) && (within || not (b == 59))
 
-quiet_over : (within : Bool) (text rest : List ℕ) → IsQuiet within text → IsOver (semicolon_from within) (semicolon_from within) text rest
+byte_over : (within : Bool) (b : ℕ) (rest : List ℕ) → is_quiet within b ≡ true
+    → IsOver (semicolon_from within) (semicolon_from within) (b ∷ []) rest
+byte_over within b rest h = by within (b == 40) (b == 41) (b == 59) h
+  where
+    by : (within u v w : Bool) → (not (u || v) && (within || not w)) ≡ true
+        → cond (not within && w) (Some 0) (option_map (λ i. 1 + i) (semicolon_from (cond u true (cond v false within)) rest))
+        ≡ option_map (λ i. 1 + i) (semicolon_from within rest)
+    by within true v w h = absurd cc
+    by within false true w h = absurd cc
+    by true false false w h = refl
+    by false false false true h = absurd cc
+    by false false false false h = refl
+
+quiet_over : (within : Bool) (text rest : List ℕ) → list_all (is_quiet within) text ≡ true
+    → IsOver (semicolon_from within) (semicolon_from within) text rest
 quiet_over within [] rest h = empty_over (semicolon_from within) rest
 quiet_over within (b ∷ bs) rest h =
     let place = semicolon_from within in
-    let front : IsOver place place (b ∷ []) (bs ++ rest) = rw (h.0, h.1) refl in
-    both_over place place place (b ∷ []) bs rest front (quiet_over within bs rest h.2)
+    let parts = and_parts (is_quiet within b) (list_all (is_quiet within) bs) h in
+    both_over place place place (b ∷ []) bs rest (byte_over within b (bs ++ rest) parts.0) (quiet_over within bs rest parts.1)
 
-quiet_within : (text : List ℕ) → has_parenthesis text ≡ false → IsQuiet true text
-quiet_within [] h = tt
-quiet_within (b ∷ bs) h = by (b == 40) (b == 41) (has_parenthesis bs) refl refl refl h (quiet_within bs)
-  where
-    by : (u v w : Bool) → (b == 40) ≡ u → (b == 41) ≡ v → has_parenthesis bs ≡ w → ((u || v) || w) ≡ false
-        → (has_parenthesis bs ≡ false → IsQuiet true bs) → IsQuiet true (b ∷ bs)
-    by true v w e f g k later = absurd cc
-    by false true w e f g k later = absurd cc
-    by false false true e f g k later = absurd cc
-    by false false false e f g k later = (refl, rw (e, f) refl, later g)
+quiet_within : (text : List ℕ) → has_parenthesis text ≡ false → list_all (is_quiet true) text ≡ true
+quiet_within [] h = refl
+quiet_within (b ∷ bs) h = let parts = or_parts (b == 40 || b == 41) (has_parenthesis bs) h in rw (parts.0, quiet_within bs parts.1) refl
 
-access_quiet : (access : Access) → IsQuiet false (access_text access)
-access_quiet Free = (refl, refl, (refl, refl, (refl, refl, tt)))
-access_quiet Barred = (refl, refl, (refl, refl, tt))
-access_quiet ForPurpose =
-    (refl, refl, (refl, refl, (refl, refl, (refl, refl, (refl, refl, (refl, refl, (refl, refl, (refl, refl, (refl, refl, (refl, refl, (refl, refl, tt)))))))))))
+access_quiet : (access : Access) → list_all (is_quiet false) (access_text access) ≡ true
+access_quiet Free = refl
+access_quiet Barred = refl
+access_quiet ForPurpose = refl
 
 -- a clause has no semicolon outside parentheses
 clause_over : (clause : Clause) (rest : List ℕ) → Each IsAgain clause.parts → IsOver first_semicolon first_semicolon (clause_text clause) rest
@@ -120,15 +126,15 @@ clause_over clause rest h =
     let within = semicolon_from true in
     let access = access_text clause.access in
     let parts = parts_text clause.parts in
-    let closed : IsOver within outside (parts ++ codes ")") rest =
-    both_over within within outside parts (codes ")") rest (quiet_over true parts (codes ")" ++ rest) (quiet_within parts (parts_plain clause.parts h))) refl in
-    let opened : IsOver outside outside (codes "(" ++ (parts ++ codes ")")) rest =
-    both_over outside within outside (codes "(") (parts ++ codes ")") rest refl closed in
-    let marked : IsOver outside outside (codes " @ (" ++ (parts ++ codes ")")) rest =
-    both_over outside outside outside (codes " @ ") (codes "(" ++ (parts ++ codes ")")) rest
-    (quiet_over false (codes " @ ") ((codes "(" ++ (parts ++ codes ")")) ++ rest) (refl, refl, (refl, refl, (refl, refl, tt)))) opened in
-    both_over outside outside outside access (codes " @ (" ++ (parts ++ codes ")")) rest
-    (quiet_over false access ((codes " @ (" ++ (parts ++ codes ")")) ++ rest) (access_quiet clause.access)) marked
+    let inner = parts ++ codes ")" in
+    let quiet = quiet_over true parts (codes ")" ++ rest) (quiet_within parts (parts_plain clause.parts h)) in
+    let closed : IsOver within outside inner rest = both_over within within outside parts (codes ")") rest quiet refl in
+    let opened : IsOver outside outside (codes "(" ++ inner) rest = both_over outside within outside (codes "(") inner rest refl closed in
+    let at = quiet_over false (codes " @ ") ((codes "(" ++ inner) ++ rest) refl in
+    let marked : IsOver outside outside (codes " @ (" ++ inner) rest =
+    both_over outside outside outside (codes " @ ") (codes "(" ++ inner) rest at opened in
+    let front = quiet_over false access ((codes " @ (" ++ inner) ++ rest) (access_quiet clause.access) in
+    both_over outside outside outside access (codes " @ (" ++ inner) rest front marked
 
 abbrev AreClausePieces : Clause → Type 0
 AreClausePieces clause =

@@ -3,6 +3,7 @@ use Rattle.std.proofs.Common.{◌≡◌, ℕ, ◌+◌, Bool, true, false, cond, 
 use Rattle.std.proofs.Common.{◌∙◌, arith}
 use Rattle.std.specs.Prelude.{◌==◌, ◌&&◌, ◌||◌, not, codes}
 use Rattle.std.specs.List.{list_all, list_any}
+use Rattle.std.proofs.lemmas.Bool.{and_parts, or_parts, not-true}
 use Rattle.std.proofs.lemmas.Grind.{common_steps}
 use Rattle.route_base.specs.Forms.{is_blank}
 use Rattle.opening_hours.specs.PlainText.{StartsFilled, EndsFilled}
@@ -19,51 +20,34 @@ use Rattle.conditional_rules.specs.Conditions.{has_sign, has_parenthesis, is_sma
 use Rattle.conditional_rules.specs.Conditions as conditions
 use Rattle.conditional_rules.specs.Cutting.{is_and, starts_with_and}
 use Rattle.conditional_rules.proofs.PrintedComparisons.{comparison_again}
-use Rattle.conditional_rules.proofs.ComparisonBytes.{is_comparison_byte, comparison_bytes, comparison_has_sign}
-use Rattle.conditional_rules.proofs.Tight.{IsTight, IsGap, IsDark, dark_passes, both_true}
+use Rattle.conditional_rules.proofs.ComparisonBytes.{comparison_no_blank, comparison_no_parenthesis, comparison_has_sign}
+use Rattle.conditional_rules.proofs.Tight.{IsTight, IsGap, IsDark, dark_passes, none_of}
 use Rattle.conditional_rules.proofs.TightHours.{hours_again}
 
--- the bytes of a word: no blank and no parenthesis
-abbrev is_word_byte : ℕ → Bool
-is_word_byte b = not (is_blank b || (b == 40 || b == 41))
-
-word_byte : (b : ℕ) → is_word_byte b ≡ true → (is_blank b ≡ false) × ((b == 40 || b == 41) ≡ false)
-word_byte b h = (grind (arith, common_steps), grind (arith, common_steps))
-
--- each byte that passes the one test passes the other
-all_pass : (p q : ℕ → Bool) → ((b : ℕ) → p b ≡ true → q b ≡ true) → (text : List ℕ) → list_all p text ≡ true → list_all q text ≡ true
-all_pass p q each [] h = refl
-all_pass p q each (b ∷ bs) h = let parts = both_true (p b) (list_all p bs) h in rw (each b parts.0, all_pass p q each bs parts.1) refl
-
-word_dark : (w : List ℕ) → list_all is_word_byte w ≡ true → IsDark w
-word_dark [] h = tt
-word_dark (b ∷ bs) h = let parts = both_true (is_word_byte b) (list_all is_word_byte bs) h in ((word_byte b parts.0).0, word_dark bs parts.1)
-
-word_plain : (w : List ℕ) → list_all is_word_byte w ≡ true → has_parenthesis w ≡ false
-word_plain [] h = refl
-word_plain (b ∷ bs) h =
-    let parts = both_true (is_word_byte b) (list_all is_word_byte bs) h in
-    rw ((word_byte b parts.0).1, word_plain bs parts.1) refl
-
 dark_ends : (b : ℕ) (bs : List ℕ) → IsDark (b ∷ bs) → EndsFilled (b ∷ bs)
-dark_ends b [] h = h.0
-dark_ends b (c ∷ cs) h = dark_ends c cs h.1
+dark_ends b [] h = (or_parts (is_blank b) false h).0
+dark_ends b (c ∷ cs) h = dark_ends c cs (or_parts (is_blank b) (list_any is_blank (c ∷ cs)) h).1
 
 -- a word that is no AND is tight
-word_tight : (b : ℕ) (bs : List ℕ) → list_all is_word_byte (b ∷ bs) ≡ true
+word_tight : (b : ℕ) (bs : List ℕ) → IsDark (b ∷ bs) → has_parenthesis (b ∷ bs) ≡ false
     → ((rest : List ℕ) → IsGap rest → starts_with_and (32 ∷ b ∷ (bs ++ rest)) ≡ false) → IsTight (b ∷ bs)
-word_tight b bs bytes behind =
-    let dark = word_dark (b ∷ bs) bytes in
-    record {
-      starts = dark.0;
-      ends = dark_ends b bs dark;
-      plain = word_plain (b ∷ bs) bytes;
-      behind = behind;
-      passes = λ rest gap. dark_passes (b ∷ bs) rest dark;
-    }
+word_tight b bs dark plain behind = record {
+  starts = (or_parts (is_blank b) (list_any is_blank bs) dark).0;
+  ends = dark_ends b bs dark;
+  plain = plain;
+  behind = behind;
+  passes = λ rest gap. dark_passes (b ∷ bs) rest dark;
+}
 
-flag_byte : (b : ℕ) → (is_small_letter b || b == 95) ≡ true → is_word_byte b ≡ true
-flag_byte b h = grind (arith, common_steps)
+-- the bytes of a flag
+abbrev is_flag_byte : ℕ → Bool
+is_flag_byte b = is_small_letter b || b == 95
+
+flag_dark : (b : ℕ) → is_flag_byte b ≡ true → is_blank b ≡ false
+flag_dark b h = grind (arith, common_steps)
+
+flag_plain : (b : ℕ) → is_flag_byte b ≡ true → (b == 40 || b == 41) ≡ false
+flag_plain b h = grind (arith, common_steps)
 
 blank_second : (b g h k : ℕ) (bs : List ℕ) → is_blank g ≡ true → starts_with_and (32 ∷ b ∷ g ∷ h ∷ k ∷ bs) ≡ false
 blank_second b g h k bs e = grind (arith, common_steps)
@@ -90,37 +74,34 @@ flag_behind b (c ∷ []) (g ∷ []) letter dark other gap = refl
 flag_behind b (c ∷ []) (g ∷ h ∷ more) letter dark other gap = blank_third b c g h more gap
 flag_behind b (c ∷ d ∷ []) [] letter dark other gap = refl
 flag_behind b (c ∷ d ∷ []) (g ∷ more) letter dark other gap = rw (three_letters b c d letter other) refl
-flag_behind b (c ∷ d ∷ e ∷ es) rest letter dark other gap = no_blank_fourth b c d e (es ++ rest) dark.1.1.0
-
-not_true : (b : Bool) → not b ≡ true → b ≡ false
-not_true true h = absurd cc
-not_true false h = refl
+flag_behind b (c ∷ d ∷ e ∷ es) rest letter dark other gap =
+    let later = or_parts (is_blank d) (list_any is_blank (e ∷ es)) (or_parts (is_blank c) (list_any is_blank (d ∷ e ∷ es)) dark).1 in
+    no_blank_fourth b c d e (es ++ rest) (or_parts (is_blank e) (list_any is_blank es) later.1).0
 
 flag_tight : (w : List ℕ) → is_flag w ≡ true → IsTight w
 unfolding is_flag
 flag_tight [] h = absurd cc
 flag_tight (b ∷ bs) h =
-    let is_flag_byte : ℕ → Bool = λ c. is_small_letter c || c == 95 in
-    let first = both_true (is_small_letter b) (list_all is_flag_byte bs && not (is_among reserved_words (b ∷ bs))) h in
-    let later = both_true (list_all is_flag_byte bs) (not (is_among reserved_words (b ∷ bs))) first.1 in
-    let front : is_flag_byte b ≡ true = rw first.0 refl in
-    let words = all_pass is_flag_byte is_word_byte flag_byte bs later.0 in
-    let bytes : list_all is_word_byte (b ∷ bs) ≡ true = rw (flag_byte b front, words) refl in
-    word_tight b bs bytes (λ rest gap. flag_behind b bs rest first.0 (word_dark bs words) (not_true (is_among reserved_words (b ∷ bs)) later.1) gap)
-
-printed_byte : (b : ℕ) → is_comparison_byte b ≡ true → is_word_byte b ≡ true
-printed_byte b h = grind (arith, common_steps)
+    let reserved = is_among reserved_words (b ∷ bs) in
+    let first = and_parts (is_small_letter b) (list_all is_flag_byte bs && not reserved) h in
+    let later = and_parts (list_all is_flag_byte bs) (not reserved) first.1 in
+    let bytes : list_all is_flag_byte (b ∷ bs) ≡ true = rw (first.0, later.0) refl in
+    let dark = none_of is_flag_byte is_blank flag_dark bs later.0 in
+    word_tight b bs (none_of is_flag_byte is_blank flag_dark (b ∷ bs) bytes)
+    (none_of is_flag_byte (λ c. c == 40 || c == 41) flag_plain (b ∷ bs) bytes)
+    (λ rest gap. flag_behind b bs rest first.0 dark (not-true reserved later.1) gap)
 
 comparison_tight : (text : List ℕ) (q : Quantity) (c : Comparison) (v : ℕ) → IsComparison text q c v → IsTight (part_text (Compare q c v))
-comparison_tight text q c v h = by q (all_pass is_comparison_byte is_word_byte printed_byte (part_text (Compare q c v)) (comparison_bytes text q c v h))
+comparison_tight text q c v h = by q (comparison_no_blank text q c v h) (comparison_no_parenthesis text q c v h)
   where
-    by : (q : Quantity) → list_all is_word_byte (part_text (Compare q c v)) ≡ true → IsTight (part_text (Compare q c v))
-    by Weight k = word_tight 119 (codes "eight" ++ (sign_text c ++ measure_text 3 v)) k (λ rest gap. refl)
-    by Axleload k = word_tight 97 (codes "xleload" ++ (sign_text c ++ measure_text 3 v)) k (λ rest gap. refl)
-    by Height k = word_tight 104 (codes "eight" ++ (sign_text c ++ measure_text 2 v)) k (λ rest gap. refl)
-    by Width k = word_tight 119 (codes "idth" ++ (sign_text c ++ measure_text 2 v)) k (λ rest gap. refl)
-    by Length k = word_tight 108 (codes "ength" ++ (sign_text c ++ measure_text 2 v)) k (λ rest gap. refl)
-    by Axles k = word_tight 97 (codes "xles" ++ (sign_text c ++ measure_text 0 v)) k (λ rest gap. refl)
+    by : (q : Quantity) → IsDark (part_text (Compare q c v)) → has_parenthesis (part_text (Compare q c v)) ≡ false
+        → IsTight (part_text (Compare q c v))
+    by Weight d p = word_tight 119 (codes "eight" ++ (sign_text c ++ measure_text 3 v)) d p (λ rest gap. refl)
+    by Axleload d p = word_tight 97 (codes "xleload" ++ (sign_text c ++ measure_text 3 v)) d p (λ rest gap. refl)
+    by Height d p = word_tight 104 (codes "eight" ++ (sign_text c ++ measure_text 2 v)) d p (λ rest gap. refl)
+    by Width d p = word_tight 119 (codes "idth" ++ (sign_text c ++ measure_text 2 v)) d p (λ rest gap. refl)
+    by Length d p = word_tight 108 (codes "ength" ++ (sign_text c ++ measure_text 2 v)) d p (λ rest gap. refl)
+    by Axles d p = word_tight 97 (codes "xles" ++ (sign_text c ++ measure_text 0 v)) d p (λ rest gap. refl)
 
 -- The printed text of a part is tight, and it is the same part.
 pub part_again : (text : List ℕ) (part : Part) → IsPart text part → IsTight (part_text part) × IsPart (part_text part) part

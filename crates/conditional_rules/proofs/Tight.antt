@@ -4,6 +4,7 @@ use Rattle.std.proofs.Common.{subst, ◌∙◌, arith}
 use Rattle.std.specs.Prelude.{◌==◌, ◌&&◌, ◌||◌}
 use Rattle.std.specs.List.{list_all, list_any}
 use Rattle.std.specs.Option.{option_map}
+use Rattle.std.proofs.lemmas.Bool.{and_parts, or_parts, or_from}
 use Rattle.std.proofs.lemmas.Grind.{reverse_onto}
 use Rattle.std.proofs.lemmas.List.{append_assoc, length-append, reverse-reverse}
 use Rattle.route_base.specs.Forms.{is_blank}
@@ -30,15 +31,17 @@ pub record IsTight (text : List ℕ) : Type 0 where
   pub behind : (rest : List ℕ) → IsGap rest → starts_with_and (32 ∷ (text ++ rest)) ≡ false
   pub passes : (rest : List ℕ) → IsGap rest → Passes text rest
 
--- each byte is no blank
+-- there is no blank
 abbrev pub IsDark : List ℕ → Type 0
-IsDark [] = Unit {0}
-IsDark (b ∷ bs) = (is_blank b ≡ false) × IsDark bs
+IsDark bs = list_any is_blank bs ≡ false
 
-pub both_true : (a b : Bool) → a && b ≡ true → (a ≡ true) × (b ≡ true)
-both_true true true h = (refl, refl)
-both_true true false h = absurd cc
-both_true false b h = absurd cc
+-- a test that fails for each byte of one kind fails for a text of this kind
+pub none_of : (kind test : ℕ → Bool) → ((b : ℕ) → kind b ≡ true → test b ≡ false) → (text : List ℕ) → list_all kind text ≡ true
+    → list_any test text ≡ false
+none_of kind test none [] h = refl
+none_of kind test none (b ∷ bs) h =
+    let parts = and_parts (kind b) (list_all kind bs) h in
+    or_from (test b) (list_any test bs) (none b parts.0) (none_of kind test none bs parts.1)
 
 -- a byte that is no blank begins no word AND
 no_blank_no_and : (b : ℕ) (bs : List ℕ) → is_blank b ≡ false → starts_with_and (b ∷ bs) ≡ false
@@ -55,8 +58,9 @@ step b bs h = ap (λ v. cond v (Some 0) (option_map (λ i. 1 + i) (first_and bs)
 pub dark_passes : (w rest : List ℕ) → IsDark w → Passes w rest
 dark_passes [] rest h = empty_over first_and rest
 dark_passes (b ∷ bs) rest h =
-    let front = step b (bs ++ rest) (no_blank_no_and b (bs ++ rest) h.0) in
-    both_over first_and first_and first_and (b ∷ []) bs rest front (dark_passes bs rest h.1)
+    let parts = or_parts (is_blank b) (list_any is_blank bs) h in
+    let front = step b (bs ++ rest) (no_blank_no_and b (bs ++ rest) parts.0) in
+    both_over first_and first_and first_and (b ∷ []) bs rest front (dark_passes bs rest parts.1)
 
 pub starts_before : (a b : List ℕ) → StartsFilled a → StartsFilled (a ++ b)
 starts_before [] b h = absurd h

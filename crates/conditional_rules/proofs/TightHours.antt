@@ -5,6 +5,7 @@ use Rattle.std.specs.Prelude.{◌==◌, ◌&&◌, ◌||◌, not, codes}
 use Rattle.std.specs.List.{list_all, list_any}
 use Rattle.std.specs.Option.{option_map}
 use Rattle.std.proofs.lemmas.List.{append_assoc}
+use Rattle.std.proofs.lemmas.Bool.{and_parts}
 use Rattle.std.proofs.lemmas.Grind.{common_steps}
 use Rattle.calendar_days.specs.declared.weekday.Weekday.{Weekday}
 use Rattle.calendar_days.specs.declared.weekday.Weekday.TheVariants.{Mo, Tu, We, Th, Fr, Sa, Su}
@@ -31,7 +32,7 @@ use Rattle.conditional_rules.specs.declared.conditional.Part.TheVariants.{Times}
 use Rattle.route_base.specs.Forms.{is_blank}
 use Rattle.conditional_rules.specs.Cutting.{is_and, starts_with_and, first_and}
 use Rattle.conditional_rules.proofs.Over.{both_over}
-use Rattle.conditional_rules.proofs.Tight.{IsTight, IsDark, Passes, step, dark_passes, both_true}
+use Rattle.conditional_rules.proofs.Tight.{IsTight, IsDark, Passes, step, dark_passes, none_of}
 
 -- a digit is no blank
 digit_dark : (n : ℕ) → is_blank (48 + n % 10) ≡ false
@@ -44,36 +45,34 @@ one_of P false h k = k
 month_dark : (m : ℕ) → IsDark (month_text m)
 unfolding month_text
 month_dark m =
-    let dark : IsDark (codes "Jan") = (refl, (refl, (refl, tt))) in
-    one_of IsDark (m == 1) dark (one_of IsDark (m == 2) dark (one_of IsDark (m == 3) dark (one_of IsDark (m == 4) dark
-    (one_of IsDark (m == 5) dark (one_of IsDark (m == 6) dark (one_of IsDark (m == 7) dark (one_of IsDark (m == 8) dark
-    (one_of IsDark (m == 9) dark (one_of IsDark (m == 10) dark (one_of IsDark (m == 11) dark dark))))))))))
+    one_of IsDark (m == 1) refl (one_of IsDark (m == 2) refl (one_of IsDark (m == 3) refl (one_of IsDark (m == 4) refl
+    (one_of IsDark (m == 5) refl (one_of IsDark (m == 6) refl (one_of IsDark (m == 7) refl (one_of IsDark (m == 8) refl
+    (one_of IsDark (m == 9) refl (one_of IsDark (m == 10) refl (one_of IsDark (m == 11) refl refl))))))))))
 
 day_dark : (d : Weekday) → IsDark (weekday_text d)
-day_dark Mo = (refl, (refl, tt))
-day_dark Tu = (refl, (refl, tt))
-day_dark We = (refl, (refl, tt))
-day_dark Th = (refl, (refl, tt))
-day_dark Fr = (refl, (refl, tt))
-day_dark Sa = (refl, (refl, tt))
-day_dark Su = (refl, (refl, tt))
+day_dark Mo = refl
+day_dark Tu = refl
+day_dark We = refl
+day_dark Th = refl
+day_dark Fr = refl
+day_dark Sa = refl
+day_dark Su = refl
 
 token_dark : (t : Token) → IsDark (lexeme t)
 token_dark (Month m) = month_dark m
 token_dark (Day d) = day_dark d
-token_dark Unknown = tt
-token_dark (Time a b) =
-    (digit_dark (a / 10), (digit_dark a, (refl, (digit_dark (b / 10), (digit_dark b, tt)))))
-token_dark (Number n) = (digit_dark (n / 10), (digit_dark n, tt))
-token_dark Public = (refl, (refl, tt))
-token_dark School = (refl, (refl, tt))
-token_dark Off = (refl, (refl, (refl, tt)))
-token_dark Open = (refl, (refl, (refl, (refl, tt))))
-token_dark Always = (refl, (refl, (refl, (refl, tt))))
-token_dark Dash = (refl, tt)
-token_dark Comma = (refl, tt)
-token_dark Semicolon = (refl, tt)
-token_dark Colon = (refl, tt)
+token_dark (Time a b) = rw (digit_dark (a / 10), digit_dark a, digit_dark (b / 10), digit_dark b) refl
+token_dark (Number n) = rw (digit_dark (n / 10), digit_dark n) refl
+token_dark Unknown = refl
+token_dark Public = refl
+token_dark School = refl
+token_dark Off = refl
+token_dark Open = refl
+token_dark Always = refl
+token_dark Dash = refl
+token_dark Comma = refl
+token_dark Semicolon = refl
+token_dark Colon = refl
 
 -- a byte that is no A
 other_first : (b : ℕ) (bs : List ℕ) → (b == 65) ≡ false → (b == 97) ≡ false → starts_with_and (32 ∷ b ∷ bs) ≡ false
@@ -140,12 +139,12 @@ spell_other t (u ∷ us) more h =
 
 -- a blank or none in front of a token
 gap_passes : (b : Bool) (text : List ℕ) → starts_with_and (32 ∷ text) ≡ false → Passes (cond b [] (32 ∷ [])) text
-gap_passes true text h = dark_passes [] text tt
+gap_passes true text h = dark_passes [] text refl
 gap_passes false text h = step 32 text h
 
 spell_passes : (ts : List Token) (more : List ℕ) → AllSpell ts → Passes (spell ts) more
 unfolding spell
-spell_passes [] more h = dark_passes [] more tt
+spell_passes [] more h = dark_passes [] more refl
 spell_passes (t ∷ []) more h = dark_passes (lexeme t) more (token_dark t)
 spell_passes (t ∷ u ∷ us) more h =
     let gap = blank_between t u in
@@ -155,14 +154,6 @@ spell_passes (t ∷ u ∷ us) more h =
     let behind = both_over first_and first_and first_and gap later more passed (spell_passes (u ∷ us) more h.1) in
     both_over first_and first_and first_and (lexeme t) (gap ++ later) more first behind
 
--- what holds of no byte of hours
-no_byte : (p : ℕ → Bool) → ((b : ℕ) → is_hours_byte b ≡ true → p b ≡ false) → (text : List ℕ) → list_all is_hours_byte text ≡ true
-    → list_any p text ≡ false
-no_byte p none [] h = refl
-no_byte p none (b ∷ bs) h =
-    let parts = both_true (is_hours_byte b) (list_all is_hours_byte bs) h in
-    rw (none b parts.0, no_byte p none bs parts.1) refl
-
 sign_no_hours : (b : ℕ) → is_hours_byte b ≡ true → (b == 60 || (b == 61 || b == 62)) ≡ false
 sign_no_hours b h = grind (arith, common_steps)
 
@@ -170,14 +161,14 @@ parenthesis_no_hours : (b : ℕ) → is_hours_byte b ≡ true → (b == 40 || b 
 parenthesis_no_hours b h = grind (arith, common_steps)
 
 hours_no_sign : (text : List ℕ) → IsPlain text → has_sign text ≡ false
-hours_no_sign text h = no_byte (λ b. b == 60 || (b == 61 || b == 62)) sign_no_hours text h.bytes
+hours_no_sign text h = none_of is_hours_byte (λ b. b == 60 || (b == 61 || b == 62)) sign_no_hours text h.bytes
 
 -- the letters of a flag that is made of bytes of hours
 flag_letters : (bs : List ℕ) → list_all is_hours_byte bs ≡ true → list_all (λ c. is_small_letter c || c == 95) bs ≡ true → AreLetters bs
 flag_letters [] h k = tt
 flag_letters (b ∷ bs) h k =
-    let hours = both_true (is_hours_byte b) (list_all is_hours_byte bs) h in
-    let flag = both_true (is_small_letter b || b == 95) (list_all (λ c. is_small_letter c || c == 95) bs) k in
+    let hours = and_parts (is_hours_byte b) (list_all is_hours_byte bs) h in
+    let flag = and_parts (is_small_letter b || b == 95) (list_all (λ c. is_small_letter c || c == 95) bs) k in
     (letter hours.0 flag.0, flag_letters bs hours.1 flag.1)
   where
     letter : is_hours_byte b ≡ true → (is_small_letter b || b == 95) ≡ true → is_letter b ≡ true
@@ -190,7 +181,8 @@ small_letter b h = (grind (arith, common_steps), rw h refl)
 hours_no_flag : (text : List ℕ) → IsPlain text → is_flag text ≡ false
 unfolding is_flag
 hours_no_flag [] h = refl
-hours_no_flag (b ∷ bs) h = by (is_small_letter b) (list_all (λ c. is_small_letter c || c == 95) bs) (is_among reserved_words (b ∷ bs)) refl refl refl
+hours_no_flag (b ∷ bs) h =
+    by (is_small_letter b) (list_all (λ c. is_small_letter c || c == 95) bs) (is_among reserved_words (b ∷ bs)) refl refl refl
   where
     by : (u v w : Bool) → is_small_letter b ≡ u → list_all (λ c. is_small_letter c || c == 95) bs ≡ v → is_among reserved_words (b ∷ bs) ≡ w
         → (u && (v && not w)) ≡ false
@@ -211,7 +203,7 @@ tokens_tight [] h plain = absurd plain.starts
 tokens_tight (t ∷ ts) h plain = record {
   starts = plain.starts;
   ends = plain.ends;
-  plain = no_byte (λ b. b == 40 || b == 41) parenthesis_no_hours (spell (t ∷ ts)) plain.bytes;
+  plain = none_of is_hours_byte (λ b. b == 40 || b == 41) parenthesis_no_hours (spell (t ∷ ts)) plain.bytes;
   behind = λ rest gap. spell_other t ts rest h.0;
   passes = λ rest gap. spell_passes (t ∷ ts) rest h;
 }
