@@ -39,8 +39,7 @@ pub pieces : {B : Type 0} (place : List ℕ → Option ℕ) (mark : List ℕ) (I
     → IsPiece place mark Is text x × IsPiece place mark Is (32 ∷ text) x
 pieces place mark Is IsRest end found last next text x is spaced over blank =
     let both : (rest : List ℕ) → IsRest rest → IsOver place place (32 ∷ text) rest =
-    λ rest r. both_over place place place (32 ∷ []) text rest (blank rest r) (over rest r) in
-    (
+    λ rest r. both_over place place place (32 ∷ []) text rest (blank rest r) (over rest r) in (
       piece place mark Is text x end found is (over [] last) (λ more. over (mark ++ more) (next more)),
       piece place mark Is (32 ∷ text) x end found spaced (both [] last) (λ more. both (mark ++ more) (next more)),
     )

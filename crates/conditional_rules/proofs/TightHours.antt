@@ -214,8 +214,7 @@ pub hours_again : (text : List ℕ) (rules : List HoursRule) → IsHours text ru
 hours_again text rules h =
     let read = print_read rules (text, h) in
     let plain = hours_plain (hours_text rules) rules read in
-    let spelled = rules_spell (hours_tokens rules) rules (rules_canon h.0 rules h.2) in
-    (
+    let spelled = rules_spell (hours_tokens rules) rules (rules_canon h.0 rules h.2) in (
       tokens_tight (hours_tokens rules) spelled plain,
       conditions.timed (hours_no_sign (hours_text rules) plain) (hours_no_flag (hours_text rules) plain) read,
     )
