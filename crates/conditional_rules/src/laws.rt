@@ -1,11 +1,11 @@
-// Laws of the notation that need no call.
+// Laws of conditional values that need no call.
 ghost use Rattle.std.specs.Prelude.{List};
-ghost use Rattle.conditional_rules.specs.declared.conditional.Clause.{Clause as Read};
+ghost use Rattle.conditional_rules.specs.declared.conditional.Clause.{Clause};
 ghost use Rattle.conditional_rules.specs.CanonicalText.{conditional_text};
 ghost use Rattle.conditional_rules.specs.Conditions.{IsConditional, IsParsed};
 
 /// The law that the canonical text of parsed clauses is read as these clauses. The call does nothing.
 pub fn canonical_reading()
-    ensures { (clauses : List Read) → IsParsed clauses
+    ensures { (clauses : List Clause) → IsParsed clauses
         → IsConditional (conditional_text clauses) clauses }
 {}

@@ -1,10 +1,10 @@
-// Writes conditional values as text.
+// The canonical text of conditional values.
 ghost use Rattle.std.specs.Prelude.{◌≡◌, ◌++◌, List, map, codes, IfOk, OnOk};
-ghost use Rattle.conditional_rules.specs.declared.conditional.Clause.{Clause as Read};
+ghost use Rattle.conditional_rules.specs.declared.conditional.Clause.{Clause as ClauseOf};
 ghost use Rattle.conditional_rules.specs.CanonicalText.{part_text, access_text, joined, clause_text, conditional_text};
 ghost use Rattle.conditional_rules.specs.Conditions.{IsConditional};
 
-pub mod comparisons;
+mod comparisons;
 
 use crate::access::Access;
 use crate::conditional::{Clause, Conditional, Part};
@@ -82,14 +82,15 @@ fn push_clauses(alloc: Global, out: &mut Vec<u8>, clauses: &[Clause]) -> Result<
     Ok(())
 }
 
-/// The canonical text of a conditional value: `; ` between clauses, each as `no @ (weight>7.500 AND Mo-Fr 07:00-09:00)`, with the
-/// value `yes`, `no` or `destination`, all decimals of a size, and hours as `opening_hours` prints them. Linear in the text's length.
+/// The canonical text of a conditional value: `; ` between clauses, each as `no @ (weight>7.500 AND Mo-Fr 07:00-09:00)`. The access is
+/// `yes`, `no` or `destination`, a size has all its decimals and no unit, and hours are as `opening_hours::print` gives them. Linear in
+/// the text's length, in time and memory.
 pub fn print(alloc: Global, conditional: &Conditional) -> Result<Vec<u8>, OutOfMemory>
     ensures text { IfOk result (λ t. t.items ≡ conditional_text conditional.now) }
     // It is read as the same clauses.
     ensures read { IfOk result (λ t. IsConditional t.items conditional.now) }
     // It is read as no others.
-    ensures only { IfOk result (λ t. (others : List Read) → IsConditional t.items others
+    ensures only { IfOk result (λ t. (others : List ClauseOf) → IsConditional t.items others
         → others ≡ conditional.now) }
 {
     let mut out = Vec::new(alloc);
