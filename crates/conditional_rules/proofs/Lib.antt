@@ -4,5 +4,14 @@ pub mod OnePart
 mod Clauses
 mod CutLists
 mod FirstAt
-mod OneReading
 mod Parentheses
+pub mod Over
+pub mod Tight
+pub mod TightHours
+pub mod PrintedNumbers
+pub mod PrintedComparisons
+pub mod ComparisonBytes
+pub mod PartsAgain
+pub mod Joined
+pub mod CanonicalReading
+pub mod OneReading

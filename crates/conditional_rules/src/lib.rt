@@ -23,11 +23,13 @@ mod faults;
 mod laws;
 mod parser;
 mod parts;
+mod printer;
 
 pub use access::{Access, read_value};
 pub use conditional::{Clause, Comparison, Conditional, Part, Parts, Word, parse};
 pub use faults::ConditionalFault;
-pub use laws::one_reading;
+pub use laws::{canonical_reading, one_reading};
+pub use printer::print;
 
 #[cfg(test)]
 mod tests;
