@@ -9,3 +9,4 @@ pub mod Whole
 pub mod Rising
 pub mod Rules
 pub mod Spelled
+pub mod CoverTests

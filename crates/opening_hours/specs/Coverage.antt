@@ -1,5 +1,5 @@
 -- The minutes that hours cover (source: own).
-use Rattle.std.specs.Prelude.{◌≡◌, ℕ, ◌+◌, ◌-◌, ◌*◌, ◌≤◌, ◌&&◌, Bool, true, nat_le, nat_lt, Option, Some, None, List, [], ◌∷◌}
+use Rattle.std.specs.Prelude.{◌≡◌, ℕ, ◌+◌, ◌-◌, ◌*◌, ◌≤◌, ◌&&◌, ◌||◌, zero, suc, Bool, true, false, nat_le, nat_lt, Option, Some, None, List, [], ◌∷◌}
 use Rattle.std.specs.List.{list_any}
 use Rattle.opening_hours.specs.Holidays.{HolidayLists}
 use Rattle.opening_hours.specs.Matching.{facts_of, governing}
@@ -30,3 +30,12 @@ holds at s = nat_le s.start at && nat_lt (at - s.start) s.length
 -- (day, minute) is covered: a span that began up to seven days before holds the minute
 abbrev pub IsCovered : List HoursRule → HolidayLists → ℕ → ℕ → Type 0
 IsCovered rules holidays day minute = (k : ℕ) × (k ≤ 7) × (list_any (holds (minute + 1440 * k)) (day_spans rules holidays (day - k)) ≡ true)
+
+-- whether one of the numbers below n passes
+abbrev pub any_below : (ℕ → Bool) → ℕ → Bool
+any_below p zero = false
+any_below p (suc n) = any_below p n || p n
+
+-- whether (day, minute) is covered, as a test
+unfoldable pub is_covered : List HoursRule → HolidayLists → ℕ → ℕ → Bool
+is_covered rules holidays day minute = any_below (λ k. list_any (holds (minute + 1440 * k)) (day_spans rules holidays (day - k))) 8

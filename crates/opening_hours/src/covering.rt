@@ -1,7 +1,7 @@
 // The minutes that hours cover.
 ghost use Rattle.std.specs.Prelude.{◌≡◌, ◌+◌, ◌*◌, ◌<◌, ◌≤◌, IfOk, IsTrue, ◌↔◌};
 ghost use Rattle.std.specs.List.{list_any};
-ghost use Rattle.opening_hours.specs.Coverage.{spans_of_times, day_spans, holds, IsCovered};
+ghost use Rattle.opening_hours.specs.Coverage.{spans_of_times, day_spans, holds, IsCovered, is_covered};
 
 use crate::holidays::Holidays;
 use crate::hours::Hours;
@@ -49,11 +49,13 @@ fn day_holds(rules: &[HoursRule], day: u32, at: u32, holidays: &Holidays) -> boo
 
 /// Whether the hours cover a minute of local time: a day number (days since 1970-01-01) and the minute of that day. It looks at
 /// eight days at the most, each in time linear in the rules, and takes no memory.
+#[tactic(auto, using(crate::proofs::CoverTests::one_covers, crate::proofs::CoverTests::none_covers))]
 pub fn covers(hours: &Hours, day: u32, minute: u32, holidays: &Holidays) -> bool
     requires from { 7 ≤ day }
     requires to { day ≤ 84370 }
     requires minute { minute < 1440 }
-    ensures { IsTrue result ↔ IsCovered hours.now holidays.now day minute }
+    ensures value { result ≡ is_covered hours.now holidays.now day minute }
+    ensures covered { IsTrue result ↔ IsCovered hours.now holidays.now day minute }
 {
     let rules = hours.rules();
     for k in 0..8u32 {
