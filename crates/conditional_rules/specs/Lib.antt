@@ -3,3 +3,4 @@ pub mod Cutting
 pub mod Comparisons
 pub mod Conditions
 pub mod CanonicalText
+pub mod Decisions

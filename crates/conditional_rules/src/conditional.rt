@@ -1,4 +1,6 @@
 // Conditional values as data.
+ghost use Rattle.std.specs.Prelude.{◌≡◌};
+
 use crate::access::Access;
 use opening_hours::Hours;
 use route_base::Listing;
@@ -52,4 +54,13 @@ impl Model for Conditional {
     ghost view = { λ a. a.clauses };
 
     ghost invariant = { λ a. IsParsed a.clauses };
+}
+
+impl Conditional {
+    /// The clauses, in their order.
+    pub(crate) fn clauses(&self) -> &[Clause]
+        ensures { result.now ≡ self.now }
+    {
+        self.clauses.as_slice()
+    }
 }

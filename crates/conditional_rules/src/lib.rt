@@ -3,9 +3,11 @@
 
 mod access;
 mod conditional;
+mod deciding;
 mod faults;
 mod printer;
 
-pub use access::Access;
+pub use access::{Access, lets_in};
 pub use conditional::{Clause, Comparison, Conditional, Part, Parts, Word};
+pub use deciding::decide;
 pub use faults::ConditionalFault;
