@@ -1,3 +1,4 @@
 pub mod PrintedNumbers
 pub mod PrintedComparisons
 pub mod ComparisonBytes
+pub mod LastGiven

@@ -1,7 +1,6 @@
 // Finds the clause of a conditional value that decides.
 ghost use Rattle.std.specs.Prelude.{◌≡◌, ◌<◌, ◌≤◌};
-ghost use Rattle.std.specs.List.{list_all};
-ghost use Rattle.conditional_rules.specs.Decisions.{compares, size_holds, part_holds, decision};
+ghost use Rattle.conditional_rules.specs.Decisions.{compares, size_holds, part_holds, clause_holds, decision};
 
 use crate::access::Access;
 use crate::conditional::{Clause, Comparison, Conditional, Part};
@@ -9,7 +8,7 @@ use opening_hours::{Holidays, covers};
 use vehicle_classes::Vehicle;
 
 // Whether a size compares so with a value.
-fn is_so(comparison: Comparison, size: u64, value: u64) -> bool
+fn size_compares(comparison: Comparison, size: u64, value: u64) -> bool
     ensures { result ≡ compares comparison size value }
 {
     match comparison {
@@ -27,7 +26,7 @@ fn comparison_holds(comparison: Comparison, size: Option<u64>, value: u64) -> bo
 {
     match size {
         None => false,
-        Some(size) => is_so(comparison, size, value),
+        Some(size) => size_compares(comparison, size, value),
     }
 }
 
@@ -47,9 +46,9 @@ fn holds(part: &Part, vehicle: &Vehicle, day: u32, minute: u32, holidays: &Holid
     }
 }
 
-// Whether each of the parts holds.
+// Whether each part of a clause holds.
 fn each_holds(
-    parts: &[Part],
+    clause: &Clause,
     vehicle: &Vehicle,
     day: u32,
     minute: u32,
@@ -58,16 +57,20 @@ fn each_holds(
     requires from { 7 ≤ day }
     requires to { day ≤ 84370 }
     requires minute { minute < 1440 }
-    ensures { result ≡ list_all (part_holds vehicle.now holidays.now day minute) parts.now }
+    ensures { result ≡ clause_holds vehicle.now holidays.now day minute clause.now }
 {
-    parts
+    clause
+        .parts
+        .as_slice()
         .iter()
         .all(|part| holds(part, vehicle, day, minute, holidays))
 }
 
-/// The access that the last clause gives whose condition holds, for a vehicle at a minute of local time: a day number (days since
-/// 1970-01-01) and the minute of that day; `None` exactly where no condition holds. It looks at the clauses from the last one on,
-/// in time linear in their parts, and takes no memory.
+/// The access of the last clause whose condition holds, for a vehicle at a minute of local time: a day number (days since
+/// 1970-01-01) and the minute of that day; `None` exactly where no condition holds. It tries the clauses from the last one on and
+/// stops at the first that holds, in time linear in their parts, their words, the rules of their hours and the vehicle's flags,
+/// and takes no memory.
+#[tactic(auto, using(crate::proofs::LastGiven::last_given_push))]
 pub fn decide(
     conditional: &Conditional,
     vehicle: &Vehicle,
@@ -80,10 +83,12 @@ pub fn decide(
     requires minute { minute < 1440 }
     ensures { result ≡ decision vehicle.now holidays.now day minute conditional.now }
 {
-    for clause in conditional.clauses().iter().rev() {
-        if each_holds(clause.parts.as_slice(), vehicle, day, minute, holidays) {
+    let mut rest = conditional.clauses();
+    while let Some((clause, before)) = rest.split_last() {
+        if each_holds(clause, vehicle, day, minute, holidays) {
             return Some(clause.access);
         }
+        rest = before;
     }
     None
 }
