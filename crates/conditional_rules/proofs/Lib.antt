@@ -15,3 +15,4 @@ pub mod PartsAgain
 pub mod Joined
 pub mod CanonicalReading
 pub mod OneReading
+pub mod LastGiven

@@ -1,6 +1,9 @@
 // Access: whether a road lets a vehicle in.
 ghost use Rattle.std.specs.Prelude.{◌≡◌};
 ghost use Rattle.conditional_rules.specs.Accesses.{is_among, free_words, barred_words, purpose_words, access_of};
+ghost use Rattle.conditional_rules.specs.Accesses.{lets_purpose_in};
+
+use vehicle_classes::{Purpose, Vehicle};
 
 /// Whether a road lets a vehicle in: every vehicle, none, or those alone whose purpose is delivery.
 #[derive(Clone, Copy, Debug, PartialEq, Eq)]
@@ -52,5 +55,16 @@ pub fn read_value(bytes: &[u8]) -> Option<Access>
         Some(Access::Purpose)
     } else {
         None
+    }
+}
+
+/// Whether the access lets the vehicle in. In constant time.
+pub fn lets_in(access: Access, vehicle: &Vehicle) -> bool
+    ensures { result ≡ lets_purpose_in access vehicle.now.purpose }
+{
+    match access {
+        Access::Free => true,
+        Access::Barred => false,
+        Access::Purpose => vehicle.purpose() == Purpose::Delivery,
     }
 }

@@ -19,14 +19,16 @@ mod access;
 mod comparisons;
 mod conditional;
 mod cutting;
+mod deciding;
 mod faults;
 mod laws;
 mod parser;
 mod parts;
 mod printer;
 
-pub use access::{Access, read_value};
+pub use access::{Access, lets_in, read_value};
 pub use conditional::{Clause, Comparison, Conditional, Part, Parts, Word, parse};
+pub use deciding::decide;
 pub use faults::ConditionalFault;
 pub use laws::{canonical_reading, one_reading};
 pub use printer::print;

@@ -1,0 +1,4 @@
+pub mod Classes
+pub mod VehicleModel
+pub mod VehicleParts
+pub mod Vehicles
