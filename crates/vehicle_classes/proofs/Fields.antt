@@ -1,5 +1,5 @@
 -- The ten fields of a row by their places.
-use Rattle.std.proofs.Common.{◌≡◌, ℕ, zero, suc, Some, None, List, [], ◌∷◌, length, drop, arith}
+use Rattle.std.proofs.Common.{◌≡◌, ℕ, zero, suc, Some, List, [], ◌∷◌, length, drop, arith}
 use Rattle.std.specs.Prelude.{slice_get}
 
 -- the next field, and what is behind it

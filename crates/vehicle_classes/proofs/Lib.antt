@@ -1,3 +1,4 @@
 mod Fields
 mod Named
 mod VehicleRows
+mod CopiedWords

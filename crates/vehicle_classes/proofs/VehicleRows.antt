@@ -1,23 +1,22 @@
 -- A row of the table, field by field, and the vehicles after one row more.
-use Rattle.std.proofs.Common.{◌≡◌, ℕ, ◌||◌, Bool, true, cond, Option, Some, None, List, [], ◌∷◌, ◌++◌, map, refl, sym, ◌∙◌, ap}
+use Rattle.std.proofs.Common.{◌≡◌, ℕ, ◌||◌, Bool, cond, Result, Ok, Err, IfErr, Some, None, List, [], ◌∷◌, ◌++◌, map, refl, sym, ◌∙◌, ap}
 use Rattle.std.specs.Prelude.{codes}
 use Rattle.std.specs.List.{list_any, zip}
-use Rattle.std.specs.Option.{option_map, option_and_then, is_some}
+use Rattle.std.specs.Option.{is_some}
 use Rattle.std.specs.Str.{bytes_eq}
 use Rattle.std.proofs.lemmas.List.{map-append}
 use Rattle.std.proofs.lemmas.Map.Made.{is_some-lookup}
-use Rattle.route_base.specs.Forms.{is_name}
 use Rattle.route_base.specs.declared.faults.Cause.{Cause}
 use Rattle.route_base.specs.declared.faults.Cause.TheVariants.{Duplicate}
+use Rattle.table_reader.specs.declared.faults.RowFault.{RowFault}
+use Rattle.table_reader.specs.declared.faults.RowFault.TheVariants as row
+use Rattle.table_reader.specs.Refusals.{IfBadCause}
 use Rattle.table_reader.specs.NameIndex.{names_of, value_of}
 use Rattle.table_reader.specs.Records.{Record}
 use Rattle.table_reader.proofs.Lists.{filter_map-push}
-use Rattle.vehicle_classes.specs.declared.classes.Class.{Class}
-use Rattle.vehicle_classes.specs.declared.classes.Purpose.{Purpose}
-use Rattle.vehicle_classes.specs.declared.vehicle.Sizes.{Sizes}
 use Rattle.vehicle_classes.specs.VehicleModel.{VehicleModel, any_vehicle}
-use Rattle.vehicle_classes.specs.VehicleParts.{vehicle_with, NamedVehicles, HoldVehicles}
-use Rattle.vehicle_classes.specs.Vehicles.{VehicleEntry, class_of, purpose_of, sizes_in, flags_of, vehicle_of, vehicles_in, cause_of_vehicle}
+use Rattle.vehicle_classes.specs.VehicleParts.{NamedVehicles, HoldVehicles}
+use Rattle.vehicle_classes.specs.Vehicles.{VehicleEntry, vehicle_of, vehicles_in, cause_of_vehicle}
 use Rattle.vehicle_classes.proofs.Named.{zip_parts}
 
 -- whether one passes, in elements that are seen through a function
@@ -30,6 +29,13 @@ pub vehicles_push : (before : List Record) (row : Record) (v : VehicleEntry) →
     → vehicles_in before ++ v ∷ [] ≡ vehicles_in (before ++ row ∷ [])
 vehicles_push before row v e = ap (λ (vs : List VehicleEntry). (codes "any", any_vehicle) ∷ vs) (sym (filter_map-push vehicle_of before row v e))
 
+-- a cause that is refused, under a weaker claim
+pub refused_weaker : {T : Type 0} (r : Result T RowFault) (P Q : Cause → Type 0) → ((cause : Cause) → P cause → Q cause)
+    → IfErr r (λ e. IfBadCause e P) → IfErr r (λ e. IfBadCause e Q)
+refused_weaker (Ok x) P Q weaker refused = tt
+refused_weaker (Err (row.Bad cause)) P Q weaker refused = weaker cause refused
+refused_weaker (Err row.OutOfMemory) P Q weaker refused = tt
+
 module _ (held : NamedVehicles) (pairs : List VehicleEntry) (hold : HoldVehicles held pairs) where
   -- why a row can't follow
   pub cause_held : {V : Type 0} (names : List (List ℕ × V)) (v : VehicleEntry) (b : Bool) → names_of names ≡ held.names
@@ -40,12 +46,20 @@ module _ (held : NamedVehicles) (pairs : List VehicleEntry) (hold : HoldVehicles
       ∙ sym (is_some-lookup (bytes_eq v.0) names) ∙ taken in
       rw same refl
 
-  pub HoldVehicles-more : (v : VehicleEntry) → HoldVehicles (record { names = held.names ++ v.0 ∷ []; vehicles = held.vehicles ++ v.1 ∷ [] }) (pairs ++ v ∷ [])
-  HoldVehicles-more v = record {
-    names = ap (λ (ns : List (List ℕ)). ns ++ v.0 ∷ []) hold.names ∙ sym (map-append (λ (p : VehicleEntry). p.0) pairs (v ∷ []));
-    vehicles = ap (λ (vs : List VehicleModel). vs ++ v.1 ∷ []) hold.vehicles ∙ sym (map-append (λ (p : VehicleEntry). p.1) pairs (v ∷ []));
+  -- with a name and a vehicle more
+  pub hold_more : {V : Type 0} (names after : List (List ℕ × V)) (now : List VehicleModel) (v : VehicleEntry) (u : V) → names_of names ≡ held.names
+      → after ≡ names ++ (v.0, u) ∷ [] → now ≡ held.vehicles ++ v.1 ∷ [] → HoldVehicles (record { names = names_of after; vehicles = now }) (pairs ++ v ∷ [])
+  hold_more {V} names after now v u is more added = record {
+    names =
+        ap (λ (es : List (List ℕ × V)). names_of es) more ∙ map-append (λ (e : List ℕ × V). e.0) names ((v.0, u) ∷ [])
+        ∙ ap (λ (ns : List (List ℕ)). ns ++ v.0 ∷ []) (is ∙ hold.names) ∙ sym (map-append (λ (p : VehicleEntry). p.0) pairs (v ∷ []));
+    vehicles =
+        added ∙ ap (λ (vs : List VehicleModel). vs ++ v.1 ∷ []) hold.vehicles
+        ∙ sym (map-append (λ (p : VehicleEntry). p.1) pairs (v ∷ []));
   }
 
   -- the names beside the vehicles
   pub zipped : zip held.names held.vehicles ≡ pairs
-  zipped = ap (λ (ns : List (List ℕ)). zip ns held.vehicles) hold.names ∙ ap (λ (vs : List VehicleModel). zip (names_of pairs) vs) hold.vehicles ∙ zip_parts pairs
+  zipped =
+      ap (λ (ns : List (List ℕ)). zip ns held.vehicles) hold.names ∙ ap (λ (vs : List VehicleModel). zip (names_of pairs) vs) hold.vehicles
+      ∙ zip_parts pairs

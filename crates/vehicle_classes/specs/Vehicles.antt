@@ -1,5 +1,5 @@
 -- vehicles.csv: vehicles by name (source: own).
-use Rattle.std.specs.Prelude.{ℕ, ◌+◌, ◌==◌, ◌&&◌, ◌||◌, not, nat_lt, Bool, true, false, is_some, Option, Some, None, List, [], ◌∷◌, length}
+use Rattle.std.specs.Prelude.{ℕ, ◌==◌, ◌||◌, not, nat_lt, Bool, false, is_some, Option, Some, None, List, [], ◌∷◌, length}
 use Rattle.std.specs.Prelude.{codes, bytes_eq, filter, slice_index, if◌then◌else◌}
 use Rattle.std.specs.List.{filter_map, list_all, slice_split}
 use Rattle.std.specs.Option.{option_map, option_and_then}

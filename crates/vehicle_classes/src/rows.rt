@@ -158,9 +158,9 @@ fn ten_fields(row: &ByteRecord) -> RowFields<'_>
 
 // The sizes that six fields of a row give.
 fn read_sizes(row: &RowFields<'_>) -> Option<Sizes>
-    ensures value { result ≡ sizes_in row.now.weight_kg.now row.now.axleload_kg.now row.now.height_cm.now
-        row.now.width_cm.now row.now.length_cm.now row.now.axles.now }
-    ensures small { IfSome result (λ sizes. AreSmall sizes) }
+    ensures value { result ≡ sizes_in row.now.weight_kg.now row.now.axleload_kg.now
+        row.now.height_cm.now row.now.width_cm.now row.now.length_cm.now row.now.axles.now }
+    ensures small { IfSome result AreSmall }
 {
     Some(Sizes {
         weight_kg: read_size(row.weight_kg)?,

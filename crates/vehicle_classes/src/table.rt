@@ -17,8 +17,8 @@ use std::alloc::Global;
 use std::marker::Model;
 use table_reader::{NameIndex, RowFault, Table, read_table};
 
-/// Vehicles by name, numbered from 0: `any`, and those of the table's rows in their order. Contracts see a list of pairs of a
-/// name and a vehicle.
+/// Vehicles by name, numbered from 0: `any`, and those of the table's rows in their order. Contracts see a list of pairs of
+/// a name and a vehicle.
 #[derive(Drop)]
 pub struct Vehicles {
     names: NameIndex<()>,

@@ -89,7 +89,8 @@ impl Vehicle {
         self.purpose
     }
 
-    /// A size in kilograms, centimetres or a count, at most 1,000,000; `None` exactly where it isn't known. In constant time.
+    /// A size in kilograms, centimetres or a count, at most 1,000,000; `None` exactly where it isn't known. In constant
+    /// time.
     pub fn size(&self, q: Quantity) -> Option<u64>
         ensures value { result ≡ size_of self.now q }
         ensures small { IfSome result (λ n. n ≤ LARGEST_SIZE) }

@@ -1,4 +1,4 @@
-use Rattle.std.proofs.Common.{◌≡◌, List, ℕ, Bor, map, take, filter, nat_lt, length}
+use Rattle.std.proofs.Common.{◌≡◌, map, take, filter, nat_lt, length}
 use Rattle.vehicle_classes.proofs.rows.copied_words.Given as goal
 
 abbrev pub invariant-loop-piece : goal.invariant-loop-piece

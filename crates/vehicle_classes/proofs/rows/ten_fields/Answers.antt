@@ -1,4 +1,3 @@
-use Rattle.std.proofs.Common.{◌≡◌}
 use Rattle.csv.specs.Records.{fields_of}
 use Rattle.vehicle_classes.proofs.Fields.{next, none_left}
 use Rattle.vehicle_classes.proofs.rows.ten_fields.Goals as goal

@@ -1,4 +1,4 @@
-use Rattle.std.proofs.Common.{◌≡◌, ap, ◌∙◌}
+use Rattle.std.proofs.Common.{ap, ◌∙◌}
 use Rattle.std.specs.List.{zip}
 use Rattle.table_reader.specs.Records.{rows_of}
 use Rattle.vehicle_classes.specs.VehicleParts.{NamedVehicles}

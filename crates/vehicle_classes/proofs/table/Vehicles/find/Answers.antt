@@ -1,4 +1,4 @@
-use Rattle.std.proofs.Common.{◌≡◌, ◌<◌, ℕ, List, IfSome, ap, sym, ◌∙◌, subst, length}
+use Rattle.std.proofs.Common.{◌<◌, ℕ, List, IfSome, ap, sym, ◌∙◌, subst}
 use Rattle.std.proofs.lemmas.List.{length-map}
 use Rattle.table_reader.specs.NameIndex.{names_of, place_among}
 use Rattle.vehicle_classes.proofs.Named.{names_seen, as_many}
