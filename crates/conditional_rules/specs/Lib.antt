@@ -4,3 +4,4 @@ pub mod Comparisons
 pub mod Conditions
 pub mod CanonicalText
 pub mod Inside
+pub mod Reading

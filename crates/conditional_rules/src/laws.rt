@@ -1,9 +1,16 @@
 // Laws of conditional values that need no call.
-ghost use Rattle.std.specs.Prelude.{◌≡◌, ℕ, List};
+ghost use Rattle.std.specs.Prelude.{◌≡◌, ◌↔◌, ℕ, Some, List};
 ghost use Rattle.conditional_rules.specs.declared.conditional.Clause.{Clause};
 ghost use Rattle.conditional_rules.specs.Conditions.{IsConditional};
+ghost use Rattle.conditional_rules.specs.Reading.{conditional_of};
 
 /// The law that a text has at most one list of clauses. The call does nothing.
 pub fn one_reading()
     ensures { (text : List ℕ) (a b : List Clause) → IsConditional text a → IsConditional text b → a ≡ b }
+{}
+
+/// The law that the function `conditional_of` gives exactly the clauses that a text has. The call does nothing.
+pub fn computed_reading()
+    ensures { (text : List ℕ) (clauses : List Clause)
+        → (conditional_of text ≡ Some clauses) ↔ IsConditional text clauses }
 {}
