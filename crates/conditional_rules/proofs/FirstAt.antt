@@ -1,6 +1,6 @@
 -- A text that is cut at its first @.
 use Rattle.std.proofs.Common.{◌≡◌, ℕ, suc, ◌+◌, ◌-◌, ◌≤◌, Bool, true, false, cond, not, ltb, List, [], ◌∷◌, ◌++◌, length, take, drop, Some, None, refl, sym}
-use Rattle.std.proofs.Common.{subst, arith, length-drop}
+use Rattle.std.proofs.Common.{ap, subst, ◌∙◌, arith, length-drop}
 use Rattle.std.specs.Prelude.{◌==◌, ◌||◌}
 use Rattle.std.specs.List.{position, position_or_len}
 use Rattle.std.proofs.lemmas.Bool.{ltb-true, ltb-false, eqb-true}
@@ -9,7 +9,7 @@ use Rattle.std.proofs.lemmas.List.{take_all}
 use Rattle.std.proofs.lemmas.List.Sums.{split_at_first, passes_at_first}
 use Rattle.conditional_rules.specs.Conditions.{has_at}
 
-abbrev is_at : ℕ → Bool
+abbrev pub is_at : ℕ → Bool
 is_at b = b == 64
 
 neither : (v w : Bool) → v ≡ false → w ≡ false → (v || w) ≡ false
@@ -37,6 +37,12 @@ at_parts bs i e =
     (omega (arith, length-drop (i + 1) bs)) in
     rw whole (rw w.1 at (rw mark at (split_at_first is_at bs 0 within)))
 
+pub at_whole : (bs : List ℕ) (i : ℕ) → Some i ≡ position is_at bs → bs ≡ take i bs ++ 64 ∷ drop (i + 1) bs
+at_whole bs i e =
+    let all : take (length bs - (i + 1)) (drop (i + 1) bs) ≡ drop (i + 1) bs = take_all (length bs - (i + 1)) (drop (i + 1) bs)
+    (omega (arith, length-drop (i + 1) bs)) in
+    at_parts bs i e ∙ ap (λ (r : List ℕ). take i bs ++ 64 ∷ r) all
+
 pub at_before : (bs : List ℕ) (i : ℕ) → Some i ≡ position is_at bs → has_at (take i bs) ≡ false
 at_before bs i e =
     let w = cond_some (ltb (position_or_len is_at bs) (length bs)) (position_or_len is_at bs) i (sym e) in
@@ -49,6 +55,14 @@ pub no_at : (bs : List ℕ) → None ≡ position is_at bs → has_at bs ≡ fal
 no_at bs e =
     let far : length bs ≤ position_or_len is_at bs = found_within (position_or_len is_at bs) (length bs) (position_or_len is_at bs) (sym e) in
     rw (take_all (position_or_len is_at bs) bs far) at (none_before bs)
+
+pub some_at : (a b : List ℕ) → has_at (a ++ 64 ∷ b) ≡ true
+some_at [] b = refl
+some_at (x ∷ a) b = or_later (x == 64) (some_at a b)
+  where
+    or_later : {w : Bool} (v : Bool) → w ≡ true → (v || w) ≡ true
+    or_later true e = refl
+    or_later false e = e
 
 -- a text is cut at its first @ in one way
 pub one_cut : (a b c d : List ℕ) → has_at a ≡ false → has_at c ≡ false → a ++ 64 ∷ b ≡ c ++ 64 ∷ d → (a ≡ c) × (b ≡ d)

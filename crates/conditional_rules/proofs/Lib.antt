@@ -2,6 +2,7 @@ pub mod Runs
 pub mod ReadComparisons
 pub mod OnePart
 mod Clauses
+mod ComputedClauses
 mod CutLists
 mod FirstAt
 mod Parentheses

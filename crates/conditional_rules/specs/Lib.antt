@@ -5,3 +5,4 @@ pub mod Conditions
 pub mod CanonicalText
 pub mod Inside
 pub mod Decisions
+pub mod Reading

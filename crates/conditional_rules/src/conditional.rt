@@ -1,8 +1,9 @@
 // Conditional values as data, and the reading of their texts.
-ghost use Rattle.std.specs.Prelude.{◌≡◌, ◌≤◌, List, IfOk, length, option_map, slice_get};
+ghost use Rattle.std.specs.Prelude.{◌≡◌, ◌≤◌, List, Some, None, IfOk, length, option_map, slice_get};
 ghost use Rattle.std.specs.Result.{IsErrOf};
 ghost use Rattle.conditional_rules.specs.declared.conditional.Clause.{Clause as ClauseOf};
 ghost use Rattle.conditional_rules.specs.Conditions.{IsConditional, IsParsed};
+ghost use Rattle.conditional_rules.specs.Reading.{conditional_of};
 
 use crate::access::Access;
 use crate::faults::ConditionalFault;
@@ -89,6 +90,7 @@ impl Conditional {
 }
 
 /// The clauses of a text of a conditional value. Linear in the text's length, in time and memory.
+#[tactic(auto, using(crate::proofs::ComputedClauses::clauses_computed, crate::proofs::ComputedClauses::nothing_computed))]
 pub fn parse(alloc: Global, text: &[u8]) -> Result<Conditional, ConditionalFault>
     // The text has these clauses.
     ensures found { IfOk result (λ conditional. IsConditional text.now conditional) }
@@ -98,6 +100,10 @@ pub fn parse(alloc: Global, text: &[u8]) -> Result<Conditional, ConditionalFault
     // A text that is refused has none.
     ensures none { IsErrOf result ConditionalFault.NotConditional
         → (clauses : List ClauseOf) → IsConditional text.now clauses → ⊥ }
+    // The function on lists gives these clauses.
+    ensures value { IfOk result (λ clauses. conditional_of text.now ≡ Some clauses) }
+    // It gives nothing for a text that is refused.
+    ensures unread { IsErrOf result ConditionalFault.NotConditional → conditional_of text.now ≡ None }
 {
     let clauses = read_clauses(alloc, text)?;
     Ok(Conditional { clauses })

@@ -10,7 +10,8 @@
 //!
 //! The law is in `specs/`. `Accesses` gives the access of each value, `Cutting` says how a text is cut at its marks,
 //! `Comparisons` which texts compare a size, and `Conditions` puts them together as `IsConditional`, one case for each form:
-//! `parse` meets it, and no text has two lists of clauses (`one_reading`). `CanonicalText` is the canonical text, met by
+//! `parse` meets it, and no text has two lists of clauses (`one_reading`). `Reading` is the same as a function, `conditional_of`:
+//! it gives exactly the clauses that a text has (`computed_reading`). `CanonicalText` is the canonical text, met by
 //! `print`: it is read as the same clauses (`canonical_reading`). `Decisions` says which clause decides, and `decide` meets
 //! it: the last clause whose parts all hold for the vehicle at a minute, where a size that isn't known compares with no value.
 #![tactic(auto)]
@@ -30,7 +31,7 @@ pub use access::{Access, lets_in, read_value};
 pub use conditional::{Clause, Comparison, Conditional, Part, Parts, Word, parse};
 pub use deciding::decide;
 pub use faults::ConditionalFault;
-pub use laws::{canonical_reading, one_reading};
+pub use laws::{canonical_reading, computed_reading, one_reading};
 pub use printer::print;
 
 #[cfg(test)]
