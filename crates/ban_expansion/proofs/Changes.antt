@@ -1,5 +1,5 @@
--- The row of a zone that counts, as rows are passed over.
-use Rattle.std.proofs.Common.{◌≡◌, ℕ, ◌≤◌, ◌<◌, ◌&&◌, ◌||◌, ⊎_elim, pos, ◌+ℤ◌, unsigned_abs, true, false, leb, ltb, max}
+-- The row of a zone that is in force, as rows are passed over.
+use Rattle.std.proofs.Common.{◌≡◌, ℕ, ◌≤◌, ◌<◌, ◌&&◌, ◌||◌, ⊎_elim, pos, ◌+ℤ◌, unsigned_abs, true, false, leb, ltb}
 use Rattle.std.proofs.Common.{Some, List, [], ◌∷◌, zero, suc, length, get_or, All, AllPairs, refl, ap, map, arith}
 use Rattle.std.specs.List.{last_or}
 use Rattle.std.proofs.lemmas.Bool.{lt-leb, le-leb, cases_Bool}
@@ -41,7 +41,7 @@ pub rows_tail : (row : ZoneRow) (rows : List ZoneRow) → AllPairs (λ p q. p.st
     → AllPairs (λ p q. p.start < q.start) rows
 rows_tail row rows rise = λ i j d lt within. rise (suc i) (suc j) d (omega (arith, lt)) (omega (arith, within))
 
--- what is before the first start is before each
+-- a minute before the first start is before each
 pub before_starts : (rows : List ZoneRow) (t : ℕ) → AllPairs (λ p q. p.start < q.start) rows
     → ((d : ZoneRow) → 0 < length rows → t < (get_or rows 0 d).start) → All (λ q. t < q.start) rows
 before_starts rows t rise first zero d within = first d within
@@ -54,10 +54,6 @@ covered_by rules holidays rows row t is = rw is refl
 -- minutes up to one, and on to a later one
 pub both_parts : (lo from to t : ℕ) → lo ≤ from → from ≤ to → ((leb lo t && ltb t from) || (leb from t && ltb t to)) ≡ (leb lo t && ltb t to)
 both_parts lo from to t a b = grind (arith, nat_tests)
-
--- minutes up to the end of a window that may be empty
-pub whole_window : (lo hi end t : ℕ) → end ≤ max lo hi → hi ≤ end → (leb lo t && ltb t end) ≡ (leb lo t && ltb t hi)
-whole_window lo hi end t a b = grind (arith, nat_tests)
 
 pub no_minutes : (lo t : ℕ) → (leb lo t && ltb t lo) ≡ false
 no_minutes lo t = grind (arith, nat_tests)

@@ -1,4 +1,4 @@
--- The last that gives something, of parts one after another.
+-- The last item that gives a value, in lists one after another.
 use Rattle.std.proofs.Common.{◌≡◌, Option, Some, None, List, [], ◌∷◌, ◌++◌, refl, sym, ◌∙◌, ap}
 use Rattle.std.specs.Option.{option_or}
 use Rattle.ban_expansion.specs.Layers.{last_given, all_parts}

@@ -6,12 +6,12 @@ use Rattle.route_base.specs.Runs.{any_has}
 use Rattle.route_base.specs.declared.types.Run.{Run}
 use Rattle.ban_expansion.specs.declared.layers.Layer.{Layer}
 
--- what the last of them that gives something gives
+-- the value of the last item that gives one
 abbrev pub last_given : {P A : Type 0} → (P → Option A) → List P → Option A
 last_given f [] = None
 last_given f (x ∷ xs) = option_or (last_given f xs) (f x)
 
--- whether the layer bars at the minute, where it has it
+-- a layer says whether it bars at a minute that it has, and nothing at any other
 abbrev pub layer_at : ℕ → Layer → Option Bool
 layer_at t l = if any_has l.minutes t then Some l.bars else None
 

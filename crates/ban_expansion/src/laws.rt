@@ -12,7 +12,7 @@ pub fn covered_exactly()
         IsTrue (is_covered rules holidays day minute) ↔ IsCovered rules holidays day minute }
 {}
 
-/// The law that the last part that gives something, of the last place with such a part, is the last one in the list of the parts
+/// The law that the last part that gives a value, of the last place with such a part, is the last one in the list of the parts
 /// of all places. The call does nothing.
 pub fn last_of_all<P, Q, A>()
     ensures { (parts : P → List Q) (f : Q → Option A) (places : List P) →

@@ -1,11 +1,11 @@
--- Which minutes a combination of two sets has (source: own).
+-- The minutes that a combination of two sets keeps (source: own).
 use Rattle.std.specs.Prelude.{◌≡◌, ◌&&◌, ◌||◌, not, ℕ, ◌<◌, ◌≤◌, Bool, false, List, All}
 use Rattle.route_base.specs.Runs.{any_has}
 use Rattle.route_base.specs.declared.types.Run.{Run}
 use Rattle.minute_sets.specs.declared.sweep.Combination.{Combination}
 use Rattle.minute_sets.specs.declared.sweep.Combination.TheVariants.{Either, Both, OnlyFirst}
 
--- whether a minute is kept that is in the first set or not, and in the second or not
+-- a minute is kept or not, by whether it is in the first set and in the second
 abbrev pub keeps : Combination → Bool → Bool → Bool
 keeps Either a b = a || b
 keeps Both a b = a && b

@@ -8,7 +8,7 @@ use crate::minute_set::MinuteSet;
 use route_base::{Minute, OutOfMemory, Run};
 use std::alloc::Global;
 
-// Which minutes of two sets are kept.
+// The minutes of two sets that are kept.
 #[derive(Clone, Copy)]
 pub enum Combination {
     Either,
