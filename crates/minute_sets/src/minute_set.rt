@@ -1,9 +1,12 @@
 // Sets of minutes.
-ghost use Rattle.std.specs.Prelude.{◌≡◌, ℕ, List, IfOk};
-ghost use Rattle.route_base.specs.Runs.{any_has, AreRuns};
+ghost use Rattle.std.specs.Prelude.{◌≡◌, ◌≤◌, ◌||◌, ◌&&◌, ◌↔◌, IsTrue, not, ℕ, List, [], All, OnOk, IfOk};
+ghost use Rattle.route_base.specs.Runs.{any_has, has_minute, AreRuns};
+ghost use Rattle.minute_sets.specs.Entries.{IsEntry};
 ghost use Rattle.route_base.specs.declared.types.Run.{Run};
 
-use crate::merge::merged;
+use crate::entries::entries_of;
+use crate::merge::{add, merged};
+use crate::sweep::{Combination, combined};
 use route_base::{Minute, OutOfMemory, Run, is_free};
 use std::alloc::Global;
 use std::marker::Model;
@@ -34,6 +37,89 @@ impl MinuteSet {
         Ok(MinuteSet {
             held: merged(alloc, &sorted)?,
         })
+    }
+
+    /// The set without a minute. No memory.
+    pub fn empty(alloc: Global) -> MinuteSet
+        ensures { result ≡ [] }
+    {
+        MinuteSet {
+            held: Vec::new(alloc),
+        }
+    }
+
+    /// The minutes of the window, which may be empty (`hi <= lo`). Constant time; memory for one run.
+    pub fn whole(alloc: Global, window: Run) -> Result<MinuteSet, OutOfMemory>
+        ensures minutes { IfOk result (λ set. (t : ℕ) → any_has set t ≡ has_minute t window) }
+        ensures runs { IfOk result AreRuns }
+    {
+        let mut set = MinuteSet::empty(alloc);
+        set.append(window)?;
+        Ok(set)
+    }
+
+    /// Adds the minutes of a run that begins where the last run of the set does or later; an empty run adds none. Constant time
+    /// on average. Out of memory leaves a set.
+    pub fn append(&mut self, run: Run) -> Result<(), OutOfMemory>
+        requires later { All (λ r. r.lo ≤ run.lo) self.old }
+        ensures minutes { OnOk result ((t : ℕ) →
+            any_has self.new t ≡ (any_has self.old t || has_minute t run)) }
+        ensures runs { AreRuns self.new }
+        ensures begins { OnOk result (All (λ r. r.lo ≤ run.lo) self.new) }
+    {
+        add(&mut self.held, run)
+    }
+
+    /// The minutes of either set. Linear in the number of runs of both, in time and memory.
+    pub fn union(&self, alloc: Global, other: &MinuteSet) -> Result<MinuteSet, OutOfMemory>
+        ensures minutes { IfOk result (λ set. (t : ℕ) →
+            any_has set t ≡ (any_has self.now t || any_has other.now t)) }
+        ensures runs { IfOk result AreRuns }
+    {
+        combined(alloc, &self.held, &other.held, Combination::Either)
+    }
+
+    /// The minutes of both sets. Linear in the number of runs of both, in time and memory.
+    pub fn intersection(&self, alloc: Global, other: &MinuteSet) -> Result<MinuteSet, OutOfMemory>
+        ensures minutes { IfOk result (λ set. (t : ℕ) →
+            any_has set t ≡ (any_has self.now t && any_has other.now t)) }
+        ensures runs { IfOk result AreRuns }
+    {
+        combined(alloc, &self.held, &other.held, Combination::Both)
+    }
+
+    /// The minutes of this set that the other does not have. Linear in the number of runs of both, in time and memory.
+    pub fn minus(&self, alloc: Global, other: &MinuteSet) -> Result<MinuteSet, OutOfMemory>
+        ensures minutes { IfOk result (λ set. (t : ℕ) →
+            any_has set t ≡ (any_has self.now t && not (any_has other.now t))) }
+        ensures runs { IfOk result AreRuns }
+    {
+        combined(alloc, &self.held, &other.held, Combination::OnlyFirst)
+    }
+
+    /// The minutes of the window that the set does not have. Linear in the number of runs, in time and memory.
+    pub fn complement(&self, alloc: Global, window: Run) -> Result<MinuteSet, OutOfMemory>
+        ensures minutes { IfOk result (λ set. (t : ℕ) →
+            any_has set t ≡ (has_minute t window && not (any_has self.now t))) }
+        ensures runs { IfOk result AreRuns }
+    {
+        entries_of(alloc, &self.held, window, 1)
+    }
+
+    /// The minutes from which on a stay of `minutes` minutes is within the window and avoids the set. Linear in the number of
+    /// runs, in time and memory.
+    pub fn entries(
+        &self,
+        alloc: Global,
+        window: Run,
+        minutes: u64,
+    ) -> Result<MinuteSet, OutOfMemory>
+        requires { 1 ≤ minutes }
+        ensures minutes { IfOk result (λ set. (t : ℕ) →
+            IsTrue (any_has set t) ↔ IsEntry self.now window minutes t) }
+        ensures runs { IfOk result AreRuns }
+    {
+        entries_of(alloc, &self.held, window, minutes)
     }
 
     /// Whether the set has the minute. Logarithmic in the number of runs; no memory.
@@ -79,6 +165,38 @@ mod tests {
         assert!(rt; !set.contains(30));
         assert!(rt; !set.contains(u64::MAX));
         assert_eq!(rt; set.into_runs().len(), 2);
+        Ok(())
+    }
+
+    #[test]
+    fn combines_sets(rt: HostRuntime) -> Result<(), Fail> {
+        let alloc = rt.alloc();
+        let runs = [
+            Run { lo: 10, hi: 20 },
+            Run { lo: 15, hi: 30 },
+            Run { lo: 40, hi: 50 },
+        ];
+        let set = MinuteSet::from_runs(alloc, &runs)?;
+        let window = Run { lo: 0, hi: 60 };
+        let gaps = set.complement(alloc, window)?;
+        let gap_runs = [
+            Run { lo: 0, hi: 10 },
+            Run { lo: 30, hi: 40 },
+            Run { lo: 50, hi: 60 },
+        ];
+        assert!(rt; gaps.runs() == gap_runs.as_slice());
+        let entries = set.entries(alloc, window, 10)?;
+        let entry_runs = [
+            Run { lo: 0, hi: 1 },
+            Run { lo: 30, hi: 31 },
+            Run { lo: 50, hi: 51 },
+        ];
+        assert!(rt; entries.runs() == entry_runs.as_slice());
+        let between = MinuteSet::whole(alloc, Run { lo: 30, hi: 40 })?;
+        let joined = set.union(alloc, &between)?;
+        assert!(rt; joined.runs() == [Run { lo: 10, hi: 50 }].as_slice());
+        assert!(rt; joined.intersection(alloc, &gaps)?.runs() == between.runs());
+        assert!(rt; joined.minus(alloc, &between)?.runs() == set.runs());
         Ok(())
     }
 }

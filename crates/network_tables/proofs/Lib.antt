@@ -6,6 +6,7 @@ pub mod DayLists
 pub mod FirstFaults
 pub mod NetLists
 pub mod RoadRows
+pub mod RuleRows
 mod Rows
 mod WorkedZones
 pub mod SmallWeights

@@ -6,7 +6,9 @@ use Rattle.std.proofs.lemmas.Option.{unwrap_or-slice_get}
 use Rattle.route_base.specs.Net.{at_number}
 use Rattle.route_base.specs.declared.types.Run.{Run}
 use Rattle.dimacs_reader.specs.GraphModel.{GraphModel}
+use Rattle.vehicle_classes.specs.Vehicles.{VehicleEntry}
 use Rattle.network_tables.specs.NetworkModel.{Area, NetworkModel}
+use Rattle.network_tables.specs.RuleLists.{RuleList}
 
 pub at_number-get : {A : Type 0} (xs : List A) (a : ℕ) → 1 ≤ a → at_number xs a ≡ slice_get xs (a - 1)
 at_number-get xs zero h = absurd (omega (arith, h))
@@ -23,8 +25,14 @@ list_at items vs a v low high is =
     ∙ ap items (sym is)
 
 -- networks with the same parts
-pub same_network : {g h : GraphModel} {areas areas2 : List Area} {roads roads2 : List ℕ} {closures closures2 : List
-    (List Run)} {weights weights2 : List (Option ℕ)} → g ≡ h → areas ≡ areas2 → roads ≡ roads2 → closures ≡ closures2 → weights ≡ weights2
-    → ◌≡◌ {A = NetworkModel} (record { graph = g; areas = areas; roads = roads; closures = closures; weights = weights })
-    (record { graph = h; areas = areas2; roads = roads2; closures = closures2; weights = weights2 })
-same_network p q r s t = λ i. record { graph = p i; areas = q i; roads = r i; closures = s i; weights = t i }
+pub same_network : {g h : GraphModel} {areas areas2 : List Area} {roads roads2 : List ℕ} {vehicles vehicles2 : List VehicleEntry}
+    {rules rules2 : RuleList} {closures closures2 : List (List Run)} {weights weights2 : List (Option ℕ)}
+    → g ≡ h → areas ≡ areas2 → roads ≡ roads2 → vehicles ≡ vehicles2 → rules ≡ rules2 → closures ≡ closures2 → weights ≡ weights2
+    → ◌≡◌ {A = NetworkModel} (record { graph = g; areas = areas; roads = roads; vehicles = vehicles; rules = rules.rules;
+        passed_over = rules.passed_over; closures = closures; weights = weights })
+    (record { graph = h; areas = areas2; roads = roads2; vehicles = vehicles2; rules = rules2.rules; passed_over = rules2.passed_over;
+        closures = closures2; weights = weights2 })
+same_network p q r v u s t = λ i. record {
+  graph = p i; areas = q i; roads = r i; vehicles = v i; rules = (u i).rules; passed_over = (u i).passed_over;
+  closures = s i; weights = t i;
+}

@@ -13,3 +13,5 @@ pub mod RoadSetting
 pub mod Roads
 pub mod Words
 pub mod Zones
+pub mod Rules
+pub mod RuleLists

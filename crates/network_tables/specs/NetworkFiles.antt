@@ -19,6 +19,9 @@ use Rattle.network_tables.specs.Holidays.{HolidayEntry, holidays_schema, holiday
 use Rattle.network_tables.specs.NetworkModel.{Area, NetworkModel}
 use Rattle.network_tables.specs.Parking.{parking_schema, weights_by_node}
 use Rattle.network_tables.specs.Ratings.{Rating, ratings_schema, ratings_in}
+use Rattle.vehicle_classes.specs.Vehicles.{VehicleEntry, vehicles_in, vehicles_schema}
+use Rattle.network_tables.specs.Rules.{rules_schema}
+use Rattle.network_tables.specs.RuleLists.{RuleList, rules_stated}
 use Rattle.network_tables.specs.Roads.{roads_schema, area_by_arc}
 use Rattle.network_tables.specs.Zones.{zones_schema, zone_entries_in, zone_named}
 use Rattle.network_tables.specs.declared.files.Files.{Files}
@@ -49,6 +52,14 @@ areas_of files = areas_or_default (areas_in (rows_of files.areas))
 -- for each arc the place of its area
 abbrev pub roads_of : Files → List ℕ
 roads_of files = area_by_arc (arc_count_of files) (names_of (areas_of files)) (numbered_in (rows_of files.roads))
+
+-- the vehicles by name, `any` in front
+abbrev pub vehicles_of : Files → List VehicleEntry
+vehicles_of files = vehicles_in (rows_of files.vehicles)
+
+-- the rules, and the number of rows that are passed over
+abbrev pub rules_of : Files → RuleList
+rules_of files = rules_stated (arc_count_of files) (names_of (areas_of files)) (rows_of files.rules)
 
 -- the closed minutes of each arc
 abbrev pub closed_runs_of : Files → List (List Run)
@@ -87,6 +98,12 @@ areas_fault files = table_fault file.Areas (areas_schema (zones_of files)) files
 abbrev pub roads_fault : Files → Option BadInput
 roads_fault files = table_fault file.Roads (roads_schema (arc_count_of files) (names_of (areas_of files))) files.roads
 
+abbrev pub vehicles_fault : Files → Option BadInput
+vehicles_fault files = table_fault file.Vehicles vehicles_schema files.vehicles
+
+abbrev pub rules_fault : Files → Option BadInput
+rules_fault files = table_fault file.Rules (rules_schema (arc_count_of files) (names_of (areas_of files))) files.rules
+
 abbrev pub closures_fault : Files → Option BadInput
 closures_fault files = table_fault file.Closures (closures_schema (arc_count_of files)) files.closures
 
@@ -107,7 +124,7 @@ first_some (o ∷ more) = option_or o (first_some more)
 -- the first fault of the files' contents, in the order in which they are read
 unfoldable pub contents_fault : Files → Option BadInput
 contents_fault files = first_some (graph_fault files ∷ zones_fault files ∷ areas_fault files ∷ roads_fault files
-    ∷ closures_fault files ∷ ratings_fault files ∷ parking_fault files ∷ holidays_fault files ∷ [])
+    ∷ vehicles_fault files ∷ rules_fault files ∷ closures_fault files ∷ ratings_fault files ∷ parking_fault files ∷ holidays_fault files ∷ [])
 
 -- the network that the files state
 unfoldable pub network_in_files : Files → NetworkModel
@@ -115,6 +132,9 @@ network_in_files files = record {
   graph = graph_of files.graph;
   areas = map (area_in (zones_of files) (holidays_of files)) (areas_of files);
   roads = roads_of files;
+  vehicles = vehicles_of files;
+  rules = (rules_of files).rules;
+  passed_over = (rules_of files).passed_over;
   closures = closed_runs_of files;
   weights = weights_of files;
 }

@@ -4,6 +4,8 @@ use Rattle.route_base.specs.Net.{at_number}
 use Rattle.route_base.specs.declared.types.Run.{Run}
 use Rattle.dimacs_reader.specs.GraphModel.{GraphModel}
 use Rattle.opening_hours.specs.Holidays.{HolidayLists}
+use Rattle.vehicle_classes.specs.Vehicles.{VehicleEntry}
+use Rattle.network_tables.specs.Rules.{Rule}
 use Rattle.zone_rules.specs.declared.rows.ZoneRow.{ZoneRow}
 
 -- an area: the rows of its zone, and its holidays
@@ -11,12 +13,15 @@ pub record Area : Type 0 where
   pub zone : List ZoneRow
   pub holidays : HolidayLists
 
--- a graph, the areas, for each arc the place of its area, for each arc its closed minutes, and for each node its weight where one
--- may wait
+-- a graph, the areas, for each arc the place of its area, the vehicles by name, the rules and the number of rows of rules that were
+-- passed over, for each arc its closed minutes, and for each node its weight where one may wait
 pub record NetworkModel : Type 0 where
   pub graph : GraphModel
   pub areas : List Area
   pub roads : List ℕ
+  pub vehicles : List VehicleEntry
+  pub rules : List Rule
+  pub passed_over : ℕ
   pub closures : List (List Run)
   pub weights : List (Option ℕ)
 

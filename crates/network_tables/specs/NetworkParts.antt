@@ -20,6 +20,9 @@ network_with parts = record {
   graph = parts.graph;
   areas = areas_with (zones_at parts.zones.items parts.zone_places.items) parts.holidays.items;
   roads = parts.roads.items;
+  vehicles = parts.vehicles;
+  rules = parts.rules.rules;
+  passed_over = parts.rules.passed_over;
   closures = map (λ v. v.items) parts.closures.items;
   weights = parts.weights.items;
 }

@@ -13,9 +13,11 @@ pub use Rattle.network_tables.specs.Areas.{AreaEntry, area_of_record, areas_in, 
 pub use Rattle.network_tables.specs.Closures.{closure_of, closures_schema, closures_in, runs_by_arc}
 pub use Rattle.network_tables.specs.HolidayDays.{HaveDays}
 pub use Rattle.network_tables.specs.Holidays.{holidays_schema, holidays_in, holidays_named, in_calendar}
-pub use Rattle.network_tables.specs.NetworkFiles.{areas_of, areas_fault, arc_count_of, closed_runs_of, closures_fault, holidays_of, holidays_fault, ratings_of, ratings_fault, zones_fault}
+pub use Rattle.network_tables.specs.NetworkFiles.{areas_of, areas_fault, arc_count_of, closed_runs_of, closures_fault, holidays_of, holidays_fault, ratings_of, ratings_fault, rules_of, rules_fault, vehicles_of, vehicles_fault, zones_fault}
 pub use Rattle.network_tables.specs.NetworkModel.{closures_of, IsGoodNetwork}
 pub use Rattle.network_tables.specs.NetworkParts.{network_with, HoldsNetwork}
 pub use Rattle.network_tables.specs.Ratings.{rating_of, ratings_schema, ratings_in}
 pub use Rattle.network_tables.specs.Refusals.{Reads}
 pub use Rattle.network_tables.specs.Zones.{HasZones, zone_entries_in, ZoneEntry, zone_entry_of, zones_schema, HasRows}
+pub use Rattle.network_tables.specs.Rules.{rules_schema, value_at, plain_at, conditional_at}
+pub use Rattle.network_tables.specs.RuleLists.{HaveRules, with_rule, with_passed_row}

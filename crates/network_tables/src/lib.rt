@@ -21,9 +21,11 @@ mod network_files;
 mod parking;
 mod ratings;
 mod roads;
+mod rules;
 #[cfg(test)]
 mod tests;
 mod threads;
+mod vehicles;
 mod zones;
 
 pub use faults::NetworkFault;

@@ -1,16 +1,19 @@
 // The network that files state.
 ghost use Rattle.std.specs.Prelude.{◌≡◌, ◌≤◌, ◌<◌, Some, length, option_map, slice_get};
 ghost use Rattle.network_tables.specs.Words.{option_flatten, at_number, closures_of, IsGoodNetwork, network_with};
-ghost use Rattle.network_tables.specs.Words.{HoldsNetwork};
+ghost use Rattle.network_tables.specs.Words.{HoldsNetwork, plain_at, conditional_at};
 
+use crate::rules::{Rules, Scope};
+use conditional_rules::{Access, Conditional};
 use dimacs_reader::Graph;
 use opening_hours::Holidays;
 use route_base::{ArcId, Cost, NodeId, Run};
 use std::marker::Model;
+use vehicle_classes::{Key, Vehicles};
 use zone_rules::Zone;
 
 /// The parts of a network: a graph, zones, for each area the place of its zone and its holidays, for each arc the place of its
-/// area and its closed minutes, and for each node its weight where one may wait.
+/// area and its closed minutes, vehicles, rules, and for each node its weight where one may wait.
 #[derive(Drop)]
 pub struct NetworkParts {
     pub graph: Graph,
@@ -18,12 +21,14 @@ pub struct NetworkParts {
     pub zone_places: Vec<usize>,
     pub holidays: Vec<Holidays>,
     pub roads: Vec<u32>,
+    pub vehicles: Vehicles,
+    pub rules: Rules,
     pub closures: Vec<Vec<Run>>,
     pub weights: Vec<Option<Cost>>,
 }
 
-/// A road network: a graph, the area of each arc with its zone and its holidays, the closed minutes of each arc, and the weights
-/// of the nodes where one may wait. Each zone is held once.
+/// A road network: a graph, the area of each arc with its zone and its holidays, vehicles by name, access rules of areas and
+/// arcs, the closed minutes of each arc, and the weights of the nodes where one may wait. Each zone is held once.
 #[derive(Drop)]
 pub struct Network {
     parts: NetworkParts,
@@ -81,6 +86,53 @@ impl Network {
         ensures { option_map (λ a. a.holidays) (slice_get self.now.areas area) ≡ Some result.now }
     {
         &self.parts.holidays[area]
+    }
+
+    /// The vehicles by name, at no cost.
+    pub fn vehicles(&self) -> &Vehicles
+        ensures { result.now ≡ self.now.vehicles }
+    {
+        &self.parts.vehicles
+    }
+
+    /// The access that the area at this place from 0 gives by a plain rule of the key; `None` exactly where it has no such rule. In
+    /// constant time on average.
+    pub fn area_plain(&self, area: usize, key: Key) -> Option<Access>
+        requires { area < length self.now.areas }
+        ensures { result ≡ plain_at self.now.rules (Scope.Area area) key }
+    {
+        self.parts.rules.plain(Scope::Area(area), key)
+    }
+
+    /// The conditional value of the area at this place from 0 for the key; `None` exactly where it has none. In constant time on
+    /// average.
+    pub fn area_conditional(&self, area: usize, key: Key) -> Option<&Conditional>
+        requires { area < length self.now.areas }
+        ensures { option_map (λ c. c.now) result ≡ conditional_at self.now.rules (Scope.Area area) key }
+    {
+        self.parts.rules.conditional(Scope::Area(area), key)
+    }
+
+    /// The access that the arc's own plain rule of the key gives; `None` exactly where it has no such rule. In constant time on
+    /// average.
+    pub fn arc_plain(&self, a: ArcId, key: Key) -> Option<Access>
+        ensures { result ≡ plain_at self.now.rules (Scope.Arc a.0) key }
+    {
+        self.parts.rules.plain(Scope::Arc(a.0), key)
+    }
+
+    /// The arc's own conditional value for the key; `None` exactly where it has none. In constant time on average.
+    pub fn arc_conditional(&self, a: ArcId, key: Key) -> Option<&Conditional>
+        ensures { option_map (λ c. c.now) result ≡ conditional_at self.now.rules (Scope.Arc a.0) key }
+    {
+        self.parts.rules.conditional(Scope::Arc(a.0), key)
+    }
+
+    /// The number of rows of rules whose key is passed over. In constant time.
+    pub fn passed_over(&self) -> u64
+        ensures { result ≡ self.now.passed_over }
+    {
+        self.parts.rules.passed_over()
     }
 
     /// The cost in thousandths of a minute of waiting at the node; `None` exactly where one may not wait. In constant time.

@@ -1,5 +1,5 @@
 // A whole network, file by file.
-ghost use Rattle.std.specs.Prelude.{◌≡◌, []};
+ghost use Rattle.std.specs.Prelude.{◌≡◌};
 ghost use Rattle.dimacs_reader.specs.GraphModel.{graph_of};
 ghost use Rattle.network_tables.specs.NetworkFiles.{graph_fault, contents_fault, network_in_files};
 ghost use Rattle.network_tables.specs.Refusals.{Reads};
@@ -11,6 +11,8 @@ use crate::network::NetworkParts;
 use crate::parking::read_parking;
 use crate::ratings::read_ratings;
 use crate::roads::read_roads;
+use crate::rules::read_rules;
+use crate::vehicles::read_vehicle_file;
 use crate::zones::{read_zones, zone_list};
 use crate::{Files, Network, NetworkFault};
 use dimacs_reader::{Graph, GraphFault, read_graph};
@@ -32,15 +34,13 @@ fn read_graph_file(alloc: Global, files: &Files) -> Result<Graph, NetworkFault>
     }
 }
 
-/// Reads the network that the files state: the graph, then zones, areas, roads, closures, ratings, parking and holidays. Linear in
-/// the bytes, the nodes and the arcs, beside n log n steps for n days of holidays.
+/// Reads the network that the files state: the graph, then zones, areas, roads, vehicles, rules, closures, ratings, parking and
+/// holidays. Linear in the bytes, the nodes and the arcs, beside n log n steps for n days of holidays.
 ///
 /// `Bad` is the first fault of their contents, whose cause is never `Missing` or `TooLong`; `OutOfMemory` comes where a list can't
-/// grow. The other files are not supported yet and have to be empty.
+/// grow.
 #[tactic(auto, unfolding(crate::specs::NetworkFiles::contents_fault, crate::specs::NetworkFiles::network_in_files))]
 pub fn read_network(alloc: Global, files: &Files) -> Result<Network, NetworkFault>
-    requires vehicles { files.now.vehicles ≡ [] }
-    requires rules { files.now.rules ≡ [] }
     ensures { Reads result (contents_fault files.now)
         (λ network. network ≡ network_in_files files.now) }
 {
@@ -49,6 +49,8 @@ pub fn read_network(alloc: Global, files: &Files) -> Result<Network, NetworkFaul
     let zones = read_zones(alloc, files)?;
     let (zones, areas) = read_areas(alloc, files, zones)?;
     let (areas, roads) = read_roads(alloc, files, arcs, areas)?;
+    let vehicles = read_vehicle_file(alloc, files)?;
+    let (areas, rules) = read_rules(alloc, files, arcs, areas)?;
     let closures = read_closures(alloc, files, arcs)?;
     let ratings = read_ratings(alloc, files)?;
     let weights = read_parking(alloc, files, graph.node_count(), ratings)?;
@@ -61,6 +63,8 @@ pub fn read_network(alloc: Global, files: &Files) -> Result<Network, NetworkFaul
         zone_places,
         holidays,
         roads,
+        vehicles,
+        rules,
         closures,
         weights,
     }))

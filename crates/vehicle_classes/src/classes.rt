@@ -12,7 +12,7 @@ pub enum Class {
 }
 
 /// A key of rules, which speaks of the vehicles of one class or of several.
-#[derive(Clone, Copy, Debug, PartialEq, Eq)]
+#[derive(Clone, Copy, Debug, PartialEq, Eq, Hash)]
 pub enum Key {
     Access,
     Vehicle,

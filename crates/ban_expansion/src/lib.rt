@@ -1,0 +1,26 @@
+//! Bans as sets of closed minutes: the minutes of a window that hours cover in a zone, and layers of minutes that are laid over
+//! one another.
+//!
+//! The law is in `specs/`. `Coverage` says as a test which minutes of UTC hours cover: local time is read in the zone, and the
+//! spans that began on the local day or up to seven days before it count. The law `covered_exactly` says that this test is the
+//! relation of `opening_hours`; `covered_minutes` meets it for every minute of a window. `Layers` says what layers of minutes
+//! give: the last layer that has a minute decides whether it is closed. `overlaid` and `closed_by` meet this, and `common`
+//! has the minutes of all sets. The law `last_of_all` says that lists of clauses, one after another, may be taken as one list.
+//!
+//! `LocalDays` is no law: it says which minutes of UTC the spans of a local day are, while the offset of the zone stays the same.
+//! `coverage` cuts the window where the offset changes, `local_days` lays out the days of each part, and both write runs in any
+//! order, of which `minute_sets` makes a set.
+#![tactic(auto)]
+
+mod coverage;
+mod laws;
+mod layers;
+mod local_days;
+mod threads;
+
+pub use coverage::covered_minutes;
+pub use laws::{covered_exactly, last_of_all};
+pub use layers::{Layer, closed_by, common, overlaid};
+
+#[cfg(test)]
+mod tests;

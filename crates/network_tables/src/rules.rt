@@ -1,0 +1,181 @@
+// rules.csv: access rules of areas and arcs by key.
+ghost use Rattle.std.specs.Prelude.{◌≡◌, ◌+◌, ◌++◌, ◌∷◌, [], None, OnOk, IfErr, IsSome, option_map};
+ghost use Rattle.network_tables.specs.Words.{rules_schema, value_at, plain_at, conditional_at, HaveRules, with_rule, with_passed_row, IfBadCause};
+ghost use Rattle.network_tables.specs.Words.{names_of, arc_count_of, areas_of, rules_fault, rules_of, Reads};
+
+mod place;
+mod row;
+mod value;
+
+use crate::areas::Areas;
+use crate::files::read_file;
+use crate::{Files, NetworkFault};
+use conditional_rules::{Access, Conditional};
+use csv::ByteRecord;
+use indexmap::IndexMap;
+use place::RulePlace;
+use route_base::limits::MOST_RULES;
+use route_base::{Cause, FileKind};
+use row::read_rule;
+use std::alloc::Global;
+use std::marker::Model;
+use table_reader::{RowFault, Table};
+use value::RuleValue;
+use vehicle_classes::Key;
+
+pub use place::Scope;
+
+/// Rules by their places, and the number of rows that were passed over.
+#[derive(Drop)]
+pub struct Rules {
+    values: IndexMap<RulePlace, RuleValue>,
+    passed_over: u64,
+}
+
+impl Model for Rules {
+    ghost use Rattle.network_tables.specs.RuleLists.{RuleList};
+
+    ghost Value = { RuleList };
+
+    ghost view = { λ r. record { rules = r.values.entries; passed_over = r.passed_over } };
+}
+
+impl Rules {
+    /// No rules.
+    pub fn new(alloc: Global) -> Self
+        ensures { result ≡ record { rules = []; passed_over = 0 } }
+    {
+        Rules {
+            values: IndexMap::new(alloc),
+            passed_over: 0,
+        }
+    }
+
+    // The value at a place, in constant time on average.
+    fn value(&self, place: RulePlace) -> Option<&RuleValue>
+        ensures { option_map (λ v. v.now) result ≡ value_at self.now.rules place }
+    {
+        self.values.get(&place)
+    }
+
+    /// The access that the plain rule of a scope and a key gives, in constant time on average.
+    pub fn plain(&self, scope: Scope, key: Key) -> Option<Access>
+        ensures { result ≡ plain_at self.now.rules scope key }
+    {
+        match self.value(RulePlace {
+            scope,
+            key,
+            conditional: false,
+        }) {
+            Some(RuleValue::Plain(access)) => Some(*access),
+            _ => None,
+        }
+    }
+
+    /// The conditional value of a scope and a key, in constant time on average.
+    pub fn conditional(&self, scope: Scope, key: Key) -> Option<&Conditional>
+        ensures { option_map (λ c. c.now) result ≡ conditional_at self.now.rules scope key }
+    {
+        match self.value(RulePlace {
+            scope,
+            key,
+            conditional: true,
+        }) {
+            Some(RuleValue::Conditional(value)) => Some(value),
+            _ => None,
+        }
+    }
+
+    /// The number of rows whose key is passed over, at no cost.
+    pub fn passed_over(&self) -> u64
+        ensures { result ≡ self.now.passed_over }
+    {
+        self.passed_over
+    }
+
+    // Adds a rule; `Duplicate` where its place has one.
+    fn add(&mut self, place: RulePlace, value: RuleValue) -> Result<(), RowFault>
+        ensures free { OnOk result (value_at self.old.rules place ≡ None) }
+        ensures added { OnOk result (self.new ≡ with_rule self.old place value) }
+        ensures refused { IfErr result (λ e. IfBadCause e (λ cause.
+            (cause ≡ Cause.Duplicate) × IsSome (value_at self.old.rules place))) }
+    {
+        if self.values.contains_key(&place) {
+            return Err(RowFault::Bad(Cause::Duplicate));
+        }
+        self.values.insert(place, value)?;
+        Ok(())
+    }
+
+    // Counts a row that is passed over. The count stops below 2^64, which no table reaches.
+    fn pass_over(&mut self) -> Result<(), RowFault>
+        ensures counted { OnOk result (self.new ≡ with_passed_row self.old) }
+        ensures refused { IfErr result (λ e. e ≡ RowFault.OutOfMemory) }
+    {
+        match self.passed_over.checked_add(1) {
+            Some(count) => {
+                self.passed_over = count;
+                Ok(())
+            }
+            None => Err(RowFault::OutOfMemory),
+        }
+    }
+}
+
+/// Rules while the table is being read, with the areas and the number of arcs for which they stand.
+#[derive(Drop)]
+pub struct RuleTable {
+    areas: Areas,
+    arcs: u32,
+    rules: Rules,
+}
+
+impl Model for RuleTable {
+    ghost use Rattle.network_tables.specs.RuleLists.{RulesSoFar};
+
+    ghost Value = { RulesSoFar };
+
+    ghost view = { λ t. record { areas = t.areas; arcs = t.arcs; read = t.rules } };
+}
+
+impl Table for RuleTable {
+    ghost schema = { λ t. rules_schema t.arcs (names_of t.areas) };
+
+    ghost becomes = { λ start t header rows. HaveRules start t rows };
+
+    fn headers(&self) -> &'static [&'static [&'static str]] {
+        &[&["scope", "key", "value"]]
+    }
+
+    fn limit(&self) -> u32 {
+        MOST_RULES
+    }
+
+    fn add(&mut self, alloc: Global, _header: &[&str], row: &ByteRecord) -> Result<(), RowFault> {
+        match read_rule(alloc, self.arcs, &self.areas, row)? {
+            Some((place, value)) => self.rules.add(place, value),
+            None => self.rules.pass_over(),
+        }
+    }
+}
+
+/// The areas, and the rules of the file. Linear in the bytes, on average.
+pub fn read_rules(
+    alloc: Global,
+    files: &Files,
+    arcs: u32,
+    areas: Areas,
+) -> Result<(Areas, Rules), NetworkFault>
+    requires arcs { arcs ≡ arc_count_of files.now }
+    requires areas { names_of areas ≡ names_of (areas_of files.now) }
+    ensures { Reads result (rules_fault files.now)
+        (λ read. (read.0 ≡ areas) × (read.1 ≡ rules_of files.now)) }
+{
+    let table = RuleTable {
+        areas,
+        arcs,
+        rules: Rules::new(alloc),
+    };
+    let RuleTable { areas, rules, .. } = read_file(alloc, FileKind::Rules, &files.rules, table)?;
+    Ok((areas, rules))
+}
