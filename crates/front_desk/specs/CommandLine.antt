@@ -3,7 +3,7 @@ use Rattle.std.specs.Prelude.{◌≡◌, ℕ, ◌==◌, ◌&&◌, Bool, false, n
 use Rattle.std.specs.Prelude.{if◌then◌else◌, option_and_then, option_map, bytes_eq}
 use Rattle.route_base.specs.declared.limits.TheConstants.{LONGEST_FOLDER}
 use Rattle.route_base.specs.Digits.{plain_number_of}
-use Rattle.route_base.specs.Forms.{at_most}
+use Rattle.route_base.specs.Forms.{at_most, is_name}
 use Rattle.route_base.specs.Time.{IsInstant}
 use Rattle.route_base.specs.declared.types.Form.{Form}
 use Rattle.route_base.specs.declared.types.Form.TheVariants.{Plain}
@@ -39,10 +39,10 @@ trip_of vehicle from to start end =
     (λ u. record { vehicle = vehicle; origin = o; goal = g; depart = d; until = u })
     (instant_of end)) (instant_of start)) (node_of to)) (node_of from)
 
--- the plan of the words `DIR any FROM TO DEPART UNTIL`, and nothing for any other words
+-- the plan of the words `DIR VEHICLE FROM TO DEPART UNTIL`, and nothing for any other words
 abbrev pub plan_of : List (List ℕ) → Option Plan
 plan_of (dir ∷ vehicle ∷ from ∷ to ∷ start ∷ end ∷ []) =
-    if bytes_eq vehicle (codes "any") && is_folder_name dir
+    if is_name vehicle && is_folder_name dir
     then option_map (λ trip. record { dir = dir; trip = trip; form = Plain }) (trip_of vehicle from to start end) else None
 plan_of words = None
 

@@ -1,5 +1,5 @@
 -- The ten files of a network in the order in which they are read, their first fault, and the network that they state (source: own).
-use Rattle.std.specs.Prelude.{◌≡◌, ℕ, true, false, Option, List, [], ◌∷◌, map, slice_index_or}
+use Rattle.std.specs.Prelude.{ℕ, true, false, Option, List, [], ◌∷◌, map, slice_index_or}
 use Rattle.std.specs.Option.{option_or}
 use Rattle.route_base.specs.Contents.{Contents}
 use Rattle.route_base.specs.Labels.{label_of}
@@ -27,7 +27,7 @@ unsupported_file kind = record { kind = kind; name = label_of kind; required = f
 -- the files in the order in which they are read
 abbrev pub network_files : List FileToRead
 network_files =
-    required_file Graph ∷ table_file Zones ∷ table_file Areas ∷ table_file Roads ∷ unsupported_file Vehicles ∷ unsupported_file Rules
+    required_file Graph ∷ table_file Zones ∷ table_file Areas ∷ table_file Roads ∷ table_file Vehicles ∷ unsupported_file Rules
     ∷ table_file Closures ∷ table_file Ratings ∷ table_file Parking ∷ table_file Holidays ∷ []
 
 -- files by name, from their bytes in the order of `network_files`
@@ -56,8 +56,3 @@ first_folder_fault held dir = option_or (first_unreadable held dir network_files
 -- the network that the files of dir state
 abbrev pub network_held : Contents → List ℕ → NetworkModel
 network_held held dir = network_in_files (files_of held dir)
-
--- the tables that aren't supported yet are empty
-pub record HasSupportedAlone (files : Files) : Type 0 where
-  pub vehicles : files.vehicles ≡ []
-  pub rules : files.rules ≡ []

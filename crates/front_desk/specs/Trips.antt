@@ -1,9 +1,11 @@
 -- Trips, and the checks of a request (source: own).
-use Rattle.std.specs.Prelude.{ℕ, ◌+◌, ◌-◌, ◌≤◌, ◌&&◌, Bool, not, nat_le, nat_lt, Option, Some, None, List, if◌then◌else◌}
+use Rattle.std.specs.Prelude.{ℕ, ◌+◌, ◌-◌, ◌≤◌, ◌&&◌, Bool, not, nat_le, nat_lt, is_some, Option, Some, None, List, if◌then◌else◌}
 use Rattle.route_base.specs.declared.limits.TheConstants.{LONGEST_HORIZON}
 use Rattle.route_base.specs.declared.types.Request.{Request}
 use Rattle.route_base.specs.declared.faults.RequestFault.{RequestFault}
-use Rattle.route_base.specs.declared.faults.RequestFault.TheVariants.{OriginRange, GoalRange, UntilBeforeDepart, HorizonTooLong}
+use Rattle.route_base.specs.declared.faults.RequestFault.TheVariants.{UnknownVehicle, OriginRange, GoalRange, UntilBeforeDepart}
+use Rattle.route_base.specs.declared.faults.RequestFault.TheVariants.{HorizonTooLong}
+use Rattle.table_reader.specs.NameIndex.{names_of, place_among}
 use Rattle.network_tables.specs.NetworkModel.{NetworkModel}
 use Rattle.front_desk.specs.declared.requests.Trip.{Trip as TripWords}
 
@@ -28,9 +30,14 @@ failed_check_over n trip =
     else if nat_lt LONGEST_HORIZON (trip.until - trip.depart) then Some HorizonTooLong
     else None
 
--- the first check that a trip over a network fails; the one vehicle so far, `any`, is known
+-- whether the network has a vehicle of this name
+abbrev pub is_vehicle : NetworkModel → List ℕ → Bool
+is_vehicle network name = is_some (place_among (names_of network.vehicles) name)
+
+-- the first check that a trip over a network fails
 abbrev pub failed_check : NetworkModel → Trip → Option RequestFault
-failed_check network trip = failed_check_over network.graph.nodes trip
+failed_check network trip =
+    if is_vehicle network trip.vehicle then failed_check_over network.graph.nodes trip else Some UnknownVehicle
 
 -- the trip as a request
 abbrev pub request_of : Trip → Request

@@ -15,7 +15,7 @@ pub use Rattle.front_desk.specs.CommandLine.{Command, to_plan, is_folder_name, n
 pub use Rattle.front_desk.specs.CommandLine.{IsSupported, AsksSupported}
 pub use Rattle.front_desk.specs.Commands.{first_fault_for, failed_check_for, IsFinished, IsUndisturbed, ReadsNothing, LeavesFiles}
 pub use Rattle.front_desk.specs.Files.{IfTold, path_of, whole_fault, fault_of_file, first_unreadable, file_in, IsRead, AreRead}
-pub use Rattle.front_desk.specs.ReadingOrder.{network_files, files_from, files_of, HasSupportedAlone, first_folder_fault, network_held}
+pub use Rattle.front_desk.specs.ReadingOrder.{network_files, files_from, files_of, first_folder_fault, network_held}
 pub use Rattle.front_desk.specs.Plan.{IsFrontText}
 pub use Rattle.front_desk.specs.Run.{IsAnsweredBy, IsAnswer, IsDue, IsRefused, Prints, FailsToWrite, HasFailed, status_of}
 pub use Rattle.front_desk.specs.Texts.{thousandths_of, leg_text, route_text, plain_text_of, fault_text, refusal_text_of}

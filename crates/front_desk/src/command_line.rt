@@ -6,7 +6,7 @@ ghost use Rattle.front_desk.specs.Words.{IsSupported, AsksSupported, IsInstant, 
 use crate::requests::Trip;
 use calendar_days::read_instant;
 use route_base::limits::LONGEST_FOLDER;
-use route_base::{Form, Text, read_plain_number};
+use route_base::{Form, Text, is_name_field, read_plain_number};
 
 /// The command that plans a trip over the files of the folder `dir` and reports it in a form.
 #[derive(Clone, Copy)]
@@ -73,7 +73,7 @@ fn plan_words(words: &[Text]) -> Option<Plan<'_>>
     let [dir, vehicle, origin, goal, depart, until] = words else {
         return None;
     };
-    if vehicle.as_str() != "any" || !is_folder_word(dir.as_str()) {
+    if !is_name_field(vehicle.as_str().as_bytes()) || !is_folder_word(dir.as_str()) {
         return None;
     }
     let trip = trip_words(
@@ -92,8 +92,8 @@ fn plan_words(words: &[Text]) -> Option<Plan<'_>>
 
 /// The command that the words are; `None` exactly where they are none. Linear in the length of the words.
 ///
-/// The one command so far is `plan DIR any FROM TO DEPART UNTIL`. DIR has 1 to 4,096 bytes and doesn't begin with `-`; FROM and
-/// TO are numbers of 32 bits without a leading zero; DEPART and UNTIL are instants, as texts or as Unix minutes.
+/// The one command so far is `plan DIR VEHICLE FROM TO DEPART UNTIL`. DIR has 1 to 4,096 bytes and doesn't begin with `-`; VEHICLE is
+/// a name, and `any` is one; FROM and TO are numbers of 32 bits without a leading zero; DEPART and UNTIL are instants, as texts or as Unix minutes.
 pub fn read_command(words: &[Text]) -> Option<Command<'_>>
     ensures command { option_map command_in result ≡ command_of words.now }
     ensures supported { IfSome result (λ c. AsksSupported (command_in c)) }

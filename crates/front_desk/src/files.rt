@@ -1,7 +1,7 @@
 // Reads the files of a folder one after another.
 ghost use Rattle.std.specs.Prelude.{◌≡◌, Some, None, IfOk, OnOk, IfErr, string_bytes, map, length};
 ghost use Rattle.front_desk.specs.Words.{KeepsFiles, IfTold, path_of, whole_fault, fault_of_file, first_unreadable, file_in, IsRead};
-ghost use Rattle.front_desk.specs.Words.{AreRead, network_files, files_from, files_of, HasSupportedAlone, StopsReading};
+ghost use Rattle.front_desk.specs.Words.{AreRead, network_files, files_from, files_of, StopsReading};
 
 use crate::file_to_read::FileToRead;
 use crate::outcome::{Halt, Refusal};
@@ -20,7 +20,7 @@ fn network_files() -> [FileToRead<'static>; 10]
         FileToRead::table(FileKind::Zones),
         FileToRead::table(FileKind::Areas),
         FileToRead::table(FileKind::Roads),
-        FileToRead::unsupported(FileKind::Vehicles),
+        FileToRead::table(FileKind::Vehicles),
         FileToRead::unsupported(FileKind::Rules),
         FileToRead::table(FileKind::Closures),
         FileToRead::table(FileKind::Ratings),
@@ -148,7 +148,6 @@ pub fn read_network_files<F: Folder>(
         IfTold (F.state folder.old) (λ held. files ≡ files_of held dir.now)) }
     ensures readable { OnOk result (IfTold (F.state folder.old)
         (λ held. first_unreadable held dir.now network_files ≡ None)) }
-    ensures supported { IfOk result HasSupportedAlone }
     ensures halted { IfErr result (StopsReading
         (λ held. first_unreadable held dir.now network_files)
         (F.state folder.old) (F.state folder.new)) }

@@ -47,6 +47,9 @@ pub fn first_failed_check(network: &Network, trip: Trip<'_>) -> Option<RequestFa
     ensures first { result ≡ failed_check network.now (trip_in trip.entry) }
     ensures passed { result ≡ None → IsGoodTrip network.now.graph.nodes (trip_in trip.entry) }
 {
+    if network.vehicles().find(trip.vehicle.as_bytes()).is_none() {
+        return Some(RequestFault::UnknownVehicle);
+    }
     failed_over(network.graph().node_count(), trip)
 }
 

@@ -6,6 +6,8 @@ use std::test::Fail;
 #[test]
 fn refuses_requests_at_their_first_failed_check(rt: HostRuntime) -> Result<(), Fail> {
     let cases = [
+        ("plan d x 1 3 26563680 26564080", "UnknownVehicle"),
+        ("plan d Any 0 9 26563680 26563679", "UnknownVehicle"),
         ("plan d any 0 3 26563680 26564080", "OriginRange"),
         ("plan d any 4 0 26563680 26563679", "OriginRange"),
         ("plan d any 4294967295 3 26563680 26564080", "OriginRange"),

@@ -6,6 +6,7 @@ mod holidays;
 mod parking;
 mod ratings;
 mod roads;
+mod vehicles;
 mod zones;
 
 use super::{
@@ -100,7 +101,7 @@ fn reads_tables_without_rows(rt: HostRuntime) -> Result<(), Fail> {
 fn tells_files_that_are_not_supported_before_faults_of_contents(
     rt: HostRuntime,
 ) -> Result<(), Fail> {
-    for file in ["vehicles.csv", "rules.csv"] {
+    for file in ["rules.csv"] {
         expect_reports(&rt, GRAPH, file, &[""], ONE_PAIR)?;
         expect_refusals(&rt, GRAPH, file, &[("x", "0 NotBuilt")])?;
         let faulty = [("d/graph.gr", "x\n"), ("d/closures.csv", "x")];
