@@ -1,57 +1,334 @@
-// Texts with the number of their clauses, and of the parts of the first.
-use crate::{ConditionalFault, parse};
-use std::alloc::Global;
+// Texts with their canonical texts, and the access that clauses give vehicles.
+use crate::{Access, ConditionalFault, decide, lets_in, parse, print, read_value};
+use opening_hours::Holidays;
+use route_base::{OutOfMemory, TableFault};
+use std::alloc::{AllocError, Global};
 use std::test::Fail;
+use vehicle_classes::{Vehicle, Vehicles, read_vehicles};
 
-// The number of clauses and the number of the first one's parts, or zeros where the text has no clauses.
-fn counts(alloc: Global, text: &str) -> Result<(usize, usize), ConditionalFault> {
+// Whether this is the canonical text of a text, or the text has no clauses and this is empty.
+fn has_canonical(alloc: Global, text: &str, canonical: &str) -> Result<bool, OutOfMemory> {
     match parse(alloc, text.as_bytes()) {
-        Ok(conditional) => match conditional.get(0) {
-            Some(clause) => Ok((conditional.len(), clause.parts.len())),
-            None => Ok((0, 0)),
-        },
-        Err(ConditionalFault::NotConditional) => Ok((0, 0)),
-        Err(ConditionalFault::OutOfMemory) => Err(ConditionalFault::OutOfMemory),
+        Ok(conditional) => {
+            let printed = print(alloc, &conditional)?;
+            Ok(printed.as_slice() == canonical.as_bytes())
+        }
+        Err(ConditionalFault::NotConditional) => Ok(canonical.is_empty()),
+        Err(ConditionalFault::OutOfMemory) => Err(OutOfMemory),
+    }
+}
+
+// A text, and its canonical text, which is empty where the text has no clauses.
+#[test]
+fn texts_have_these_canonical_texts(rt: HostRuntime) -> Result<(), Fail> {
+    let rows = [
+        // Parts, and the words between them.
+        (
+            "no @ (weight > 7.5t and Sa 07:00-20:00)",
+            "no @ (weight>7.500 AND Sa 07:00-20:00)",
+        ),
+        (
+            "no @ (weight>7.5 AND Mo-Fr 6:00-9:00); yes @ articulated",
+            "no @ (weight>7.500 AND Mo-Fr 06:00-09:00); yes @ (articulated)",
+        ),
+        ("no@(a AND b and c)", "no @ (a AND b AND c)"),
+        ("no @ a AND b", "no @ (a AND b)"),
+        ("no @ (a\tAND  b)", "no @ (a AND b)"),
+        ("no @ (a ANDb)", ""),
+        ("no @ (aAND b)", ""),
+        ("no @ (a And b)", ""),
+        ("no @ (a AND AND b)", ""),
+        ("no @ (AND b)", ""),
+        ("no @ (a AND)", ""),
+        ("no @ (a AND )", ""),
+        ("no @ (a, b)", ""),
+        // Hours.
+        ("no@(24/7)", "no @ (00:00-24:00)"),
+        ("no @ 24/7", "no @ (00:00-24:00)"),
+        ("no @ off", "no @ (off)"),
+        ("no @ (closed)", "no @ (off)"),
+        ("no @ open", ""),
+        (
+            "no @ (Mo 22:00-06:00; PH off)",
+            "no @ (Mo 22:00-30:00; PH off)",
+        ),
+        ("no @ Mo 22:00-06:00; PH off", ""),
+        ("no @ (Mo 22:00-06:00;)", ""),
+        ("no @ (sunset-sunrise)", ""),
+        // Comparisons.
+        ("no @ weight>7,5", ""),
+        ("no @ weight>7.5 t", "no @ (weight>7.500)"),
+        ("no @ weight\t==\t007.50t", "no @ (weight=7.500)"),
+        ("no @ weight=7", "no @ (weight=7.000)"),
+        ("no @ axleload<=11.5", "no @ (axleload<=11.500)"),
+        ("no @ height<4m", "no @ (height<4.00)"),
+        ("no @ width>=2.55 m", "no @ (width>=2.55)"),
+        ("no @ length>18.7", "no @ (length>18.70)"),
+        ("no @ axles>=3", "no @ (axles>=3)"),
+        ("no @ axles>=3t", ""),
+        ("no @ axles>=3.0", ""),
+        ("no @ weight>999999.999", "no @ (weight>999999.999)"),
+        ("no @ weight>1000000", ""),
+        ("no @ weight>0000007", ""),
+        ("no @ weight>7.1234", ""),
+        ("no @ height>4.123", ""),
+        ("no @ weight>7.", ""),
+        ("no @ weight>.5", ""),
+        ("no @ weight>", ""),
+        ("no @ weight=>7", ""),
+        ("no @ weight< =7", ""),
+        ("no @ weight>-7", ""),
+        ("no @ weight>7.5T", ""),
+        ("no @ weight>7.5m", ""),
+        ("no @ weight>7.5kg", ""),
+        ("no @ Weight>7.5", ""),
+        ("no @ speed>80", ""),
+        ("no @ 7.5<weight", ""),
+        ("no @ weight", "no @ (weight)"),
+        // Flags.
+        ("yes @ low_emission", "yes @ (low_emission)"),
+        ("no @ mo", "no @ (mo)"),
+        ("no @ hazmat2", ""),
+        ("no @ HAZMAT", ""),
+        ("no @ _hazmat", ""),
+        ("no @ (two words)", ""),
+        ("no @ and", ""),
+        // Parentheses and clauses.
+        ("no @ ()", ""),
+        ("no @ ( )", ""),
+        ("no @ ((a))", ""),
+        ("no @ (a AND (b))", ""),
+        ("no @ (a) AND (b)", ""),
+        ("no @ (a", ""),
+        ("no @ a)", ""),
+        ("(no @ a)", ""),
+        ("no @ (a) b", ""),
+        ("no @ (a);yes @ b ;no@c", "no @ (a); yes @ (b); no @ (c)"),
+        ("no @ (a; yes @ b)", ""),
+        ("no @ a;", ""),
+        ("; no @ a", ""),
+        ("no @ a;; yes @ b", ""),
+        ("no @ a @ b", ""),
+        // Values.
+        (
+            "destination @ a; delivery @ b; permit @ c",
+            "destination @ (a); destination @ (b); no @ (c)",
+        ),
+        (
+            "designated @ a;permissive @ b;discouraged @ c",
+            "yes @ (a); yes @ (b); yes @ (c)",
+        ),
+        ("maybe @ (24/7)", ""),
+        ("No @ a", ""),
+        ("no", ""),
+        ("no @", ""),
+        ("@ a", ""),
+        // Blanks.
+        (" \tno\t @ \t( \ta\t AND b \t)\t ", "no @ (a AND b)"),
+        ("no @ a\n", ""),
+        ("", ""),
+        (" \t ", ""),
+    ];
+    for (text, canonical) in rows {
+        let same = has_canonical(rt.alloc(), text, canonical)?;
+        assert!(rt; same, "{text}");
+    }
+    Ok(())
+}
+
+const VEHICLES: &str = "\
+name,class,weight_kg,axleload_kg,height_cm,width_cm,length_cm,axles,purpose,flags\n\
+truck,hgv,40000,,400,255,1875,5,through,hazmat articulated\n\
+van,goods,3500,,,,,2,delivery,\n\
+";
+
+// A public holiday on 2020-12-25, a Friday, and a school holiday on 2020-07-06.
+fn two_holidays(alloc: Global) -> Result<Holidays, AllocError> {
+    let mut public = Vec::new(alloc);
+    public.push(18621)?;
+    let mut school = Vec::new(alloc);
+    school.push(18449)?;
+    Ok(Holidays::from_days(public, school))
+}
+
+// Whether a text gives the vehicle of this name this access at a minute of a day.
+fn gives(
+    alloc: Global,
+    setting: (&Vehicles, &Holidays),
+    text: &str,
+    name: &str,
+    at: (u32, u32),
+    access: Option<Access>,
+) -> Result<bool, ConditionalFault> {
+    let conditional = parse(alloc, text.as_bytes())?;
+    let (vehicles, holidays) = setting;
+    let (day, minute) = at;
+    let Some(place) = vehicles.find(name.as_bytes()) else {
+        return Ok(false);
+    };
+    if day < 7 || day > 84370 || minute >= 1440 {
+        return Ok(false);
+    }
+    let vehicle = vehicles.vehicle(place);
+    Ok(decide(&conditional, vehicle, day, minute, holidays) == access)
+}
+
+// Day 18447 is 2020-07-04, a Saturday.
+#[test]
+fn the_last_clause_that_holds_decides(rt: HostRuntime) -> Result<(), Fail> {
+    let alloc = rt.alloc();
+    let vehicles = read_vehicles(alloc, VEHICLES.as_bytes())?;
+    let holidays = two_holidays(alloc)?;
+    let (free, barred, purpose) = (
+        Some(Access::Free),
+        Some(Access::Barred),
+        Some(Access::Purpose),
+    );
+    let rows = [
+        // Sizes: an unknown one compares with no value.
+        ("no @ weight>7.5", "truck", 18447, 0, barred),
+        ("no @ weight>7.5", "van", 18447, 0, None),
+        ("no @ weight>7.5", "any", 18447, 0, None),
+        ("no @ weight<=7.5", "any", 18447, 0, None),
+        ("no @ axleload<999", "truck", 18447, 0, None),
+        ("no @ weight<40", "truck", 18447, 0, None),
+        ("no @ weight<=40", "truck", 18447, 0, barred),
+        ("no @ weight>40", "truck", 18447, 0, None),
+        ("no @ weight>=40", "truck", 18447, 0, barred),
+        ("no @ weight=40", "truck", 18447, 0, barred),
+        ("no @ weight==39.999", "truck", 18447, 0, None),
+        ("no @ height>3.99", "truck", 18447, 0, barred),
+        ("no @ width>2.55", "truck", 18447, 0, None),
+        ("no @ length<18.76", "truck", 18447, 0, barred),
+        ("no @ axles>=3", "truck", 18447, 0, barred),
+        ("no @ axles>=3", "van", 18447, 0, None),
+        // Flags.
+        ("destination @ hazmat", "truck", 18447, 0, purpose),
+        ("destination @ hazmat", "van", 18447, 0, None),
+        ("no @ haz", "truck", 18447, 0, None),
+        // Parts: each has to hold.
+        (
+            "no @ (weight>7.5 AND Sa 07:00-20:00)",
+            "truck",
+            18447,
+            419,
+            None,
+        ),
+        (
+            "no @ (weight>7.5 AND Sa 07:00-20:00)",
+            "truck",
+            18447,
+            420,
+            barred,
+        ),
+        (
+            "no @ (weight>7.5 AND Sa 07:00-20:00)",
+            "truck",
+            18447,
+            1199,
+            barred,
+        ),
+        (
+            "no @ (weight>7.5 AND Sa 07:00-20:00)",
+            "truck",
+            18447,
+            1200,
+            None,
+        ),
+        (
+            "no @ (weight>7.5 AND Sa 07:00-20:00)",
+            "truck",
+            18448,
+            600,
+            None,
+        ),
+        (
+            "no @ (weight>7.5 AND Sa 07:00-20:00)",
+            "van",
+            18447,
+            600,
+            None,
+        ),
+        // Clauses: the last that holds decides.
+        ("no @ height>3.8; yes @ hazmat", "truck", 18447, 0, free),
+        ("yes @ hazmat; no @ height>3.8", "truck", 18447, 0, barred),
+        ("no @ height>3.8; yes @ tall", "truck", 18447, 0, barred),
+        ("no @ 24/7; destination @ off", "any", 18447, 0, barred),
+        // Hours of a holiday.
+        ("no @ PH", "any", 18621, 0, barred),
+        ("no @ PH", "any", 18620, 1439, None),
+        ("no @ SH", "any", 18449, 0, barred),
+        ("no @ SH", "any", 18621, 0, None),
+        (
+            "no @ (Mo-Fr 22:00-06:00; PH off)",
+            "any",
+            18620,
+            1320,
+            barred,
+        ),
+        (
+            "no @ (Mo-Fr 22:00-06:00; PH off)",
+            "any",
+            18621,
+            359,
+            barred,
+        ),
+        ("no @ (Mo-Fr 22:00-06:00; PH off)", "any", 18621, 360, None),
+        ("no @ (Mo-Fr 22:00-06:00; PH off)", "any", 18621, 1320, None),
+        ("no @ (Mo-Fr 22:00-06:00; PH off)", "any", 18622, 359, None),
+    ];
+    for (text, name, day, minute, access) in rows {
+        let given = gives(
+            alloc,
+            (&vehicles, &holidays),
+            text,
+            name,
+            (day, minute),
+            access,
+        )?;
+        assert!(rt; given, "{text} for {name} on {day} at {minute}");
+    }
+    Ok(())
+}
+
+// Whether a word gives an access that lets a passage and a delivery in so; no access where this is None.
+fn lets(word: &str, through: &Vehicle, delivery: &Vehicle, wanted: Option<(bool, bool)>) -> bool {
+    match read_value(word.as_bytes()) {
+        Some(access) => wanted == Some((lets_in(access, through), lets_in(access, delivery))),
+        None => wanted.is_none(),
     }
 }
 
 #[test]
-fn texts_have_these_clauses_and_parts(rt: HostRuntime) -> Result<(), Fail> {
+fn values_let_these_purposes_in(rt: HostRuntime) -> Result<(), TableFault> {
+    let vehicles = read_vehicles(rt.alloc(), VEHICLES.as_bytes())?;
+    let free = Some((true, true));
+    let barred = Some((false, false));
     let rows = [
-        (
-            "no @ (weight>7.5 AND Mo-Fr 06:00-09:00); yes @ articulated",
-            2,
-            2,
-        ),
-        ("no @ (Mo-Fr 22:00-06:00; PH off)", 1, 1),
-        ("no @ Mo-Fr 22:00-06:00; PH off", 0, 0),
-        ("no@weight>7.5", 1, 1),
-        (" delivery\t@ ( a and b\tAND  axles >= 3 ) ", 1, 3),
-        ("permit @ a;designated @ b;private @ c", 3, 1),
-        ("no @ a;", 0, 0),
-        ("", 0, 0),
-        ("no", 0, 0),
-        ("no @", 0, 0),
-        ("@ a", 0, 0),
-        ("maybe @ a", 0, 0),
-        ("no @ a @ b", 0, 0),
-        ("no @ ((a))", 0, 0),
-        ("no @ (a", 0, 0),
-        ("no @ a)", 0, 0),
-        ("no @ (a) b", 0, 0),
-        ("no @ (a And b)", 0, 0),
-        ("no @ (a AND AND b)", 0, 0),
-        ("no @ (AND b)", 0, 0),
-        ("no @ (a AND)", 0, 0),
+        ("yes", free),
+        ("designated", free),
+        ("permissive", free),
+        ("discouraged", free),
+        ("no", barred),
+        ("private", barred),
+        ("agricultural", barred),
+        ("forestry", barred),
+        ("customers", barred),
+        ("permit", barred),
+        ("destination", Some((false, true))),
+        ("delivery", Some((false, true))),
+        ("maybe", None),
+        ("Yes", None),
+        ("yes ", None),
+        ("", None),
     ];
-    for (text, clauses, parts) in rows {
-        let found = counts(rt.alloc(), text)?;
-        assert!(rt;
-            found.0 == clauses && found.1 == parts,
-            "{text}: {} {}",
-            found.0,
-            found.1
-        );
+    let (Some(truck), Some(van)) = (vehicles.find(b"truck"), vehicles.find(b"van")) else {
+        assert!(rt; false, "a vehicle isn't found");
+        return Ok(());
+    };
+    for (word, wanted) in rows {
+        let so = lets(word, vehicles.vehicle(truck), vehicles.vehicle(van), wanted);
+        assert!(rt; so, "{word}");
     }
     Ok(())
 }

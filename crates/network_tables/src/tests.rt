@@ -1,12 +1,18 @@
-// A happy path for each table over a triangle of three nodes, and the order in which files are refused. The refusals of each
-// table are tested in lorry_plan.
+// A happy path for each table over a triangle of three nodes, the refusals of vehicles and rules, and the order in which files
+// are refused. The refusals of the other tables are tested in lorry_plan.
 use crate::{Files, Network, NetworkFault, read_network};
+use conditional_rules::{Access, Conditional};
 use route_base::{ArcId, BadInput, Cause, FileBytes, FileKind, NodeId, OutOfMemory, Run};
 use std::alloc::Global;
+use std::test::Fail;
+use vehicle_classes::{Key, Purpose, Quantity};
 
 const TRIANGLE: &str = "p sp 3 3\na 1 2 60\na 2 3 60\na 1 3 300\n";
 
 const AREAS: &str = "area,zone\nport,UTC\ntown,UTC\n";
+
+const VEHICLE_HEADER: &str =
+    "name,class,weight_kg,axleload_kg,height_cm,width_cm,length_cm,axles,purpose,flags\n";
 
 // The bytes of a file among these texts: none where it isn't named.
 fn bytes_of(
@@ -151,12 +157,247 @@ fn reads_holidays_of_both_kinds(rt: HostRuntime) -> Result<(), NetworkFault> {
     Ok(())
 }
 
+// The vehicle and the rules of the happy path.
+const TRUCK: &str = "\
+name,class,weight_kg,axleload_kg,height_cm,width_cm,length_cm,axles,purpose,flags\n\
+truck,hgv,40000,,400,,,5,delivery,hazmat  articulated\n";
+
+const RULES: &str = "\
+scope,key,value\n\
+area:town,hgv,no\n\
+area:town,hgv:conditional,yes @ off; destination @ 24/7\n\
+arc:02,access,destination\n\
+arc:3,access,designated\n\
+arc:3,bus:conditional,no @ (Mo 22:00-06:00; PH off)\n\
+arc:3,maxweight,7.5\n\
+arc:3,maxweight,7.5\n\
+area:port,hgv:forward,no\n";
+
+// The network of these vehicles and rules, with arc 2 in the second area.
+fn ruled(alloc: Global, vehicles: &str, rules: &str) -> Result<Network, NetworkFault> {
+    read(
+        alloc,
+        &[
+            (FileKind::Areas, AREAS),
+            (FileKind::Roads, "arc,area\n2,town\n"),
+            (FileKind::Vehicles, vehicles),
+            (FileKind::Rules, rules),
+        ],
+    )
+}
+
+// The number of clauses, 0 where there is no conditional value.
+fn clauses(value: Option<&Conditional>) -> usize {
+    match value {
+        Some(conditional) => conditional.len(),
+        None => 0,
+    }
+}
+
+#[test]
+fn reads_vehicles(rt: HostRuntime) -> Result<(), NetworkFault> {
+    let network = ruled(rt.alloc(), TRUCK, "")?;
+    let vehicles = network.vehicles();
+    assert_eq!(rt; vehicles.len(), 2);
+    assert_eq!(rt; vehicles.find(b"any"), Some(0));
+    assert_eq!(rt; vehicles.find(b"truck"), Some(1));
+    let truck = vehicles.vehicle(1);
+    assert_eq!(rt; truck.purpose(), Purpose::Delivery);
+    assert_eq!(rt; truck.size(Quantity::Weight), Some(40_000));
+    assert_eq!(rt; truck.size(Quantity::Axleload), None);
+    assert!(rt; truck.has_flag(b"hazmat") && truck.has_flag(b"articulated"));
+    assert!(rt; !truck.has_flag(b""));
+    assert_eq!(rt; network.passed_over(), 0);
+    Ok(())
+}
+
+#[test]
+fn reads_rules_of_areas_and_arcs(rt: HostRuntime) -> Result<(), NetworkFault> {
+    let network = ruled(rt.alloc(), "", RULES)?;
+    assert_eq!(rt; network.graph().arc_count(), 3);
+    let port = network.area_of(ArcId(1));
+    let town = network.area_of(ArcId(2));
+    assert_eq!(rt; network.vehicles().len(), 1);
+    assert_eq!(rt; network.area_plain(town, Key::Hgv), Some(Access::Barred));
+    assert_eq!(rt; network.area_plain(town, Key::Access), None);
+    assert_eq!(rt; network.area_plain(port, Key::Hgv), None);
+    assert_eq!(rt; clauses(network.area_conditional(town, Key::Hgv)), 2);
+    assert_eq!(rt; clauses(network.area_conditional(port, Key::Hgv)), 0);
+    assert_eq!(rt; clauses(network.area_conditional(town, Key::Bus)), 0);
+    assert_eq!(rt;
+        network.arc_plain(ArcId(2), Key::Access),
+        Some(Access::Purpose)
+    );
+    assert_eq!(rt;
+        network.arc_plain(ArcId(3), Key::Access),
+        Some(Access::Free)
+    );
+    assert_eq!(rt; network.arc_plain(ArcId(2), Key::Hgv), None);
+    assert_eq!(rt; network.arc_plain(ArcId(3), Key::Bus), None);
+    assert_eq!(rt; clauses(network.arc_conditional(ArcId(3), Key::Bus)), 1);
+    assert_eq!(rt; clauses(network.arc_conditional(ArcId(3), Key::Access)), 0);
+    assert_eq!(rt; clauses(network.arc_conditional(ArcId(2), Key::Bus)), 0);
+    assert_eq!(rt; network.passed_over(), 3);
+    Ok(())
+}
+
+// Whether a file is refused at this record for this cause.
+fn is_refused(
+    network: Result<Network, NetworkFault>,
+    file: FileKind,
+    row: u64,
+    cause: Cause,
+) -> bool {
+    match network {
+        Ok(_) => false,
+        Err(fault) => fault == NetworkFault::Bad(BadInput { file, row, cause }),
+    }
+}
+
+#[test]
+fn refuses_vehicles_with_their_first_fault(rt: HostRuntime) -> Result<(), Fail> {
+    let alloc = rt.alloc();
+    let cases = [
+        ("truck,hgv,,,,,,,\n", 2, Cause::FieldCount),
+        ("truck,lorry,,,,,,,,\n", 2, Cause::BadField),
+        ("truck,hgv,1000001,,,,,,,\n", 2, Cause::BadField),
+        ("truck,hgv,,,,,,1000001,,\n", 2, Cause::BadField),
+        ("truck,hgv,,,,,,,,hazmat \n", 2, Cause::BadField),
+        ("truck,hgv,,,,,,,, hazmat\n", 2, Cause::BadField),
+        ("truck,hgv,,,,,,,,Hazmat\n", 2, Cause::BadField),
+        ("truck,hgv,,,,,,,,hazmat2\n", 2, Cause::BadField),
+        ("truck,hgv,,,,,,,passage,\n", 2, Cause::BadField),
+        ("any,hgv,,,,,,,,\n", 2, Cause::Duplicate),
+        ("a,hgv,,,,,,,,\na,bus,,,,,,,,\n", 3, Cause::Duplicate),
+        ("a,hgv,,,,,,,,\na,lorry,,,,,,,,\n", 3, Cause::BadField),
+    ];
+    for (rows, row, cause) in cases {
+        let text = format!(in alloc; "{VEHICLE_HEADER}{rows}")?;
+        let network = ruled(alloc, &text, "");
+        assert!(rt;
+            is_refused(network, FileKind::Vehicles, row, cause),
+            "{rows}"
+        );
+    }
+    let network = ruled(alloc, "name,class\n", "");
+    assert!(rt; is_refused(network, FileKind::Vehicles, 1, Cause::BadHeader));
+    Ok(())
+}
+
+#[test]
+fn refuses_rules_with_their_first_fault(rt: HostRuntime) -> Result<(), Fail> {
+    let alloc = rt.alloc();
+    let cases = [
+        ("arc:1,hgv\n", 2, Cause::FieldCount),
+        // Scopes, before the causes of a value, and also where the key is passed over.
+        ("town,hgv,no\n", 2, Cause::BadField),
+        ("area town,hgv,no\n", 2, Cause::BadField),
+        ("arc1,hgv,no\n", 2, Cause::BadField),
+        ("arc:,hgv,no\n", 2, Cause::BadField),
+        ("arc: 1,hgv,no\n", 2, Cause::BadField),
+        ("area:,hgv,no\n", 2, Cause::BadField),
+        ("arc:0,hgv,no\n", 2, Cause::Unknown),
+        ("arc:4,hgv,no\n", 2, Cause::Unknown),
+        ("area:west,hgv,maybe\n", 2, Cause::Unknown),
+        ("area:west,hgv:conditional,maybe\n", 2, Cause::Unknown),
+        ("area:west,maxweight,7.5\n", 2, Cause::Unknown),
+        // Values.
+        ("arc:1,hgv,maybe\n", 2, Cause::BadField),
+        ("arc:1,hgv,\n", 2, Cause::BadField),
+        ("arc:1,hgv,no \n", 2, Cause::BadField),
+        ("arc:1,hgv,no @ (24/7)\n", 2, Cause::BadField),
+        ("arc:1,hgv:conditional,no\n", 2, Cause::NotConditional),
+        ("arc:1,hgv:conditional,\n", 2, Cause::NotConditional),
+        (
+            "arc:1,hgv:conditional,maybe @ a\n",
+            2,
+            Cause::NotConditional,
+        ),
+        // The same place twice.
+        ("arc:1,hgv,no\narc:1,hgv,no\n", 3, Cause::Duplicate),
+        ("arc:1,hgv,no\narc:01,hgv,yes\n", 3, Cause::Duplicate),
+        ("arc:1,hgv,no\narc:1,hgv,maybe\n", 3, Cause::BadField),
+        (
+            "area:town,bus:conditional,no @ a\narea:town,bus:conditional,no @ b\n",
+            3,
+            Cause::Duplicate,
+        ),
+    ];
+    for (rows, row, cause) in cases {
+        let text = format!(in alloc; "scope,key,value\n{rows}")?;
+        let network = ruled(alloc, "", &text);
+        assert!(rt; is_refused(network, FileKind::Rules, row, cause), "{rows}");
+    }
+    let network = ruled(alloc, "", "scope,value,key\n");
+    assert!(rt; is_refused(network, FileKind::Rules, 1, Cause::BadHeader));
+    Ok(())
+}
+
+// The number of rows that are passed over, where the rules are read.
+#[test]
+fn reads_these_rules_and_passes_these_over(rt: HostRuntime) -> Result<(), Fail> {
+    let alloc = rt.alloc();
+    let cases = [
+        (
+            "arc:1,hgv,no\narc:2,hgv,no\narea:town,hgv,no\narea:port,hgv,no\n",
+            0,
+        ),
+        (
+            "arc:1,hgv,no\narc:1,hgv:conditional,no @ a\narc:1,bus,no\n",
+            0,
+        ),
+        ("arc:0000000001,hgv_articulated,permit\n", 0),
+        ("arc:1,maxweight,7.5\narc:1,maxweight,7.5\n", 2),
+        ("arc:1,HGV,no\narc:1, hgv,no\narc:1,hgv:,no\n", 3),
+        (
+            "arc:1,hgv:forward,no\narc:1,maxspeed:conditional,80 @ wet\n",
+            2,
+        ),
+        ("arc:1,,\narc:1,:conditional,no\n", 2),
+    ];
+    for (rows, passed) in cases {
+        let text = format!(in alloc; "scope,key,value\n{rows}")?;
+        let network = ruled(alloc, "", &text)?;
+        assert_eq!(rt; network.passed_over(), passed, "{rows}");
+    }
+    Ok(())
+}
+
+// A rule of this key whose value is `no @ a` and n blanks.
+fn long_rule(alloc: Global, key: &str, n: usize) -> Result<String, OutOfMemory> {
+    let mut text = format!(in alloc; "scope,key,value\narc:1,{key},no @ a")?;
+    for _ in 0..n {
+        text.push(' ')?;
+    }
+    text.push('\n')?;
+    Ok(text)
+}
+
+#[test]
+fn reads_values_of_65536_bytes(rt: HostRuntime) -> Result<(), Fail> {
+    let alloc = rt.alloc();
+    let longest = ruled(alloc, "", &long_rule(alloc, "hgv:conditional", 65_530)?)?;
+    assert_eq!(rt; clauses(longest.arc_conditional(ArcId(1), Key::Hgv)), 1);
+    for key in ["hgv:conditional", "hgv"] {
+        let longer = ruled(alloc, "", &long_rule(alloc, key, 65_531)?);
+        assert!(rt;
+            is_refused(longer, FileKind::Rules, 2, Cause::SizeLimit),
+            "{key}"
+        );
+    }
+    let other = ruled(alloc, "", &long_rule(alloc, "maxweight", 65_531)?)?;
+    assert_eq!(rt; other.passed_over(), 1);
+    Ok(())
+}
+
 #[test]
 fn names_the_first_fault_in_the_order_of_files(rt: HostRuntime) {
     let mut texts = [
         (FileKind::Zones, "x"),
         (FileKind::Areas, "area,zone\nport,West\n"),
         (FileKind::Roads, "arc,area\n1,port\n01,port\n"),
+        (FileKind::Vehicles, "x"),
+        (FileKind::Rules, "scope,key,value\narc:4,hgv,no\n"),
         (FileKind::Closures, "arc,from,to\n4,525600,525601\n"),
         (FileKind::Ratings, "rating,weight\nr,1\nr,2\nr,x\n"),
         (FileKind::Parking, "node,rating\n1,r\n01,r\n"),
@@ -169,6 +410,8 @@ fn names_the_first_fault_in_the_order_of_files(rt: HostRuntime) {
         (FileKind::Zones, 1, Cause::BadHeader, ""),
         (FileKind::Areas, 2, Cause::Unknown, AREAS),
         (FileKind::Roads, 3, Cause::Duplicate, ""),
+        (FileKind::Vehicles, 1, Cause::BadHeader, VEHICLE_HEADER),
+        (FileKind::Rules, 2, Cause::Unknown, ""),
         (FileKind::Closures, 2, Cause::Unknown, ""),
         (
             FileKind::Ratings,
@@ -185,7 +428,7 @@ fn names_the_first_fault_in_the_order_of_files(rt: HostRuntime) {
             Err(fault) => assert!(rt; fault == named, "at record {row}, file {i}"),
             Ok(_) => assert!(rt; false, "taken: file {i}"),
         }
-        if i < 7 {
+        if i < 9 {
             texts[i] = (file, mended);
         }
     }
