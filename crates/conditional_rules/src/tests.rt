@@ -18,120 +18,103 @@ fn has_canonical(alloc: Global, text: &str, canonical: &str) -> Result<bool, Out
     }
 }
 
-// A text, and its canonical text, which is empty where the text has no clauses.
+// A text, an arrow and its canonical text, which is empty where the text has no clauses.
+const TEXTS: &str = "\
+no @ (weight > 7.5t and Sa 07:00-20:00) => no @ (weight>7.500 AND Sa 07:00-20:00)\n\
+no @ (weight>7.5 AND Mo-Fr 6:00-9:00); yes @ articulated => no @ (weight>7.500 AND Mo-Fr 06:00-09:00); yes @ (articulated)\n\
+no@(a AND b and c) => no @ (a AND b AND c)\n\
+no @ a AND b => no @ (a AND b)\n\
+no @ (a\tAND  b) => no @ (a AND b)\n\
+no @ (a ANDb) => \n\
+no @ (aAND b) => \n\
+no @ (a And b) => \n\
+no @ (a AND AND b) => \n\
+no @ (AND b) => \n\
+no @ (a AND) => \n\
+no @ (a AND ) => \n\
+no @ (a, b) => \n\
+no@(24/7) => no @ (00:00-24:00)\n\
+no @ 24/7 => no @ (00:00-24:00)\n\
+no @ off => no @ (off)\n\
+no @ (closed) => no @ (off)\n\
+no @ open => \n\
+no @ (Mo 22:00-06:00; PH off) => no @ (Mo 22:00-30:00; PH off)\n\
+no @ Mo 22:00-06:00; PH off => \n\
+no @ (Mo 22:00-06:00;) => \n\
+no @ (sunset-sunrise) => \n\
+no @ weight>7,5 => \n\
+no @ weight>7.5 t => no @ (weight>7.500)\n\
+no @ weight\t==\t007.50t => no @ (weight=7.500)\n\
+no @ weight=7 => no @ (weight=7.000)\n\
+no @ axleload<=11.5 => no @ (axleload<=11.500)\n\
+no @ height<4m => no @ (height<4.00)\n\
+no @ width>=2.55 m => no @ (width>=2.55)\n\
+no @ length>18.7 => no @ (length>18.70)\n\
+no @ axles>=3 => no @ (axles>=3)\n\
+no @ axles>=3t => \n\
+no @ axles>=3.0 => \n\
+no @ weight>999999.999 => no @ (weight>999999.999)\n\
+no @ weight>1000000 => \n\
+no @ weight>0000007 => \n\
+no @ weight>7.1234 => \n\
+no @ height>4.123 => \n\
+no @ weight>7. => \n\
+no @ weight>.5 => \n\
+no @ weight> => \n\
+no @ weight=>7 => \n\
+no @ weight< =7 => \n\
+no @ weight>-7 => \n\
+no @ weight>7.5T => \n\
+no @ weight>7.5m => \n\
+no @ weight>7.5kg => \n\
+no @ Weight>7.5 => \n\
+no @ speed>80 => \n\
+no @ 7.5<weight => \n\
+no @ weight => no @ (weight)\n\
+yes @ low_emission => yes @ (low_emission)\n\
+no @ mo => no @ (mo)\n\
+no @ hazmat2 => \n\
+no @ HAZMAT => \n\
+no @ _hazmat => \n\
+no @ (two words) => \n\
+no @ and => \n\
+no @ () => \n\
+no @ ( ) => \n\
+no @ ((a)) => \n\
+no @ (a AND (b)) => \n\
+no @ (a) AND (b) => \n\
+no @ (a => \n\
+no @ a) => \n\
+(no @ a) => \n\
+no @ (a) b => \n\
+no @ (a);yes @ b ;no@c => no @ (a); yes @ (b); no @ (c)\n\
+no @ (a; yes @ b) => \n\
+no @ a; => \n\
+; no @ a => \n\
+no @ a;; yes @ b => \n\
+no @ a @ b => \n\
+destination @ a; delivery @ b; permit @ c => destination @ (a); destination @ (b); no @ (c)\n\
+designated @ a;permissive @ b;discouraged @ c => yes @ (a); yes @ (b); yes @ (c)\n\
+maybe @ (24/7) => \n\
+No @ a => \n\
+no => \n\
+no @ => \n\
+@ a => \n\
+\x20\tno\t @ \t( \ta\t AND b \t)\t  => no @ (a AND b)\n\
+no @ a\r => \n\
+\x20=> \n\
+\x20\t  => \n\
+";
+
 #[test]
 fn texts_have_these_canonical_texts(rt: HostRuntime) -> Result<(), Fail> {
-    let rows = [
-        // Parts, and the words between them.
-        (
-            "no @ (weight > 7.5t and Sa 07:00-20:00)",
-            "no @ (weight>7.500 AND Sa 07:00-20:00)",
-        ),
-        (
-            "no @ (weight>7.5 AND Mo-Fr 6:00-9:00); yes @ articulated",
-            "no @ (weight>7.500 AND Mo-Fr 06:00-09:00); yes @ (articulated)",
-        ),
-        ("no@(a AND b and c)", "no @ (a AND b AND c)"),
-        ("no @ a AND b", "no @ (a AND b)"),
-        ("no @ (a\tAND  b)", "no @ (a AND b)"),
-        ("no @ (a ANDb)", ""),
-        ("no @ (aAND b)", ""),
-        ("no @ (a And b)", ""),
-        ("no @ (a AND AND b)", ""),
-        ("no @ (AND b)", ""),
-        ("no @ (a AND)", ""),
-        ("no @ (a AND )", ""),
-        ("no @ (a, b)", ""),
-        // Hours.
-        ("no@(24/7)", "no @ (00:00-24:00)"),
-        ("no @ 24/7", "no @ (00:00-24:00)"),
-        ("no @ off", "no @ (off)"),
-        ("no @ (closed)", "no @ (off)"),
-        ("no @ open", ""),
-        (
-            "no @ (Mo 22:00-06:00; PH off)",
-            "no @ (Mo 22:00-30:00; PH off)",
-        ),
-        ("no @ Mo 22:00-06:00; PH off", ""),
-        ("no @ (Mo 22:00-06:00;)", ""),
-        ("no @ (sunset-sunrise)", ""),
-        // Comparisons.
-        ("no @ weight>7,5", ""),
-        ("no @ weight>7.5 t", "no @ (weight>7.500)"),
-        ("no @ weight\t==\t007.50t", "no @ (weight=7.500)"),
-        ("no @ weight=7", "no @ (weight=7.000)"),
-        ("no @ axleload<=11.5", "no @ (axleload<=11.500)"),
-        ("no @ height<4m", "no @ (height<4.00)"),
-        ("no @ width>=2.55 m", "no @ (width>=2.55)"),
-        ("no @ length>18.7", "no @ (length>18.70)"),
-        ("no @ axles>=3", "no @ (axles>=3)"),
-        ("no @ axles>=3t", ""),
-        ("no @ axles>=3.0", ""),
-        ("no @ weight>999999.999", "no @ (weight>999999.999)"),
-        ("no @ weight>1000000", ""),
-        ("no @ weight>0000007", ""),
-        ("no @ weight>7.1234", ""),
-        ("no @ height>4.123", ""),
-        ("no @ weight>7.", ""),
-        ("no @ weight>.5", ""),
-        ("no @ weight>", ""),
-        ("no @ weight=>7", ""),
-        ("no @ weight< =7", ""),
-        ("no @ weight>-7", ""),
-        ("no @ weight>7.5T", ""),
-        ("no @ weight>7.5m", ""),
-        ("no @ weight>7.5kg", ""),
-        ("no @ Weight>7.5", ""),
-        ("no @ speed>80", ""),
-        ("no @ 7.5<weight", ""),
-        ("no @ weight", "no @ (weight)"),
-        // Flags.
-        ("yes @ low_emission", "yes @ (low_emission)"),
-        ("no @ mo", "no @ (mo)"),
-        ("no @ hazmat2", ""),
-        ("no @ HAZMAT", ""),
-        ("no @ _hazmat", ""),
-        ("no @ (two words)", ""),
-        ("no @ and", ""),
-        // Parentheses and clauses.
-        ("no @ ()", ""),
-        ("no @ ( )", ""),
-        ("no @ ((a))", ""),
-        ("no @ (a AND (b))", ""),
-        ("no @ (a) AND (b)", ""),
-        ("no @ (a", ""),
-        ("no @ a)", ""),
-        ("(no @ a)", ""),
-        ("no @ (a) b", ""),
-        ("no @ (a);yes @ b ;no@c", "no @ (a); yes @ (b); no @ (c)"),
-        ("no @ (a; yes @ b)", ""),
-        ("no @ a;", ""),
-        ("; no @ a", ""),
-        ("no @ a;; yes @ b", ""),
-        ("no @ a @ b", ""),
-        // Values.
-        (
-            "destination @ a; delivery @ b; permit @ c",
-            "destination @ (a); destination @ (b); no @ (c)",
-        ),
-        (
-            "designated @ a;permissive @ b;discouraged @ c",
-            "yes @ (a); yes @ (b); yes @ (c)",
-        ),
-        ("maybe @ (24/7)", ""),
-        ("No @ a", ""),
-        ("no", ""),
-        ("no @", ""),
-        ("@ a", ""),
-        // Blanks.
-        (" \tno\t @ \t( \ta\t AND b \t)\t ", "no @ (a AND b)"),
-        ("no @ a\n", ""),
-        ("", ""),
-        (" \t ", ""),
-    ];
-    for (text, canonical) in rows {
+    for row in TEXTS.lines() {
+        let Some((text, canonical)) = row.split_once(" => ") else {
+            assert!(rt; false, "a row has no arrow: {row}");
+            return Ok(());
+        };
         let same = has_canonical(rt.alloc(), text, canonical)?;
-        assert!(rt; same, "{text}");
+        assert!(rt; same, "{row}");
     }
     Ok(())
 }
@@ -173,119 +156,139 @@ fn gives(
     Ok(decide(&conditional, vehicle, day, minute, holidays) == access)
 }
 
-// Day 18447 is 2020-07-04, a Saturday.
+// A text, a vehicle, a day and a minute, and the access. Day 18447 is 2020-07-04, a Saturday.
+const DECISIONS: [(&str, &str, u32, u32, Option<Access>); 38] = [
+    // Sizes: an unknown one compares with no value.
+    ("no @ weight>7.5", "truck", 18447, 0, Some(Access::Barred)),
+    ("no @ weight>7.5", "van", 18447, 0, None),
+    ("no @ weight>7.5", "any", 18447, 0, None),
+    ("no @ weight<=7.5", "any", 18447, 0, None),
+    ("no @ axleload<999", "truck", 18447, 0, None),
+    ("no @ weight<40", "truck", 18447, 0, None),
+    ("no @ weight<=40", "truck", 18447, 0, Some(Access::Barred)),
+    ("no @ weight>40", "truck", 18447, 0, None),
+    ("no @ weight>=40", "truck", 18447, 0, Some(Access::Barred)),
+    ("no @ weight=40", "truck", 18447, 0, Some(Access::Barred)),
+    ("no @ weight==39.999", "truck", 18447, 0, None),
+    ("no @ height>3.99", "truck", 18447, 0, Some(Access::Barred)),
+    ("no @ width>2.55", "truck", 18447, 0, None),
+    ("no @ length<18.76", "truck", 18447, 0, Some(Access::Barred)),
+    ("no @ axles>=3", "truck", 18447, 0, Some(Access::Barred)),
+    ("no @ axles>=3", "van", 18447, 0, None),
+    // Flags.
+    (
+        "destination @ hazmat",
+        "truck",
+        18447,
+        0,
+        Some(Access::Purpose),
+    ),
+    ("destination @ hazmat", "van", 18447, 0, None),
+    ("no @ haz", "truck", 18447, 0, None),
+    // Parts: each has to hold.
+    (
+        "no @ (weight>7.5 AND Sa 07:00-20:00)",
+        "truck",
+        18447,
+        419,
+        None,
+    ),
+    (
+        "no @ (weight>7.5 AND Sa 07:00-20:00)",
+        "truck",
+        18447,
+        420,
+        Some(Access::Barred),
+    ),
+    (
+        "no @ (weight>7.5 AND Sa 07:00-20:00)",
+        "truck",
+        18447,
+        1199,
+        Some(Access::Barred),
+    ),
+    (
+        "no @ (weight>7.5 AND Sa 07:00-20:00)",
+        "truck",
+        18447,
+        1200,
+        None,
+    ),
+    (
+        "no @ (weight>7.5 AND Sa 07:00-20:00)",
+        "truck",
+        18448,
+        600,
+        None,
+    ),
+    (
+        "no @ (weight>7.5 AND Sa 07:00-20:00)",
+        "van",
+        18447,
+        600,
+        None,
+    ),
+    // Clauses: the last that holds decides.
+    (
+        "no @ height>3.8; yes @ hazmat",
+        "truck",
+        18447,
+        0,
+        Some(Access::Free),
+    ),
+    (
+        "yes @ hazmat; no @ height>3.8",
+        "truck",
+        18447,
+        0,
+        Some(Access::Barred),
+    ),
+    (
+        "no @ height>3.8; yes @ tall",
+        "truck",
+        18447,
+        0,
+        Some(Access::Barred),
+    ),
+    (
+        "no @ 24/7; destination @ off",
+        "any",
+        18447,
+        0,
+        Some(Access::Barred),
+    ),
+    // Hours of a holiday.
+    ("no @ PH", "any", 18621, 0, Some(Access::Barred)),
+    ("no @ PH", "any", 18620, 1439, None),
+    ("no @ SH", "any", 18449, 0, Some(Access::Barred)),
+    ("no @ SH", "any", 18621, 0, None),
+    (
+        "no @ (Mo-Fr 22:00-06:00; PH off)",
+        "any",
+        18620,
+        1320,
+        Some(Access::Barred),
+    ),
+    (
+        "no @ (Mo-Fr 22:00-06:00; PH off)",
+        "any",
+        18621,
+        359,
+        Some(Access::Barred),
+    ),
+    ("no @ (Mo-Fr 22:00-06:00; PH off)", "any", 18621, 360, None),
+    ("no @ (Mo-Fr 22:00-06:00; PH off)", "any", 18621, 1320, None),
+    ("no @ (Mo-Fr 22:00-06:00; PH off)", "any", 18622, 359, None),
+];
+
 #[test]
 fn the_last_clause_that_holds_decides(rt: HostRuntime) -> Result<(), Fail> {
     let alloc = rt.alloc();
     let vehicles = read_vehicles(alloc, VEHICLES.as_bytes())?;
     let holidays = two_holidays(alloc)?;
-    let (free, barred, purpose) = (
-        Some(Access::Free),
-        Some(Access::Barred),
-        Some(Access::Purpose),
-    );
-    let rows = [
-        // Sizes: an unknown one compares with no value.
-        ("no @ weight>7.5", "truck", 18447, 0, barred),
-        ("no @ weight>7.5", "van", 18447, 0, None),
-        ("no @ weight>7.5", "any", 18447, 0, None),
-        ("no @ weight<=7.5", "any", 18447, 0, None),
-        ("no @ axleload<999", "truck", 18447, 0, None),
-        ("no @ weight<40", "truck", 18447, 0, None),
-        ("no @ weight<=40", "truck", 18447, 0, barred),
-        ("no @ weight>40", "truck", 18447, 0, None),
-        ("no @ weight>=40", "truck", 18447, 0, barred),
-        ("no @ weight=40", "truck", 18447, 0, barred),
-        ("no @ weight==39.999", "truck", 18447, 0, None),
-        ("no @ height>3.99", "truck", 18447, 0, barred),
-        ("no @ width>2.55", "truck", 18447, 0, None),
-        ("no @ length<18.76", "truck", 18447, 0, barred),
-        ("no @ axles>=3", "truck", 18447, 0, barred),
-        ("no @ axles>=3", "van", 18447, 0, None),
-        // Flags.
-        ("destination @ hazmat", "truck", 18447, 0, purpose),
-        ("destination @ hazmat", "van", 18447, 0, None),
-        ("no @ haz", "truck", 18447, 0, None),
-        // Parts: each has to hold.
-        (
-            "no @ (weight>7.5 AND Sa 07:00-20:00)",
-            "truck",
-            18447,
-            419,
-            None,
-        ),
-        (
-            "no @ (weight>7.5 AND Sa 07:00-20:00)",
-            "truck",
-            18447,
-            420,
-            barred,
-        ),
-        (
-            "no @ (weight>7.5 AND Sa 07:00-20:00)",
-            "truck",
-            18447,
-            1199,
-            barred,
-        ),
-        (
-            "no @ (weight>7.5 AND Sa 07:00-20:00)",
-            "truck",
-            18447,
-            1200,
-            None,
-        ),
-        (
-            "no @ (weight>7.5 AND Sa 07:00-20:00)",
-            "truck",
-            18448,
-            600,
-            None,
-        ),
-        (
-            "no @ (weight>7.5 AND Sa 07:00-20:00)",
-            "van",
-            18447,
-            600,
-            None,
-        ),
-        // Clauses: the last that holds decides.
-        ("no @ height>3.8; yes @ hazmat", "truck", 18447, 0, free),
-        ("yes @ hazmat; no @ height>3.8", "truck", 18447, 0, barred),
-        ("no @ height>3.8; yes @ tall", "truck", 18447, 0, barred),
-        ("no @ 24/7; destination @ off", "any", 18447, 0, barred),
-        // Hours of a holiday.
-        ("no @ PH", "any", 18621, 0, barred),
-        ("no @ PH", "any", 18620, 1439, None),
-        ("no @ SH", "any", 18449, 0, barred),
-        ("no @ SH", "any", 18621, 0, None),
-        (
-            "no @ (Mo-Fr 22:00-06:00; PH off)",
-            "any",
-            18620,
-            1320,
-            barred,
-        ),
-        (
-            "no @ (Mo-Fr 22:00-06:00; PH off)",
-            "any",
-            18621,
-            359,
-            barred,
-        ),
-        ("no @ (Mo-Fr 22:00-06:00; PH off)", "any", 18621, 360, None),
-        ("no @ (Mo-Fr 22:00-06:00; PH off)", "any", 18621, 1320, None),
-        ("no @ (Mo-Fr 22:00-06:00; PH off)", "any", 18622, 359, None),
-    ];
-    for (text, name, day, minute, access) in rows {
-        let given = gives(
-            alloc,
-            (&vehicles, &holidays),
-            text,
-            name,
-            (day, minute),
-            access,
-        )?;
+    for (text, name, day, minute, access) in DECISIONS {
+        let setting = (&vehicles, &holidays);
+        let given = gives(alloc, setting, text, name, (day, minute), access)?;
         assert!(rt; given, "{text} for {name} on {day} at {minute}");
     }
     Ok(())
