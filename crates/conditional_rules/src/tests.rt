@@ -1,10 +1,10 @@
 // Texts with their canonical texts, and the access that clauses give vehicles.
 use crate::{Access, ConditionalFault, decide, lets_in, parse, print, read_value};
 use opening_hours::Holidays;
-use route_base::{OutOfMemory, TableFault};
+use route_base::{OutOfMemory, TableFault, read_number};
 use std::alloc::{AllocError, Global};
 use std::test::Fail;
-use vehicle_classes::{Vehicle, Vehicles, read_vehicles};
+use vehicle_classes::{Vehicles, read_vehicles};
 
 // Whether this is the canonical text of a text, or the text has no clauses and this is empty.
 fn has_canonical(alloc: Global, text: &str, canonical: &str) -> Result<bool, OutOfMemory> {
@@ -134,204 +134,145 @@ fn two_holidays(alloc: Global) -> Result<Holidays, AllocError> {
     Ok(Holidays::from_days(public, school))
 }
 
-// Whether a text gives the vehicle of this name this access at a minute of a day.
-fn gives(
+// A vehicle, a day, a minute and a conditional value; an arrow, and a value of the access, or nothing where no clause holds. Day
+// 18447 is 2020-07-04, a Saturday.
+const DECISIONS: &str = "\
+truck 18447 0 no @ weight>7.5 => no\n\
+van 18447 0 no @ weight>7.5 => \n\
+any 18447 0 no @ weight>7.5 => \n\
+any 18447 0 no @ weight<=7.5 => \n\
+truck 18447 0 no @ axleload<999 => \n\
+truck 18447 0 no @ weight<40 => \n\
+truck 18447 0 no @ weight<=40 => no\n\
+truck 18447 0 no @ weight>40 => \n\
+truck 18447 0 no @ weight>=40 => no\n\
+truck 18447 0 no @ weight=40 => no\n\
+truck 18447 0 no @ weight==39.999 => \n\
+truck 18447 0 no @ height>3.99 => no\n\
+truck 18447 0 no @ width>2.55 => \n\
+truck 18447 0 no @ length<18.76 => no\n\
+truck 18447 0 no @ axles>=3 => no\n\
+van 18447 0 no @ axles>=3 => \n\
+truck 18447 0 destination @ hazmat => destination\n\
+van 18447 0 destination @ hazmat => \n\
+truck 18447 0 no @ haz => \n\
+truck 18447 419 no @ (weight>7.5 AND Sa 07:00-20:00) => \n\
+truck 18447 420 no @ (weight>7.5 AND Sa 07:00-20:00) => no\n\
+truck 18447 1199 no @ (weight>7.5 AND Sa 07:00-20:00) => no\n\
+truck 18447 1200 no @ (weight>7.5 AND Sa 07:00-20:00) => \n\
+truck 18448 600 no @ (weight>7.5 AND Sa 07:00-20:00) => \n\
+van 18447 600 no @ (weight>7.5 AND Sa 07:00-20:00) => \n\
+truck 18447 0 no @ height>3.8; yes @ hazmat => yes\n\
+truck 18447 0 yes @ hazmat; no @ height>3.8 => no\n\
+truck 18447 0 no @ height>3.8; yes @ tall => no\n\
+any 18447 0 no @ 24/7; destination @ off => no\n\
+any 18621 0 no @ PH => no\n\
+any 18620 1439 no @ PH => \n\
+any 18449 0 no @ SH => no\n\
+any 18621 0 no @ SH => \n\
+any 18620 1320 no @ (Mo-Fr 22:00-06:00; PH off) => no\n\
+any 18621 359 no @ (Mo-Fr 22:00-06:00; PH off) => no\n\
+any 18621 360 no @ (Mo-Fr 22:00-06:00; PH off) => \n\
+any 18621 1320 no @ (Mo-Fr 22:00-06:00; PH off) => \n\
+any 18622 359 no @ (Mo-Fr 22:00-06:00; PH off) => \n\
+";
+
+// A row of decisions.
+#[derive(Clone, Copy)]
+struct Decision<'a> {
+    name: &'a str,
+    day: u64,
+    minute: u64,
+    text: &'a str,
+    access: &'a str,
+}
+
+// The parts of a row.
+fn decision_of(row: &str) -> Option<Decision<'_>> {
+    let (name, row) = row.split_once(' ')?;
+    let (day, row) = row.split_once(' ')?;
+    let (minute, row) = row.split_once(' ')?;
+    let (text, access) = row.split_once(" => ")?;
+    Some(Decision {
+        name,
+        day: read_number(day.as_bytes())?,
+        minute: read_number(minute.as_bytes())?,
+        text,
+        access,
+    })
+}
+
+// Whether a row's text gives its vehicle this access at its minute.
+fn is_decided(
     alloc: Global,
-    setting: (&Vehicles, &Holidays),
-    text: &str,
-    name: &str,
-    at: (u32, u32),
-    access: Option<Access>,
+    vehicles: &Vehicles,
+    holidays: &Holidays,
+    row: &Decision<'_>,
 ) -> Result<bool, ConditionalFault> {
-    let conditional = parse(alloc, text.as_bytes())?;
-    let (vehicles, holidays) = setting;
-    let (day, minute) = at;
-    let Some(place) = vehicles.find(name.as_bytes()) else {
+    let conditional = parse(alloc, row.text.as_bytes())?;
+    let Some(place) = vehicles.find(row.name.as_bytes()) else {
         return Ok(false);
     };
-    if day < 7 || day > 84370 || minute >= 1440 {
+    if row.day < 7 || row.day > 84370 || row.minute >= 1440 {
         return Ok(false);
     }
     let vehicle = vehicles.vehicle(place);
-    Ok(decide(&conditional, vehicle, day, minute, holidays) == access)
+    let access = decide(
+        &conditional,
+        vehicle,
+        row.day as u32,
+        row.minute as u32,
+        holidays,
+    );
+    Ok(access == read_value(row.access.as_bytes()))
 }
-
-// A text, a vehicle, a day and a minute, and the access. Day 18447 is 2020-07-04, a Saturday.
-const DECISIONS: [(&str, &str, u32, u32, Option<Access>); 38] = [
-    // Sizes: an unknown one compares with no value.
-    ("no @ weight>7.5", "truck", 18447, 0, Some(Access::Barred)),
-    ("no @ weight>7.5", "van", 18447, 0, None),
-    ("no @ weight>7.5", "any", 18447, 0, None),
-    ("no @ weight<=7.5", "any", 18447, 0, None),
-    ("no @ axleload<999", "truck", 18447, 0, None),
-    ("no @ weight<40", "truck", 18447, 0, None),
-    ("no @ weight<=40", "truck", 18447, 0, Some(Access::Barred)),
-    ("no @ weight>40", "truck", 18447, 0, None),
-    ("no @ weight>=40", "truck", 18447, 0, Some(Access::Barred)),
-    ("no @ weight=40", "truck", 18447, 0, Some(Access::Barred)),
-    ("no @ weight==39.999", "truck", 18447, 0, None),
-    ("no @ height>3.99", "truck", 18447, 0, Some(Access::Barred)),
-    ("no @ width>2.55", "truck", 18447, 0, None),
-    ("no @ length<18.76", "truck", 18447, 0, Some(Access::Barred)),
-    ("no @ axles>=3", "truck", 18447, 0, Some(Access::Barred)),
-    ("no @ axles>=3", "van", 18447, 0, None),
-    // Flags.
-    (
-        "destination @ hazmat",
-        "truck",
-        18447,
-        0,
-        Some(Access::Purpose),
-    ),
-    ("destination @ hazmat", "van", 18447, 0, None),
-    ("no @ haz", "truck", 18447, 0, None),
-    // Parts: each has to hold.
-    (
-        "no @ (weight>7.5 AND Sa 07:00-20:00)",
-        "truck",
-        18447,
-        419,
-        None,
-    ),
-    (
-        "no @ (weight>7.5 AND Sa 07:00-20:00)",
-        "truck",
-        18447,
-        420,
-        Some(Access::Barred),
-    ),
-    (
-        "no @ (weight>7.5 AND Sa 07:00-20:00)",
-        "truck",
-        18447,
-        1199,
-        Some(Access::Barred),
-    ),
-    (
-        "no @ (weight>7.5 AND Sa 07:00-20:00)",
-        "truck",
-        18447,
-        1200,
-        None,
-    ),
-    (
-        "no @ (weight>7.5 AND Sa 07:00-20:00)",
-        "truck",
-        18448,
-        600,
-        None,
-    ),
-    (
-        "no @ (weight>7.5 AND Sa 07:00-20:00)",
-        "van",
-        18447,
-        600,
-        None,
-    ),
-    // Clauses: the last that holds decides.
-    (
-        "no @ height>3.8; yes @ hazmat",
-        "truck",
-        18447,
-        0,
-        Some(Access::Free),
-    ),
-    (
-        "yes @ hazmat; no @ height>3.8",
-        "truck",
-        18447,
-        0,
-        Some(Access::Barred),
-    ),
-    (
-        "no @ height>3.8; yes @ tall",
-        "truck",
-        18447,
-        0,
-        Some(Access::Barred),
-    ),
-    (
-        "no @ 24/7; destination @ off",
-        "any",
-        18447,
-        0,
-        Some(Access::Barred),
-    ),
-    // Hours of a holiday.
-    ("no @ PH", "any", 18621, 0, Some(Access::Barred)),
-    ("no @ PH", "any", 18620, 1439, None),
-    ("no @ SH", "any", 18449, 0, Some(Access::Barred)),
-    ("no @ SH", "any", 18621, 0, None),
-    (
-        "no @ (Mo-Fr 22:00-06:00; PH off)",
-        "any",
-        18620,
-        1320,
-        Some(Access::Barred),
-    ),
-    (
-        "no @ (Mo-Fr 22:00-06:00; PH off)",
-        "any",
-        18621,
-        359,
-        Some(Access::Barred),
-    ),
-    ("no @ (Mo-Fr 22:00-06:00; PH off)", "any", 18621, 360, None),
-    ("no @ (Mo-Fr 22:00-06:00; PH off)", "any", 18621, 1320, None),
-    ("no @ (Mo-Fr 22:00-06:00; PH off)", "any", 18622, 359, None),
-];
 
 #[test]
 fn the_last_clause_that_holds_decides(rt: HostRuntime) -> Result<(), Fail> {
     let alloc = rt.alloc();
     let vehicles = read_vehicles(alloc, VEHICLES.as_bytes())?;
     let holidays = two_holidays(alloc)?;
-    for (text, name, day, minute, access) in DECISIONS {
-        let setting = (&vehicles, &holidays);
-        let given = gives(alloc, setting, text, name, (day, minute), access)?;
-        assert!(rt; given, "{text} for {name} on {day} at {minute}");
+    for row in DECISIONS.lines() {
+        let Some(decision) = decision_of(row) else {
+            assert!(rt; false, "a row has no decision: {row}");
+            return Ok(());
+        };
+        let decided = is_decided(alloc, &vehicles, &holidays, &decision)?;
+        assert!(rt; decided, "{row}");
     }
     Ok(())
 }
 
-// Whether a word gives an access that lets a passage and a delivery in so; no access where this is None.
-fn lets(word: &str, through: &Vehicle, delivery: &Vehicle, wanted: Option<(bool, bool)>) -> bool {
-    match read_value(word.as_bytes()) {
-        Some(access) => wanted == Some((lets_in(access, through), lets_in(access, delivery))),
-        None => wanted.is_none(),
+// Whether each of these words gives this access.
+fn each_gives(words: &str, access: Option<Access>) -> bool {
+    for word in words.split(' ') {
+        if read_value(word.as_bytes()) != access {
+            return false;
+        }
     }
+    true
 }
 
 #[test]
-fn values_let_these_purposes_in(rt: HostRuntime) -> Result<(), TableFault> {
+fn values_give_these_accesses(rt: HostRuntime) {
+    assert!(rt; each_gives("yes designated permissive discouraged", Some(Access::Free)));
+    let barred = "no private agricultural forestry customers permit";
+    assert!(rt; each_gives(barred, Some(Access::Barred)));
+    assert!(rt; each_gives("destination delivery", Some(Access::Purpose)));
+    assert!(rt; each_gives("maybe Yes none through emergency", None));
+    assert!(rt; read_value(b"").is_none() && read_value(b"yes ").is_none());
+}
+
+#[test]
+fn accesses_let_these_purposes_in(rt: HostRuntime) -> Result<(), TableFault> {
     let vehicles = read_vehicles(rt.alloc(), VEHICLES.as_bytes())?;
-    let free = Some((true, true));
-    let barred = Some((false, false));
-    let rows = [
-        ("yes", free),
-        ("designated", free),
-        ("permissive", free),
-        ("discouraged", free),
-        ("no", barred),
-        ("private", barred),
-        ("agricultural", barred),
-        ("forestry", barred),
-        ("customers", barred),
-        ("permit", barred),
-        ("destination", Some((false, true))),
-        ("delivery", Some((false, true))),
-        ("maybe", None),
-        ("Yes", None),
-        ("yes ", None),
-        ("", None),
-    ];
     let (Some(truck), Some(van)) = (vehicles.find(b"truck"), vehicles.find(b"van")) else {
         assert!(rt; false, "a vehicle isn't found");
         return Ok(());
     };
-    for (word, wanted) in rows {
-        let so = lets(word, vehicles.vehicle(truck), vehicles.vehicle(van), wanted);
-        assert!(rt; so, "{word}");
-    }
+    let (through, delivery) = (vehicles.vehicle(truck), vehicles.vehicle(van));
+    assert!(rt; lets_in(Access::Free, through) && lets_in(Access::Free, delivery));
+    assert!(rt; !lets_in(Access::Barred, through) && !lets_in(Access::Barred, delivery));
+    assert!(rt; !lets_in(Access::Purpose, through) && lets_in(Access::Purpose, delivery));
     Ok(())
 }

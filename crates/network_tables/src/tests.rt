@@ -2,7 +2,9 @@
 // are refused. The refusals of the other tables are tested in lorry_plan.
 use crate::{Files, Network, NetworkFault, read_network};
 use conditional_rules::{Access, Conditional};
-use route_base::{ArcId, BadInput, Cause, FileBytes, FileKind, NodeId, OutOfMemory, Run};
+use route_base::{
+    ArcId, BadInput, Cause, FileBytes, FileKind, NodeId, OutOfMemory, Run, read_number,
+};
 use std::alloc::Global;
 use std::test::Fail;
 use vehicle_classes::{Key, Purpose, Quantity};
@@ -157,6 +159,8 @@ fn reads_holidays_of_both_kinds(rt: HostRuntime) -> Result<(), NetworkFault> {
     Ok(())
 }
 
+const RULE_HEADER: &str = "scope,key,value\n";
+
 // The vehicle and the rules of the happy path.
 const TRUCK: &str = "\
 name,class,weight_kg,axleload_kg,height_cm,width_cm,length_cm,axles,purpose,flags\n\
@@ -241,124 +245,142 @@ fn reads_rules_of_areas_and_arcs(rt: HostRuntime) -> Result<(), NetworkFault> {
     Ok(())
 }
 
-// Whether a file is refused at this record for this cause.
+// Whether a file is refused at this record for the cause of this name.
 fn is_refused(
     network: Result<Network, NetworkFault>,
     file: FileKind,
     row: u64,
-    cause: Cause,
+    cause: &str,
 ) -> bool {
     match network {
-        Ok(_) => false,
-        Err(fault) => fault == NetworkFault::Bad(BadInput { file, row, cause }),
+        Err(NetworkFault::Bad(fault)) => {
+            fault.file == file && fault.row == row && fault.cause.name() == cause
+        }
+        _ => false,
     }
 }
+
+// The header and the data rows of a table, which stand with `|` between them.
+fn table(alloc: Global, header: &str, rows: &str) -> Result<String, OutOfMemory> {
+    let mut text = format!(in alloc; "{header}")?;
+    for row in rows.split('|') {
+        text.push_str(row)?;
+        text.push('\n')?;
+    }
+    Ok(text)
+}
+
+// The record, the cause and the data rows.
+fn refusal_of(case: &str) -> Option<(u64, &str, &str)> {
+    let (row, case) = case.split_once(' ')?;
+    let (cause, rows) = case.split_once(' ')?;
+    Some((read_number(row.as_bytes())?, cause, rows))
+}
+
+// Vehicles that are refused: the record, the cause and the data rows.
+const BAD_VEHICLES: &str = "\
+2 FieldCount truck,hgv,,,,,,,\n\
+2 BadField truck,lorry,,,,,,,,\n\
+2 BadField truck,hgv,1000001,,,,,,,\n\
+2 BadField truck,hgv,,,,,,1000001,,\n\
+2 BadField truck,hgv,,,,,,,,hazmat \n\
+2 BadField truck,hgv,,,,,,,, hazmat\n\
+2 BadField truck,hgv,,,,,,,,Hazmat\n\
+2 BadField truck,hgv,,,,,,,,hazmat2\n\
+2 BadField truck,hgv,,,,,,,passage,\n\
+2 Duplicate any,hgv,,,,,,,,\n\
+3 Duplicate a,hgv,,,,,,,,|a,bus,,,,,,,,\n\
+3 BadField a,hgv,,,,,,,,|a,lorry,,,,,,,,\n\
+";
 
 #[test]
 fn refuses_vehicles_with_their_first_fault(rt: HostRuntime) -> Result<(), Fail> {
     let alloc = rt.alloc();
-    let cases = [
-        ("truck,hgv,,,,,,,\n", 2, Cause::FieldCount),
-        ("truck,lorry,,,,,,,,\n", 2, Cause::BadField),
-        ("truck,hgv,1000001,,,,,,,\n", 2, Cause::BadField),
-        ("truck,hgv,,,,,,1000001,,\n", 2, Cause::BadField),
-        ("truck,hgv,,,,,,,,hazmat \n", 2, Cause::BadField),
-        ("truck,hgv,,,,,,,, hazmat\n", 2, Cause::BadField),
-        ("truck,hgv,,,,,,,,Hazmat\n", 2, Cause::BadField),
-        ("truck,hgv,,,,,,,,hazmat2\n", 2, Cause::BadField),
-        ("truck,hgv,,,,,,,passage,\n", 2, Cause::BadField),
-        ("any,hgv,,,,,,,,\n", 2, Cause::Duplicate),
-        ("a,hgv,,,,,,,,\na,bus,,,,,,,,\n", 3, Cause::Duplicate),
-        ("a,hgv,,,,,,,,\na,lorry,,,,,,,,\n", 3, Cause::BadField),
-    ];
-    for (rows, row, cause) in cases {
-        let text = format!(in alloc; "{VEHICLE_HEADER}{rows}")?;
+    for case in BAD_VEHICLES.lines() {
+        let Some((row, cause, rows)) = refusal_of(case) else {
+            assert!(rt; false, "no case: {case}");
+            return Ok(());
+        };
+        let text = table(alloc, VEHICLE_HEADER, rows)?;
         let network = ruled(alloc, &text, "");
         assert!(rt;
             is_refused(network, FileKind::Vehicles, row, cause),
-            "{rows}"
+            "{case}"
         );
     }
     let network = ruled(alloc, "name,class\n", "");
-    assert!(rt; is_refused(network, FileKind::Vehicles, 1, Cause::BadHeader));
+    assert!(rt; is_refused(network, FileKind::Vehicles, 1, "BadHeader"));
     Ok(())
 }
+
+// Rules that are refused: a scope's fault comes before a value's, and also where the key is passed over.
+const BAD_RULES: &str = "\
+2 FieldCount arc:1,hgv\n\
+2 BadField town,hgv,no\n\
+2 BadField area town,hgv,no\n\
+2 BadField arc1,hgv,no\n\
+2 BadField arc:,hgv,no\n\
+2 BadField arc: 1,hgv,no\n\
+2 BadField area:,hgv,no\n\
+2 Unknown arc:0,hgv,no\n\
+2 Unknown arc:4,hgv,no\n\
+2 Unknown area:west,hgv,maybe\n\
+2 Unknown area:west,hgv:conditional,maybe\n\
+2 Unknown area:west,maxweight,7.5\n\
+2 BadField arc:1,hgv,maybe\n\
+2 BadField arc:1,hgv,\n\
+2 BadField arc:1,hgv,no \n\
+2 BadField arc:1,hgv,no @ (24/7)\n\
+2 NotConditional arc:1,hgv:conditional,no\n\
+2 NotConditional arc:1,hgv:conditional,\n\
+2 NotConditional arc:1,hgv:conditional,no @ (two words)\n\
+2 NotConditional arc:1,hgv:conditional,maybe @ a\n\
+3 Duplicate arc:1,hgv,no|arc:1,hgv,no\n\
+3 Duplicate arc:1,hgv,no|arc:01,hgv,yes\n\
+3 BadField arc:1,hgv,no|arc:1,hgv,maybe\n\
+3 Duplicate area:town,bus:conditional,no @ a|area:town,bus:conditional,no @ b\n\
+";
 
 #[test]
 fn refuses_rules_with_their_first_fault(rt: HostRuntime) -> Result<(), Fail> {
     let alloc = rt.alloc();
-    let cases = [
-        ("arc:1,hgv\n", 2, Cause::FieldCount),
-        // Scopes, before the causes of a value, and also where the key is passed over.
-        ("town,hgv,no\n", 2, Cause::BadField),
-        ("area town,hgv,no\n", 2, Cause::BadField),
-        ("arc1,hgv,no\n", 2, Cause::BadField),
-        ("arc:,hgv,no\n", 2, Cause::BadField),
-        ("arc: 1,hgv,no\n", 2, Cause::BadField),
-        ("area:,hgv,no\n", 2, Cause::BadField),
-        ("arc:0,hgv,no\n", 2, Cause::Unknown),
-        ("arc:4,hgv,no\n", 2, Cause::Unknown),
-        ("area:west,hgv,maybe\n", 2, Cause::Unknown),
-        ("area:west,hgv:conditional,maybe\n", 2, Cause::Unknown),
-        ("area:west,maxweight,7.5\n", 2, Cause::Unknown),
-        // Values.
-        ("arc:1,hgv,maybe\n", 2, Cause::BadField),
-        ("arc:1,hgv,\n", 2, Cause::BadField),
-        ("arc:1,hgv,no \n", 2, Cause::BadField),
-        ("arc:1,hgv,no @ (24/7)\n", 2, Cause::BadField),
-        ("arc:1,hgv:conditional,no\n", 2, Cause::NotConditional),
-        ("arc:1,hgv:conditional,\n", 2, Cause::NotConditional),
-        (
-            "arc:1,hgv:conditional,maybe @ a\n",
-            2,
-            Cause::NotConditional,
-        ),
-        // The same place twice.
-        ("arc:1,hgv,no\narc:1,hgv,no\n", 3, Cause::Duplicate),
-        ("arc:1,hgv,no\narc:01,hgv,yes\n", 3, Cause::Duplicate),
-        ("arc:1,hgv,no\narc:1,hgv,maybe\n", 3, Cause::BadField),
-        (
-            "area:town,bus:conditional,no @ a\narea:town,bus:conditional,no @ b\n",
-            3,
-            Cause::Duplicate,
-        ),
-    ];
-    for (rows, row, cause) in cases {
-        let text = format!(in alloc; "scope,key,value\n{rows}")?;
+    for case in BAD_RULES.lines() {
+        let Some((row, cause, rows)) = refusal_of(case) else {
+            assert!(rt; false, "no case: {case}");
+            return Ok(());
+        };
+        let text = table(alloc, RULE_HEADER, rows)?;
         let network = ruled(alloc, "", &text);
-        assert!(rt; is_refused(network, FileKind::Rules, row, cause), "{rows}");
+        assert!(rt; is_refused(network, FileKind::Rules, row, cause), "{case}");
     }
     let network = ruled(alloc, "", "scope,value,key\n");
-    assert!(rt; is_refused(network, FileKind::Rules, 1, Cause::BadHeader));
+    assert!(rt; is_refused(network, FileKind::Rules, 1, "BadHeader"));
     Ok(())
 }
 
-// The number of rows that are passed over, where the rules are read.
+// Rules that are read: the number of rows that are passed over, and the data rows.
+const GOOD_RULES: &str = "\
+0 arc:1,hgv,no|arc:2,hgv,no|area:town,hgv,no|area:port,hgv,no\n\
+0 arc:1,hgv,no|arc:1,hgv:conditional,no @ a|arc:1,bus,no\n\
+0 arc:0000000001,hgv_articulated,permit\n\
+2 arc:1,maxweight,7.5|arc:1,maxweight,7.5\n\
+3 arc:1,HGV,no|arc:1, hgv,no|arc:1,hgv:,no\n\
+2 arc:1,hgv:forward,no|arc:1,maxspeed:conditional,80 @ wet\n\
+2 arc:1,,|arc:1,:conditional,no\n\
+";
+
 #[test]
-fn reads_these_rules_and_passes_these_over(rt: HostRuntime) -> Result<(), Fail> {
+fn counts_the_rows_that_are_passed_over(rt: HostRuntime) -> Result<(), Fail> {
     let alloc = rt.alloc();
-    let cases = [
-        (
-            "arc:1,hgv,no\narc:2,hgv,no\narea:town,hgv,no\narea:port,hgv,no\n",
-            0,
-        ),
-        (
-            "arc:1,hgv,no\narc:1,hgv:conditional,no @ a\narc:1,bus,no\n",
-            0,
-        ),
-        ("arc:0000000001,hgv_articulated,permit\n", 0),
-        ("arc:1,maxweight,7.5\narc:1,maxweight,7.5\n", 2),
-        ("arc:1,HGV,no\narc:1, hgv,no\narc:1,hgv:,no\n", 3),
-        (
-            "arc:1,hgv:forward,no\narc:1,maxspeed:conditional,80 @ wet\n",
-            2,
-        ),
-        ("arc:1,,\narc:1,:conditional,no\n", 2),
-    ];
-    for (rows, passed) in cases {
-        let text = format!(in alloc; "scope,key,value\n{rows}")?;
+    for case in GOOD_RULES.lines() {
+        let Some((count, rows)) = case.split_once(' ') else {
+            assert!(rt; false, "no case: {case}");
+            return Ok(());
+        };
+        let text = table(alloc, RULE_HEADER, rows)?;
         let network = ruled(alloc, "", &text)?;
-        assert_eq!(rt; network.passed_over(), passed, "{rows}");
+        let passed = read_number(count.as_bytes());
+        assert!(rt; passed == Some(network.passed_over()), "{case}");
     }
     Ok(())
 }
@@ -381,7 +403,7 @@ fn reads_values_of_65536_bytes(rt: HostRuntime) -> Result<(), Fail> {
     for key in ["hgv:conditional", "hgv"] {
         let longer = ruled(alloc, "", &long_rule(alloc, key, 65_531)?);
         assert!(rt;
-            is_refused(longer, FileKind::Rules, 2, Cause::SizeLimit),
+            is_refused(longer, FileKind::Rules, 2, "SizeLimit"),
             "{key}"
         );
     }
