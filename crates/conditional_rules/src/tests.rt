@@ -1,57 +1,278 @@
-// Texts with the number of their clauses, and of the parts of the first.
-use crate::{ConditionalFault, parse};
-use std::alloc::Global;
+// Texts with their canonical texts, and the access that clauses give vehicles.
+use crate::{Access, ConditionalFault, decide, lets_in, parse, print, read_value};
+use opening_hours::Holidays;
+use route_base::{OutOfMemory, TableFault, read_number};
+use std::alloc::{AllocError, Global};
 use std::test::Fail;
+use vehicle_classes::{Vehicles, read_vehicles};
 
-// The number of clauses and the number of the first one's parts, or zeros where the text has no clauses.
-fn counts(alloc: Global, text: &str) -> Result<(usize, usize), ConditionalFault> {
+// Whether this is the canonical text of a text, or the text has no clauses and this is empty.
+fn has_canonical(alloc: Global, text: &str, canonical: &str) -> Result<bool, OutOfMemory> {
     match parse(alloc, text.as_bytes()) {
-        Ok(conditional) => match conditional.get(0) {
-            Some(clause) => Ok((conditional.len(), clause.parts.len())),
-            None => Ok((0, 0)),
-        },
-        Err(ConditionalFault::NotConditional) => Ok((0, 0)),
-        Err(ConditionalFault::OutOfMemory) => Err(ConditionalFault::OutOfMemory),
+        Ok(conditional) => {
+            let printed = print(alloc, &conditional)?;
+            Ok(printed.as_slice() == canonical.as_bytes())
+        }
+        Err(ConditionalFault::NotConditional) => Ok(canonical.is_empty()),
+        Err(ConditionalFault::OutOfMemory) => Err(OutOfMemory),
     }
 }
 
+// A text, an arrow and its canonical text, which is empty where the text has no clauses.
+const TEXTS: &str = "\
+no @ (weight > 7.5t and Sa 07:00-20:00) => no @ (weight>7.500 AND Sa 07:00-20:00)\n\
+no @ (weight>7.5 AND Mo-Fr 6:00-9:00); yes @ articulated => no @ (weight>7.500 AND Mo-Fr 06:00-09:00); yes @ (articulated)\n\
+no@(a AND b and c) => no @ (a AND b AND c)\n\
+no @ a AND b => no @ (a AND b)\n\
+no @ (a\tAND  b) => no @ (a AND b)\n\
+no @ (a ANDb) => \n\
+no @ (aAND b) => \n\
+no @ (a And b) => \n\
+no @ (a AND AND b) => \n\
+no @ (AND b) => \n\
+no @ (a AND) => \n\
+no @ (a AND ) => \n\
+no @ (a, b) => \n\
+no@(24/7) => no @ (00:00-24:00)\n\
+no @ 24/7 => no @ (00:00-24:00)\n\
+no @ off => no @ (off)\n\
+no @ (closed) => no @ (off)\n\
+no @ open => \n\
+no @ (Mo 22:00-06:00; PH off) => no @ (Mo 22:00-30:00; PH off)\n\
+no @ Mo 22:00-06:00; PH off => \n\
+no @ (Mo 22:00-06:00;) => \n\
+no @ (sunset-sunrise) => \n\
+no @ weight>7,5 => \n\
+no @ weight>7.5 t => no @ (weight>7.500)\n\
+no @ weight\t==\t007.50t => no @ (weight=7.500)\n\
+no @ weight=7 => no @ (weight=7.000)\n\
+no @ axleload<=11.5 => no @ (axleload<=11.500)\n\
+no @ height<4m => no @ (height<4.00)\n\
+no @ width>=2.55 m => no @ (width>=2.55)\n\
+no @ length>18.7 => no @ (length>18.70)\n\
+no @ axles>=3 => no @ (axles>=3)\n\
+no @ axles>=3t => \n\
+no @ axles>=3.0 => \n\
+no @ weight>999999.999 => no @ (weight>999999.999)\n\
+no @ weight>1000000 => \n\
+no @ weight>0000007 => \n\
+no @ weight>7.1234 => \n\
+no @ height>4.123 => \n\
+no @ weight>7. => \n\
+no @ weight>.5 => \n\
+no @ weight> => \n\
+no @ weight=>7 => \n\
+no @ weight< =7 => \n\
+no @ weight>-7 => \n\
+no @ weight>7.5T => \n\
+no @ weight>7.5m => \n\
+no @ weight>7.5kg => \n\
+no @ Weight>7.5 => \n\
+no @ speed>80 => \n\
+no @ 7.5<weight => \n\
+no @ weight => no @ (weight)\n\
+yes @ low_emission => yes @ (low_emission)\n\
+no @ mo => no @ (mo)\n\
+no @ hazmat2 => \n\
+no @ HAZMAT => \n\
+no @ _hazmat => \n\
+no @ (two words) => \n\
+no @ and => \n\
+no @ () => \n\
+no @ ( ) => \n\
+no @ ((a)) => \n\
+no @ (a AND (b)) => \n\
+no @ (a) AND (b) => \n\
+no @ (a => \n\
+no @ a) => \n\
+(no @ a) => \n\
+no @ (a) b => \n\
+no @ (a);yes @ b ;no@c => no @ (a); yes @ (b); no @ (c)\n\
+no @ (a; yes @ b) => \n\
+no @ a; => \n\
+; no @ a => \n\
+no @ a;; yes @ b => \n\
+no @ a @ b => \n\
+destination @ a; delivery @ b; permit @ c => destination @ (a); destination @ (b); no @ (c)\n\
+designated @ a;permissive @ b;discouraged @ c => yes @ (a); yes @ (b); yes @ (c)\n\
+maybe @ (24/7) => \n\
+No @ a => \n\
+no => \n\
+no @ => \n\
+@ a => \n\
+\x20\tno\t @ \t( \ta\t AND b \t)\t  => no @ (a AND b)\n\
+no @ a\r => \n\
+\x20=> \n\
+\x20\t  => \n\
+";
+
 #[test]
-fn texts_have_these_clauses_and_parts(rt: HostRuntime) -> Result<(), Fail> {
-    let rows = [
-        (
-            "no @ (weight>7.5 AND Mo-Fr 06:00-09:00); yes @ articulated",
-            2,
-            2,
-        ),
-        ("no @ (Mo-Fr 22:00-06:00; PH off)", 1, 1),
-        ("no @ Mo-Fr 22:00-06:00; PH off", 0, 0),
-        ("no@weight>7.5", 1, 1),
-        (" delivery\t@ ( a and b\tAND  axles >= 3 ) ", 1, 3),
-        ("permit @ a;designated @ b;private @ c", 3, 1),
-        ("no @ a;", 0, 0),
-        ("", 0, 0),
-        ("no", 0, 0),
-        ("no @", 0, 0),
-        ("@ a", 0, 0),
-        ("maybe @ a", 0, 0),
-        ("no @ a @ b", 0, 0),
-        ("no @ ((a))", 0, 0),
-        ("no @ (a", 0, 0),
-        ("no @ a)", 0, 0),
-        ("no @ (a) b", 0, 0),
-        ("no @ (a And b)", 0, 0),
-        ("no @ (a AND AND b)", 0, 0),
-        ("no @ (AND b)", 0, 0),
-        ("no @ (a AND)", 0, 0),
-    ];
-    for (text, clauses, parts) in rows {
-        let found = counts(rt.alloc(), text)?;
-        assert!(rt;
-            found.0 == clauses && found.1 == parts,
-            "{text}: {} {}",
-            found.0,
-            found.1
-        );
+fn texts_have_these_canonical_texts(rt: HostRuntime) -> Result<(), Fail> {
+    for row in TEXTS.lines() {
+        let Some((text, canonical)) = row.split_once(" => ") else {
+            assert!(rt; false, "a row has no arrow: {row}");
+            return Ok(());
+        };
+        let same = has_canonical(rt.alloc(), text, canonical)?;
+        assert!(rt; same, "{row}");
     }
+    Ok(())
+}
+
+const VEHICLES: &str = "\
+name,class,weight_kg,axleload_kg,height_cm,width_cm,length_cm,axles,purpose,flags\n\
+truck,hgv,40000,,400,255,1875,5,through,hazmat articulated\n\
+van,goods,3500,,,,,2,delivery,\n\
+";
+
+// A public holiday on 2020-12-25, a Friday, and a school holiday on 2020-07-06.
+fn two_holidays(alloc: Global) -> Result<Holidays, AllocError> {
+    let mut public = Vec::new(alloc);
+    public.push(18621)?;
+    let mut school = Vec::new(alloc);
+    school.push(18449)?;
+    Ok(Holidays::from_days(public, school))
+}
+
+// A vehicle, a day, a minute and a conditional value; an arrow, and a value of the access, or nothing where no clause holds. Day
+// 18447 is 2020-07-04, a Saturday.
+const DECISIONS: &str = "\
+truck 18447 0 no @ weight>7.5 => no\n\
+van 18447 0 no @ weight>7.5 => \n\
+any 18447 0 no @ weight>7.5 => \n\
+any 18447 0 no @ weight<=7.5 => \n\
+truck 18447 0 no @ axleload<999 => \n\
+truck 18447 0 no @ weight<40 => \n\
+truck 18447 0 no @ weight<=40 => no\n\
+truck 18447 0 no @ weight>40 => \n\
+truck 18447 0 no @ weight>=40 => no\n\
+truck 18447 0 no @ weight=40 => no\n\
+truck 18447 0 no @ weight==39.999 => \n\
+truck 18447 0 no @ height>3.99 => no\n\
+truck 18447 0 no @ width>2.55 => \n\
+truck 18447 0 no @ length<18.76 => no\n\
+truck 18447 0 no @ axles>=3 => no\n\
+van 18447 0 no @ axles>=3 => \n\
+truck 18447 0 destination @ hazmat => destination\n\
+van 18447 0 destination @ hazmat => \n\
+truck 18447 0 no @ haz => \n\
+truck 18447 419 no @ (weight>7.5 AND Sa 07:00-20:00) => \n\
+truck 18447 420 no @ (weight>7.5 AND Sa 07:00-20:00) => no\n\
+truck 18447 1199 no @ (weight>7.5 AND Sa 07:00-20:00) => no\n\
+truck 18447 1200 no @ (weight>7.5 AND Sa 07:00-20:00) => \n\
+truck 18448 600 no @ (weight>7.5 AND Sa 07:00-20:00) => \n\
+van 18447 600 no @ (weight>7.5 AND Sa 07:00-20:00) => \n\
+truck 18447 0 no @ height>3.8; yes @ hazmat => yes\n\
+truck 18447 0 yes @ hazmat; no @ height>3.8 => no\n\
+truck 18447 0 no @ height>3.8; yes @ tall => no\n\
+any 18447 0 no @ 24/7; destination @ off => no\n\
+any 18621 0 no @ PH => no\n\
+any 18620 1439 no @ PH => \n\
+any 18449 0 no @ SH => no\n\
+any 18621 0 no @ SH => \n\
+any 18620 1320 no @ (Mo-Fr 22:00-06:00; PH off) => no\n\
+any 18621 359 no @ (Mo-Fr 22:00-06:00; PH off) => no\n\
+any 18621 360 no @ (Mo-Fr 22:00-06:00; PH off) => \n\
+any 18621 1320 no @ (Mo-Fr 22:00-06:00; PH off) => \n\
+any 18622 359 no @ (Mo-Fr 22:00-06:00; PH off) => \n\
+";
+
+// A row of decisions.
+#[derive(Clone, Copy)]
+struct Decision<'a> {
+    name: &'a str,
+    day: u64,
+    minute: u64,
+    text: &'a str,
+    access: &'a str,
+}
+
+// The parts of a row.
+fn decision_of(row: &str) -> Option<Decision<'_>> {
+    let (name, row) = row.split_once(' ')?;
+    let (day, row) = row.split_once(' ')?;
+    let (minute, row) = row.split_once(' ')?;
+    let (text, access) = row.split_once(" => ")?;
+    Some(Decision {
+        name,
+        day: read_number(day.as_bytes())?,
+        minute: read_number(minute.as_bytes())?,
+        text,
+        access,
+    })
+}
+
+// Whether a row's text gives its vehicle this access at its minute.
+fn is_decided(
+    alloc: Global,
+    vehicles: &Vehicles,
+    holidays: &Holidays,
+    row: &Decision<'_>,
+) -> Result<bool, ConditionalFault> {
+    let conditional = parse(alloc, row.text.as_bytes())?;
+    let Some(place) = vehicles.find(row.name.as_bytes()) else {
+        return Ok(false);
+    };
+    if row.day < 7 || row.day > 84370 || row.minute >= 1440 {
+        return Ok(false);
+    }
+    let vehicle = vehicles.vehicle(place);
+    let access = decide(
+        &conditional,
+        vehicle,
+        row.day as u32,
+        row.minute as u32,
+        holidays,
+    );
+    Ok(access == read_value(row.access.as_bytes()))
+}
+
+#[test]
+fn the_last_clause_that_holds_decides(rt: HostRuntime) -> Result<(), Fail> {
+    let alloc = rt.alloc();
+    let vehicles = read_vehicles(alloc, VEHICLES.as_bytes())?;
+    let holidays = two_holidays(alloc)?;
+    for row in DECISIONS.lines() {
+        let Some(decision) = decision_of(row) else {
+            assert!(rt; false, "a row has no decision: {row}");
+            return Ok(());
+        };
+        let decided = is_decided(alloc, &vehicles, &holidays, &decision)?;
+        assert!(rt; decided, "{row}");
+    }
+    Ok(())
+}
+
+// Whether each of these words gives this access.
+fn each_gives(words: &str, access: Option<Access>) -> bool {
+    for word in words.split(' ') {
+        if read_value(word.as_bytes()) != access {
+            return false;
+        }
+    }
+    true
+}
+
+#[test]
+fn values_give_these_accesses(rt: HostRuntime) {
+    assert!(rt; each_gives("yes designated permissive discouraged", Some(Access::Free)));
+    let barred = "no private agricultural forestry customers permit";
+    assert!(rt; each_gives(barred, Some(Access::Barred)));
+    assert!(rt; each_gives("destination delivery", Some(Access::Purpose)));
+    assert!(rt; each_gives("maybe Yes none through emergency", None));
+    assert!(rt; read_value(b"").is_none() && read_value(b"yes ").is_none());
+}
+
+#[test]
+fn accesses_let_these_purposes_in(rt: HostRuntime) -> Result<(), TableFault> {
+    let vehicles = read_vehicles(rt.alloc(), VEHICLES.as_bytes())?;
+    let (Some(truck), Some(van)) = (vehicles.find(b"truck"), vehicles.find(b"van")) else {
+        assert!(rt; false, "a vehicle isn't found");
+        return Ok(());
+    };
+    let (through, delivery) = (vehicles.vehicle(truck), vehicles.vehicle(van));
+    assert!(rt; lets_in(Access::Free, through) && lets_in(Access::Free, delivery));
+    assert!(rt; !lets_in(Access::Barred, through) && !lets_in(Access::Barred, delivery));
+    assert!(rt; !lets_in(Access::Purpose, through) && lets_in(Access::Purpose, delivery));
     Ok(())
 }
