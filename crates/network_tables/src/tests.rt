@@ -16,6 +16,11 @@ const AREAS: &str = "area,zone\nport,UTC\ntown,UTC\n";
 const VEHICLE_HEADER: &str =
     "name,class,weight_kg,axleload_kg,height_cm,width_cm,length_cm,axles,purpose,flags\n";
 
+// The bytes of a text.
+fn file_of(alloc: Global, text: &str) -> Result<FileBytes, OutOfMemory> {
+    Ok(FileBytes::from_vec(Vec::from_slice(alloc, text.as_bytes())?))
+}
+
 // The bytes of a file among these texts: none where it isn't named.
 fn bytes_of(
     alloc: Global,
@@ -24,7 +29,7 @@ fn bytes_of(
 ) -> Result<FileBytes, OutOfMemory> {
     for (named, text) in texts {
         if *named == file {
-            return Ok(FileBytes::from_vec(Vec::from_slice(alloc, text.as_bytes())?));
+            return file_of(alloc, text);
         }
     }
     Ok(FileBytes::new(alloc))
@@ -177,17 +182,21 @@ arc:3,maxweight,7.5\n\
 arc:3,maxweight,7.5\n\
 area:port,hgv:forward,no\n";
 
-// The network of these vehicles and rules, with arc 2 in the second area.
+// The network of these vehicles and rules over the triangle, with arc 2 in the second area.
 fn ruled(alloc: Global, vehicles: &str, rules: &str) -> Result<Network, NetworkFault> {
-    read(
-        alloc,
-        &[
-            (FileKind::Areas, AREAS),
-            (FileKind::Roads, "arc,area\n2,town\n"),
-            (FileKind::Vehicles, vehicles),
-            (FileKind::Rules, rules),
-        ],
-    )
+    let files = Files {
+        graph: file_of(alloc, TRIANGLE)?,
+        zones: FileBytes::new(alloc),
+        areas: file_of(alloc, AREAS)?,
+        roads: file_of(alloc, "arc,area\n2,town\n")?,
+        vehicles: file_of(alloc, vehicles)?,
+        rules: file_of(alloc, rules)?,
+        closures: FileBytes::new(alloc),
+        ratings: FileBytes::new(alloc),
+        parking: FileBytes::new(alloc),
+        holidays: FileBytes::new(alloc),
+    };
+    read_network(alloc, &files)
 }
 
 // The number of clauses, 0 where there is no conditional value.
