@@ -14,6 +14,7 @@ use conditional_rules::{Access, Conditional};
 use csv::ByteRecord;
 use indexmap::IndexMap;
 use place::RulePlace;
+pub use place::Scope;
 use route_base::limits::MOST_RULES;
 use route_base::{Cause, FileKind};
 use row::read_rule;
@@ -22,8 +23,6 @@ use std::marker::Model;
 use table_reader::{RowFault, Table};
 use value::RuleValue;
 use vehicle_classes::Key;
-
-pub use place::Scope;
 
 /// Rules by their places, and the number of rows that were passed over.
 #[derive(Drop)]

@@ -20,11 +20,7 @@ pub enum RuleValue {
 ///
 /// `SizeLimit` comes for more than 65,536 bytes; else `BadField` where a plain value isn't known, and `NotConditional` where a text
 /// is no conditional value.
-pub fn read_rule_value(
-    alloc: Global,
-    conditional: bool,
-    text: &[u8],
-) -> Result<RuleValue, RowFault>
+pub fn read_rule_value(alloc: Global, conditional: bool, text: &[u8]) -> Result<RuleValue, RowFault>
     ensures value { IfOk result (λ value. rule_value_of conditional text.now ≡ Ok value) }
     ensures refused { IfErr result (λ e.
         IfBadCause e (λ cause. rule_value_of conditional text.now ≡ Err cause)) }
