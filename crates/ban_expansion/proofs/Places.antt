@@ -1,5 +1,5 @@
 -- Places of keys, one key after another.
-use Rattle.std.proofs.Common.{◌≡◌, ℕ, zero, suc, ◌+◌, Bool, true, Option, Some, None, unwrap_or, List, [], ◌∷◌, ◌++◌, take, slice_get, refl, sym, ◌∙◌, ap}
+use Rattle.std.proofs.Common.{◌≡◌, ◌≤◌, length, arith, ℕ, zero, suc, ◌+◌, Bool, true, Option, Some, None, unwrap_or, List, [], ◌∷◌, ◌++◌, take, slice_get, refl, sym, ◌∙◌, ap}
 use Rattle.std.specs.List.{list_any}
 use Rattle.std.specs.Option.{option_or, option_map}
 use Rattle.std.proofs.lemmas.Bool.{or_left, or_right}
@@ -50,3 +50,8 @@ any_found p (y ∷ ys) zero x is passes =
     let same : y ≡ x = cc in
     or_left (p y) (list_any p ys) (ap p same ∙ passes)
 any_found p (y ∷ ys) (suc k) x is passes = or_right (p y) (list_any p ys) (any_found p ys k x is passes)
+
+pub past_all : {A : Type 0} (xs : List A) (k : ℕ) → slice_get xs k ≡ None → length xs ≤ k
+past_all [] k none = omega arith
+past_all (x ∷ xs) zero none = absurd (cc)
+past_all (x ∷ xs) (suc k) none = omega (arith, past_all xs k none)

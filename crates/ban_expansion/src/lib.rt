@@ -13,6 +13,7 @@
 #![tactic(auto)]
 
 mod access;
+mod closed_sets;
 mod coverage;
 mod laws;
 mod layers;
@@ -20,6 +21,7 @@ mod local_days;
 mod threads;
 
 pub use access::closed_at;
+pub use closed_sets::closed_set;
 pub use coverage::covered_minutes;
 pub use laws::{covered_exactly, last_of_all};
 pub use layers::{Layer, closed_by, common, overlaid};
