@@ -6,7 +6,7 @@ use Rattle.std.proofs.lemmas.List.Folds.{list_any-append}
 use Rattle.std.proofs.lemmas.Bool.{or_cases, or_left, or_right, cases_eq, and_parts, leb-true, ltb-true}
 use Rattle.route_base.specs.Runs.{has_minute, any_has}
 use Rattle.route_base.specs.declared.types.Run.{Run}
-use Rattle.ban_expansion.specs.Coverage.{any_below}
+use Rattle.opening_hours.specs.Coverage.{any_below}
 
 pub or_false : (b : Bool) → (b || false) ≡ b
 or_false true = refl

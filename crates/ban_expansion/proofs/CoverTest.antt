@@ -2,9 +2,8 @@
 use Rattle.std.proofs.Common.{◌≡◌, ℕ, ◌+◌, ◌-◌, ◌*◌, ◌↔◌, true, List, arith}
 use Rattle.std.specs.List.{list_any}
 use Rattle.opening_hours.specs.Holidays.{HolidayLists}
-use Rattle.opening_hours.specs.Coverage.{day_spans, holds, IsCovered}
+use Rattle.opening_hours.specs.Coverage.{day_spans, holds, is_covered, IsCovered}
 use Rattle.opening_hours.specs.declared.types.HoursRule.{HoursRule}
-use Rattle.ban_expansion.specs.Coverage.{is_covered}
 use Rattle.ban_expansion.proofs.Algebra.{below_found, below_from}
 
 pub cover_test : (rules : List HoursRule) (holidays : HolidayLists) (day minute : ℕ)

@@ -3,9 +3,8 @@ use Rattle.std.proofs.Common.{◌≡◌, ℕ, ◌+◌, ◌-◌, ◌*◌, ◌/◌
 use Rattle.std.specs.List.{list_any}
 use Rattle.std.proofs.lemmas.Bool.{and_parts, and_from, leb-true, ltb-true, le-leb, lt-ltb}
 use Rattle.opening_hours.specs.Holidays.{HolidayLists}
-use Rattle.opening_hours.specs.Coverage.{day_spans, holds}
+use Rattle.opening_hours.specs.Coverage.{day_spans, holds, is_covered}
 use Rattle.opening_hours.specs.declared.types.HoursRule.{HoursRule}
-use Rattle.ban_expansion.specs.Coverage.{is_covered}
 use Rattle.ban_expansion.specs.LocalDays.{local_covered, day_covers, days_cover}
 use Rattle.ban_expansion.proofs.Algebra.{same_from, any_guarded, below_found, below_from}
 

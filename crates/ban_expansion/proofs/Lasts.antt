@@ -1,7 +1,8 @@
 -- The last item that gives a value, in lists one after another.
 use Rattle.std.proofs.Common.{◌≡◌, Option, Some, None, List, [], ◌∷◌, ◌++◌, refl, sym, ◌∙◌, ap}
 use Rattle.std.specs.Option.{option_or}
-use Rattle.ban_expansion.specs.Layers.{last_given, all_parts}
+use Rattle.conditional_rules.specs.Decisions.{last_given}
+use Rattle.ban_expansion.specs.Layers.{all_parts}
 
 or_none : {A : Type 0} (o : Option A) → option_or o None ≡ o
 or_none None = refl

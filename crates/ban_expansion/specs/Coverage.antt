@@ -1,10 +1,9 @@
 -- The minutes of UTC that hours cover in a zone, as tests (source: own).
-use Rattle.std.specs.Prelude.{ℕ, ◌+◌, ◌-◌, ◌*◌, ◌≤◌, zero, suc, ◌||◌, Bool, false, List}
-use Rattle.std.specs.List.{list_any}
+use Rattle.std.specs.Prelude.{ℕ, ◌+◌, ◌≤◌, Bool, List}
 use Rattle.route_base.specs.Time.{first_instant, last_instant}
 use Rattle.route_base.specs.declared.types.Run.{Run}
 use Rattle.opening_hours.specs.Holidays.{HolidayLists}
-use Rattle.opening_hours.specs.Coverage.{day_spans, holds}
+use Rattle.opening_hours.specs.Coverage.{is_covered}
 use Rattle.opening_hours.specs.declared.types.HoursRule.{HoursRule}
 use Rattle.zone_rules.specs.Zones.{wall_at}
 use Rattle.zone_rules.specs.declared.rows.ZoneRow.{ZoneRow}
@@ -13,15 +12,6 @@ use Rattle.zone_rules.specs.declared.rows.ZoneRow.{ZoneRow}
 pub record IsWindow (window : Run) : Type 0 where
   pub from : first_instant ≤ window.lo
   pub to : window.hi ≤ last_instant + 1
-
--- one of the numbers below n passes
-abbrev pub any_below : (ℕ → Bool) → ℕ → Bool
-any_below p zero = false
-any_below p (suc n) = any_below p n || p n
-
--- a span that began up to seven days before holds the minute of the day
-unfoldable pub is_covered : List HoursRule → HolidayLists → ℕ → ℕ → Bool
-is_covered rules holidays day minute = any_below (λ k. list_any (holds (minute + 1440 * k)) (day_spans rules holidays (day - k))) 8
 
 -- the day and minute that a clock on the wall shows are covered
 abbrev pub covered_at : List HoursRule → HolidayLists → List ZoneRow → ℕ → Bool

@@ -1,15 +1,10 @@
 -- Layers of minutes, from the general to the special (source: own).
 use Rattle.std.specs.Prelude.{ℕ, Bool, false, Option, Some, None, List, [], ◌∷◌, ◌++◌, if◌then◌else◌, unwrap_or}
 use Rattle.std.specs.List.{list_all}
-use Rattle.std.specs.Option.{option_or}
 use Rattle.route_base.specs.Runs.{any_has}
 use Rattle.route_base.specs.declared.types.Run.{Run}
+use Rattle.conditional_rules.specs.Decisions.{last_given}
 use Rattle.ban_expansion.specs.declared.layers.Layer.{Layer}
-
--- the value of the last item that gives one
-abbrev pub last_given : {P A : Type 0} → (P → Option A) → List P → Option A
-last_given f [] = None
-last_given f (x ∷ xs) = option_or (last_given f xs) (f x)
 
 -- a layer says whether it bars at a minute that it has, and nothing at any other
 abbrev pub layer_at : ℕ → Layer → Option Bool

@@ -1,3 +1,4 @@
+pub mod Bans
 pub mod Coverage
 pub mod Layers
 pub mod LocalDays

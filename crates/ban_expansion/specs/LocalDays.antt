@@ -4,10 +4,9 @@ use Rattle.std.specs.List.{list_any}
 use Rattle.route_base.specs.Runs.{has_minute, any_has}
 use Rattle.route_base.specs.declared.types.Run.{Run}
 use Rattle.opening_hours.specs.Holidays.{HolidayLists}
-use Rattle.opening_hours.specs.Coverage.{day_spans, holds}
+use Rattle.opening_hours.specs.Coverage.{any_below, day_spans, holds, is_covered}
 use Rattle.opening_hours.specs.declared.types.HoursRule.{HoursRule}
 use Rattle.opening_hours.specs.declared.types.TimeSpan.{TimeSpan}
-use Rattle.ban_expansion.specs.Coverage.{any_below, is_covered}
 use Rattle.ban_expansion.specs.declared.local_days.Stretch.{Stretch}
 
 -- the new runs have the minutes of the old ones and those that pass

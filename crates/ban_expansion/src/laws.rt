@@ -1,10 +1,10 @@
 // Laws of the definitions that need no call.
 ghost use Rattle.std.specs.Prelude.{◌≡◌, ◌↔◌, IsTrue, ℕ, List, Option};
 ghost use Rattle.opening_hours.specs.Holidays.{HolidayLists};
-ghost use Rattle.opening_hours.specs.Coverage.{IsCovered};
+ghost use Rattle.opening_hours.specs.Coverage.{IsCovered, is_covered};
 ghost use Rattle.opening_hours.specs.declared.types.HoursRule.{HoursRule};
-ghost use Rattle.ban_expansion.specs.Coverage.{is_covered};
-ghost use Rattle.ban_expansion.specs.Layers.{last_given, all_parts};
+ghost use Rattle.conditional_rules.specs.Decisions.{last_given};
+ghost use Rattle.ban_expansion.specs.Layers.{all_parts};
 
 /// The law that a local minute passes the test `is_covered` exactly where the rules cover it. The call does nothing.
 pub fn covered_exactly()

@@ -12,12 +12,16 @@
 //! order, of which `minute_sets` makes a set.
 #![tactic(auto)]
 
+mod access;
+mod closed_sets;
 mod coverage;
 mod laws;
 mod layers;
 mod local_days;
 mod threads;
 
+pub use access::closed_at;
+pub use closed_sets::closed_set;
 pub use coverage::covered_minutes;
 pub use laws::{covered_exactly, last_of_all};
 pub use layers::{Layer, closed_by, common, overlaid};

@@ -79,8 +79,8 @@ impl Conditional {
         self.clauses.get(i)
     }
 
-    /// The clauses, in their order.
-    pub(crate) fn clauses(&self) -> &[Clause]
+    /// The clauses, in their order, at no cost.
+    pub fn clauses(&self) -> &[Clause]
         ensures same { result.now ≡ self.now }
         // Clauses come from a text.
         ensures read { IsParsed self.now }

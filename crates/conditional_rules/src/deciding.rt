@@ -20,8 +20,8 @@ fn size_compares(comparison: Comparison, size: u64, value: u64) -> bool
     }
 }
 
-// Whether a comparison holds; with a size that isn't known it doesn't.
-fn comparison_holds(comparison: Comparison, size: Option<u64>, value: u64) -> bool
+/// Whether a comparison holds; with a size that isn't known it doesn't. In constant time.
+pub fn comparison_holds(comparison: Comparison, size: Option<u64>, value: u64) -> bool
     ensures { result ≡ size_holds comparison size value }
 {
     match size {

@@ -29,7 +29,7 @@ mod printer;
 
 pub use access::{Access, lets_in, read_value};
 pub use conditional::{Clause, Comparison, Conditional, Part, Parts, Word, parse};
-pub use deciding::decide;
+pub use deciding::{comparison_holds, decide};
 pub use faults::ConditionalFault;
 pub use laws::{canonical_reading, computed_reading, one_reading};
 pub use printer::print;

@@ -1,3 +1,4 @@
+pub mod Access
 pub mod AreaPlaces
 pub mod Areas
 pub mod Closures

@@ -6,6 +6,8 @@ use Rattle.route_base.specs.Runs.{any_has}
 use Rattle.route_base.specs.Setting.{Setting, Road}
 use Rattle.route_base.specs.declared.limits.TheConstants.{COST_OF_MINUTE}
 use Rattle.dimacs_reader.specs.declared.graph.GraphArc.{GraphArc}
+use Rattle.vehicle_classes.specs.VehicleModel.{VehicleModel}
+use Rattle.network_tables.specs.Access.{is_closed}
 use Rattle.network_tables.specs.NetworkModel.{NetworkModel, closures_of}
 
 -- a minute of driving costs 1,000 thousandths
@@ -19,5 +21,15 @@ road_setting net = record {
   arcs = length net.graph.arcs;
   road = λ a. option_map road_over (at_number net.graph.arcs a);
   shut = λ a t. any_has (closures_of net a) t;
+  weight = λ v. option_flatten (at_number net.weights v);
+}
+
+-- the same for a vehicle, with an arc shut at each minute at which it is closed to the vehicle
+abbrev pub road_setting_for : NetworkModel → VehicleModel → Setting
+road_setting_for net vehicle = record {
+  nodes = net.graph.nodes;
+  arcs = length net.graph.arcs;
+  road = λ a. option_map road_over (at_number net.graph.arcs a);
+  shut = is_closed net vehicle;
   weight = λ v. option_flatten (at_number net.weights v);
 }

@@ -1,6 +1,7 @@
 use Rattle.std.proofs.Common.{◌≡◌, ℕ, unwrap_or, length}
 use Rattle.route_base.specs.Runs.{any_has, AreRuns}
-use Rattle.ban_expansion.specs.Layers.{last_given, layer_at, is_barred}
+use Rattle.conditional_rules.specs.Decisions.{last_given}
+use Rattle.ban_expansion.specs.Layers.{layer_at, is_barred}
 use Rattle.ban_expansion.proofs.layers.closed_by.Given as goal
 
 abbrev pub invariant-layers : goal.invariant-layers

@@ -1,0 +1,44 @@
+-- Minutes that are closed by accesses, laid over one another from general to special (source: own).
+use Rattle.std.specs.Prelude.{◌≡◌, ◌&&◌, ℕ, Bool, not, Option, Some, None, List, if◌then◌else◌}
+use Rattle.route_base.specs.Runs.{any_has, has_minute}
+use Rattle.route_base.specs.declared.types.Run.{Run}
+use Rattle.opening_hours.specs.Holidays.{HolidayLists}
+use Rattle.zone_rules.specs.Zones.{wall_at}
+use Rattle.zone_rules.specs.declared.rows.ZoneRow.{ZoneRow}
+use Rattle.vehicle_classes.specs.VehicleModel.{VehicleModel}
+use Rattle.vehicle_classes.specs.declared.classes.Purpose.{Purpose}
+use Rattle.conditional_rules.specs.Accesses.{lets_purpose_in}
+use Rattle.conditional_rules.specs.Decisions.{part_holds, clause_holds}
+use Rattle.conditional_rules.specs.declared.access.Access.{Access}
+use Rattle.conditional_rules.specs.declared.conditional.Clause.{Clause}
+use Rattle.conditional_rules.specs.declared.conditional.Part.{Part}
+
+-- the set has exactly those minutes of the window that pass
+abbrev pub HasThose : Run → (ℕ → Bool) → List Run → Type 0
+HasThose window passes set = (t : ℕ) → any_has set t ≡ (has_minute t window && passes t)
+
+-- whether a part, and a clause, hold for the vehicle when clocks in the zone are read at this instant
+abbrev pub part_holds_at : VehicleModel → List ZoneRow → HolidayLists → Part → ℕ → Bool
+part_holds_at vehicle zone holidays part t = part_holds vehicle holidays (wall_at zone t).day (wall_at zone t).minute part
+
+abbrev pub clause_holds_at : VehicleModel → List ZoneRow → HolidayLists → Clause → ℕ → Bool
+clause_holds_at vehicle zone holidays clause t =
+    clause_holds vehicle holidays (wall_at zone t).day (wall_at zone t).minute clause
+
+-- the access that a clause gives at an instant, where it holds
+abbrev pub clause_gives : VehicleModel → List ZoneRow → HolidayLists → ℕ → Clause → Option Access
+clause_gives vehicle zone holidays t clause =
+    if clause_holds_at vehicle zone holidays clause t then Some clause.access else None
+
+-- whether a trip of this purpose is barred once an access is given, where it was barred before or not
+abbrev pub barred_by : Purpose → Option Access → Bool → Bool
+barred_by purpose None before = before
+barred_by purpose (Some access) before = not (lets_purpose_in access purpose)
+
+-- what is given within the window; nothing is given outside it
+abbrev pub given_within : Run → ℕ → Option Access → Option Access
+given_within window t given = if has_minute t window then given else None
+
+-- laying what is given in the window over the old closed minutes gives the new ones
+abbrev pub Lays : Purpose → Run → (ℕ → Option Access) → List Run → List Run → Type 0
+Lays purpose window given old new = (t : ℕ) → any_has new t ≡ barred_by purpose (given_within window t (given t)) (any_has old t)
