@@ -62,6 +62,13 @@ impl Network {
         &self.parts.graph
     }
 
+    /// The number of areas. In constant time.
+    pub fn area_count(&self) -> usize
+        ensures { result ≡ length self.now.areas }
+    {
+        self.parts.holidays.len()
+    }
+
     /// The place of the arc's area, from 0 in the order of the areas. In constant time.
     pub fn area_of(&self, a: ArcId) -> usize
         requires low { 1 ≤ a.0 }
