@@ -12,6 +12,7 @@
 //! order, of which `minute_sets` makes a set.
 #![tactic(auto)]
 
+mod expansion;
 mod access;
 mod closed_sets;
 mod coverage;
@@ -20,6 +21,7 @@ mod layers;
 mod local_days;
 mod threads;
 
+pub use expansion::expand_plain;
 pub use access::closed_at;
 pub use closed_sets::closed_set;
 pub use coverage::covered_minutes;

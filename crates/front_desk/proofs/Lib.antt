@@ -1,5 +1,4 @@
+pub mod CheapRoads
 pub mod ReadFiles
 pub mod RefusalTexts
-pub mod RoadNets
 pub mod Rows
-pub mod Timed

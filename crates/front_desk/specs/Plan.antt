@@ -8,11 +8,12 @@ use Rattle.route_base.specs.declared.faults.RequestFault.{RequestFault}
 use Rattle.route_base.specs.declared.types.Form.{Form}
 use Rattle.route_base.specs.declared.types.Request.{Request}
 use Rattle.route_base.specs.declared.types.Route.{Route}
-use Rattle.network_tables.specs.RoadSetting.{road_setting}
+use Rattle.network_tables.specs.NetworkModel.{NetworkModel}
+use Rattle.network_tables.specs.RoadSetting.{road_setting_for}
 use Rattle.front_desk.specs.CommandLine.{Plan}
 use Rattle.front_desk.specs.ReadingOrder.{first_folder_fault, network_held}
 use Rattle.front_desk.specs.Texts.{report_text}
-use Rattle.front_desk.specs.Trips.{failed_check, request_of}
+use Rattle.front_desk.specs.Trips.{Trip, failed_check, request_of, vehicle_named}
 
 -- the text of right routes: of the Pareto front, each pair with a lawful itinerary
 pub record IsFrontText (form : Form) (s : Setting) (request : Request) (text : List ℕ) : Type 0 where
@@ -20,9 +21,13 @@ pub record IsFrontText (form : Form) (s : Setting) (request : Request) (text : L
   pub right : IsRight s request routes
   pub is_text : report_text form s request routes ≡ Some text
 
--- the text reports the front of the plan's trip over the road setting of the folder's network
+-- the road setting of the trip's vehicle
+abbrev pub trip_setting : NetworkModel → Trip → Setting
+trip_setting network trip = road_setting_for network (vehicle_named network trip.vehicle)
+
+-- the text reports the front of the plan's trip over the road setting of the folder's network for its vehicle
 abbrev pub IsPlanReport : Plan → Contents → List ℕ → Type 0
-IsPlanReport p held text = IsFrontText p.form (road_setting (network_held held p.dir)) (request_of p.trip) text
+IsPlanReport p held text = IsFrontText p.form (trip_setting (network_held held p.dir) p.trip) (request_of p.trip) text
 
 -- the first fault of the plan's files
 abbrev pub plan_fault : Plan → Contents → Option BadInput

@@ -4,7 +4,7 @@ use Rattle.std.specs.Option.{option_or}
 use Rattle.route_base.specs.Contents.{Contents}
 use Rattle.route_base.specs.Labels.{label_of}
 use Rattle.route_base.specs.declared.faults.BadInput.{BadInput}
-use Rattle.route_base.specs.declared.faults.Cause.TheVariants.{TooLong, NotBuilt}
+use Rattle.route_base.specs.declared.faults.Cause.TheVariants.{TooLong}
 use Rattle.route_base.specs.declared.faults.FileKind.{FileKind}
 use Rattle.route_base.specs.declared.faults.FileKind.TheVariants.{Graph, Zones, Areas, Roads, Vehicles, Rules, Closures, Ratings, Parking, Holidays}
 use Rattle.network_tables.specs.NetworkFiles.{contents_fault, network_in_files}
@@ -20,14 +20,10 @@ required_file kind = record { kind = kind; name = label_of kind; required = true
 abbrev pub table_file : FileKind → FileToRead
 table_file kind = record { kind = kind; name = label_of kind; required = false; limit = 268435456; beyond = TooLong }
 
--- a table that isn't supported yet, and may not have a byte
-abbrev pub unsupported_file : FileKind → FileToRead
-unsupported_file kind = record { kind = kind; name = label_of kind; required = false; limit = 0; beyond = NotBuilt }
-
 -- the files in the order in which they are read
 abbrev pub network_files : List FileToRead
 network_files =
-    required_file Graph ∷ table_file Zones ∷ table_file Areas ∷ table_file Roads ∷ table_file Vehicles ∷ unsupported_file Rules
+    required_file Graph ∷ table_file Zones ∷ table_file Areas ∷ table_file Roads ∷ table_file Vehicles ∷ table_file Rules
     ∷ table_file Closures ∷ table_file Ratings ∷ table_file Parking ∷ table_file Holidays ∷ []
 
 -- files by name, from their bytes in the order of `network_files`

@@ -1,11 +1,12 @@
 -- Trips, and the checks of a request (source: own).
-use Rattle.std.specs.Prelude.{ℕ, ◌+◌, ◌-◌, ◌≤◌, ◌&&◌, Bool, not, nat_le, nat_lt, is_some, Option, Some, None, List, if◌then◌else◌}
+use Rattle.std.specs.Prelude.{ℕ, ◌+◌, ◌-◌, ◌≤◌, ◌&&◌, Bool, not, nat_le, nat_lt, is_some, unwrap_or, Option, Some, None, List, if◌then◌else◌}
 use Rattle.route_base.specs.declared.limits.TheConstants.{LONGEST_HORIZON}
 use Rattle.route_base.specs.declared.types.Request.{Request}
 use Rattle.route_base.specs.declared.faults.RequestFault.{RequestFault}
 use Rattle.route_base.specs.declared.faults.RequestFault.TheVariants.{UnknownVehicle, OriginRange, GoalRange, UntilBeforeDepart}
 use Rattle.route_base.specs.declared.faults.RequestFault.TheVariants.{HorizonTooLong}
-use Rattle.table_reader.specs.NameIndex.{names_of, place_among}
+use Rattle.table_reader.specs.NameIndex.{names_of, place_among, value_of}
+use Rattle.vehicle_classes.specs.VehicleModel.{VehicleModel, any_vehicle}
 use Rattle.network_tables.specs.NetworkModel.{NetworkModel}
 use Rattle.front_desk.specs.declared.requests.Trip.{Trip as TripWords}
 
@@ -33,6 +34,10 @@ failed_check_over n trip =
 -- whether the network has a vehicle of this name
 abbrev pub is_vehicle : NetworkModel → List ℕ → Bool
 is_vehicle network name = is_some (place_among (names_of network.vehicles) name)
+
+-- the vehicle of a name; `any` where the network has none of this name
+abbrev pub vehicle_named : NetworkModel → List ℕ → VehicleModel
+vehicle_named network name = unwrap_or (value_of network.vehicles name) any_vehicle
 
 -- the first check that a trip over a network fails
 abbrev pub failed_check : NetworkModel → Trip → Option RequestFault

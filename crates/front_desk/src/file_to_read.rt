@@ -20,7 +20,7 @@ pub struct FileToRead<'a> {
 impl FileToRead<'static> {
     ghost use Rattle.std.specs.Prelude.{◌≡◌};
     ghost use Rattle.front_desk.specs.Files.{file_in};
-    ghost use Rattle.front_desk.specs.ReadingOrder.{required_file, table_file, unsupported_file};
+    ghost use Rattle.front_desk.specs.ReadingOrder.{required_file, table_file};
 
     /// A file that has to be there.
     pub fn required(kind: FileKind) -> FileToRead<'static>
@@ -45,19 +45,6 @@ impl FileToRead<'static> {
             required: false,
             limit: LONGEST_FILE,
             beyond: Cause::TooLong,
-        }
-    }
-
-    /// A table that isn't supported yet, and may not have a byte.
-    pub fn unsupported(kind: FileKind) -> FileToRead<'static>
-        ensures { file_in result ≡ unsupported_file kind }
-    {
-        FileToRead {
-            kind,
-            name: kind.label(),
-            required: false,
-            limit: 0,
-            beyond: Cause::NotBuilt,
         }
     }
 }

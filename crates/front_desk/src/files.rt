@@ -21,7 +21,7 @@ fn network_files() -> [FileToRead<'static>; 10]
         FileToRead::table(FileKind::Areas),
         FileToRead::table(FileKind::Roads),
         FileToRead::table(FileKind::Vehicles),
-        FileToRead::unsupported(FileKind::Rules),
+        FileToRead::table(FileKind::Rules),
         FileToRead::table(FileKind::Closures),
         FileToRead::table(FileKind::Ratings),
         FileToRead::table(FileKind::Parking),

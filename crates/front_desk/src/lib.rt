@@ -16,7 +16,6 @@ mod commands;
 mod desk;
 mod file_to_read;
 mod files;
-mod net;
 mod outcome;
 mod plan;
 mod requests;

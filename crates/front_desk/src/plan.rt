@@ -1,19 +1,20 @@
 // The command that plans a trip.
 ghost use Rattle.std.specs.Prelude.{◌≡◌, None, IfOk, OnOk, IfErr};
-ghost use Rattle.front_desk.specs.Words.{KeepsFiles, IsInstant, road_setting, plan_in, to_plan, IsSupported};
+ghost use Rattle.front_desk.specs.Words.{KeepsFiles, IsInstant, IsGoodNetwork, trip_setting, vehicle_named, plan_in, to_plan, IsSupported};
 ghost use Rattle.front_desk.specs.Words.{first_folder_fault, network_held, IsFrontText, IsAnsweredBy, request_of, trip_in};
 ghost use Rattle.front_desk.specs.Words.{IsGoodTrip, StopsReading, StopsCommand, IfTold};
 
 use crate::command_line::Plan;
 use crate::files::read_network_files;
-use crate::net::net_of;
 use crate::outcome::{Halt, Refusal};
-use crate::requests::{Trip, first_failed_check, request_of};
+use crate::requests::{Trip, checked_vehicle, request_of};
 use crate::texts::plain_text;
+use ban_expansion::expand_plain;
 use network_tables::{Network, NetworkFault, read_network};
 use plain_search::TableEngine;
-use route_base::{Folder, Form, FrontSearch, OutOfMemory, settings_agree};
+use route_base::{Folder, Form, FrontSearch, OutOfMemory, Run, settings_agree};
 use std::alloc::Global;
+use vehicle_classes::Vehicle;
 
 // The network of the folder's files.
 fn load_network<F: Folder>(alloc: Global, folder: &mut F, dir: &str) -> Result<Network, Halt>
@@ -33,16 +34,27 @@ fn load_network<F: Folder>(alloc: Global, folder: &mut F, dir: &str) -> Result<N
     }
 }
 
-// The report of a trip that passes the checks.
-fn front_text(alloc: Global, network: &Network, trip: Trip<'_>) -> Result<Vec<u8>, OutOfMemory>
+// The report of a trip that passes the checks, for its vehicle.
+fn front_text(
+    alloc: Global,
+    network: &Network,
+    vehicle: &Vehicle,
+    trip: Trip<'_>,
+) -> Result<Vec<u8>, OutOfMemory>
+    requires network { IsGoodNetwork network.now }
+    requires vehicle { vehicle.now ≡ vehicle_named network.now (trip_in trip).vehicle }
     requires good { IsGoodTrip network.now.graph.nodes (trip_in trip) }
     requires depart { IsInstant trip.depart }
     requires until { IsInstant trip.until }
     ensures { IfOk result (λ text.
-        IsFrontText Form.Plain (road_setting network.now) (request_of (trip_in trip.entry))
-        text.items) }
+        IsFrontText Form.Plain (trip_setting network.now (trip_in trip.entry))
+        (request_of (trip_in trip.entry)) text.items) }
 {
-    let net = net_of(alloc, network)?;
+    let window = Run {
+        lo: trip.depart,
+        hi: trip.until,
+    };
+    let net = expand_plain(alloc, network, vehicle, window)?;
     settings_agree();
     let routes = TableEngine.front(alloc, &net, request_of(trip))?;
     plain_text(alloc, &routes)
@@ -62,8 +74,8 @@ pub fn report_plan<F: Folder>(
     ensures kept { KeepsFiles (F.state folder.old) (F.state folder.new) }
 {
     let network = load_network(alloc, folder, plan.dir)?;
-    if let Some(fault) = first_failed_check(&network, plan.trip) {
-        return Err(Halt::Refused(Refusal::Request(fault)));
+    match checked_vehicle(&network, plan.trip) {
+        Ok(vehicle) => Ok(front_text(alloc, &network, vehicle, plan.trip)?),
+        Err(fault) => Err(Halt::Refused(Refusal::Request(fault))),
     }
-    Ok(front_text(alloc, &network, plan.trip)?)
 }

@@ -1,10 +1,12 @@
 // Checks requests against the network.
-ghost use Rattle.std.specs.Prelude.{◌≡◌, None};
+ghost use Rattle.std.specs.Prelude.{◌≡◌, Some, None, IfSome, IfOk, OnOk, IfErr, is_some};
 ghost use Rattle.front_desk.specs.Words.{is_node, failed_check_over, failed_check, request_of, trip_in, IsGoodTrip};
+ghost use Rattle.front_desk.specs.Words.{is_vehicle, vehicle_named, IsGoodNetwork};
 
 use network_tables::Network;
 use route_base::limits::LONGEST_HORIZON;
 use route_base::{Minute, NodeId, Request, RequestFault};
+use vehicle_classes::Vehicle;
 
 /// A trip of a vehicle from node `origin` at `depart` to node `goal`, by `until` at the latest. Nothing is checked yet: the
 /// nodes may be no nodes of the network, and `until` may come before `depart`.
@@ -42,15 +44,33 @@ fn failed_over(count: u32, trip: Trip<'_>) -> Option<RequestFault>
     }
 }
 
-/// The first check that the trip fails over the network, in the order of `RequestFault`.
-pub fn first_failed_check(network: &Network, trip: Trip<'_>) -> Option<RequestFault>
-    ensures first { result ≡ failed_check network.now (trip_in trip.entry) }
-    ensures passed { result ≡ None → IsGoodTrip network.now.graph.nodes (trip_in trip.entry) }
+// The vehicle of a name.
+fn vehicle_of<'a>(network: &'a Network, name: &str) -> Option<&'a Vehicle>
+    ensures found { IfSome result (λ vehicle. vehicle.now ≡ vehicle_named network.now name.now) }
+    ensures known { is_some result ≡ is_vehicle network.now name.now }
 {
-    if network.vehicles().find(trip.vehicle.as_bytes()).is_none() {
-        return Some(RequestFault::UnknownVehicle);
+    let place = network.vehicles().find(name.as_bytes())?;
+    Some(network.vehicles().vehicle(place))
+}
+
+/// The vehicle of a trip that passes the checks over the network, or the first check that it fails, in the order of
+/// `RequestFault`. In constant time on average.
+pub fn checked_vehicle<'a>(network: &'a Network, trip: Trip<'_>) -> Result<&'a Vehicle, RequestFault>
+    ensures passed { OnOk result (failed_check network.now (trip_in trip.entry) ≡ None) }
+    ensures network { OnOk result (IsGoodNetwork network.now) }
+    ensures good { OnOk result (IsGoodTrip network.now.graph.nodes (trip_in trip.entry)) }
+    ensures vehicle { IfOk result (λ vehicle.
+        vehicle.now ≡ vehicle_named network.now (trip_in trip.entry).vehicle) }
+    ensures failed { IfErr result (λ fault.
+        failed_check network.now (trip_in trip.entry) ≡ Some fault) }
+{
+    let Some(vehicle) = vehicle_of(network, trip.vehicle) else {
+        return Err(RequestFault::UnknownVehicle);
+    };
+    match failed_over(network.graph().node_count(), trip) {
+        None => Ok(vehicle),
+        Some(fault) => Err(fault),
     }
-    failed_over(network.graph().node_count(), trip)
 }
 
 /// The trip as a request.
