@@ -1,4 +1,6 @@
 pub mod Bans
 pub mod Coverage
+pub mod Inside
 pub mod Layers
 pub mod LocalDays
+pub mod Words

@@ -1,4 +1,5 @@
 pub mod CheapRoads
+pub mod NamedVehicles
 pub mod ReadFiles
 pub mod RefusalTexts
 pub mod Rows

@@ -5,8 +5,8 @@ use Rattle.std.specs.Str.{bytes_eq}
 use Rattle.std.specs.Fmt.{digits}
 use Rattle.route_base.specs.declared.types.Leg.TheVariants.{Drive}
 use Rattle.route_base.specs.declared.types.Route.{Route}
-use Rattle.route_base.specs.declared.faults.FileKind.TheVariants.{Graph, Rules}
-use Rattle.route_base.specs.declared.faults.Cause.TheVariants.{Missing, NotBuilt}
+use Rattle.route_base.specs.declared.faults.FileKind.TheVariants.{Graph}
+use Rattle.route_base.specs.declared.faults.Cause.TheVariants.{Missing}
 use Rattle.route_base.specs.declared.faults.RequestFault.{RequestFault}
 use Rattle.route_base.specs.declared.faults.RequestFault.TheVariants.{OriginRange, GoalRange, UntilBeforeDepart, HorizonTooLong}
 use Rattle.front_desk.specs.declared.outcome.Refusal.TheVariants.{Usage, Input, Request}
@@ -140,17 +140,6 @@ no_graph = refl
 -- a graph that isn't one, and another file
 beside : List ℕ → List ℕ → List ℕ → Option (List ℕ)
 beside other bytes name = if bytes_eq name (codes "d/graph.gr") then Some (codes "x\n") else if bytes_eq name other then Some bytes else None
-
--- a table that isn't supported yet is refused before the graph's contents
-rules_first :
-    first_folder_fault (beside (codes "d/rules.csv") (codes "x")) (codes "d") ≡ Some (record { file = Rules; row = 0; cause = NotBuilt })
-unfolding beside first_unreadable
-rules_first = refl
-
--- where it is empty, it is not refused
-no_rules : first_unreadable (beside (codes "d/rules.csv") []) (codes "d") network_files ≡ None
-unfolding beside first_unreadable
-no_rules = refl
 
 -- a fault of a table's contents is no reading fault
 tables_read : first_unreadable (beside (codes "d/parking.csv") (codes "x")) (codes "d") network_files ≡ None

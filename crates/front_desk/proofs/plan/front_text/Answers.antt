@@ -9,6 +9,7 @@ use Rattle.route_base.specs.declared.types.Run.{Run}
 use Rattle.route_base.proofs.Costs.{fits}
 use Rattle.front_desk.specs.Trips.{request_of, trip_in}
 use Rattle.network_tables.specs.RoadSetting.{road_setting_for}
+use Rattle.vehicle_classes.specs.VehicleModel.{VehicleModel}
 use Rattle.front_desk.proofs.CheapRoads.{cheap}
 use Rattle.front_desk.proofs.plan.front_text.Goals as goal
 
@@ -20,7 +21,7 @@ front-requires-clause-fit c =
     let window : Run = record { lo = request.depart; hi = request.until } in
     let within : IsInWindow request window = (omega arith, omega arith) in
     subst (CostsFit net) (sym c.request_of.ensures)
-    ((c.settings_agree.ensures.fit net road window request (c.in_ok-net.ensures) within).1
+    ((c.settings_agree.ensures.fit net road window request c.in_ok-net.ensures within).1
     (fits road request (cheap c.args.network.now c.args.vehicle.now c.requires.network) c.requires.good.in_order c.requires.good.short))
 
 pub front-requires-clause-good : goal.front-requires-clause-good
@@ -46,7 +47,8 @@ returns c =
     IfOk-weaker c.plain_text.result _ _
     (λ text is. record {
       routes = routes;
-      right = (c.settings_agree.ensures.right net road window request (c.in_ok-net.ensures) within routes).0
-          (subst (λ (r : Request). IsRight net r routes) c.request_of.ensures c.in_ok-routes.ensures);
+      right = subst (λ (m : VehicleModel). IsRight (road_setting_for c.args.network.now m) request routes) c.requires.vehicle
+          ((c.settings_agree.ensures.right net road window request c.in_ok-net.ensures within routes).0
+          (subst (λ (r : Request). IsRight net r routes) c.request_of.ensures c.in_ok-routes.ensures));
       is_text = ap Some (sym is);
     }) c.plain_text.ensures
