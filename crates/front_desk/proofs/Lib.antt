@@ -1,3 +1,5 @@
+pub mod ClosedWindows
+pub mod NamedVehicles
 pub mod ReadFiles
 pub mod RefusalTexts
 pub mod RoadNets

@@ -15,8 +15,8 @@ use plain_search::TableEngine;
 use route_base::{Folder, Form, FrontSearch, OutOfMemory, settings_agree};
 use std::alloc::Global;
 
-// The network of the folder's files.
-fn load_network<F: Folder>(alloc: Global, folder: &mut F, dir: &str) -> Result<Network, Halt>
+/// The network of the folder's files.
+pub fn load_network<F: Folder>(alloc: Global, folder: &mut F, dir: &str) -> Result<Network, Halt>
     ensures faultless { OnOk result
         (IfTold (F.state folder.old) (λ held. first_folder_fault held dir.now ≡ None)) }
     ensures found { IfOk result (λ network.

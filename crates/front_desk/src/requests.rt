@@ -1,10 +1,15 @@
 // Checks requests against the network.
-ghost use Rattle.std.specs.Prelude.{◌≡◌, None};
+ghost use Rattle.std.specs.Prelude.{◌≡◌, ◌+◌, ◌≤◌, None, IfOk, OnOk, length};
+ghost use Rattle.std.specs.Result.{result_err};
+ghost use Rattle.route_base.specs.declared.limits.TheConstants.{LONGEST_HORIZON};
+ghost use Rattle.front_desk.specs.Words.{failed_time, failed_bans_check, bans_in, vehicle_named};
 ghost use Rattle.front_desk.specs.Words.{is_node, failed_check_over, failed_check, request_of, trip_in, IsGoodTrip};
 
+use crate::command_line::Bans;
 use network_tables::Network;
 use route_base::limits::LONGEST_HORIZON;
 use route_base::{Minute, NodeId, Request, RequestFault};
+use vehicle_classes::Vehicle;
 
 /// A trip of a vehicle from node `origin` at `depart` to node `goal`, by `until` at the latest. Nothing is checked yet: the
 /// nodes may be no nodes of the network, and `until` may come before `depart`.
@@ -24,6 +29,21 @@ fn is_known(count: u32, node: u32) -> bool
     1 <= node && node <= count
 }
 
+// The first check that the time from `depart` to `until` fails.
+fn failed_time(depart: Minute, until: Minute) -> Option<RequestFault>
+    ensures first { result ≡ failed_time depart until }
+    ensures in_order { result ≡ None → depart ≤ until }
+    ensures short { result ≡ None → until ≤ depart + LONGEST_HORIZON }
+{
+    if until < depart {
+        Some(RequestFault::UntilBeforeDepart)
+    } else if until - depart > LONGEST_HORIZON {
+        Some(RequestFault::HorizonTooLong)
+    } else {
+        None
+    }
+}
+
 // The first check that the trip fails over a graph of `count` nodes.
 fn failed_over(count: u32, trip: Trip<'_>) -> Option<RequestFault>
     ensures first { result ≡ failed_check_over count (trip_in trip.entry) }
@@ -33,12 +53,8 @@ fn failed_over(count: u32, trip: Trip<'_>) -> Option<RequestFault>
         Some(RequestFault::OriginRange)
     } else if !is_known(count, trip.goal) {
         Some(RequestFault::GoalRange)
-    } else if trip.until < trip.depart {
-        Some(RequestFault::UntilBeforeDepart)
-    } else if trip.until - trip.depart > LONGEST_HORIZON {
-        Some(RequestFault::HorizonTooLong)
     } else {
-        None
+        failed_time(trip.depart, trip.until)
     }
 }
 
@@ -51,6 +67,29 @@ pub fn first_failed_check(network: &Network, trip: Trip<'_>) -> Option<RequestFa
         return Some(RequestFault::UnknownVehicle);
     }
     failed_over(network.graph().node_count(), trip)
+}
+
+/// The vehicle of the command's name; an error for the first check that the command fails over the network.
+pub fn checked_vehicle<'a>(
+    network: &'a Network,
+    bans: Bans<'_>,
+) -> Result<&'a Vehicle, RequestFault>
+    ensures first { result_err result ≡ failed_bans_check network.now (bans_in bans.entry) }
+    ensures vehicle { IfOk result (λ v. v.now ≡ vehicle_named network.now bans.entry.vehicle.now) }
+    ensures low { OnOk result (1 ≤ bans.entry.arc) }
+    ensures high { OnOk result (bans.entry.arc ≤ length network.now.graph.arcs) }
+{
+    let vehicles = network.vehicles();
+    let Some(place) = vehicles.find(bans.vehicle.as_bytes()) else {
+        return Err(RequestFault::UnknownVehicle);
+    };
+    if !is_known(network.graph().arc_count(), bans.arc) {
+        return Err(RequestFault::UnknownArc);
+    }
+    match failed_time(bans.depart, bans.until) {
+        Some(fault) => Err(fault),
+        None => Ok(vehicles.vehicle(place)),
+    }
 }
 
 /// The trip as a request.
