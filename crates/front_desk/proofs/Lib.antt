@@ -1,4 +1,5 @@
 pub mod CheapRoads
+pub mod ClosedWindows
 pub mod NamedVehicles
 pub mod ReadFiles
 pub mod RefusalTexts

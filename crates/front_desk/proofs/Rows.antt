@@ -11,11 +11,11 @@ use Rattle.route_base.specs.declared.faults.RequestFault.{RequestFault}
 use Rattle.route_base.specs.declared.faults.RequestFault.TheVariants.{OriginRange, GoalRange, UntilBeforeDepart, HorizonTooLong}
 use Rattle.front_desk.specs.declared.outcome.Refusal.TheVariants.{Usage, Input, Request}
 use Rattle.route_base.specs.declared.types.Form.TheVariants.{Plain}
-use Rattle.front_desk.specs.CommandLine.{Command, command_of, is_folder_name, node_of, to_plan}
+use Rattle.front_desk.specs.CommandLine.{Command, command_of, is_folder_name, node_of, to_plan, to_bans}
 use Rattle.route_base.specs.Forms.{minute_of}
-use Rattle.calendar_days.specs.Days.{days_of_years, days_of_months}
-use Rattle.calendar_days.specs.Texts.{instant_of, day_of_text, clock_of}
-use Rattle.front_desk.specs.Texts.{thousandths_of, plain_text_of, refusal_text_of}
+use Rattle.calendar_days.specs.Days.{days_of_years, days_of_months, date_on}
+use Rattle.calendar_days.specs.Texts.{instant_of, instant_text_of, day_of_text, clock_of}
+use Rattle.front_desk.specs.Texts.{bans_text_of, thousandths_of, plain_text_of, refusal_text_of}
 use Rattle.front_desk.specs.Trips.{failed_check_over}
 use Rattle.front_desk.specs.Files.{first_unreadable}
 use Rattle.front_desk.specs.ReadingOrder.{network_files, first_folder_fault}
@@ -109,6 +109,30 @@ missing_graph_refused = refl
 
 pub long_horizon_refused : refusal_text_of (Request HorizonTooLong) ≡ codes "refused request HorizonTooLong\n"
 long_horizon_refused = refl
+
+-- the bans of the second arc
+abbrev the_bans : Option Command
+the_bans = Some (to_bans (record { dir = codes "d"; vehicle = codes "any"; arc = 2; depart = 26563680; until = 26564080 }))
+
+-- the words of bans over `d`, with this for ARC
+abbrev bans_with : List ℕ → List (List ℕ)
+bans_with arc = codes "bans" ∷ codes "d" ∷ codes "any" ∷ arc ∷ codes "26563680" ∷ codes "26564080" ∷ []
+
+pub bans_read : command_of (bans_with (codes "2")) ≡ the_bans
+unfolding instant_of
+bans_read = refl
+
+pub zero_before_arc_refused : command_of (bans_with (codes "02")) ≡ None
+zero_before_arc_refused = refl
+
+pub report_of_no_bans : bans_text_of [] 3 ≡ codes "bans 0\npassed 3\n"
+unfolding digits
+report_of_no_bans = refl
+
+pub report_of_an_hour : bans_text_of (record { lo = 525600; hi = 525660 } ∷ []) 0
+    ≡ codes "bans 1\nclosed 1971-01-01T00:00Z 1971-01-01T01:00Z\npassed 0\n"
+unfolding digits instant_text_of date_on
+report_of_an_hour = refl
 
 -- the first check that a trip over three nodes fails
 abbrev failing_of : ℕ → ℕ → ℕ → ℕ → Option RequestFault

@@ -10,7 +10,8 @@ use Rattle.route_base.specs.declared.types.Form.TheVariants.{Plain}
 use Rattle.calendar_days.specs.Texts.{instant_of}
 use Rattle.front_desk.specs.Trips.{Trip, trip_in}
 use Rattle.front_desk.specs.declared.command_line.Command.{Command as CommandWords}
-use Rattle.front_desk.specs.declared.command_line.Command.TheVariants.{Plan as PlanVariant}
+use Rattle.front_desk.specs.declared.command_line.Command.TheVariants.{Plan as PlanVariant, Bans as BansVariant}
+use Rattle.front_desk.specs.declared.command_line.Bans.{Bans as BansWords}
 use Rattle.front_desk.specs.declared.command_line.Plan.{Plan as PlanWords}
 
 -- the command that plans a trip over the files of a folder, and reports it in a form
@@ -19,9 +20,18 @@ pub record Plan : Type 0 where
   pub trip : Trip
   pub form : Form
 
+-- the command that prints the minutes from an instant up to, but not with, another at which an arc is closed to a vehicle
+pub record Bans : Type 0 where
+  pub dir : List ℕ
+  pub vehicle : List ℕ
+  pub arc : ℕ
+  pub depart : ℕ
+  pub until : ℕ
+
 -- a command, with the values of its words
 pub data Command : Type 0 where
   to_plan : Plan → Command
+  to_bans : Bans → Command
 
 -- 1 to 4,096 bytes, the first not `-`
 abbrev pub is_folder_name : List ℕ → Bool
@@ -46,18 +56,35 @@ plan_of (dir ∷ vehicle ∷ from ∷ to ∷ start ∷ end ∷ []) =
     then option_map (λ trip. record { dir = dir; trip = trip; form = Plain }) (trip_of vehicle from to start end) else None
 plan_of words = None
 
+-- the bans of the words `DIR VEHICLE ARC DEPART UNTIL`, and nothing for any other words
+abbrev pub bans_of : List (List ℕ) → Option Bans
+bans_of (dir ∷ vehicle ∷ arc ∷ start ∷ end ∷ []) =
+    if is_name vehicle && is_folder_name dir
+    then option_and_then (λ a. option_and_then (λ d. option_map
+    (λ u. record { dir = dir; vehicle = vehicle; arc = a; depart = d; until = u })
+    (instant_of end)) (instant_of start)) (node_of arc) else None
+bans_of words = None
+
 -- the command of words: its name and then its own words; nothing for words that are no command
 abbrev pub command_of : List (List ℕ) → Option Command
-command_of (name ∷ words) = if bytes_eq name (codes "plan") then option_map to_plan (plan_of words) else None
+command_of (name ∷ words) =
+    if bytes_eq name (codes "plan") then option_map to_plan (plan_of words)
+    else if bytes_eq name (codes "bans") then option_map to_bans (bans_of words)
+    else None
 command_of [] = None
 
 -- the plan that the code holds
 abbrev pub plan_in : PlanWords → Plan
 plan_in words = record { dir = words.dir.now; trip = trip_in words.trip; form = words.form }
 
+-- the bans that the code holds
+abbrev pub bans_in : BansWords → Bans
+bans_in words = record { dir = words.dir.now; vehicle = words.vehicle.now; arc = words.arc; depart = words.depart; until = words.until }
+
 -- the command that the code holds
 abbrev pub command_in : CommandWords → Command
 command_in (PlanVariant words) = to_plan (plan_in words)
+command_in (BansVariant words) = to_bans (bans_in words)
 
 -- the trip's minutes are instants, and the form is one that is supported
 pub record IsSupported (p : Plan) : Type 0 where
@@ -68,3 +95,4 @@ pub record IsSupported (p : Plan) : Type 0 where
 -- all that the command asks for is supported
 abbrev pub AsksSupported : Command → Type 0
 AsksSupported (to_plan p) = IsSupported p
+AsksSupported (to_bans b) = IsInstant b.depart × IsInstant b.until

@@ -1,3 +1,4 @@
+pub mod Bans
 pub mod CommandLine
 pub mod Commands
 pub mod Files

@@ -3,12 +3,14 @@ use Rattle.std.specs.Prelude.{ℕ, Option, Some, None, ◌+◌, ◌/◌, ◌%◌
 use Rattle.route_base.specs.declared.types.Leg.{Leg}
 use Rattle.route_base.specs.declared.types.Leg.TheVariants.{Drive, Wait}
 use Rattle.route_base.specs.declared.types.Route.{Route}
+use Rattle.route_base.specs.declared.types.Run.{Run}
 use Rattle.route_base.specs.declared.faults.BadInput.{BadInput}
 use Rattle.route_base.specs.declared.types.Form.{Form}
 use Rattle.route_base.specs.declared.types.Form.TheVariants.{Plain, Table, Csv, Json}
 use Rattle.route_base.specs.declared.types.Request.{Request as TripRequest}
 use Rattle.route_base.specs.Labels.{label_of, cause_name_of, request_fault_name_of}
 use Rattle.route_base.specs.Setting.{Setting}
+use Rattle.calendar_days.specs.Texts.{instant_text_of}
 use Rattle.front_desk.specs.declared.outcome.Refusal.{Refusal}
 use Rattle.front_desk.specs.declared.outcome.Refusal.TheVariants.{Usage, Input, Request}
 
@@ -39,6 +41,15 @@ report_text Plain s request routes = Some (plain_text_of routes)
 report_text Table s request routes = None
 report_text Csv s request routes = None
 report_text Json s request routes = None
+
+-- the line of a run of closed minutes, its end excluded
+abbrev pub closed_text : Run → List ℕ
+closed_text run = codes "closed " ++ instant_text_of run.lo ++ codes " " ++ instant_text_of run.hi ++ codes "\n"
+
+-- the number of runs, then the runs, and then a number of rows that were passed over
+abbrev pub bans_text_of : List Run → ℕ → List ℕ
+bans_text_of runs passed =
+    codes "bans " ++ decimal (length runs) ++ codes "\n" ++ flat_map closed_text runs ++ codes "passed " ++ decimal passed ++ codes "\n"
 
 -- the place and the cause of a fault
 abbrev pub fault_text : BadInput → List ℕ

@@ -22,14 +22,19 @@ pub record Trip : Type 0 where
 abbrev pub is_node : ℕ → ℕ → Bool
 is_node n node = nat_le 1 node && nat_le node n
 
+-- the first check that the time from one instant to another fails
+abbrev pub failed_time : ℕ → ℕ → Option RequestFault
+failed_time depart until =
+    if nat_lt until depart then Some UntilBeforeDepart
+    else if nat_lt LONGEST_HORIZON (until - depart) then Some HorizonTooLong
+    else None
+
 -- the first check that a trip over n nodes fails
 abbrev pub failed_check_over : ℕ → Trip → Option RequestFault
 failed_check_over n trip =
     if not (is_node n trip.origin) then Some OriginRange
     else if not (is_node n trip.goal) then Some GoalRange
-    else if nat_lt trip.until trip.depart then Some UntilBeforeDepart
-    else if nat_lt LONGEST_HORIZON (trip.until - trip.depart) then Some HorizonTooLong
-    else None
+    else failed_time trip.depart trip.until
 
 -- whether the network has a vehicle of this name
 abbrev pub is_vehicle : NetworkModel → List ℕ → Bool

@@ -1,12 +1,12 @@
 // Reads the words of the command line.
 ghost use Rattle.std.specs.Prelude.{◌≡◌, IfSome, option_map};
 ghost use Rattle.front_desk.specs.Words.{is_folder_name, node_of, trip_of, plan_of, plan_in, command_of, command_in};
-ghost use Rattle.front_desk.specs.Words.{IsSupported, AsksSupported, IsInstant, trip_in};
+ghost use Rattle.front_desk.specs.Words.{IsSupported, AsksSupported, IsInstant, trip_in, bans_of, bans_in};
 
 use crate::requests::Trip;
 use calendar_days::read_instant;
 use route_base::limits::LONGEST_FOLDER;
-use route_base::{Form, Text, is_name_field, read_plain_number};
+use route_base::{Form, Minute, Text, is_name_field, read_plain_number};
 
 /// The command that plans a trip over the files of the folder `dir` and reports it in a form.
 #[derive(Clone, Copy)]
@@ -16,10 +16,22 @@ pub struct Plan<'a> {
     pub form: Form,
 }
 
+/// The command that prints the minutes from `depart` up to, but not with, `until` at which an arc is closed to a vehicle, over the
+/// files of the folder `dir`. Nothing is checked yet.
+#[derive(Clone, Copy)]
+pub struct Bans<'a> {
+    pub dir: &'a str,
+    pub vehicle: &'a str,
+    pub arc: u32,
+    pub depart: Minute,
+    pub until: Minute,
+}
+
 /// A command, as its words give it.
 #[derive(Clone, Copy)]
 pub enum Command<'a> {
     Plan(Plan<'a>),
+    Bans(Bans<'a>),
 }
 
 // Whether a word names a folder.
@@ -32,7 +44,7 @@ fn is_folder_word(word: &str) -> bool
     }
 }
 
-// The number of a node.
+// The number of a node or of an arc.
 fn node_word(word: &str) -> Option<u32>
     ensures { result ≡ node_of word.now }
 {
@@ -90,10 +102,31 @@ fn plan_words(words: &[Text]) -> Option<Plan<'_>>
     })
 }
 
+// The bans of the words behind the command's name.
+fn bans_words(words: &[Text]) -> Option<Bans<'_>>
+    ensures bans { option_map bans_in result ≡ bans_of words.now }
+    ensures instants { IfSome result (λ b. IsInstant b.depart × IsInstant b.until) }
+{
+    let [dir, vehicle, arc, depart, until] = words else {
+        return None;
+    };
+    if !is_name_field(vehicle.as_str().as_bytes()) || !is_folder_word(dir.as_str()) {
+        return None;
+    }
+    Some(Bans {
+        dir: dir.as_str(),
+        vehicle: vehicle.as_str(),
+        arc: node_word(arc.as_str())?,
+        depart: read_instant(depart.as_str().as_bytes()).ok()?,
+        until: read_instant(until.as_str().as_bytes()).ok()?,
+    })
+}
+
 /// The command that the words are; `None` exactly where they are none. Linear in the length of the words.
 ///
-/// The one command so far is `plan DIR VEHICLE FROM TO DEPART UNTIL`. DIR has 1 to 4,096 bytes and doesn't begin with `-`; VEHICLE is
-/// a name, and `any` is one; FROM and TO are numbers of 32 bits without a leading zero; DEPART and UNTIL are instants, as texts or as Unix minutes.
+/// The commands are `plan DIR VEHICLE FROM TO DEPART UNTIL` and `bans DIR VEHICLE ARC DEPART UNTIL`. DIR has 1 to 4,096 bytes and doesn't
+/// begin with `-`; VEHICLE is a name, and `any` is one; FROM, TO and ARC are numbers of 32 bits without a leading zero; DEPART and UNTIL are
+/// instants, as texts or as Unix minutes.
 pub fn read_command(words: &[Text]) -> Option<Command<'_>>
     ensures command { option_map command_in result ≡ command_of words.now }
     ensures supported { IfSome result (λ c. AsksSupported (command_in c)) }
@@ -101,9 +134,11 @@ pub fn read_command(words: &[Text]) -> Option<Command<'_>>
     let [name, rest @ ..] = words else {
         return None;
     };
-    if name.as_str() != "plan" {
-        return None;
+    if name.as_str() == "plan" {
+        return Some(Command::Plan(plan_words(rest)?));
     }
-    let plan = plan_words(rest)?;
-    Some(Command::Plan(plan))
+    if name.as_str() == "bans" {
+        return Some(Command::Bans(bans_words(rest)?));
+    }
+    None
 }

@@ -2,6 +2,7 @@
 ghost use Rattle.std.specs.Prelude.{◌≡◌, IfOk, IfErr};
 ghost use Rattle.front_desk.specs.Words.{KeepsFiles, command_of, ReadsNothing, IsAnswer, StopsWords};
 
+use crate::bans::report_bans;
 use crate::command_line::{Command, read_command};
 use crate::outcome::{Halt, Refusal};
 use crate::plan::report_plan;
@@ -19,5 +20,6 @@ pub fn answer<F: Folder>(alloc: Global, words: &[Text], folder: &mut F) -> Resul
     match read_command(words) {
         None => Err(Halt::Refused(Refusal::Usage)),
         Some(Command::Plan(plan)) => report_plan(alloc, folder, plan),
+        Some(Command::Bans(bans)) => report_bans(alloc, folder, bans),
     }
 }

@@ -38,6 +38,7 @@ fn refuse<S: Sink>(alloc: Global, out: &mut S, refusal: Refusal) -> Status
 ///
 /// `plan DIR VEHICLE FROM TO DEPART UNTIL` prints the Pareto front of the trip of a vehicle from node FROM at the instant DEPART to
 /// node TO, by the instant UNTIL at the latest, over the files of the folder DIR. The vehicle is `any` or one of `vehicles.csv`. An instant is a text, as `2020-07-04T00:00Z`, or a Unix minute.
+/// `bans DIR VEHICLE ARC DEPART UNTIL` prints the minutes from DEPART up to, but not with, UNTIL at which the arc is closed to the vehicle.
 /// Any other words are `Usage`. The text goes to the sink in one call.
 /// Reading is linear in the bytes; the search looks once at each node and minute of the horizon, and for each that is
 /// reached at its arcs; memory is 8 bytes for each node and minute, and linear in nodes and arcs beside it.

@@ -1,16 +1,16 @@
 //! The program itself: from command-line words and files to the printed answer.
 //!
 //! `command_line` reads the words, `files` reads a folder's files one after another, `requests` checks a trip, `net` makes the net
-//! of a network, and `texts` writes reports and the lines of refusals. Each command has a module of its own, so far `plan`;
+//! of a network, and `texts` writes reports and the lines of refusals. Each command has a module of its own, `plan` and `bans`;
 //! `commands` has one case for each. `desk` has the top call, `run`; `outcome` says why a command may end without its text.
 //!
 //! The law of `run` is in `specs/`. `Run` says which text is due with each status, over `Commands` (the answer, the refusals and the
 //! files of each command, one line a command), `CommandLine` (the command that words are), `ReadingOrder` and `Files` (the first
-//! fault of a folder's files, and the network that they state), `Trips` (the first check that fails), `Plan` (the report of a
-//! plan) and `Texts`. It is proved on `run`; each other call answers exactly what its definition says. `Inside` is no law: it has
+//! fault of a folder's files, and the network that they state), `Trips` (the first check that fails), `Plan` and `Bans` (the reports) and `Texts`. It is proved on `run`; each other call answers exactly what its definition says. `Inside` is no law: it has
 //! the facts that the functions hand to one another. `Words` passes the names of all these on to the contracts.
 #![tactic(auto)]
 
+mod bans;
 mod command_line;
 mod commands;
 mod desk;

@@ -7,7 +7,7 @@ ghost use Rattle.front_desk.specs.Words.{IsGoodTrip, StopsReading, StopsCommand,
 use crate::command_line::Plan;
 use crate::files::read_network_files;
 use crate::outcome::{Halt, Refusal};
-use crate::requests::{Trip, checked_vehicle, request_of};
+use crate::requests::{Trip, request_of, vehicle_of_trip};
 use crate::texts::plain_text;
 use ban_expansion::expand_plain;
 use network_tables::{Network, NetworkFault, read_network};
@@ -16,8 +16,8 @@ use route_base::{Folder, Form, FrontSearch, OutOfMemory, Run, settings_agree};
 use std::alloc::Global;
 use vehicle_classes::Vehicle;
 
-// The network of the folder's files.
-fn load_network<F: Folder>(alloc: Global, folder: &mut F, dir: &str) -> Result<Network, Halt>
+/// The network of the folder's files.
+pub fn load_network<F: Folder>(alloc: Global, folder: &mut F, dir: &str) -> Result<Network, Halt>
     ensures faultless { OnOk result
         (IfTold (F.state folder.old) (λ held. first_folder_fault held dir.now ≡ None)) }
     ensures found { IfOk result (λ network.
@@ -74,7 +74,7 @@ pub fn report_plan<F: Folder>(
     ensures kept { KeepsFiles (F.state folder.old) (F.state folder.new) }
 {
     let network = load_network(alloc, folder, plan.dir)?;
-    match checked_vehicle(&network, plan.trip) {
+    match vehicle_of_trip(&network, plan.trip) {
         Ok(vehicle) => Ok(front_text(alloc, &network, vehicle, plan.trip)?),
         Err(fault) => Err(Halt::Refused(Refusal::Request(fault))),
     }

@@ -1,8 +1,12 @@
 // Checks requests against the network.
-ghost use Rattle.std.specs.Prelude.{◌≡◌, Some, None, IfSome, IfOk, OnOk, IfErr, is_some};
+ghost use Rattle.std.specs.Prelude.{◌≡◌, ◌+◌, ◌≤◌, Some, None, IfSome, IfOk, OnOk, IfErr, is_some, length};
+ghost use Rattle.std.specs.Result.{result_err};
+ghost use Rattle.route_base.specs.declared.limits.TheConstants.{LONGEST_HORIZON};
+ghost use Rattle.front_desk.specs.Words.{failed_time, failed_bans_check, bans_in};
 ghost use Rattle.front_desk.specs.Words.{is_node, failed_check_over, failed_check, request_of, trip_in, IsGoodTrip};
 ghost use Rattle.front_desk.specs.Words.{is_vehicle, vehicle_named, IsGoodNetwork};
 
+use crate::command_line::Bans;
 use network_tables::Network;
 use route_base::limits::LONGEST_HORIZON;
 use route_base::{Minute, NodeId, Request, RequestFault};
@@ -26,6 +30,21 @@ fn is_known(count: u32, node: u32) -> bool
     1 <= node && node <= count
 }
 
+// The first check that the time from `depart` to `until` fails.
+fn failed_time(depart: Minute, until: Minute) -> Option<RequestFault>
+    ensures first { result ≡ failed_time depart until }
+    ensures in_order { result ≡ None → depart ≤ until }
+    ensures short { result ≡ None → until ≤ depart + LONGEST_HORIZON }
+{
+    if until < depart {
+        Some(RequestFault::UntilBeforeDepart)
+    } else if until - depart > LONGEST_HORIZON {
+        Some(RequestFault::HorizonTooLong)
+    } else {
+        None
+    }
+}
+
 // The first check that the trip fails over a graph of `count` nodes.
 fn failed_over(count: u32, trip: Trip<'_>) -> Option<RequestFault>
     ensures first { result ≡ failed_check_over count (trip_in trip.entry) }
@@ -35,12 +54,8 @@ fn failed_over(count: u32, trip: Trip<'_>) -> Option<RequestFault>
         Some(RequestFault::OriginRange)
     } else if !is_known(count, trip.goal) {
         Some(RequestFault::GoalRange)
-    } else if trip.until < trip.depart {
-        Some(RequestFault::UntilBeforeDepart)
-    } else if trip.until - trip.depart > LONGEST_HORIZON {
-        Some(RequestFault::HorizonTooLong)
     } else {
-        None
+        failed_time(trip.depart, trip.until)
     }
 }
 
@@ -55,7 +70,7 @@ fn vehicle_of<'a>(network: &'a Network, name: &str) -> Option<&'a Vehicle>
 
 /// The vehicle of a trip that passes the checks over the network, or the first check that it fails, in the order of
 /// `RequestFault`. In constant time on average.
-pub fn checked_vehicle<'a>(network: &'a Network, trip: Trip<'_>) -> Result<&'a Vehicle, RequestFault>
+pub fn vehicle_of_trip<'a>(network: &'a Network, trip: Trip<'_>) -> Result<&'a Vehicle, RequestFault>
     ensures passed { OnOk result (failed_check network.now (trip_in trip.entry) ≡ None) }
     ensures network { OnOk result (IsGoodNetwork network.now) }
     ensures good { OnOk result (IsGoodTrip network.now.graph.nodes (trip_in trip.entry)) }
@@ -70,6 +85,28 @@ pub fn checked_vehicle<'a>(network: &'a Network, trip: Trip<'_>) -> Result<&'a V
     match failed_over(network.graph().node_count(), trip) {
         None => Ok(vehicle),
         Some(fault) => Err(fault),
+    }
+}
+
+/// The vehicle of the command's name, or the first check that the command fails over the network. In constant time on average.
+pub fn vehicle_of_bans<'a>(
+    network: &'a Network,
+    bans: Bans<'_>,
+) -> Result<&'a Vehicle, RequestFault>
+    ensures first { result_err result ≡ failed_bans_check network.now (bans_in bans.entry) }
+    ensures vehicle { IfOk result (λ v. v.now ≡ vehicle_named network.now bans.entry.vehicle.now) }
+    ensures low { OnOk result (1 ≤ bans.entry.arc) }
+    ensures high { OnOk result (bans.entry.arc ≤ length network.now.graph.arcs) }
+{
+    let Some(vehicle) = vehicle_of(network, bans.vehicle) else {
+        return Err(RequestFault::UnknownVehicle);
+    };
+    if !is_known(network.graph().arc_count(), bans.arc) {
+        return Err(RequestFault::UnknownArc);
+    }
+    match failed_time(bans.depart, bans.until) {
+        Some(fault) => Err(fault),
+        None => Ok(vehicle),
     }
 }
 

@@ -1,10 +1,12 @@
 // Writes reports and the lines of refusals.
-ghost use Rattle.std.specs.Prelude.{◌≡◌, ◌++◌, OnOk, IfOk, decimal, flat_map};
+ghost use Rattle.std.specs.Prelude.{◌≡◌, ◌++◌, All, OnOk, IfOk, decimal, flat_map};
+ghost use Rattle.front_desk.specs.Words.{IsInstant, closed_text, bans_text_of};
 ghost use Rattle.front_desk.specs.Words.{thousandths_of, leg_text, route_text, plain_text_of, fault_text, refusal_text_of};
 
 use crate::outcome::Refusal;
+use calendar_days::instant_text;
 use itoa::Buffer;
-use route_base::{BadInput, Cost, Leg, OutOfMemory, Route, Routes};
+use route_base::{BadInput, Cost, Leg, OutOfMemory, Route, Routes, Run};
 use std::alloc::Global;
 
 // Appends a text.
@@ -97,6 +99,47 @@ pub fn plain_text(alloc: Global, routes: &Routes) -> Result<Vec<u8>, OutOfMemory
     push_number(&mut out, routes.len() as u64)?;
     push_text(&mut out, "\n")?;
     push_routes(&mut out, routes.as_slice())?;
+    Ok(out)
+}
+
+// Appends the line of a run of closed minutes.
+fn push_closed(out: &mut Vec<u8>, run: Run) -> Result<(), OutOfMemory>
+    requires first { IsInstant run.lo }
+    requires end { IsInstant run.hi }
+    ensures { OnOk result (out.new.items ≡ out.old.items ++ closed_text run) }
+{
+    push_text(out, "closed ")?;
+    out.extend_from_slice(&instant_text(run.lo))?;
+    push_text(out, " ")?;
+    out.extend_from_slice(&instant_text(run.hi))?;
+    push_text(out, "\n")
+}
+
+// Appends the lines of runs of closed minutes.
+fn push_closures(out: &mut Vec<u8>, runs: &[Run]) -> Result<(), OutOfMemory>
+    requires { All (λ run. IsInstant run.lo × IsInstant run.hi) runs.now }
+    ensures { OnOk result (out.new.items ≡ out.old.items ++ flat_map closed_text runs.now) }
+{
+    for run in runs {
+        push_closed(out, *run)?;
+    }
+    Ok(())
+}
+
+/// The report of closed minutes: the number of runs, each run as its first instant and the first after it, and then the number of
+/// rows that were passed over. Linear in the number of runs.
+pub fn bans_text(alloc: Global, runs: &[Run], passed: u64) -> Result<Vec<u8>, OutOfMemory>
+    requires { All (λ run. IsInstant run.lo × IsInstant run.hi) runs.now }
+    ensures { IfOk result (λ v. v.items ≡ bans_text_of runs.now passed) }
+{
+    let mut out = Vec::new(alloc);
+    push_text(&mut out, "bans ")?;
+    push_number(&mut out, runs.len() as u64)?;
+    push_text(&mut out, "\n")?;
+    push_closures(&mut out, runs)?;
+    push_text(&mut out, "passed ")?;
+    push_number(&mut out, passed)?;
+    push_text(&mut out, "\n")?;
     Ok(out)
 }
 

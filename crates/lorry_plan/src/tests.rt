@@ -1,5 +1,6 @@
 //! The tests that cross crates, by subject: whole runs, the objects in memory, and the edge to the system.
 
+mod bans;
 mod faults;
 mod fronts;
 mod graph;

@@ -12,7 +12,7 @@ fn refuses_words_that_are_no_command(rt: HostRuntime) -> Result<(), Fail> {
         "-h",
         "--version",
         "help",
-        "bans d any 1 26563680 26563690",
+        "bans",
         "check d any 1 3 26563680 26564080 c.cert",
         "batch d jobs.csv --workers 2",
         "gen d 7 1 2",

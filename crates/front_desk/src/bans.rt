@@ -1,0 +1,59 @@
+// The command that prints the closed minutes of an arc.
+ghost use Rattle.std.specs.Prelude.{◌≡◌, ◌≤◌, length, IfOk, IfErr};
+ghost use Rattle.front_desk.specs.Words.{KeepsFiles, IsInstant, IfTold, StopsCommand, IsAnsweredBy};
+ghost use Rattle.front_desk.specs.Words.{bans_in, to_bans, vehicle_named, IsBansText};
+
+use crate::command_line::Bans;
+use crate::outcome::{Halt, Refusal};
+use crate::plan::load_network;
+use crate::requests::vehicle_of_bans;
+use crate::texts::bans_text;
+use ban_expansion::closed_set;
+use network_tables::Network;
+use route_base::{ArcId, Folder, OutOfMemory, Run};
+use std::alloc::Global;
+use vehicle_classes::Vehicle;
+
+// The report of an arc that is there, for the vehicle of the command.
+fn closed_report(
+    alloc: Global,
+    network: &Network,
+    vehicle: &Vehicle,
+    bans: Bans<'_>,
+) -> Result<Vec<u8>, OutOfMemory>
+    requires low { 1 ≤ bans.arc }
+    requires high { bans.arc ≤ length network.now.graph.arcs }
+    requires depart { IsInstant bans.depart }
+    requires until { IsInstant bans.until }
+    requires vehicle { vehicle.now ≡ vehicle_named network.now bans.vehicle.now }
+    ensures { IfOk result (λ text. IsBansText network.now (bans_in bans.entry) text.items) }
+{
+    let window = Run {
+        lo: bans.depart,
+        hi: bans.until,
+    };
+    let set = closed_set(alloc, network, vehicle, ArcId(bans.arc), window)?;
+    bans_text(alloc, set.runs(), network.passed_over())
+}
+
+/// The minutes of the command's window at which its arc is closed to its vehicle, over the files of its folder, as a text. It takes
+/// the time and memory of `closed_set` beside reading.
+pub fn report_bans<F: Folder>(
+    alloc: Global,
+    folder: &mut F,
+    bans: Bans<'_>,
+) -> Result<Vec<u8>, Halt>
+    requires depart { IsInstant bans.depart }
+    requires until { IsInstant bans.until }
+    ensures answered { IfOk result (λ text. IfTold (F.state folder.old)
+        (λ held. IsAnsweredBy (to_bans (bans_in bans.entry)) held text.items)) }
+    ensures halted { IfErr result (StopsCommand (to_bans (bans_in bans.entry))
+        (F.state folder.old) (F.state folder.new)) }
+    ensures kept { KeepsFiles (F.state folder.old) (F.state folder.new) }
+{
+    let network = load_network(alloc, folder, bans.dir)?;
+    match vehicle_of_bans(&network, bans) {
+        Err(fault) => Err(Halt::Refused(Refusal::Request(fault))),
+        Ok(vehicle) => Ok(closed_report(alloc, &network, vehicle, bans)?),
+    }
+}
