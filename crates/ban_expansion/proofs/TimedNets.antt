@@ -17,7 +17,7 @@ use Rattle.dimacs_reader.specs.declared.graph.GraphArc.{GraphArc}
 use Rattle.vehicle_classes.specs.VehicleModel.{VehicleModel}
 use Rattle.network_tables.specs.Access.{is_closed}
 use Rattle.network_tables.specs.NetworkModel.{NetworkModel, IsGoodNetwork, IsSmall}
-use Rattle.network_tables.specs.RoadSetting.{road_setting_for, road_over}
+use Rattle.network_tables.specs.RoadSetting.{road_setting, road_over}
 use Rattle.ban_expansion.specs.Inside.SharedSets.{SetLists, AreShared, IsLonger, IsPlaceFor}
 use Rattle.ban_expansion.specs.Inside.TimedArcs.{TimedArcs, IsTimed, AreTimed, timed_over}
 
@@ -132,7 +132,7 @@ module _ (net : NetworkModel) (vehicle : VehicleModel) (window : Run) (good : Is
 
   pub net_stands : StandsFor
       (setting_of (record { nodes = net.graph.nodes; arcs = timed.arcs; closed = timed.sets.lists; weights = net.weights }))
-      (road_setting_for net vehicle) window
+      (road_setting net vehicle) window
   net_stands = record {
     nodes = refl;
     arcs = all.counted;

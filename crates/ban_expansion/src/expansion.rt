@@ -1,7 +1,7 @@
 // Makes the net of a network for a vehicle, over which trips are planned.
 ghost use Rattle.std.specs.Prelude.{◌≡◌, ◌+◌, ◌≤◌, ◌<◌, length, IfOk, OnOk};
 ghost use Rattle.ban_expansion.specs.Words.{StandsFor, setting_of, IsGoodGraph, VehicleModel, NetworkModel};
-ghost use Rattle.ban_expansion.specs.Words.{road_setting_for, IsWindow, timed_over, AreTimed};
+ghost use Rattle.ban_expansion.specs.Words.{road_setting, IsWindow, timed_over, AreTimed};
 
 use crate::shared_sets::SharedSets;
 use dimacs_reader::GraphArc;
@@ -118,7 +118,7 @@ pub fn expand_plain(
 ) -> Result<TimedNet, OutOfMemory>
     requires { IsWindow window }
     ensures { IfOk result (λ net.
-        StandsFor (setting_of net) (road_setting_for network.now vehicle.now) window) }
+        StandsFor (setting_of net) (road_setting network.now vehicle.now) window) }
 {
     let nodes = network.graph().node_count();
     let timing = timing_of(alloc, network, vehicle, window)?;

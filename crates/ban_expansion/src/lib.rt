@@ -3,7 +3,7 @@
 //!
 //! The law of closed arcs is in `network_tables`: `Access` says which access an arc gives a vehicle at an instant, and when it is
 //! closed to it. `closed_at` meets it for one instant, `closed_set` for all minutes of a window at once, and `expand_plain` makes
-//! a net of all arcs that stands for `road_setting_for` within the window. Arcs of an area share a set where they can.
+//! a net of all arcs that stands for `road_setting` within the window. Arcs of an area share a set where they can.
 //!
 //! The law of the parts is in `specs/`. `Coverage` says as a test which minutes of UTC hours cover: local time is read in the zone,
 //! and the spans that began on the local day or up to seven days before it count. The law `covered_exactly` says that this test is

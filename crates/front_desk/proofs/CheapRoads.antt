@@ -8,7 +8,7 @@ use Rattle.route_base.proofs.Costs.{IsCheap}
 use Rattle.dimacs_reader.specs.declared.graph.GraphArc.{GraphArc}
 use Rattle.vehicle_classes.specs.VehicleModel.{VehicleModel}
 use Rattle.network_tables.specs.NetworkModel.{NetworkModel, IsGoodNetwork, IsSmall}
-use Rattle.network_tables.specs.RoadSetting.{road_setting_for, road_over}
+use Rattle.network_tables.specs.RoadSetting.{road_setting, road_over}
 
 -- the weight of a node is small
 option_flatten-small : (o : Option (Option ℕ)) (w : ℕ) → ((x : Option ℕ) → o ≡ Some x → IsSmall x) → option_flatten o ≡ Some w → w ≤ 100000
@@ -19,7 +19,7 @@ small_weight : (net : NetworkModel) → IsGoodNetwork net → (v w : ℕ) → op
 small_weight net good v w is = option_flatten-small (at_number net.weights v) w (λ x at. at_number-all IsSmall net.weights v x good.small at) is
 
 -- no minute of driving or waiting is dear
-pub cheap : (net : NetworkModel) (vehicle : VehicleModel) → IsGoodNetwork net → IsCheap (road_setting_for net vehicle)
+pub cheap : (net : NetworkModel) (vehicle : VehicleModel) → IsGoodNetwork net → IsCheap (road_setting net vehicle)
 cheap net vehicle good = record {
   each_road = λ a road is. at (at_number net.graph.arcs a) road is;
   each_weight = small_weight net good;

@@ -9,7 +9,7 @@ use Rattle.route_base.specs.declared.types.Form.{Form}
 use Rattle.route_base.specs.declared.types.Request.{Request}
 use Rattle.route_base.specs.declared.types.Route.{Route}
 use Rattle.network_tables.specs.NetworkModel.{NetworkModel}
-use Rattle.network_tables.specs.RoadSetting.{road_setting_for}
+use Rattle.network_tables.specs.RoadSetting.{road_setting}
 use Rattle.front_desk.specs.CommandLine.{Plan}
 use Rattle.front_desk.specs.ReadingOrder.{first_folder_fault, network_held}
 use Rattle.front_desk.specs.Texts.{report_text}
@@ -23,7 +23,7 @@ pub record IsFrontText (form : Form) (s : Setting) (request : Request) (text : L
 
 -- the road setting of the trip's vehicle
 abbrev pub trip_setting : NetworkModel → Trip → Setting
-trip_setting network trip = road_setting_for network (vehicle_named network trip.vehicle)
+trip_setting network trip = road_setting network (vehicle_named network trip.vehicle)
 
 -- the text reports the front of the plan's trip over the road setting of the folder's network for its vehicle
 abbrev pub IsPlanReport : Plan → Contents → List ℕ → Type 0

@@ -35,7 +35,7 @@ route_text route = codes "pair " ++ decimal route.pair.arrival ++ codes " " ++ t
 abbrev pub plain_text_of : List Route → List ℕ
 plain_text_of routes = codes "pairs " ++ decimal (length routes) ++ codes "\n" ++ flat_map route_text routes
 
--- the report of routes in a form; forms other than the plain one are not supported yet
+-- the report of routes in a form; only the plain form is supported so far
 abbrev pub report_text : Form → Setting → TripRequest → List Route → Option (List ℕ)
 report_text Plain s request routes = Some (plain_text_of routes)
 report_text Table s request routes = None

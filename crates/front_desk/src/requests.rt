@@ -70,7 +70,10 @@ fn vehicle_of<'a>(network: &'a Network, name: &str) -> Option<&'a Vehicle>
 
 /// The vehicle of a trip that passes the checks over the network, or the first check that it fails, in the order of
 /// `RequestFault`. In constant time on average.
-pub fn vehicle_of_trip<'a>(network: &'a Network, trip: Trip<'_>) -> Result<&'a Vehicle, RequestFault>
+pub fn vehicle_of_trip<'a>(
+    network: &'a Network,
+    trip: Trip<'_>,
+) -> Result<&'a Vehicle, RequestFault>
     ensures passed { OnOk result (failed_check network.now (trip_in trip.entry) ≡ None) }
     ensures network { OnOk result (IsGoodNetwork network.now) }
     ensures good { OnOk result (IsGoodTrip network.now.graph.nodes (trip_in trip.entry)) }

@@ -8,6 +8,7 @@ mod itineraries;
 mod limits;
 mod lists;
 mod requests;
+mod rules;
 mod system;
 mod tables;
 mod words;

@@ -2,31 +2,20 @@
 use Rattle.std.specs.Prelude.{◌*◌, length}
 use Rattle.std.specs.Option.{option_map, option_flatten}
 use Rattle.route_base.specs.Net.{at_number}
-use Rattle.route_base.specs.Runs.{any_has}
 use Rattle.route_base.specs.Setting.{Setting, Road}
 use Rattle.route_base.specs.declared.limits.TheConstants.{COST_OF_MINUTE}
 use Rattle.dimacs_reader.specs.declared.graph.GraphArc.{GraphArc}
 use Rattle.vehicle_classes.specs.VehicleModel.{VehicleModel}
 use Rattle.network_tables.specs.Access.{is_closed}
-use Rattle.network_tables.specs.NetworkModel.{NetworkModel, closures_of}
+use Rattle.network_tables.specs.NetworkModel.{NetworkModel}
 
 -- a minute of driving costs 1,000 thousandths
 abbrev pub road_over : GraphArc → Road
 road_over arc = record { tail = arc.tail.0; head = arc.head.0; minutes = arc.minutes; cost = COST_OF_MINUTE * arc.minutes }
 
--- the network's arcs, shut in the minutes of their closures; one may wait at the nodes with a weight
-abbrev pub road_setting : NetworkModel → Setting
-road_setting net = record {
-  nodes = net.graph.nodes;
-  arcs = length net.graph.arcs;
-  road = λ a. option_map road_over (at_number net.graph.arcs a);
-  shut = λ a t. any_has (closures_of net a) t;
-  weight = λ v. option_flatten (at_number net.weights v);
-}
-
--- the same for a vehicle, with an arc shut at each minute at which it is closed to the vehicle
-abbrev pub road_setting_for : NetworkModel → VehicleModel → Setting
-road_setting_for net vehicle = record {
+-- the network's arcs, shut at the minutes at which they are closed to the vehicle; one may wait at the nodes with a weight
+abbrev pub road_setting : NetworkModel → VehicleModel → Setting
+road_setting net vehicle = record {
   nodes = net.graph.nodes;
   arcs = length net.graph.arcs;
   road = λ a. option_map road_over (at_number net.graph.arcs a);

@@ -4,7 +4,7 @@ use Rattle.route_base.specs.declared.faults.Cause.{Cause}
 use Rattle.route_base.specs.declared.faults.Cause.TheVariants.{Missing, TooLong, NoProblemLine, SecondProblemLine, BadForm}
 use Rattle.route_base.specs.declared.faults.Cause.TheVariants.{NodeRange, WeightRange, ArcCount}
 use Rattle.route_base.specs.declared.faults.Cause.TheVariants.{SizeLimit, BadHeader, FieldCount, BadField, NotConditional}
-use Rattle.route_base.specs.declared.faults.Cause.TheVariants.{Unknown, Duplicate, NotRising, NotBuilt}
+use Rattle.route_base.specs.declared.faults.Cause.TheVariants.{Unknown, Duplicate, NotRising}
 
 -- a cause that bytes can have, whether or not the file is there and however long it is
 abbrev pub IsOfContents : Cause → Type 0
@@ -24,4 +24,3 @@ IsOfContents NotConditional = ⊤
 IsOfContents Unknown = ⊤
 IsOfContents Duplicate = ⊤
 IsOfContents NotRising = ⊤
-IsOfContents NotBuilt = ⊥

@@ -7,7 +7,7 @@ use Rattle.route_base.specs.declared.faults.Cause.{Cause}
 use Rattle.route_base.specs.declared.faults.Cause.TheVariants.{Missing, TooLong, NoProblemLine, SecondProblemLine, BadForm}
 use Rattle.route_base.specs.declared.faults.Cause.TheVariants.{NodeRange, WeightRange, ArcCount}
 use Rattle.route_base.specs.declared.faults.Cause.TheVariants.{SizeLimit, BadHeader, FieldCount, BadField, NotConditional}
-use Rattle.route_base.specs.declared.faults.Cause.TheVariants.{Unknown, Duplicate, NotRising, NotBuilt}
+use Rattle.route_base.specs.declared.faults.Cause.TheVariants.{Unknown, Duplicate, NotRising}
 use Rattle.route_base.specs.declared.faults.RequestFault.{RequestFault}
 use Rattle.route_base.specs.declared.faults.RequestFault.TheVariants.{UnknownVehicle, UnknownArc, OriginRange, GoalRange}
 use Rattle.route_base.specs.declared.faults.RequestFault.TheVariants.{UntilBeforeDepart, HorizonTooLong}
@@ -45,7 +45,6 @@ cause_name_of NotConditional = codes "NotConditional"
 cause_name_of Unknown = codes "Unknown"
 cause_name_of Duplicate = codes "Duplicate"
 cause_name_of NotRising = codes "NotRising"
-cause_name_of NotBuilt = codes "NotBuilt"
 
 -- the name of a check that a request fails
 abbrev pub request_fault_name_of : RequestFault → List ℕ

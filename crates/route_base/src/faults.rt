@@ -22,8 +22,6 @@ pub enum Cause {
     Unknown,
     Duplicate,
     NotRising,
-    /// Files of this kind are not supported yet.
-    NotBuilt,
 }
 
 impl Cause {
@@ -50,7 +48,6 @@ impl Cause {
             Cause::Unknown => "Unknown",
             Cause::Duplicate => "Duplicate",
             Cause::NotRising => "NotRising",
-            Cause::NotBuilt => "NotBuilt",
         }
     }
 }

@@ -3,11 +3,13 @@ use super::{Case, GRAPH, NETWORK, expect};
 use route_base::Status;
 use std::test::Fail;
 
-const CLOSURES: &str = "arc,from,to\n2,26563740,26563860\n1,26563700,26563710\n2,26563860,26563900\n2,26563950,26563960\n";
+const CLOSURES: &str =
+    "arc,from,to\n2,26563740,26563860\n1,26563700,26563710\n2,26563860,26563900\n2,26563950,26563960\n";
 
 #[test]
 fn prints_the_closed_minutes_of_a_window(rt: HostRuntime) -> Result<(), Fail> {
-    let two = "bans 2\nclosed 2020-07-04T01:00Z 2020-07-04T03:40Z\nclosed 2020-07-04T04:30Z 2020-07-04T04:40Z\npassed 0\n";
+    let two =
+        "bans 2\nclosed 2020-07-04T01:00Z 2020-07-04T03:40Z\nclosed 2020-07-04T04:30Z 2020-07-04T04:40Z\npassed 0\n";
     let cases = [
         // Closures that touch are one run.
         ("bans d any 2 26563680 26564080", two),

@@ -84,19 +84,16 @@ fn tells_faults_of_reading_and_writing(rt: HostRuntime) -> Result<(), Fail> {
     // A file that is there is read in two calls, and one that isn't in one.
     let elsewhere = [("e/graph.gr", TRIANGLE)];
     let faulty = [("d/graph.gr", TRIANGLE), ("d/closures.csv", "x")];
-    let unbuilt = [("d/graph.gr", TRIANGLE), ("d/rules.csv", "x")];
     let refused = "plan d any 0 3 26563680 26564080";
     let origin = "refused request OriginRange\n";
     let missing = "refused input graph.gr 0 Missing\n";
     let header = "refused input closures.csv 1 BadHeader\n";
-    let rules = "refused input rules.csv 0 NotBuilt\n";
     let usage = "refused usage\n";
     expect_calls(&rt, GRAPH, 11, TRIP, Status::Done, ONE_PAIR)?;
     expect_calls(&rt, NETWORK, 14, TRIP, Status::Done, TWO_PAIRS)?;
     expect_calls(&rt, NETWORK, 14, refused, Status::BadRequest, origin)?;
     expect_calls(&rt, &elsewhere, 1, TRIP, Status::BadInput, missing)?;
     expect_calls(&rt, &faulty, 12, TRIP, Status::BadInput, header)?;
-    expect_calls(&rt, &unbuilt, 7, TRIP, Status::BadInput, rules)?;
     expect_calls(&rt, NETWORK, 0, "plan", Status::Usage, usage)
 }
 

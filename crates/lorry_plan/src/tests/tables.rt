@@ -1,4 +1,4 @@
-// The tables together: the first fault of all files, tables without rows, and files that are not supported yet.
+// The tables together: the first fault of all files, and tables without rows.
 
 mod areas;
 mod closures;
@@ -95,25 +95,4 @@ fn reads_tables_without_rows(rt: HostRuntime) -> Result<(), Fail> {
     )?;
     let parking = ["\u{FEFF}node,rating\n"];
     expect_reports(&rt, NETWORK, "parking.csv", &parking, straight)
-}
-
-#[test]
-fn tells_files_that_are_not_supported_before_faults_of_contents(
-    rt: HostRuntime,
-) -> Result<(), Fail> {
-    for file in ["rules.csv"] {
-        expect_reports(&rt, GRAPH, file, &[""], ONE_PAIR)?;
-        expect_refusals(&rt, GRAPH, file, &[("x", "0 NotBuilt")])?;
-        let faulty = [("d/graph.gr", "x\n"), ("d/closures.csv", "x")];
-        expect_refusals(&rt, &faulty, file, &[("x", "0 NotBuilt")])?;
-        let path = format!(in rt.alloc(); "d/{file}")?;
-        let missing = Case {
-            more: &[(path.as_str(), "x")],
-            words: TRIP,
-            status: Status::BadInput,
-            text: "refused input graph.gr 0 Missing\n",
-        };
-        expect(&rt, &[], missing)?;
-    }
-    Ok(())
 }

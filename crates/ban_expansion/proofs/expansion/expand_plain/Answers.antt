@@ -4,7 +4,7 @@ use Rattle.route_base.specs.Net.{Net, IsGoodNet, setting_of}
 use Rattle.route_base.specs.declared.types.Run.{Run}
 use Rattle.route_base.specs.declared.types.TimedArc.{TimedArc}
 use Rattle.dimacs_reader.specs.GraphModel.{GraphModel, IsGoodGraph}
-use Rattle.network_tables.specs.RoadSetting.{road_setting_for}
+use Rattle.network_tables.specs.RoadSetting.{road_setting}
 use Rattle.ban_expansion.specs.Inside.TimedArcs.{TimedArcs, AreTimed}
 use Rattle.ban_expansion.proofs.TimedNets.{good_net, net_stands}
 use Rattle.ban_expansion.proofs.expansion.expand_plain.Goals as goal
@@ -33,6 +33,6 @@ returns c =
     let nodes = c.node_count-nodes.ensures.value ∙ ap (λ (g : GraphModel). g.nodes) c.graph.ensures.value in
     let timed : TimedArcs = record { arcs = c.timing.inside.arcs.items; sets = c.timing.inside.sets } in
     let all = subst (AreTimed net c.args.vehicle.now c.args.window (length net.graph.arcs)) (sym c.timing.view_is) c.in_ok-timing.ensures in
-    subst (λ (n : Net). StandsFor (setting_of n) (road_setting_for net c.args.vehicle.now) c.args.window)
+    subst (λ (n : Net). StandsFor (setting_of n) (road_setting net c.args.vehicle.now) c.args.window)
     (sym (c.new.ensures ∙ same_net timed.arcs nodes c.into_lists.ensures.same c.in_ok-weights.ensures))
     (net_stands net c.args.vehicle.now c.args.window c.graph.ensures.good graph timed all)

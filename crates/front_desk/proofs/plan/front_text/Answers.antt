@@ -8,7 +8,7 @@ use Rattle.route_base.specs.Matching.{IsInWindow}
 use Rattle.route_base.specs.declared.types.Run.{Run}
 use Rattle.route_base.proofs.Costs.{fits}
 use Rattle.front_desk.specs.Trips.{request_of, trip_in}
-use Rattle.network_tables.specs.RoadSetting.{road_setting_for}
+use Rattle.network_tables.specs.RoadSetting.{road_setting}
 use Rattle.vehicle_classes.specs.VehicleModel.{VehicleModel}
 use Rattle.front_desk.proofs.CheapRoads.{cheap}
 use Rattle.front_desk.proofs.plan.front_text.Goals as goal
@@ -16,7 +16,7 @@ use Rattle.front_desk.proofs.plan.front_text.Goals as goal
 pub front-requires-clause-fit : goal.front-requires-clause-fit
 front-requires-clause-fit c =
     let net = setting_of c.in_ok-net.net in
-    let road = road_setting_for c.args.network.now c.args.vehicle.now in
+    let road = road_setting c.args.network.now c.args.vehicle.now in
     let request = request_of (trip_in c.args.trip) in
     let window : Run = record { lo = request.depart; hi = request.until } in
     let within : IsInWindow request window = (omega arith, omega arith) in
@@ -39,7 +39,7 @@ front-requires-clause-good c =
 pub returns : goal.returns
 returns c =
     let net = setting_of c.in_ok-net.net in
-    let road = road_setting_for c.args.network.now c.args.vehicle.now in
+    let road = road_setting c.args.network.now c.args.vehicle.now in
     let request = request_of (trip_in c.args.trip) in
     let routes = c.in_ok-routes.routes in
     let window : Run = record { lo = request.depart; hi = request.until } in
@@ -47,7 +47,7 @@ returns c =
     IfOk-weaker c.plain_text.result _ _
     (λ text is. record {
       routes = routes;
-      right = subst (λ (m : VehicleModel). IsRight (road_setting_for c.args.network.now m) request routes) c.requires.vehicle
+      right = subst (λ (m : VehicleModel). IsRight (road_setting c.args.network.now m) request routes) c.requires.vehicle
           ((c.settings_agree.ensures.right net road window request c.in_ok-net.ensures within routes).0
           (subst (λ (r : Request). IsRight net r routes) c.request_of.ensures c.in_ok-routes.ensures));
       is_text = ap Some (sym is);

@@ -42,7 +42,10 @@ fn refuses_vehicles_with_their_first_fault(rt: HostRuntime) -> Result<(), Fail> 
         ("v,hgv,,,,,,,,hazmat \n", "2 BadField"),
         ("v,hgv,,,,,,,, \n", "2 BadField"),
         ("any,hgv,,,,,,,,\n", "2 Duplicate"),
-        ("v,hgv,,,,,,,,\nw,bus,,,,,,,,\nv,goods,,,,,,,,\n", "4 Duplicate"),
+        (
+            "v,hgv,,,,,,,,\nw,bus,,,,,,,,\nv,goods,,,,,,,,\n",
+            "4 Duplicate",
+        ),
     ];
     for (rows, fault) in cases {
         let text = format!(in rt.alloc(); "{HEADER}{rows}")?;

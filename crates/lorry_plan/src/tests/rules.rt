@@ -1,0 +1,141 @@
+// Rules of access: the closed minutes that they make, and the trips that obey them.
+use super::{Case, Texts, expect};
+use route_base::Status;
+use std::process::Abort;
+use std::test::Fail;
+use std::thread::Threads;
+
+const VEHICLES: &str =
+    "name,class,weight_kg,axleload_kg,height_cm,width_cm,length_cm,axles,purpose,flags\n\
+    v1,hgv,7500,,,,,,,\nv2,hgv,7501,,,,,,,\ncoach,bus,,,,,,,,\nvan,hgv,,,,,,,delivery,\n\
+    truck,hgv,40000,,400,255,1875,5,,\n";
+
+const BERLIN: &str = "zone,from,offset\nberlin,2020-03-29T01:00Z,+02:00\n";
+
+const CET: &str = "zone,from,offset\ncet,2019-10-27T01:00Z,+01:00\n\
+    cet,2020-03-29T01:00Z,+02:00\ncet,2020-10-25T01:00Z,+01:00\n";
+
+// Expects these answers to words over a table of rules and the other tables.
+fn expect_answers<R: Abort + Threads + Sync + AllocGlobal>(
+    rt: &R,
+    base: Texts<'_>,
+    rules: &str,
+    answers: &[(&str, &str)],
+) -> Result<(), Fail> {
+    let table = format!(in rt.alloc(); "scope,key,value\n{rules}")?;
+    for (words, text) in answers {
+        let case = Case {
+            more: &[("d/rules.csv", table.as_str())],
+            words: *words,
+            status: Status::Done,
+            text: *text,
+        };
+        expect(rt, base, case)?;
+    }
+    Ok(())
+}
+
+#[test]
+fn closes_roads_at_local_hours(rt: HostRuntime) -> Result<(), Fail> {
+    let lane = ("d/graph.gr", "p sp 2 1\na 1 2 60\n");
+    let berlin = [
+        lane,
+        ("d/zones.csv", BERLIN),
+        ("d/areas.csv", "area,zone\nde,berlin\n"),
+    ];
+    let weekend = "area:de,hgv:conditional,no @ (Sa 22:00-Su 22:00)\n";
+    // The second window begins within the ban.
+    let answers = [
+        (
+            "bans d any 1 2020-07-04T00:00Z 2020-07-06T00:00Z",
+            "bans 1\nclosed 2020-07-04T20:00Z 2020-07-05T20:00Z\npassed 0\n",
+        ),
+        (
+            "bans d any 1 2020-07-05T10:00Z 2020-07-06T00:00Z",
+            "bans 1\nclosed 2020-07-05T10:00Z 2020-07-05T20:00Z\npassed 0\n",
+        ),
+    ];
+    expect_answers(&rt, &berlin, weekend, &answers)?;
+    let cet = [
+        lane,
+        ("d/zones.csv", CET),
+        ("d/areas.csv", "area,zone\na,cet\n"),
+    ];
+    let night = "area:a,access:conditional,no @ (02:00-03:00)\n";
+    // The hour is repeated in autumn, and skipped in spring.
+    let answers = [
+        (
+            "bans d any 1 2020-10-24T12:00Z 2020-10-25T12:00Z",
+            "bans 1\nclosed 2020-10-25T00:00Z 2020-10-25T02:00Z\npassed 0\n",
+        ),
+        (
+            "bans d any 1 2020-03-28T12:00Z 2020-03-29T12:00Z",
+            "bans 0\npassed 0\n",
+        ),
+    ];
+    expect_answers(&rt, &cet, night, &answers)
+}
+
+#[test]
+fn closes_roads_by_holiday_and_by_vehicle(rt: HostRuntime) -> Result<(), Fail> {
+    let base = [
+        ("d/graph.gr", "p sp 2 1\na 1 2 60\n"),
+        ("d/vehicles.csv", VEHICLES),
+        ("d/holidays.csv", "area,kind,date\ndefault,PH,2020-07-09\n"),
+    ];
+    let closed = "bans 1\nclosed 2020-07-04T00:00Z 2020-07-04T00:10Z\npassed 0\n";
+    let open = "bans 0\npassed 0\n";
+    let nights =
+        "area:default,hgv:conditional,no @ (Mo-Fr 22:00-06:00; PH off)\narc:1,maxspeed,80\n";
+    let answers = [(
+        "bans d any 1 2020-07-08T12:00Z 2020-07-10T12:00Z",
+        "bans 1\nclosed 2020-07-08T22:00Z 2020-07-09T06:00Z\npassed 1\n",
+    )];
+    expect_answers(&rt, &base, nights, &answers)?;
+    let heavy = "arc:1,hgv:conditional,no @ (weight>7.5 AND Sa 07:00-20:00)\n";
+    let answers = [
+        ("bans d v1 1 2020-07-04T00:00Z 2020-07-05T00:00Z", open),
+        (
+            "bans d v2 1 2020-07-04T00:00Z 2020-07-05T00:00Z",
+            "bans 1\nclosed 2020-07-04T07:00Z 2020-07-04T20:00Z\npassed 0\n",
+        ),
+    ];
+    expect_answers(&rt, &base, heavy, &answers)?;
+    let lorries_alone = "area:default,access:conditional,no @ (24/7)\narc:1,hgv,yes\n";
+    let answers = [
+        ("bans d any 1 26563680 26563690", open),
+        ("bans d coach 1 26563680 26563690", closed),
+    ];
+    expect_answers(&rt, &base, lorries_alone, &answers)?;
+    let deliveries = "area:default,access,no\narc:1,vehicle,destination\n";
+    let answers = [
+        ("bans d van 1 26563680 26563690", open),
+        ("bans d any 1 26563680 26563690", closed),
+    ];
+    expect_answers(&rt, &base, deliveries, &answers)
+}
+
+#[test]
+fn waits_for_the_end_of_a_ban(rt: HostRuntime) -> Result<(), Fail> {
+    let base = [
+        ("d/graph.gr", "p sp 3 2\na 1 2 180\na 2 3 300\n"),
+        ("d/zones.csv", BERLIN),
+        ("d/areas.csv", "area,zone\nde,berlin\n"),
+        ("d/vehicles.csv", VEHICLES),
+        ("d/ratings.csv", "rating,weight\nr,0.500\n"),
+        ("d/parking.csv", "node,rating\n2,r\n"),
+    ];
+    let bans = "area:de,hgv:conditional,\"no @ (weight>7.5 AND Su,PH 00:00-22:00); \
+        no @ (weight>7.5 AND Jul-Aug Sa 07:00-20:00)\"\n";
+    let answers = [
+        (
+            "plan d truck 1 3 2020-07-04T02:00Z 2020-07-08T00:00Z",
+            "pairs 1\npair 26566620 1650.000\ndrive 1\nwait 2340\ndrive 2\n",
+        ),
+        (
+            "plan d any 1 3 2020-07-04T02:00Z 2020-07-08T00:00Z",
+            "pairs 1\npair 26564280 480.000\ndrive 1\ndrive 2\n",
+        ),
+    ];
+    expect_answers(&rt, &base, bans, &answers)
+}
