@@ -10,7 +10,7 @@ mod vehicles;
 mod zones;
 
 use super::{
-    CLOSED, Case, GRAPH, NETWORK, ONE_PAIR, PARKED, RATED, TRIANGLE, TRIP, expect, expect_refusals,
+    CLOSED, Case, NETWORK, ONE_PAIR, PARKED, RATED, TRIANGLE, TRIP, expect, expect_refusals,
     expect_reports,
 };
 use route_base::Status;
