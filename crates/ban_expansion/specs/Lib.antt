@@ -1,4 +1,5 @@
 pub mod Bans
 pub mod Coverage
+pub mod Inside
 pub mod Layers
 pub mod LocalDays

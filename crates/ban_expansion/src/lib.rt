@@ -15,14 +15,17 @@
 mod access;
 mod closed_sets;
 mod coverage;
+mod expansion;
 mod laws;
 mod layers;
 mod local_days;
+mod shared_sets;
 mod threads;
 
 pub use access::closed_at;
 pub use closed_sets::closed_set;
 pub use coverage::covered_minutes;
+pub use expansion::expand_plain;
 pub use laws::{covered_exactly, last_of_all};
 pub use layers::{Layer, closed_by, common, overlaid};
 

@@ -1,11 +1,11 @@
-use Rattle.std.proofs.Common.{◌≡◌, ℕ, Some, Option, List, take, slice_get, unwrap_or, ap, sym, ◌∙◌, arith}
-use Rattle.std.proofs.lemmas.Option.{slice_get_within, slice_get_past}
+use Rattle.std.proofs.Common.{◌≡◌, ℕ, Some, Option, take, slice_get, unwrap_or, ap, sym, ◌∙◌, arith}
+use Rattle.std.proofs.lemmas.Option.{slice_get_within}
 use Rattle.vehicle_classes.specs.Classes.{keys_of}
 use Rattle.vehicle_classes.specs.declared.classes.Class.{Class}
 use Rattle.conditional_rules.specs.declared.access.Access.{Access}
 use Rattle.conditional_rules.specs.declared.access.Access.TheVariants.{Free}
 use Rattle.conditional_rules.specs.Decisions.{last_given}
-use Rattle.network_tables.specs.Access.{access_given, area_at, area_place, given_at, places_of, places_of_key}
+use Rattle.network_tables.specs.Access.{access_given, area_at, area_place, given_at, places_of_key}
 use Rattle.ban_expansion.proofs.Places.{given_next, unwrap_over}
 use Rattle.ban_expansion.proofs.access.arc_access.Goals as goal
 

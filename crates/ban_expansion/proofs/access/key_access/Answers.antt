@@ -1,4 +1,4 @@
-use Rattle.std.proofs.Common.{◌≡◌, ℕ, [], Option, List, option_map, option_and_then, slice_get, ap, sym, ◌∙◌}
+use Rattle.std.proofs.Common.{◌≡◌, [], Option, List, option_and_then, slice_get, ap, sym, ◌∙◌}
 use Rattle.std.specs.Option.{option_or}
 use Rattle.opening_hours.specs.Holidays.{HolidayLists}
 use Rattle.zone_rules.specs.Zones.{wall_at}

@@ -1,4 +1,4 @@
-use Rattle.std.proofs.Common.{List, take, ◌&&◌, Bool, ap, sym, ◌∙◌, ◌++◌, ◌∷◌, [], arith}
+use Rattle.std.proofs.Common.{List, ◌&&◌, ap, sym, ◌∙◌, ◌++◌, ◌∷◌, [], arith}
 use Rattle.std.proofs.lemmas.List.{take_all}
 use Rattle.route_base.specs.Runs.{any_has, has_minute}
 use Rattle.route_base.specs.declared.types.Run.{Run}

@@ -1,0 +1,2 @@
+pub mod SharedSets
+pub mod TimedArcs
