@@ -3,3 +3,4 @@ pub mod Coverage
 pub mod Inside
 pub mod Layers
 pub mod LocalDays
+pub mod Words

@@ -1,10 +1,7 @@
 // The access that an arc gives a vehicle at an instant.
 ghost use Rattle.std.specs.Prelude.{◌≡◌, ◌≤◌, ◌<◌, length, option_map, option_and_then};
-ghost use Rattle.route_base.specs.Runs.{has_minute, any_has};
-ghost use Rattle.route_base.specs.Time.{IsInstant};
-ghost use Rattle.conditional_rules.specs.Decisions.{decision, last_given};
-ghost use Rattle.network_tables.specs.Access.{area_at, places_of_key, given_at, access_at, is_let_in, is_closed};
-ghost use Rattle.network_tables.specs.NetworkModel.{closures_of};
+ghost use Rattle.ban_expansion.specs.Words.{has_minute, any_has, IsInstant, decision, last_given, closures_of};
+ghost use Rattle.ban_expansion.specs.Words.{area_at, places_of_key, given_at, access_at, is_closed};
 
 use conditional_rules::{Access, Conditional, decide, lets_in};
 use network_tables::Network;

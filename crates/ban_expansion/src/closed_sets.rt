@@ -1,11 +1,8 @@
 // The minutes of a window at which an arc is closed to a vehicle.
 ghost use Rattle.std.specs.Prelude.{◌≡◌, ◌≤◌, ◌<◌, not, length, option_map, option_and_then, IfOk};
-ghost use Rattle.route_base.specs.Runs.{any_has, AreRuns};
-ghost use Rattle.conditional_rules.specs.Decisions.{last_given};
-ghost use Rattle.network_tables.specs.Access.{area_at, decision_at, given_at, places_of_key, is_let_in, is_closed};
-ghost use Rattle.network_tables.specs.NetworkModel.{closures_of};
-ghost use Rattle.ban_expansion.specs.Bans.{HasThose, Lays, part_holds_at, clause_holds_at, clause_gives};
-ghost use Rattle.ban_expansion.specs.Coverage.{IsWindow};
+ghost use Rattle.ban_expansion.specs.Words.{any_has, AreRuns, last_given, closures_of, IsWindow};
+ghost use Rattle.ban_expansion.specs.Words.{area_at, decision_at, given_at, places_of_key, is_let_in, is_closed};
+ghost use Rattle.ban_expansion.specs.Words.{HasThose, Lays, part_holds_at, clause_holds_at, clause_gives};
 
 use crate::coverage::covered_minutes;
 use crate::layers::overlaid;

@@ -1,13 +1,7 @@
 // Makes the net of a network for a vehicle, over which trips are planned.
 ghost use Rattle.std.specs.Prelude.{◌≡◌, ◌+◌, ◌≤◌, ◌<◌, length, IfOk, OnOk};
-ghost use Rattle.route_base.specs.Matching.{StandsFor};
-ghost use Rattle.route_base.specs.Net.{setting_of};
-ghost use Rattle.dimacs_reader.specs.GraphModel.{IsGoodGraph};
-ghost use Rattle.vehicle_classes.specs.VehicleModel.{VehicleModel};
-ghost use Rattle.network_tables.specs.NetworkModel.{NetworkModel};
-ghost use Rattle.network_tables.specs.RoadSetting.{road_setting_for};
-ghost use Rattle.ban_expansion.specs.Coverage.{IsWindow};
-ghost use Rattle.ban_expansion.specs.Inside.TimedArcs.{timed_over, AreTimed};
+ghost use Rattle.ban_expansion.specs.Words.{StandsFor, setting_of, IsGoodGraph, VehicleModel, NetworkModel};
+ghost use Rattle.ban_expansion.specs.Words.{road_setting_for, IsWindow, timed_over, AreTimed};
 
 use crate::shared_sets::SharedSets;
 use dimacs_reader::GraphArc;

@@ -1,12 +1,8 @@
 // Closed runs of arcs by place, which arcs of an area share.
 ghost use Rattle.std.specs.Prelude.{◌≡◌, ◌+◌, ◌≤◌, ◌<◌, ◌^◌, [], ℕ, None, length, map, All, IfOk, OnOk};
 ghost use Rattle.std.specs.List.{list_any};
-ghost use Rattle.route_base.specs.Runs.{AreRuns};
-ghost use Rattle.vehicle_classes.specs.Classes.{keys_of};
-ghost use Rattle.network_tables.specs.NetworkModel.{NetworkModel};
-ghost use Rattle.vehicle_classes.specs.VehicleModel.{VehicleModel};
-ghost use Rattle.ban_expansion.specs.Coverage.{IsWindow};
-ghost use Rattle.ban_expansion.specs.Inside.SharedSets.{AreShared, IsLonger, IsPlaceFor, has_own_rule, is_special};
+ghost use Rattle.ban_expansion.specs.Words.{AreRuns, keys_of, NetworkModel, VehicleModel, IsWindow};
+ghost use Rattle.ban_expansion.specs.Words.{AreShared, IsLonger, IsPlaceFor, has_own_rule, is_special};
 
 use crate::closed_sets::closed_set;
 use network_tables::Network;

@@ -1,6 +1,8 @@
 // Worked cases of covered minutes and of layers.
 ghost use Rattle.std.specs.Prelude.{◌≤◌};
 
+mod networks;
+
 use crate::{Layer, closed_by, common, covered_minutes};
 use minute_sets::MinuteSet;
 use opening_hours::{Holidays, parse};

@@ -2,8 +2,8 @@
 //!
 //! The law is in `specs/`. A module for each table says its schema and what its rows state: `Zones`, `Areas`, `Roads`,
 //! `Closures`, `Ratings`, `Parking` and `Holidays`, each over `Schema` of `table_reader`. `NetworkModel` says what a network is,
-//! `NetworkFiles` which network all files state together and what the first fault of their contents is, and `RoadSetting` the
-//! setting in which trips over a network are planned. It is met by `read_network` and the calls of `Network`.
+//! `NetworkFiles` which network all files state together and what the first fault of their contents is, `Access` which access an arc
+//! gives a vehicle at an instant, and `RoadSetting` the setting in which trips over a network are planned. It is met by `read_network` and the calls of `Network`.
 //!
 //! The other modules are machinery: `AreaPlaces` and `HolidayDays` are tables while they are read, `NetworkParts` is how a
 //! network is held, `Refusals` are words for contracts.
