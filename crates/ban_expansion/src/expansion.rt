@@ -104,12 +104,12 @@ fn weights_of(alloc: Global, network: &Network) -> Result<Vec<Option<Cost>>, Out
     Ok(weights)
 }
 
-/// The network as a net for the vehicle: each minute of driving costs 1,000 thousandths, an arc is closed at exactly those minutes
-/// of the window at which it is closed to the vehicle, and one may wait at the nodes with a weight.
+/// The network as a net for the vehicle: each minute of driving costs 1,000 thousandths, an arc is closed at exactly the
+/// minutes of the window at which it is closed to the vehicle, and one may wait at the nodes with a weight.
 ///
-/// Arcs of one area that have no closures, and no rules of their own for the keys of the vehicle's class, share one set. So it takes
-/// the time and memory of one `closed_set` for each such area and for each of the other arcs; beside, it is linear in nodes, arcs,
-/// areas and closures.
+/// Arcs of one area that have no closures, and no rules of their own for the keys of the vehicle's class, share one set. So it
+/// takes the time and memory of one `closed_set` for each area with such arcs, and for each other arc; beside, it is linear in
+/// nodes, arcs and areas.
 pub fn expand_plain(
     alloc: Global,
     network: &Network,

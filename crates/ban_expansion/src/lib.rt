@@ -1,20 +1,21 @@
-//! Bans as sets of closed minutes: the minutes of a window at which an arc of a network is closed to a vehicle, and the net in which
-//! trips of the vehicle are planned.
+//! Bans as sets of closed minutes: the minutes of a window at which an arc of a network is closed to a vehicle, and the net
+//! over which trips of the vehicle are planned.
 //!
 //! The law of closed arcs is in `network_tables`: `Access` says which access an arc gives a vehicle at an instant, and when it is
 //! closed to it. `closed_at` meets it for one instant, `closed_set` for all minutes of a window at once, and `expand_plain` makes
 //! a net of all arcs that stands for `road_setting` within the window. Arcs of an area share a set where they can.
 //!
-//! The law of the parts is in `specs/`. `Coverage` says as a test which minutes of UTC hours cover: local time is read in the zone,
-//! and the spans that began on the local day or up to seven days before it count. The law `covered_exactly` says that this test is
-//! the relation of `opening_hours`; `covered_minutes` meets it for every minute of a window. `Layers` says what layers of minutes
-//! give: the last layer that has a minute decides whether it is closed. `overlaid` and `closed_by` meet this, and `common`
+//! The law of the parts is in `specs/`. `Coverage` says as a test which minutes of UTC hours cover: local time is read in the
+//! zone, and the spans that began on the local day or up to seven days before it count. The law `covered_exactly` says that this
+//! test is the relation of `opening_hours`; `covered_minutes` meets it for every minute of a window. `Layers` says what layers of
+//! minutes give: the last layer that has a minute decides whether it is closed. `overlaid` and `closed_by` meet this, and `common`
 //! has the minutes of all sets. The law `last_of_all` says that lists of clauses, one after another, may be taken as one list.
 //!
-//! The other definitions are machinery. `LocalDays` says which minutes of UTC the spans of a local day are, while the offset of the
-//! zone stays the same: `coverage` cuts the window where the offset changes, `local_days` lays out the days of each part, and
-//! both write runs in any order, of which `minute_sets` makes a set. `Bans` says what it is to lay the values of rules over minutes
-//! that are closed so far, from general to special, as `closed_sets` does. `Inside` says how arcs share sets and are timed.
+//! The other definitions are machinery. `LocalDays` says which minutes of UTC the spans of a local day are, while the offset of
+//! the zone stays the same: `coverage` cuts the window where the offset changes, `local_days` lays out the days of each part, and
+//! both write runs in any order, of which `minute_sets` makes a set. `Bans` says what it is to lay the values of rules over
+//! minutes that are closed so far, from general to special, as `closed_sets` does. `Inside` says how arcs share sets and are
+//! timed.
 #![tactic(auto)]
 
 mod access;

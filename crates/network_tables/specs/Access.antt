@@ -1,5 +1,6 @@
--- The access that an arc gives a vehicle at an instant, and whether the arc is closed to it (source: OpenStreetMap wiki, access keys; own order).
-use Rattle.std.specs.Prelude.{ℕ, ◌||◌, Bool, true, false, not, Option, List, [], ◌∷◌, ◌++◌, slice_get, unwrap_or, if◌then◌else◌}
+-- The access that an arc gives a vehicle at an instant (source: OpenStreetMap wiki, access keys; the order is own).
+use Rattle.std.specs.Prelude.{ℕ, ◌||◌, Bool, true, false, not, Option, slice_get, unwrap_or, if◌then◌else◌}
+use Rattle.std.specs.Prelude.{List, [], ◌∷◌, ◌++◌}
 use Rattle.std.specs.Option.{option_and_then}
 use Rattle.route_base.specs.Net.{at_number}
 use Rattle.route_base.specs.Runs.{any_has}
@@ -27,7 +28,7 @@ area_place net a = unwrap_or (at_number net.roads a) 0
 abbrev pub area_at : NetworkModel → ℕ → Area
 area_at net place = unwrap_or (slice_get net.areas place) (record { zone = []; holidays = record { public = []; school = [] } })
 
--- the places of a key at which a value may stand for an arc in an area, from general to special: each of the area's, then the arc's
+-- the places at which a value of a key may stand for an arc in an area, from general to special: the area's two, then the arc's
 abbrev pub places_of_key : ℕ → ℕ → Key → List RulePlace
 places_of_key area a key =
     record { scope = scopes.Area area; key = key; conditional = false }

@@ -1,5 +1,6 @@
 -- Lists of closed runs, of which one may be shared by arcs of an area (source: own).
-use Rattle.std.specs.Prelude.{◌≡◌, ℕ, ◌+◌, ◌<◌, ◌≤◌, ◌||◌, nat_lt, Bool, false, is_some, Option, Some, List, [], length, slice_get, slice_index_or}
+use Rattle.std.specs.Prelude.{◌≡◌, ℕ, ◌+◌, ◌<◌, ◌≤◌, ◌||◌, nat_lt, Bool, false, is_some, Option, Some}
+use Rattle.std.specs.Prelude.{List, [], length, slice_get, slice_index_or}
 use Rattle.std.specs.List.{list_any}
 use Rattle.route_base.specs.declared.types.Run.{Run}
 use Rattle.vehicle_classes.specs.Classes.{keys_of}

@@ -27,6 +27,7 @@ keys-preserved c =
           ∙ ap (λ (o : Option Access). unwrap_or o c.keys.access) (c.key_access.ensures
           ∙ ap (λ (n : ℕ). last_given (given_at net (area_at net n) vehicle c.args.t) (places_of_key n c.args.a.0 key)) (sym place))
           ∙ ap (unwrap_or (last_given f (places_of_key (area_place net c.args.a.0) c.args.a.0 key))) c.keys.invariant.access
-          ∙ sym (unwrap_over (last_given f (places_of_key (area_place net c.args.a.0) c.args.a.0 key)) (access_given net vehicle c.args.a.0 c.args.t (take k keys)) Free)
+          ∙ sym (unwrap_over (last_given f (places_of_key (area_place net c.args.a.0) c.args.a.0 key))
+          (access_given net vehicle c.args.a.0 c.args.t (take k keys)) Free)
           ∙ ap (λ (o : Option Access). unwrap_or o Free) (sym (given_next f (area_place net c.args.a.0) c.args.a.0 keys k key there));
     }
