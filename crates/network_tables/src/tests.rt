@@ -1,12 +1,25 @@
-// A happy path for each table over a triangle of three nodes, and the order in which files are refused. The refusals of each
-// table are tested in lorry_plan.
+// A happy path for each table over a triangle of three nodes, the refusals of vehicles and rules, and the order in which files
+// are refused. The refusals of the other tables are tested in lorry_plan.
 use crate::{Files, Network, NetworkFault, read_network};
-use route_base::{ArcId, BadInput, Cause, FileBytes, FileKind, NodeId, OutOfMemory, Run};
+use conditional_rules::{Access, Conditional};
+use route_base::{
+    ArcId, BadInput, Cause, FileBytes, FileKind, NodeId, OutOfMemory, Run, read_number,
+};
 use std::alloc::Global;
+use std::test::Fail;
+use vehicle_classes::{Key, Purpose, Quantity};
 
 const TRIANGLE: &str = "p sp 3 3\na 1 2 60\na 2 3 60\na 1 3 300\n";
 
 const AREAS: &str = "area,zone\nport,UTC\ntown,UTC\n";
+
+const VEHICLE_HEADER: &str =
+    "name,class,weight_kg,axleload_kg,height_cm,width_cm,length_cm,axles,purpose,flags\n";
+
+// The bytes of a text.
+fn file_of(alloc: Global, text: &str) -> Result<FileBytes, OutOfMemory> {
+    Ok(FileBytes::from_vec(Vec::from_slice(alloc, text.as_bytes())?))
+}
 
 // The bytes of a file among these texts: none where it isn't named.
 fn bytes_of(
@@ -16,7 +29,7 @@ fn bytes_of(
 ) -> Result<FileBytes, OutOfMemory> {
     for (named, text) in texts {
         if *named == file {
-            return Ok(FileBytes::from_vec(Vec::from_slice(alloc, text.as_bytes())?));
+            return file_of(alloc, text);
         }
     }
     Ok(FileBytes::new(alloc))
@@ -151,12 +164,271 @@ fn reads_holidays_of_both_kinds(rt: HostRuntime) -> Result<(), NetworkFault> {
     Ok(())
 }
 
+const RULE_HEADER: &str = "scope,key,value\n";
+
+// The vehicle and the rules of the happy path.
+const TRUCK: &str = "\
+name,class,weight_kg,axleload_kg,height_cm,width_cm,length_cm,axles,purpose,flags\n\
+truck,hgv,40000,,400,,,5,delivery,hazmat  articulated\n";
+
+const RULES: &str = "\
+scope,key,value\n\
+area:town,hgv,no\n\
+area:town,hgv:conditional,yes @ off; destination @ 24/7\n\
+arc:02,access,destination\n\
+arc:3,access,designated\n\
+arc:3,bus:conditional,no @ (Mo 22:00-06:00; PH off)\n\
+arc:3,maxweight,7.5\n\
+arc:3,maxweight,7.5\n\
+area:port,hgv:forward,no\n";
+
+// The network of these vehicles and rules over the triangle, with arc 2 in the second area.
+fn ruled(alloc: Global, vehicles: &str, rules: &str) -> Result<Network, NetworkFault> {
+    let files = Files {
+        graph: file_of(alloc, TRIANGLE)?,
+        zones: FileBytes::new(alloc),
+        areas: file_of(alloc, AREAS)?,
+        roads: file_of(alloc, "arc,area\n2,town\n")?,
+        vehicles: file_of(alloc, vehicles)?,
+        rules: file_of(alloc, rules)?,
+        closures: FileBytes::new(alloc),
+        ratings: FileBytes::new(alloc),
+        parking: FileBytes::new(alloc),
+        holidays: FileBytes::new(alloc),
+    };
+    read_network(alloc, &files)
+}
+
+// The number of clauses, 0 where there is no conditional value.
+fn clauses(value: Option<&Conditional>) -> usize {
+    match value {
+        Some(conditional) => conditional.len(),
+        None => 0,
+    }
+}
+
+#[test]
+fn reads_vehicles(rt: HostRuntime) -> Result<(), NetworkFault> {
+    let network = ruled(rt.alloc(), TRUCK, "")?;
+    let vehicles = network.vehicles();
+    assert_eq!(rt; vehicles.len(), 2);
+    assert_eq!(rt; vehicles.find(b"any"), Some(0));
+    assert_eq!(rt; vehicles.find(b"truck"), Some(1));
+    let truck = vehicles.vehicle(1);
+    assert_eq!(rt; truck.purpose(), Purpose::Delivery);
+    assert_eq!(rt; truck.size(Quantity::Weight), Some(40_000));
+    assert_eq!(rt; truck.size(Quantity::Axleload), None);
+    assert!(rt; truck.has_flag(b"hazmat") && truck.has_flag(b"articulated"));
+    assert!(rt; !truck.has_flag(b""));
+    assert_eq!(rt; network.passed_over(), 0);
+    Ok(())
+}
+
+#[test]
+fn reads_rules_of_areas_and_arcs(rt: HostRuntime) -> Result<(), NetworkFault> {
+    let network = ruled(rt.alloc(), "", RULES)?;
+    assert_eq!(rt; network.graph().arc_count(), 3);
+    let port = network.area_of(ArcId(1));
+    let town = network.area_of(ArcId(2));
+    assert_eq!(rt; network.vehicles().len(), 1);
+    assert_eq!(rt; network.area_plain(town, Key::Hgv), Some(Access::Barred));
+    assert_eq!(rt; network.area_plain(town, Key::Access), None);
+    assert_eq!(rt; network.area_plain(port, Key::Hgv), None);
+    assert_eq!(rt; clauses(network.area_conditional(town, Key::Hgv)), 2);
+    assert_eq!(rt; clauses(network.area_conditional(port, Key::Hgv)), 0);
+    assert_eq!(rt; clauses(network.area_conditional(town, Key::Bus)), 0);
+    assert_eq!(rt;
+        network.arc_plain(ArcId(2), Key::Access),
+        Some(Access::Purpose)
+    );
+    assert_eq!(rt;
+        network.arc_plain(ArcId(3), Key::Access),
+        Some(Access::Free)
+    );
+    assert_eq!(rt; network.arc_plain(ArcId(2), Key::Hgv), None);
+    assert_eq!(rt; network.arc_plain(ArcId(3), Key::Bus), None);
+    assert_eq!(rt; clauses(network.arc_conditional(ArcId(3), Key::Bus)), 1);
+    assert_eq!(rt; clauses(network.arc_conditional(ArcId(3), Key::Access)), 0);
+    assert_eq!(rt; clauses(network.arc_conditional(ArcId(2), Key::Bus)), 0);
+    assert_eq!(rt; network.passed_over(), 3);
+    Ok(())
+}
+
+// Whether a file is refused at this record for the cause of this name.
+fn is_refused(
+    network: Result<Network, NetworkFault>,
+    file: FileKind,
+    row: u64,
+    cause: &str,
+) -> bool {
+    match network {
+        Err(NetworkFault::Bad(fault)) => {
+            fault.file == file && fault.row == row && fault.cause.name() == cause
+        }
+        _ => false,
+    }
+}
+
+// The header and the data rows of a table, which stand with `|` between them.
+fn table(alloc: Global, header: &str, rows: &str) -> Result<String, OutOfMemory> {
+    let mut text = format!(in alloc; "{header}")?;
+    for row in rows.split('|') {
+        text.push_str(row)?;
+        text.push('\n')?;
+    }
+    Ok(text)
+}
+
+// The record, the cause and the data rows.
+fn refusal_of(case: &str) -> Option<(u64, &str, &str)> {
+    let (row, case) = case.split_once(' ')?;
+    let (cause, rows) = case.split_once(' ')?;
+    Some((read_number(row.as_bytes())?, cause, rows))
+}
+
+// Vehicles that are refused: the record, the cause and the data rows.
+const BAD_VEHICLES: &str = "\
+2 FieldCount truck,hgv,,,,,,,\n\
+2 BadField truck,lorry,,,,,,,,\n\
+2 BadField truck,hgv,1000001,,,,,,,\n\
+2 BadField truck,hgv,,,,,,1000001,,\n\
+2 BadField truck,hgv,,,,,,,,hazmat \n\
+2 BadField truck,hgv,,,,,,,, hazmat\n\
+2 BadField truck,hgv,,,,,,,,Hazmat\n\
+2 BadField truck,hgv,,,,,,,,hazmat2\n\
+2 BadField truck,hgv,,,,,,,passage,\n\
+2 Duplicate any,hgv,,,,,,,,\n\
+3 Duplicate a,hgv,,,,,,,,|a,bus,,,,,,,,\n\
+3 BadField a,hgv,,,,,,,,|a,lorry,,,,,,,,\n\
+";
+
+#[test]
+fn refuses_vehicles_with_their_first_fault(rt: HostRuntime) -> Result<(), Fail> {
+    let alloc = rt.alloc();
+    for case in BAD_VEHICLES.lines() {
+        let Some((row, cause, rows)) = refusal_of(case) else {
+            assert!(rt; false, "no case: {case}");
+            return Ok(());
+        };
+        let text = table(alloc, VEHICLE_HEADER, rows)?;
+        let network = ruled(alloc, &text, "");
+        assert!(rt;
+            is_refused(network, FileKind::Vehicles, row, cause),
+            "{case}"
+        );
+    }
+    let network = ruled(alloc, "name,class\n", "");
+    assert!(rt; is_refused(network, FileKind::Vehicles, 1, "BadHeader"));
+    Ok(())
+}
+
+// Rules that are refused: a scope's fault comes before a value's, and also where the key is passed over.
+const BAD_RULES: &str = "\
+2 FieldCount arc:1,hgv\n\
+2 BadField town,hgv,no\n\
+2 BadField area town,hgv,no\n\
+2 BadField arc1,hgv,no\n\
+2 BadField arc:,hgv,no\n\
+2 BadField arc: 1,hgv,no\n\
+2 BadField area:,hgv,no\n\
+2 Unknown arc:0,hgv,no\n\
+2 Unknown arc:4,hgv,no\n\
+2 Unknown area:west,hgv,maybe\n\
+2 Unknown area:west,hgv:conditional,maybe\n\
+2 Unknown area:west,maxweight,7.5\n\
+2 BadField arc:1,hgv,maybe\n\
+2 BadField arc:1,hgv,\n\
+2 BadField arc:1,hgv,no \n\
+2 BadField arc:1,hgv,no @ (24/7)\n\
+2 NotConditional arc:1,hgv:conditional,no\n\
+2 NotConditional arc:1,hgv:conditional,\n\
+2 NotConditional arc:1,hgv:conditional,no @ (two words)\n\
+2 NotConditional arc:1,hgv:conditional,maybe @ a\n\
+3 Duplicate arc:1,hgv,no|arc:1,hgv,no\n\
+3 Duplicate arc:1,hgv,no|arc:01,hgv,yes\n\
+3 BadField arc:1,hgv,no|arc:1,hgv,maybe\n\
+3 Duplicate area:town,bus:conditional,no @ a|area:town,bus:conditional,no @ b\n\
+";
+
+#[test]
+fn refuses_rules_with_their_first_fault(rt: HostRuntime) -> Result<(), Fail> {
+    let alloc = rt.alloc();
+    for case in BAD_RULES.lines() {
+        let Some((row, cause, rows)) = refusal_of(case) else {
+            assert!(rt; false, "no case: {case}");
+            return Ok(());
+        };
+        let text = table(alloc, RULE_HEADER, rows)?;
+        let network = ruled(alloc, "", &text);
+        assert!(rt; is_refused(network, FileKind::Rules, row, cause), "{case}");
+    }
+    let network = ruled(alloc, "", "scope,value,key\n");
+    assert!(rt; is_refused(network, FileKind::Rules, 1, "BadHeader"));
+    Ok(())
+}
+
+// Rules that are read: the number of rows that are passed over, and the data rows.
+const GOOD_RULES: &str = "\
+0 arc:1,hgv,no|arc:2,hgv,no|area:town,hgv,no|area:port,hgv,no\n\
+0 arc:1,hgv,no|arc:1,hgv:conditional,no @ a|arc:1,bus,no\n\
+0 arc:0000000001,hgv_articulated,permit\n\
+2 arc:1,maxweight,7.5|arc:1,maxweight,7.5\n\
+3 arc:1,HGV,no|arc:1, hgv,no|arc:1,hgv:,no\n\
+2 arc:1,hgv:forward,no|arc:1,maxspeed:conditional,80 @ wet\n\
+2 arc:1,,|arc:1,:conditional,no\n\
+";
+
+#[test]
+fn counts_the_rows_that_are_passed_over(rt: HostRuntime) -> Result<(), Fail> {
+    let alloc = rt.alloc();
+    for case in GOOD_RULES.lines() {
+        let Some((count, rows)) = case.split_once(' ') else {
+            assert!(rt; false, "no case: {case}");
+            return Ok(());
+        };
+        let text = table(alloc, RULE_HEADER, rows)?;
+        let network = ruled(alloc, "", &text)?;
+        let passed = read_number(count.as_bytes());
+        assert!(rt; passed == Some(network.passed_over()), "{case}");
+    }
+    Ok(())
+}
+
+// A rule of this key whose value is `no @ a` and n blanks.
+fn long_rule(alloc: Global, key: &str, n: usize) -> Result<String, OutOfMemory> {
+    let mut text = format!(in alloc; "scope,key,value\narc:1,{key},no @ a")?;
+    for _ in 0..n {
+        text.push(' ')?;
+    }
+    text.push('\n')?;
+    Ok(text)
+}
+
+#[test]
+fn reads_values_of_65536_bytes(rt: HostRuntime) -> Result<(), Fail> {
+    let alloc = rt.alloc();
+    let longest = ruled(alloc, "", &long_rule(alloc, "hgv:conditional", 65_530)?)?;
+    assert_eq!(rt; clauses(longest.arc_conditional(ArcId(1), Key::Hgv)), 1);
+    for key in ["hgv:conditional", "hgv"] {
+        let longer = ruled(alloc, "", &long_rule(alloc, key, 65_531)?);
+        assert!(rt;
+            is_refused(longer, FileKind::Rules, 2, "SizeLimit"),
+            "{key}"
+        );
+    }
+    let other = ruled(alloc, "", &long_rule(alloc, "maxweight", 65_531)?)?;
+    assert_eq!(rt; other.passed_over(), 1);
+    Ok(())
+}
+
 #[test]
 fn names_the_first_fault_in_the_order_of_files(rt: HostRuntime) {
     let mut texts = [
         (FileKind::Zones, "x"),
         (FileKind::Areas, "area,zone\nport,West\n"),
         (FileKind::Roads, "arc,area\n1,port\n01,port\n"),
+        (FileKind::Vehicles, "x"),
+        (FileKind::Rules, "scope,key,value\narc:4,hgv,no\n"),
         (FileKind::Closures, "arc,from,to\n4,525600,525601\n"),
         (FileKind::Ratings, "rating,weight\nr,1\nr,2\nr,x\n"),
         (FileKind::Parking, "node,rating\n1,r\n01,r\n"),
@@ -169,6 +441,8 @@ fn names_the_first_fault_in_the_order_of_files(rt: HostRuntime) {
         (FileKind::Zones, 1, Cause::BadHeader, ""),
         (FileKind::Areas, 2, Cause::Unknown, AREAS),
         (FileKind::Roads, 3, Cause::Duplicate, ""),
+        (FileKind::Vehicles, 1, Cause::BadHeader, VEHICLE_HEADER),
+        (FileKind::Rules, 2, Cause::Unknown, ""),
         (FileKind::Closures, 2, Cause::Unknown, ""),
         (
             FileKind::Ratings,
@@ -185,7 +459,7 @@ fn names_the_first_fault_in_the_order_of_files(rt: HostRuntime) {
             Err(fault) => assert!(rt; fault == named, "at record {row}, file {i}"),
             Ok(_) => assert!(rt; false, "taken: file {i}"),
         }
-        if i < 7 {
+        if i < 9 {
             texts[i] = (file, mended);
         }
     }
