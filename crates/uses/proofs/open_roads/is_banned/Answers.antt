@@ -12,7 +12,7 @@ pub returns-in-Ok-clause-banned : goal.returns-in-Ok-clause-banned
 returns-in-Ok-clause-banned c = λ rules h.
     let same = c.in-Ok.ensures.only rules h in
     let here = subst (λ (w : Wall). IsTrue c.covers.result ↔ IsCovered c.in-Ok.rules c.args.holidays.now w.day w.minute)
-    c.wall-wall.ensures.value c.covers.ensures in
+    c.wall-wall.ensures.value c.covers.ensures.covered in
     subst (λ (rs : List HoursRule). IsTrue c.covers.result ↔ IsBannedAt rs c.args.zone.now c.args.holidays.now c.args.t)
     (sym same) here
 
