@@ -1,8 +1,8 @@
 //! The program itself: from command-line words and files to the printed answer.
 //!
-//! `command_line` reads the words, `files` reads a folder's files one after another, `requests` checks a trip, `net` makes the net
-//! of a network, and `texts` writes reports and the lines of refusals. Each command has a module of its own, `plan` and `bans`;
-//! `commands` has one case for each. `desk` has the top call, `run`; `outcome` says why a command may end without its text.
+//! `command_line` reads the words, `files` reads a folder's files one after another, `requests` checks a request and finds its vehicle,
+//! and `texts` writes reports and the lines of refusals. Each command has a module of its own, `plan` and `bans`; `commands` has one
+//! case for each. `desk` has the top call, `run`; `outcome` says why a command may end without its text.
 //!
 //! The law of `run` is in `specs/`. `Run` says which text is due with each status, over `Commands` (the answer, the refusals and the
 //! files of each command, one line a command), `CommandLine` (the command that words are), `ReadingOrder` and `Files` (the first

@@ -1,11 +1,12 @@
 //! Reads the tables of a road network from the bytes of its files (csv, RFC 4180), beside its graph.
 //!
-//! The law is in `specs/`. A module for each table says its schema and what its rows state: `Zones`, `Areas`, `Roads`,
-//! `Closures`, `Ratings`, `Parking` and `Holidays`, each over `Schema` of `table_reader`. `NetworkModel` says what a network is,
+//! The law is in `specs/`. A module for each table says its schema and what its rows state: `Zones`, `Areas`, `Roads`, `Rules`,
+//! `Closures`, `Ratings`, `Parking` and `Holidays` (vehicles are read by `vehicle_classes`), each over `Schema` of `table_reader`. `NetworkModel` says what a network is,
 //! `NetworkFiles` which network all files state together and what the first fault of their contents is, `Access` which access an arc
-//! gives a vehicle at an instant, and `RoadSetting` the setting in which trips over a network are planned. It is met by `read_network` and the calls of `Network`.
+//! gives a vehicle at an instant, and `RoadSetting` the setting in which trips over a network are planned. It is met
+//! by `read_network` and the calls of `Network`.
 //!
-//! The other modules are machinery: `AreaPlaces` and `HolidayDays` are tables while they are read, `NetworkParts` is how a
+//! The other modules are machinery: `AreaPlaces`, `HolidayDays` and `RuleLists` are tables while they are read, `NetworkParts` is how a
 //! network is held, `Refusals` are words for contracts.
 //!
 //! A source file has all of one table: its schema in code, a row, the state, and the call that reads it.
