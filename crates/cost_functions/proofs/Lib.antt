@@ -1,0 +1,9 @@
+pub mod Appended
+pub mod FirstItems
+pub mod Joining
+pub mod Lasts
+pub mod Places
+pub mod Settling
+pub mod Slopes
+pub mod Smallness
+pub mod Values

@@ -1,0 +1,153 @@
+// Functions built from the left, reduced at every moment.
+ghost use Rattle.std.specs.Prelude.{◌≡◌, ◌+◌, ◌-◌, ◌<◌, ◌≤◌, ℕ, List, [], ◌∷◌, ◌++◌, length, slice_set, All, None, OnOk, IfSome};
+ghost use Rattle.cost_functions.specs.Lines.{line_at, IsPiece, IsSmall, AreOneLine};
+ghost use Rattle.cost_functions.specs.Pieces.{value_at, ArePieces, IsReduced, AreSmall};
+ghost use Rattle.cost_functions.specs.Building.{AreBuilt, IsJoined, IsExtended};
+ghost use Rattle.cost_functions.specs.declared.pieces.Piece.{Piece};
+ghost use Rattle.route_base.specs.declared.limits.TheConstants.{LAST_INSTANT};
+
+use crate::cost_fn::CostFn;
+use crate::pieces::{Piece, common_slope};
+use route_base::OutOfMemory;
+use std::alloc::Global;
+use std::marker::Model;
+
+/// A reduced function that grows at its end, which contracts see as its pieces.
+#[derive(Drop)]
+pub struct Builder {
+    held: Vec<Piece>,
+}
+
+impl Model for Builder {
+    ghost Value = { List Piece };
+
+    ghost view = { λ s. s.held.items };
+
+    ghost invariant = { λ s. AreBuilt s.held.items };
+}
+
+impl Builder {
+    /// Nothing yet. No memory.
+    pub fn new(alloc: Global) -> Builder
+        ensures { result ≡ [] }
+    {
+        Builder {
+            held: Vec::new(alloc),
+        }
+    }
+
+    /// Goes on behind pieces that are reduced. No memory.
+    pub fn behind(pieces: Vec<Piece>) -> Builder
+        requires { AreBuilt pieces.items }
+        ensures { result ≡ pieces.items }
+    {
+        Builder { held: pieces }
+    }
+
+    /// Adds the values of a piece behind all others. The slope of a piece of one minute may be any. Constant time on
+    /// average.
+    pub fn push(&mut self, piece: Piece) -> Result<(), OutOfMemory>
+        requires filled { piece.lo ≤ piece.hi }
+        requires minutes { piece.hi ≤ LAST_INSTANT }
+        requires small { IsSmall piece }
+        requires later { All (λ q. q.hi < piece.lo) self.old }
+        ensures values { OnOk result ((t : ℕ) → value_at self.new t ≡ value_at (self.old ++ piece ∷ []) t) }
+        ensures ended { OnOk result (All (λ q. q.hi ≤ piece.hi) self.new) }
+        ensures apart { OnOk result ((z : Piece) → piece.hi < z.lo → ((slope : ℕ) → AreOneLine piece z slope → ⊥)
+            → All (λ q. (slope : ℕ) → AreOneLine q z slope → ⊥) self.new) }
+    {
+        let next = plain(piece);
+        match joined_with_last(&self.held, next) {
+            Some(joined) => {
+                let last = self.held.len() - 1;
+                self.held[last] = joined;
+            }
+            None => self.held.push(next)?,
+        }
+        Ok(())
+    }
+
+    /// Adds the values of built pieces behind all others: the first by `push`, the others in one copy.
+    pub fn extend(&mut self, pieces: &[Piece]) -> Result<(), OutOfMemory>
+        requires built { AreBuilt pieces.now }
+        requires later { All (λ p. All (λ q. q.hi < p.lo) self.old) pieces.now }
+        ensures values { OnOk result ((t : ℕ) → value_at self.new t ≡ value_at (self.old ++ pieces.now) t) }
+    {
+        let [first, others @ ..] = pieces else {
+            return Ok(());
+        };
+        self.push(*first)?;
+        append_all(&mut self.held, others)?;
+        Ok(())
+    }
+
+    /// The function, at no cost.
+    pub fn finish(self) -> CostFn
+        ensures same { result ≡ self }
+        ensures built { AreBuilt result }
+    {
+        CostFn::from_pieces(self.held)
+    }
+}
+
+// Appends pieces with which the others are built.
+fn append_all(held: &mut Vec<Piece>, others: &[Piece]) -> Result<(), OutOfMemory>
+    requires whole { AreBuilt (held.old.items ++ others.now) }
+    requires held { AreBuilt held.old.items }
+    ensures built { AreBuilt held.new.items }
+    ensures items { OnOk result (held.new.items ≡ held.old.items ++ others.now) }
+{
+    held.extend_from_slice(others)?;
+    Ok(())
+}
+
+// The piece with slope 0 if it has but one minute.
+fn plain(piece: Piece) -> Piece
+    requires filled { piece.lo ≤ piece.hi }
+    requires minutes { piece.hi ≤ LAST_INSTANT }
+    requires small { IsSmall piece }
+    ensures piece { IsPiece result }
+    ensures small { IsSmall result }
+    ensures lo { result.lo ≡ piece.lo }
+    ensures hi { result.hi ≡ piece.hi }
+    ensures values { (t : ℕ) → value_at (result ∷ []) t ≡ value_at (piece ∷ []) t }
+    ensures line { (z : Piece) (slope : ℕ) → AreOneLine result z slope → AreOneLine piece z slope }
+{
+    if piece.lo < piece.hi {
+        piece
+    } else {
+        Piece { slope: 0, ..piece }
+    }
+}
+
+// The last piece joined with the next one, where they are on one line.
+fn joined_with_last(pieces: &[Piece], next: Piece) -> Option<Piece>
+    requires built { AreBuilt pieces.now }
+    requires piece { IsPiece next }
+    requires small { IsSmall next }
+    requires later { All (λ q. q.hi < next.lo) pieces.now }
+    ensures some { IfSome result (λ joined. IsExtended pieces.now next (slice_set pieces.now (length pieces.now - 1) joined)) }
+    ensures held { IfSome result (λ _. 0 < length pieces.now) }
+    ensures none { result ≡ None → IsExtended pieces.now next (pieces.now ++ next ∷ []) }
+{
+    let last = *pieces.last()?;
+    joined(last, next)
+}
+
+// One piece in place of two that are on one line.
+fn joined(first: Piece, second: Piece) -> Option<Piece>
+    requires first { IsPiece first }
+    requires second { IsPiece second }
+    requires later { first.hi < second.lo }
+    requires small { IsSmall second }
+    ensures some { IfSome result (IsJoined first second) }
+    ensures none { result ≡ None → (slope : ℕ) → AreOneLine first second slope → ⊥ }
+{
+    let slope = common_slope(first, second)?;
+    Some(Piece {
+        lo: first.lo,
+        hi: second.hi,
+        cost: first.cost,
+        slope,
+    })
+}

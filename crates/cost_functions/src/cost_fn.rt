@@ -1,0 +1,95 @@
+// A cost function.
+ghost use Rattle.std.specs.Prelude.{◌≡◌, ◌↔◌, ◌<◌, ◌≤◌, ℕ, List, [], All, AllPairs, IsTrue, IfOk};
+ghost use Rattle.cost_functions.specs.Pieces.{value_at, point_at, ArePieces, IsReduced, AreSmall};
+ghost use Rattle.cost_functions.specs.Building.{AreBuilt};
+ghost use Rattle.route_base.specs.declared.limits.TheConstants.{LAST_INSTANT, HIGHEST_COST};
+ghost use Rattle.cost_functions.specs.declared.pieces.Piece.{Piece};
+
+use crate::pieces::Piece;
+use crate::reading::{are_reduced, reduced, through, value_of};
+use route_base::{Cost, Minute, OutOfMemory};
+use std::alloc::Global;
+use std::marker::Model;
+
+/// A cost for some minutes, which contracts see as its pieces: they rise and don't overlap.
+#[derive(Drop)]
+pub struct CostFn {
+    held: Vec<Piece>,
+}
+
+impl Model for CostFn {
+    ghost Value = { List Piece };
+
+    ghost view = { λ s. s.held.items };
+
+    ghost invariant = { λ s. ArePieces s.held.items };
+}
+
+impl CostFn {
+    /// The function of these pieces, at no cost.
+    pub fn from_pieces(pieces: Vec<Piece>) -> CostFn
+        requires { ArePieces pieces.items }
+        ensures { result ≡ pieces.items }
+    {
+        CostFn { held: pieces }
+    }
+
+    /// The function without a value. No memory.
+    pub fn empty(alloc: Global) -> CostFn
+        ensures { result ≡ [] }
+    {
+        CostFn {
+            held: Vec::new(alloc),
+        }
+    }
+
+    /// The value at a minute; `None` exactly where no piece has it. Logarithmic in the number of pieces; no memory.
+    pub fn at(&self, t: Minute) -> Option<Cost>
+        ensures { result ≡ value_at self.now t }
+    {
+        value_of(&self.held, t)
+    }
+
+    /// Whether no two pieces that touch are on one line. Linear in the number of pieces; no memory.
+    pub fn is_reduced(&self) -> bool
+        ensures { IsTrue result ↔ IsReduced self.now }
+    {
+        are_reduced(&self.held)
+    }
+
+    /// The same values in as few pieces as reading from the left makes. Linear in the number of pieces.
+    pub fn reduce(&self, alloc: Global) -> Result<CostFn, OutOfMemory>
+        requires { AreSmall self.now }
+        ensures values { IfOk result (λ reduced. (t : ℕ) → value_at reduced t ≡ value_at self.now t) }
+        ensures built { IfOk result AreBuilt }
+    {
+        reduced(alloc, &self.held)
+    }
+
+    /// The function with exactly these values, reduced. Linear in the number of points.
+    pub fn from_points(alloc: Global, points: &[(Minute, Cost)]) -> Result<CostFn, OutOfMemory>
+        requires rising { AllPairs (λ p q. p.0 < q.0) points.now }
+        requires minutes { All (λ p. p.0 ≤ LAST_INSTANT) points.now }
+        requires costs { All (λ p. p.1 ≤ HIGHEST_COST) points.now }
+        ensures values { IfOk result (λ made. (t : ℕ) → value_at made t ≡ point_at points.now t) }
+        ensures built { IfOk result AreBuilt }
+    {
+        through(alloc, points)
+    }
+
+    /// The pieces, at no cost.
+    pub fn pieces(&self) -> &[Piece]
+        ensures items { result.now ≡ self.now }
+        ensures pieces { ArePieces result.now }
+    {
+        self.held.as_slice()
+    }
+
+    /// The pieces, handed over at no cost.
+    pub fn into_pieces(self) -> Vec<Piece>
+        ensures items { result.items ≡ self }
+        ensures pieces { ArePieces result.items }
+    {
+        self.held
+    }
+}

@@ -1,0 +1,49 @@
+// One piece of a cost function.
+ghost use Rattle.std.specs.Prelude.{◌≡◌, ◌+◌, ◌*◌, ◌-◌, ◌<◌, ◌≤◌, ℕ, IfSome};
+ghost use Rattle.cost_functions.specs.Lines.{line_at, IsPiece, IsSmall, AreOneLine};
+ghost use Rattle.route_base.specs.declared.limits.TheConstants.{HIGHEST_COST};
+
+use route_base::{Cost, Minute};
+
+/// The minutes from `lo` to `hi`, both included, with the cost `cost + slope * (t - lo)` at t.
+#[derive(Clone, Copy, Debug, PartialEq, Eq)]
+pub struct Piece {
+    pub lo: Minute,
+    pub hi: Minute,
+    pub cost: Cost,
+    pub slope: u64,
+}
+
+impl Piece {
+    /// The cost at a minute of the piece.
+    pub fn value(self, t: Minute) -> Cost
+        requires piece { IsPiece self }
+        requires within { t ≤ self.hi }
+        ensures { result ≡ line_at self t }
+    {
+        self.cost + self.slope * t.saturating_sub(self.lo)
+    }
+}
+
+// The slope of the one line on which both are, where the second begins right behind the first.
+pub fn common_slope(first: Piece, second: Piece) -> Option<u64>
+    requires first { IsPiece first }
+    requires second { IsPiece second }
+    ensures some { IfSome result (AreOneLine first second) }
+    ensures none { result ≡ None → (slope : ℕ) → AreOneLine first second slope → ⊥ }
+{
+    if first.hi + 1 != second.lo {
+        return None;
+    }
+    let slope = if first.lo < first.hi {
+        first.slope
+    } else if second.lo < second.hi {
+        second.slope
+    } else {
+        second.cost.checked_sub(first.cost)?
+    };
+    let length = second.lo - first.lo;
+    let fits = second.cost == first.cost + slope * length;
+    let rises = second.lo == second.hi || second.slope == slope;
+    if fits && rises { Some(slope) } else { None }
+}
