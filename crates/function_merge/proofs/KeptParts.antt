@@ -1,0 +1,93 @@
+-- Values at some minutes, moved to later ones: a step of the sweep.
+use Rattle.std.proofs.Common.{◌≡◌, ⊎_elim, ℕ, ◌+◌, ◌-◌, ◌≤◌, ◌<◌, max, min, Bool, true, false, cond, Option, Some, None, List, ◌∷◌, length, get_or, take, drop, refl, ◌∙◌, ap, sym, subst, arith}
+use Rattle.std.specs.Option.{option_map}
+use Rattle.std.proofs.lemmas.Bool.{cases_lt, le-leb, lt-leb}
+use Rattle.route_base.specs.Runs.{any_has, AreRuns}
+use Rattle.route_base.specs.declared.types.Run.{Run}
+use Rattle.cost_functions.specs.Lines.{line_at}
+use Rattle.cost_functions.specs.Pieces.{value_at, ArePieces, AreSmall}
+use Rattle.cost_functions.specs.declared.pieces.Piece.{Piece}
+use Rattle.cost_functions.proofs.Values.{value_here, value_before, none_behind}
+use Rattle.function_merge.specs.Moves.{kept_at, moved_at, CanMove}
+use Rattle.cost_functions.proofs.Smallness.{value_within}
+use Rattle.cost_functions.proofs.FirstItems.{first_and_rest}
+use Rattle.minute_sets.proofs.FirstRuns.{in_first, before_first}
+
+module _ (minutes cost : ℕ) (f : ℕ → Option ℕ) where
+  pub moved_early : (u : ℕ) → u < minutes → moved_at minutes cost f u ≡ None
+  moved_early u early = ap (λ b. cond b (option_map (λ v. v + cost) (f (u - minutes))) None) (lt-leb minutes u early)
+
+  pub moved_late : (u t : ℕ) → u ≡ t + minutes → moved_at minutes cost f u ≡ option_map (λ v. v + cost) (f t)
+  moved_late u t is =
+      ap (λ b. cond b (option_map (λ v. v + cost) (f (u - minutes))) None) (le-leb minutes u (omega (arith, is)))
+      ∙ ap (λ n. option_map (λ v. v + cost) (f n)) (let same : u - minutes ≡ t = omega (arith, is) in same)
+
+-- cut to no other minutes and moved by nothing
+pub moved_nowhere : (f : ℕ → Option ℕ) (t : ℕ) → moved_at 0 0 f t ≡ f t
+moved_nowhere f t = moved_late 0 0 f t t (omega arith) ∙ plain (f t)
+  where
+    plain : (o : Option ℕ) → option_map (λ v. v + 0) o ≡ o
+    plain None = refl
+    plain (Some v) = ap Some (let same : v + 0 ≡ v = omega arith in same)
+
+abbrev nothing : Option ℕ
+nothing = None
+
+nothing_either : (b : Bool) → cond b nothing nothing ≡ nothing
+nothing_either true = refl
+nothing_either false = refl
+
+module _ (ps : List Piece) (rs : List Run) where
+  pub kept_nowhere : (t : ℕ) → any_has rs t ≡ false → kept_at ps rs t ≡ None
+  kept_nowhere t out = ap (λ b. cond b (value_at ps t) None) out
+
+  pub kept_nothing : (t : ℕ) → value_at ps t ≡ None → kept_at ps rs t ≡ None
+  kept_nothing t none = ap (λ v. cond (any_has rs t) v None) none ∙ nothing_either (any_has rs t)
+
+  pub kept_value : (t : ℕ) → any_has rs t ≡ true → kept_at ps rs t ≡ value_at ps t
+  kept_value t held = ap (λ b. cond b (value_at ps t) None) held
+
+  -- the first piece and the first run of what is left
+  module _ (from : ℕ) (p : Piece) (later : List Piece) (r : Run) (after : List Run) (are : ArePieces (p ∷ later)) (runs : AreRuns (r ∷ after)) (values : (t : ℕ) → from ≤ t → value_at (p ∷ later) t ≡ value_at ps t) (held : (t : ℕ) → from ≤ t → any_has (r ∷ after) t ≡ any_has rs t) where
+    pub kept_gap : (t : ℕ) → from ≤ t → t < max (max from p.lo) r.lo → kept_at ps rs t ≡ None
+    kept_gap t late before =
+        ⊎_elim
+        (λ (early : t < p.lo). kept_nothing t (sym (values t late) ∙ value_before p later t early ∙ none_behind p later t are (let filled = are.each 0 p (omega arith) in let fills = filled.filled in omega (arith, early, fills))))
+        (λ (begun : p.lo ≤ t). kept_nowhere t (sym (held t late) ∙ before_first r after t runs (omega (arith, begun, before, late))))
+        (cases_lt t p.lo)
+
+    pub kept_part : (t : ℕ) → max (max from p.lo) r.lo ≤ t → t < min r.hi (p.hi + 1) → kept_at ps rs t ≡ Some (line_at p t)
+    kept_part t begun before =
+        let late : from ≤ t = omega (arith, begun) in
+        kept_value t (sym (held t late) ∙ in_first r after t (omega (arith, begun)) (omega (arith, before)))
+        ∙ sym (values t late)
+        ∙ value_here p later t (omega (arith, begun)) (omega (arith, before))
+
+  -- the same for lists that have a first item
+  module _ (from : ℕ) (left : List Piece) (open' : List Run) (some : 1 ≤ length left) (one : 1 ≤ length open') (are : ArePieces left) (runs : AreRuns open') (values : (t : ℕ) → from ≤ t → value_at left t ≡ value_at ps t) (held : (t : ℕ) → from ≤ t → any_has open' t ≡ any_has rs t) where
+    pub first_gap : (t : ℕ) → from ≤ t → t < max (max from (get_or left 0 (record { lo = 0; hi = 0; cost = 0; slope = 0 })).lo) (get_or open' 0 (record { lo = 0; hi = 0 })).lo → kept_at ps rs t ≡ None
+    first_gap =
+        kept_gap from (get_or left 0 (record { lo = 0; hi = 0; cost = 0; slope = 0 })) (take (length left - 1) (drop 1 left)) (get_or open' 0 (record { lo = 0; hi = 0 })) (take (length open' - 1) (drop 1 open'))
+        (subst ArePieces (first_and_rest left (record { lo = 0; hi = 0; cost = 0; slope = 0 }) some) are)
+        (subst AreRuns (first_and_rest open' (record { lo = 0; hi = 0 }) one) runs)
+        (λ t late. ap (λ xs. value_at xs t) (sym (first_and_rest left (record { lo = 0; hi = 0; cost = 0; slope = 0 }) some)) ∙ values t late)
+        (λ t late. ap (λ xs. any_has xs t) (sym (first_and_rest open' (record { lo = 0; hi = 0 }) one)) ∙ held t late)
+
+    pub first_part : (t : ℕ) → max (max from (get_or left 0 (record { lo = 0; hi = 0; cost = 0; slope = 0 })).lo) (get_or open' 0 (record { lo = 0; hi = 0 })).lo ≤ t → t < min (get_or open' 0 (record { lo = 0; hi = 0 })).hi ((get_or left 0 (record { lo = 0; hi = 0; cost = 0; slope = 0 })).hi + 1) → kept_at ps rs t ≡ Some (line_at (get_or left 0 (record { lo = 0; hi = 0; cost = 0; slope = 0 })) t)
+    first_part =
+        kept_part from (get_or left 0 (record { lo = 0; hi = 0; cost = 0; slope = 0 })) (take (length left - 1) (drop 1 left)) (get_or open' 0 (record { lo = 0; hi = 0 })) (take (length open' - 1) (drop 1 open'))
+        (subst ArePieces (first_and_rest left (record { lo = 0; hi = 0; cost = 0; slope = 0 }) some) are)
+        (subst AreRuns (first_and_rest open' (record { lo = 0; hi = 0 }) one) runs)
+        (λ t late. ap (λ xs. value_at xs t) (sym (first_and_rest left (record { lo = 0; hi = 0; cost = 0; slope = 0 }) some)) ∙ values t late)
+        (λ t late. ap (λ xs. any_has xs t) (sym (first_and_rest open' (record { lo = 0; hi = 0 }) one)) ∙ held t late)
+
+chosen : (b : Bool) (o : Option ℕ) (v : ℕ) → cond b o None ≡ Some v → o ≡ Some v
+chosen true o v is = is
+chosen false o v is = cc
+
+-- what is kept of small values can stay where it is
+pub can_stay : (ps : List Piece) (rs : List Run) → ArePieces ps → AreSmall ps → CanMove 0 0 (kept_at ps rs)
+can_stay ps rs are small = record {
+  minutes_fit = λ t v is. (let fits = (value_within ps t v are.each small (chosen (any_has rs t) (value_at ps t) v is)).1 in omega (arith, fits));
+  values_fit = λ t v is. (let fits = (value_within ps t v are.each small (chosen (any_has rs t) (value_at ps t) v is)).0 in omega (arith, fits));
+}

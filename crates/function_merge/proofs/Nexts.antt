@@ -1,0 +1,145 @@
+-- Stretches on which one function is the lesser, from the values of both.
+use Rattle.std.proofs.Common.{◌≡◌, ⊎_elim, ℕ, ◌≤◌, ◌<◌, ◌&&◌, min, max, leb, ltb, Bool, true, false, Option, Some, None, List, All, length, refl, ◌∙◌, ap, sym, arith}
+use Rattle.cost_functions.specs.Lines.{line_at, IsSmall}
+use Rattle.cost_functions.specs.Pieces.{value_at, ArePieces}
+use Rattle.function_merge.proofs.FirstPieces.{first_of, first_is, first_value, first_none}
+use Rattle.cost_functions.specs.declared.pieces.Piece.{Piece}
+use Rattle.route_base.specs.declared.limits.TheConstants.{LAST_INSTANT}
+use Rattle.function_merge.specs.Least.{least_of, is_better, least_at, better_at, IsNext, IsMarked}
+use Rattle.route_base.specs.declared.types.Run.{Run}
+use Rattle.std.proofs.lemmas.Bool.{cases_lt, le-leb, lt-leb}
+use Rattle.cost_functions.proofs.Values.{none_before}
+use Rattle.function_merge.specs.declared.stretches.Stretch.{Stretch}
+
+module _ (f g : List Piece) (t : ℕ) where
+  pub least_none : value_at f t ≡ None → value_at g t ≡ None → least_at f g t ≡ None
+  least_none first second = ap (λ v. least_of v (value_at g t)) first ∙ second
+
+  pub better_none : value_at g t ≡ None → better_at f g t ≡ false
+  better_none second = ap (λ v. is_better (value_at f t) v) second
+
+  pub least_first : (a : ℕ) → value_at f t ≡ Some a → value_at g t ≡ None → least_at f g t ≡ Some a
+  least_first a first second = ap (λ v. least_of v (value_at g t)) first ∙ ap (λ v. least_of (Some a) v) second
+
+  pub least_second : (b : ℕ) → value_at f t ≡ None → value_at g t ≡ Some b → least_at f g t ≡ Some b
+  least_second b first second = ap (λ v. least_of v (value_at g t)) first ∙ second
+
+  pub better_second : (b : ℕ) → value_at f t ≡ None → value_at g t ≡ Some b → better_at f g t ≡ true
+  better_second b first second = ap (λ v. is_better v (value_at g t)) first ∙ ap (λ v. is_better None v) second
+
+  pub least_both : (a b : ℕ) → value_at f t ≡ Some a → value_at g t ≡ Some b → least_at f g t ≡ Some (min a b)
+  least_both a b first second = ap (λ v. least_of v (value_at g t)) first ∙ ap (λ v. least_of (Some a) v) second
+
+  pub better_both : (a b : ℕ) → value_at f t ≡ Some a → value_at g t ≡ Some b → better_at f g t ≡ ltb b a
+  better_both a b first second = ap (λ v. is_better v (value_at g t)) first ∙ ap (λ v. is_better (Some a) v) second
+
+module _ (f g : List Piece) (from : ℕ) (s : Stretch) (starts : from ≤ s.piece.lo) (filled : s.piece.lo ≤ s.piece.hi) (minutes : s.piece.hi ≤ LAST_INSTANT) (small : IsSmall s.piece)
+    (gap_f : (t : ℕ) → from ≤ t → t < s.piece.lo → value_at f t ≡ None) (gap_g : (t : ℕ) → from ≤ t → t < s.piece.lo → value_at g t ≡ None) where
+  pub next_first : (p : Piece) → ((t : ℕ) → s.piece.lo ≤ t → line_at s.piece t ≡ line_at p t) → ((t : ℕ) → s.piece.lo ≤ t → t ≤ s.piece.hi → value_at f t ≡ Some (line_at p t)) → ((t : ℕ) → s.piece.lo ≤ t → t ≤ s.piece.hi → value_at g t ≡ None) → s.improves ≡ false → IsNext f g from s
+  next_first p line first second improves = record {
+    starts = starts;
+    filled = filled;
+    minutes = minutes;
+    small = small;
+    gap_least = λ t late early. least_none f g t (gap_f t late early) (gap_g t late early);
+    gap_better = λ t late early. better_none f g t (gap_g t late early);
+    least = λ t late upto. least_first f g t (line_at p t) (first t late upto) (second t late upto) ∙ ap Some (sym (line t late));
+    better = λ t late upto. better_none f g t (second t late upto) ∙ sym improves;
+  }
+
+  pub next_second : (q : Piece) → ((t : ℕ) → s.piece.lo ≤ t → line_at s.piece t ≡ line_at q t) → ((t : ℕ) → s.piece.lo ≤ t → t ≤ s.piece.hi → value_at f t ≡ None) → ((t : ℕ) → s.piece.lo ≤ t → t ≤ s.piece.hi → value_at g t ≡ Some (line_at q t)) → s.improves ≡ true → IsNext f g from s
+  next_second q line first second improves = record {
+    starts = starts;
+    filled = filled;
+    minutes = minutes;
+    small = small;
+    gap_least = λ t late early. least_none f g t (gap_f t late early) (gap_g t late early);
+    gap_better = λ t late early. better_none f g t (gap_g t late early);
+    least = λ t late upto. least_second f g t (line_at q t) (first t late upto) (second t late upto) ∙ ap Some (sym (line t late));
+    better = λ t late upto. better_second f g t (line_at q t) (first t late upto) (second t late upto) ∙ sym improves;
+  }
+
+  pub next_both : (p q : Piece) → ((t : ℕ) → s.piece.lo ≤ t → t ≤ s.piece.hi → line_at s.piece t ≡ min (line_at p t) (line_at q t)) → ((t : ℕ) → s.piece.lo ≤ t → t ≤ s.piece.hi → ltb (line_at q t) (line_at p t) ≡ s.improves) → ((t : ℕ) → s.piece.lo ≤ t → t ≤ s.piece.hi → value_at f t ≡ Some (line_at p t)) → ((t : ℕ) → s.piece.lo ≤ t → t ≤ s.piece.hi → value_at g t ≡ Some (line_at q t)) → IsNext f g from s
+  next_both p q line lower first second = record {
+    starts = starts;
+    filled = filled;
+    minutes = minutes;
+    small = small;
+    gap_least = λ t late early. least_none f g t (gap_f t late early) (gap_g t late early);
+    gap_better = λ t late early. better_none f g t (gap_g t late early);
+    least = λ t late upto. least_both f g t (line_at p t) (line_at q t) (first t late upto) (second t late upto) ∙ ap Some (sym (line t late upto));
+    better = λ t late upto. better_both f g t (line_at p t) (line_at q t) (first t late upto) (second t late upto) ∙ lower t late upto;
+  }
+
+module _ (f g : List Piece) (from : ℕ) (s : Stretch) (filled : s.piece.lo ≤ s.piece.hi) (small : IsSmall s.piece) where
+  -- a part of the first piece of f, where g has nothing
+  pub next_in_first : (some : 1 ≤ length f) → ArePieces f → s.piece.lo ≡ max from (first_of f).lo → s.piece.hi ≤ (first_of f).hi → ((t : ℕ) → s.piece.lo ≤ t → line_at s.piece t ≡ line_at (first_of f) t) → ((t : ℕ) → from ≤ t → t ≤ s.piece.hi → value_at g t ≡ None) → s.improves ≡ false → IsNext f g from s
+  next_in_first some are lo hi line none improves =
+      let is = first_is f some are in
+      let last = is.minutes in
+      next_first f g from s (omega (arith, lo)) filled (omega (arith, hi, last)) small
+      (λ t late early. first_none f some are t (omega (arith, late, early, lo)))
+      (λ t late early. none t late (omega (arith, early, filled)))
+      (first_of f) line
+      (λ t late upto. first_value f some are t (omega (arith, late, lo)) (omega (arith, upto, hi)))
+      (λ t late upto. none t (omega (arith, late, lo)) upto)
+      improves
+
+  -- a part of the first piece of g, where f has nothing
+  pub next_in_second : (some : 1 ≤ length g) → ArePieces g → s.piece.lo ≡ max from (first_of g).lo → s.piece.hi ≤ (first_of g).hi → ((t : ℕ) → s.piece.lo ≤ t → line_at s.piece t ≡ line_at (first_of g) t) → ((t : ℕ) → from ≤ t → t ≤ s.piece.hi → value_at f t ≡ None) → s.improves ≡ true → IsNext f g from s
+  next_in_second some are lo hi line none improves =
+      let is = first_is g some are in
+      let last = is.minutes in
+      next_second f g from s (omega (arith, lo)) filled (omega (arith, hi, last)) small
+      (λ t late early. none t late (omega (arith, early, filled)))
+      (λ t late early. first_none g some are t (omega (arith, late, early, lo)))
+      (first_of g) line
+      (λ t late upto. none t (omega (arith, late, lo)) upto)
+      (λ t late upto. first_value g some are t (omega (arith, late, lo)) (omega (arith, upto, hi)))
+      improves
+
+  -- a part of the first pieces of both
+  pub next_in_both : (some : 1 ≤ length f) → (one : 1 ≤ length g) → ArePieces f → ArePieces g → s.piece.lo ≡ max from (first_of f).lo → s.piece.lo ≡ max from (first_of g).lo → s.piece.hi ≤ (first_of f).hi → s.piece.hi ≤ (first_of g).hi
+      → ((t : ℕ) → s.piece.lo ≤ t → t ≤ s.piece.hi → line_at s.piece t ≡ min (line_at (first_of f) t) (line_at (first_of g) t))
+      → ((t : ℕ) → s.piece.lo ≤ t → t ≤ s.piece.hi → ltb (line_at (first_of g) t) (line_at (first_of f) t) ≡ s.improves) → IsNext f g from s
+  next_in_both some one are also lo low hi high line lower =
+      let is = first_is f some are in
+      let last = is.minutes in
+      next_both f g from s (omega (arith, lo)) filled (omega (arith, hi, last)) small
+      (λ t late early. first_none f some are t (omega (arith, late, early, lo)))
+      (λ t late early. first_none g one also t (omega (arith, late, early, low)))
+      (first_of f) (first_of g) line lower
+      (λ t late upto. first_value f some are t (omega (arith, late, lo)) (omega (arith, upto, hi)))
+      (λ t late upto. first_value g one also t (omega (arith, late, low)) (omega (arith, upto, high)))
+
+-- the same values of both give the same
+pub least_same : (f g h k : List Piece) (t : ℕ) → value_at f t ≡ value_at h t → value_at g t ≡ value_at k t → least_at f g t ≡ least_at h k t
+least_same f g h k t first second = ap (λ v. least_of v (value_at g t)) first ∙ ap (λ v. least_of (value_at h t) v) second
+
+pub better_same : (f g h k : List Piece) (t : ℕ) → value_at f t ≡ value_at h t → value_at g t ≡ value_at k t → better_at f g t ≡ better_at h k t
+better_same f g h k t first second = ap (λ v. is_better v (value_at g t)) first ∙ ap (λ v. is_better (value_at h t) v) second
+
+pub from_start : (start t : ℕ) (b : Bool) → start ≤ t → (leb start t && b) ≡ b
+from_start start t b le = ap (λ a. a && b) (le-leb start t le)
+
+pub marked_skip : (wanted : ℕ → Bool) (set : List Run) (from to : ℕ) → from ≤ to → IsMarked wanted set from → ((t : ℕ) → from ≤ t → t < to → wanted t ≡ false) → IsMarked wanted set to
+marked_skip wanted set from to le marked gap = record {
+  before = λ t early. ⊎_elim (λ (soon : t < from). marked.before t soon) (λ (late : from ≤ t). marked.after t late ∙ sym (gap t late early)) (cases_lt t from);
+  after = λ t late. marked.after t (omega (arith, le, late));
+  begins = λ k d within. (let begin = marked.begins k d within in omega (arith, begin, le));
+}
+
+alone : (o : Option ℕ) → least_of o None ≡ o
+alone None = refl
+alone (Some a) = refl
+
+-- where the second has no value, the first stands
+pub least_alone : (f g : List Piece) (t : ℕ) → value_at g t ≡ None → least_at f g t ≡ value_at f t
+least_alone f g t none = ap (λ v. least_of (value_at f t) v) none ∙ alone (value_at f t)
+
+pub before_start : (start t : ℕ) (b : Bool) → t < start → (leb start t && b) ≡ false
+before_start start t b lt = ap (λ a. a && b) (lt-leb start t lt)
+
+-- before the first piece of g
+pub none_until : (g : List Piece) (first t : ℕ) → All (λ p. first ≤ p.lo) g → t < first → value_at g t ≡ None
+none_until g first t begins early = none_before g t (λ k d within. (let begin = begins k d within in omega (arith, begin, early)))

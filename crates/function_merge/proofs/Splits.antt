@@ -1,0 +1,142 @@
+-- Pieces cut into those before a place and those from it on.
+use Rattle.std.proofs.Common.{◌≡◌, ⊎_elim, ◌++◌, ℕ, ◌+◌, ◌≤◌, ◌<◌, cond, zero, suc, Some, None, List, [], ◌∷◌, length, get_or, take, drop, All, AllPairs, refl, ◌∙◌, ap, sym, subst, arith}
+use Rattle.std.specs.List.{AllWithin}
+use Rattle.std.proofs.lemmas.List.{get_or-take, get_or-drop, length-take-le, length-drop, get_or_default, take-append-drop}
+use Rattle.std.proofs.lemmas.Bool.{cases_lt, cases_eq}
+use Rattle.std.specs.List.Sorted.{IsNonDecreasingBy}
+use Rattle.cost_functions.proofs.Places.{ends_rise, value_onto, value_at_place, value_before_tail}
+use Rattle.function_merge.specs.Least.{least_at, better_at}
+use Rattle.function_merge.proofs.Nexts.{least_none, least_same, least_alone, better_none, better_same}
+use Rattle.cost_functions.specs.Lines.{is_on_piece, line_at, IsPiece, IsSmall, AreOneLine}
+use Rattle.cost_functions.specs.Pieces.{value_at, ArePieces}
+use Rattle.cost_functions.specs.Building.{AreBuilt}
+use Rattle.cost_functions.specs.declared.pieces.Piece.{Piece}
+use Rattle.cost_functions.proofs.Values.{value_after, none_before, none_after}
+
+pub value_drop : (ps : List Piece) (k t : ℕ) → k ≤ length ps → AllWithin (λ p. p.hi < t) ps 0 k → value_at (drop k ps) t ≡ value_at ps t
+value_drop ps zero t le before = refl
+value_drop [] (suc k) t le before = absurd (omega (arith, le))
+value_drop (p ∷ ps) (suc k) t le before =
+    value_drop ps k t (omega (arith, le)) (λ j d from upto. before (suc j) d (omega arith) (omega (arith, upto)))
+    ∙ sym (value_after p ps t (before 0 p (omega arith) (omega arith)))
+
+pub value_take : (ps : List Piece) (k t : ℕ) → All (λ p. t < p.lo) (drop k ps) → value_at (take k ps) t ≡ value_at ps t
+unfolding value_at
+value_take ps zero t after = sym (none_before ps t after)
+value_take [] (suc k) t after = refl
+value_take (p ∷ ps) (suc k) t after = ap (λ v. cond (is_on_piece t p) (Some (line_at p t)) v) (value_take ps k t after)
+
+module _ {X : Type 0} (xs : List X) (k : ℕ) (le : k ≤ length xs) where
+  pub all_take : (P : X → Type 0) → AllWithin P xs 0 k → All P (take k xs)
+  all_take P before j d within = let lt : j < k = omega (arith, within, length-take-le k xs le) in subst P (sym (get_or-take k xs j d lt)) (before j d (omega arith) lt)
+
+  pub all_drop : (P : X → Type 0) → AllWithin P xs k (length xs) → All P (drop k xs)
+  all_drop P after j d within = subst P (sym (get_or-drop k xs j d)) (after (k + j) d (omega arith) (omega (arith, within, length-drop k xs)))
+
+  pub pairs_take : (R : X → X → Type 0) → AllPairs R xs → AllPairs R (take k xs)
+  pairs_take R all i j d lt within =
+      let short : j < k = omega (arith, within, length-take-le k xs le) in
+      let first : R (get_or xs i d) (get_or xs j d) = all i j d lt (omega (arith, short, le)) in
+      rw (get_or-take k xs i d (omega (arith, lt, short)), get_or-take k xs j d short) first
+
+  pub pairs_drop : (R : X → X → Type 0) → AllPairs R xs → AllPairs R (drop k xs)
+  pairs_drop R all i j d lt within =
+      let first : R (get_or xs (k + i) d) (get_or xs (k + j) d) = all (k + i) (k + j) d (omega (arith, lt)) (omega (arith, within, length-drop k xs)) in
+      rw (get_or-drop k xs i d, get_or-drop k xs j d) first
+
+  pub every_take : (P : X → Type 0) → All P xs → All P (take k xs)
+  every_take P all = all_take P (λ j d from upto. all j d (omega (arith, upto, le)))
+
+  pub every_drop : (P : X → Type 0) → All P xs → All P (drop k xs)
+  every_drop P all = all_drop P (λ j d from upto. all j d upto)
+
+module _ (ps : List Piece) (k : ℕ) (le : k ≤ length ps) where
+  pub pieces_drop : ArePieces ps → ArePieces (drop k ps)
+  pieces_drop are = record { each = every_drop ps k le IsPiece are.each; apart = pairs_drop ps k le (λ p q. p.hi < q.lo) are.apart }
+
+  pub built_take : AreBuilt ps → AreBuilt (take k ps)
+  built_take built = record {
+    pieces = record { each = every_take ps k le IsPiece built.pieces.each; apart = pairs_take ps k le (λ p q. p.hi < q.lo) built.pieces.apart };
+    reduced = pairs_take ps k le (λ p q. (slope : ℕ) → AreOneLine p q slope → ⊥) built.reduced;
+    small = every_take ps k le IsSmall built.small;
+  }
+
+  -- a piece before the place ends before each from it on begins
+  pub apart_at : ArePieces ps → (i : ℕ) (d : Piece) → i < k → All (λ p. (get_or ps i d).hi < p.lo) (drop k ps)
+  apart_at are i d before j e within =
+      let far = are.apart i (k + j) d (omega (arith, before)) (omega (arith, within, length-drop k ps)) in
+      let P : Piece → Type 0 = λ p. (get_or ps i d).hi < p.lo in
+      subst P (sym (get_or-drop k ps j e ∙ get_or_default ps (k + j) e d (omega (arith, within, length-drop k ps)))) far
+
+  pub built_drop : AreBuilt ps → AreBuilt (drop k ps)
+  built_drop built = record {
+    pieces = pieces_drop built.pieces;
+    reduced = pairs_drop ps k le (λ p q. (slope : ℕ) → AreOneLine p q slope → ⊥) built.reduced;
+    small = every_drop ps k le IsSmall built.small;
+  }
+
+-- the beginnings rise
+pub begins_rise : (ps : List Piece) → ArePieces ps → IsNonDecreasingBy (λ p. p.lo) ps
+begins_rise ps are i j d le within =
+    ⊎_elim
+    (λ (same : i ≡ j). omega (arith, ap (λ n. (get_or ps n d).lo) same))
+    (λ (other : i ≡ j → ⊥). (let far = are.apart i j d (omega (arith, le, other)) within in let filled = (are.each i d (omega (arith, le, within))).filled in omega (arith, far, filled)))
+    (cases_eq i j)
+
+-- nothing ends behind the last piece
+pub last_ends : (ps : List Piece) (i : ℕ) (d : Piece) → ArePieces ps → length ps ≡ i + 1 → All (λ p. p.hi ≤ (get_or ps i d).hi) ps
+last_ends ps i d are long k e within =
+    let rise = ends_rise ps are k i e (omega (arith, within, long)) (omega (arith, long)) in
+    let same = ap (λ (p : Piece). p.hi) (get_or_default ps i e d (omega (arith, long))) in
+    omega (arith, rise, same)
+
+-- a function whose front is merged and whose tail begins behind the other function
+module _ (f g : List Piece) (k end : ℕ) (le : k ≤ length f) (after : All (λ p. end < p.lo) (drop k f)) (ends : All (λ p. p.hi ≤ end) g) where
+  g_none : (t : ℕ) → end < t → value_at g t ≡ None
+  g_none t late = none_after g t (λ j d within. (let done = ends j d within in omega (arith, done, late)))
+
+  tail_none : (t : ℕ) → t ≤ end → value_at (drop k f) t ≡ None
+  tail_none t early = none_before (drop k f) t (λ j d within. (let begin = after j d within in omega (arith, begin, early)))
+
+  front_value : (t : ℕ) → t ≤ end → value_at (take k f) t ≡ value_at f t
+  front_value t early = value_take f k t (λ j d within. (let begin = after j d within in omega (arith, begin, early)))
+
+  pub better_whole : (t : ℕ) → better_at (take k f) g t ≡ better_at f g t
+  better_whole t =
+      ⊎_elim
+      (λ (late : end < t). better_none (take k f) g t (g_none t late) ∙ sym (better_none f g t (g_none t late)))
+      (λ (early : t ≤ end). better_same (take k f) g f g t (front_value t early) refl)
+      (cases_lt end t)
+
+  module _ (made : List Piece) (values : (t : ℕ) → value_at made t ≡ least_at (take k f) g t) where
+    pub least_whole : (t : ℕ) → value_at (made ++ drop k f) t ≡ least_at f g t
+    least_whole t =
+        ⊎_elim
+        (λ (late : end < t).
+        value_onto made (take k f) (drop k f) t (values t ∙ least_alone (take k f) g t (g_none t late))
+        ∙ ap (λ ps. value_at ps t) (take-append-drop k f)
+        ∙ sym (least_alone f g t (g_none t late)))
+        (λ (early : t ≤ end).
+        value_before_tail made (drop k f) t (tail_none t early) ∙ values t ∙ least_same (take k f) g f g t (front_value t early) refl)
+        (cases_lt end t)
+
+    -- what is made ends before the tail begins
+    pub made_before : ArePieces made → ArePieces f → All (λ p. All (λ q. q.hi < p.lo) made) (drop k f)
+    made_before are whole j d within i e short =
+        let p = get_or (drop k f) j d in
+        let q = get_or made i e in
+        let filled = (are.each i e short).filled in
+        let value = value_at_place made i e q.hi are short filled (omega arith) in
+        ⊎_elim
+        (λ (fine : q.hi < p.lo). fine)
+        (λ (over : p.lo ≤ q.hi).
+        let begin = after j d within in
+        let front : value_at (take k f) q.hi ≡ None = none_after (take k f) q.hi (λ m z inside.
+        (let lt : m < k = omega (arith, inside, length-take-le k f le) in
+        let far = apart_at f k le whole m z lt j d within in
+        let same = ap (λ (x : Piece). x.hi) (get_or-take k f m z lt) in
+        omega (arith, far, same, over))) in
+        let none = values q.hi ∙ least_none (take k f) g q.hi front (g_none q.hi (omega (arith, begin, over))) in
+        let clash : None ≡ Some (line_at q q.hi) = sym none ∙ value in
+        absurd cc)
+        (cases_lt q.hi p.lo)
