@@ -1,5 +1,9 @@
 pub mod CheapRoads
 pub mod ClosedWindows
+pub mod Handing
+pub mod Judgements
+pub mod Leaving
+pub mod Loading
 pub mod NamedVehicles
 pub mod ReadFiles
 pub mod RefusalTexts

@@ -3,7 +3,8 @@ use Rattle.std.proofs.Common.{◌≡◌, ℕ, ◌+◌, ◌≤◌, Some, None, Op
 use Rattle.std.proofs.Common.{sym, subst, ap, ◌∙◌, arith}
 use Rattle.std.specs.Prelude.{map}
 use Rattle.std.specs.Option.{option_or}
-use Rattle.std.proofs.lemmas.List.{map_push, drop_more, take_more, take-append-drop}
+use Rattle.std.proofs.lemmas.List.{map_push, drop_more, take_more, take-append-drop, length-append}
+use Rattle.std.proofs.Math.Seq.{take-append_seam, drop-append_seam}
 use Rattle.route_base.specs.Contents.{Contents}
 use Rattle.route_base.specs.Counts.{HasRisen}
 use Rattle.route_base.specs.FolderState.{FolderState, KeepsFiles}
@@ -11,7 +12,7 @@ use Rattle.route_base.specs.declared.faults.BadInput.{BadInput}
 use Rattle.front_desk.specs.Files.{FileToRead, fault_of_file, first_unreadable, bytes_at, AreWithin, IsRead, AreRead}
 use Rattle.front_desk.specs.Inside.Halting.{StopsReading}
 use Rattle.front_desk.specs.declared.outcome.Halt.{Halt}
-use Rattle.front_desk.specs.declared.outcome.Halt.TheVariants.{Refused, ReadFault, NoMemory}
+use Rattle.front_desk.specs.declared.outcome.Halt.TheVariants.{Refused, ReadFault, WriteFault, NoMemory}
 use Rattle.front_desk.specs.declared.outcome.Refusal.TheVariants.{Usage, Input, Request}
 
 -- a count that has risen since later has risen since before
@@ -81,6 +82,7 @@ module _ (old mid : FolderState) (kept : KeepsFiles old mid) (dir : List ℕ) (f
   }
   stops_at rest new (Refused (Request fault)) why = why
   stops_at rest new ReadFault why = risen_before old.read_faults mid.read_faults new.read_faults kept.read_faults why
+  stops_at rest new WriteFault why = why
   stops_at rest new NoMemory why = tt
 
 -- no file is read yet
@@ -96,3 +98,18 @@ split_at xs i x within is =
 -- a list up to the next place
 pub take_next : {X : Type 0} (xs : List X) (i : ℕ) (x : X) → i < length xs → x ≡ get_or xs i x → take (i + 1) xs ≡ take i xs ++ x ∷ []
 take_next xs i x within is = take_more xs i x within ∙ ap (λ y. take i xs ++ y ∷ []) (sym is)
+
+push_same : {X : Type 0} (xs zs : List X) (y w : X) → xs ++ y ∷ [] ≡ zs ++ w ∷ [] → (xs ≡ zs) × (y ≡ w)
+push_same {X} xs zs y w same =
+    let n : length xs ≡ length zs = omega (arith, ap (λ (l : List X). length l) same, length-append xs (y ∷ []), length-append zs (w ∷ [])) in (
+      sym (take-append_seam xs (y ∷ [])) ∙ ap (λ (l : List X). take (length xs) l) same ∙ ap (λ k. take k (zs ++ w ∷ [])) n
+      ∙ take-append_seam zs (w ∷ []),
+      ap (λ (l : List X). get_or l 0 y)
+      (sym (drop-append_seam xs (y ∷ [])) ∙ ap (λ (l : List X). drop (length xs) l) same ∙ ap (λ k. drop k (zs ++ w ∷ [])) n
+      ∙ drop-append_seam zs (w ∷ [])),
+    )
+
+-- what was read of files and of one behind them
+pub last_read : (f : FileToRead → List ℕ) (files : List FileToRead) (file : FileToRead) (read : List (List ℕ)) (bytes : List ℕ)
+    → read ++ bytes ∷ [] ≡ map f (files ++ file ∷ []) → (read ≡ map f files) × (bytes ≡ f file)
+last_read f files file read bytes same = push_same read (map f files) bytes (f file) (same ∙ map_push f files file)

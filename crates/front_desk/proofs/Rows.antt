@@ -11,7 +11,7 @@ use Rattle.route_base.specs.declared.faults.RequestFault.{RequestFault}
 use Rattle.route_base.specs.declared.faults.RequestFault.TheVariants.{OriginRange, GoalRange, UntilBeforeDepart, HorizonTooLong}
 use Rattle.front_desk.specs.declared.outcome.Refusal.TheVariants.{Usage, Input, Request}
 use Rattle.route_base.specs.declared.types.Form.TheVariants.{Plain}
-use Rattle.front_desk.specs.CommandLine.{Command, command_of, is_folder_name, node_of, to_plan, to_bans}
+use Rattle.front_desk.specs.CommandLine.{Command, command_of, is_folder_name, node_of, to_plan, to_bans, trip_over}
 use Rattle.route_base.specs.Forms.{minute_of}
 use Rattle.calendar_days.specs.Days.{days_of_years, days_of_months, date_on}
 use Rattle.calendar_days.specs.Texts.{instant_of, instant_text_of, day_of_text, clock_of}
@@ -30,22 +30,24 @@ the_plan = Some (to_plan (record {
   dir = codes "d";
   trip = record { vehicle = codes "any"; origin = 1; goal = 3; depart = 26563680; until = 26564080 };
   form = Plain;
+  certificate = None;
 }))
 
 pub plan_read : command_of (words_with (codes "1") (codes "3") (codes "26563680") (codes "26564080")) ≡ the_plan
-unfolding instant_of
+unfolding instant_of trip_over
 plan_read = refl
 
 -- the same trip, its instants as texts
 pub texts_read : command_of (words_with (codes "1") (codes "3") (codes "2020-07-04T00:00Z") (codes "2020-07-04T06:40:00Z")) ≡ the_plan
-unfolding instant_of day_of_text clock_of days_of_years days_of_months
+unfolding instant_of day_of_text clock_of days_of_years days_of_months trip_over
 texts_read = refl
 
 pub no_such_day_refused : command_of (words_with (codes "1") (codes "3") (codes "2020-02-30T00:00Z") (codes "2020-07-04T06:40Z")) ≡ None
-unfolding instant_of day_of_text clock_of days_of_years days_of_months
+unfolding instant_of day_of_text clock_of days_of_years days_of_months trip_over
 no_such_day_refused = refl
 
 pub leading_zero_refused : command_of (words_with (codes "01") (codes "3") (codes "26563680") (codes "26564080")) ≡ None
+unfolding trip_over
 leading_zero_refused = refl
 
 pub command_alone_refused : command_of (codes "plan" ∷ []) ≡ None
@@ -55,7 +57,7 @@ pub eighth_word_refused : command_of (words_with (codes "1") (codes "3") (codes 
 eighth_word_refused = refl
 
 pub before_first_instant : command_of (words_with (codes "1") (codes "3") (codes "525599") (codes "26564080")) ≡ None
-unfolding instant_of day_of_text
+unfolding instant_of day_of_text trip_over
 before_first_instant = refl
 
 pub first_instant_read : minute_of (codes "525600") ≡ Some 525600
@@ -65,7 +67,7 @@ pub last_instant_read : minute_of (codes "120968639") ≡ Some 120968639
 last_instant_read = refl
 
 pub after_last_instant : command_of (words_with (codes "1") (codes "3") (codes "26563680") (codes "120968640")) ≡ None
-unfolding instant_of day_of_text
+unfolding instant_of day_of_text trip_over
 after_last_instant = refl
 
 pub zero_node_read : node_of (codes "0") ≡ Some 0

@@ -1,58 +1,104 @@
 -- The answer, the refusals and the files of each command, one line a command (source: own).
-use Rattle.std.specs.Prelude.{◌≡◌, ℕ, ⊤, Option, Some, None, List}
+use Rattle.std.specs.Prelude.{◌≡◌, ◌⊎◌, ℕ, ⊤, Option, Some, None, List}
 use Rattle.route_base.specs.Contents.{Contents}
-use Rattle.route_base.specs.FolderState.{FolderState, KeepsFiles, FailedToRead}
+use Rattle.route_base.specs.FolderState.{FolderState, KeepsFiles, SpoilsFile, FailedToRead, FailedToWrite}
 use Rattle.route_base.specs.SinkState.{SinkState, FailedToAppend}
 use Rattle.route_base.specs.declared.faults.BadInput.{BadInput}
 use Rattle.route_base.specs.declared.faults.RequestFault.{RequestFault}
 use Rattle.route_base.specs.declared.status.Status.{Status}
-use Rattle.route_base.specs.declared.status.Status.TheVariants.{Done}
+use Rattle.route_base.specs.declared.status.Status.TheVariants.{Done, Rejected, Usage, BadInput as BadInputStatus, ReadFault}
+use Rattle.route_base.specs.declared.status.Status.TheVariants.{WriteFault, NoMemory, BadRequest}
 use Rattle.front_desk.specs.Bans.{IsBansReport, bans_fault, bans_check}
-use Rattle.front_desk.specs.CommandLine.{Command, to_plan, to_bans}
-use Rattle.front_desk.specs.Plan.{IsPlanReport, plan_fault, plan_check}
+use Rattle.front_desk.specs.Check.{AcceptsCertificate, RejectsCertificate, check_fault, check_check}
+use Rattle.front_desk.specs.CommandLine.{Command, Plan, to_plan, to_check, to_bans}
+use Rattle.front_desk.specs.Files.{IfTold, path_of}
+use Rattle.front_desk.specs.Plan.{IsPlanReport, IsCertified, plan_fault, plan_check}
 
 -- the first fault of the files that the command reads
 abbrev pub first_fault_for : Command → Contents → Option BadInput
 first_fault_for (to_plan p) held = plan_fault p held
+first_fault_for (to_check c) held = check_fault c held
 first_fault_for (to_bans b) held = bans_fault b held
 
 -- the first check that the command's request fails
 abbrev pub failed_check_for : Command → Contents → Option RequestFault
 failed_check_for (to_plan p) held = plan_check p held
+failed_check_for (to_check c) held = check_check c held
 failed_check_for (to_bans b) held = bans_check b held
 
--- the text that the command prints where it is done
-abbrev pub Answers : Command → Contents → List ℕ → Type 0
-Answers (to_plan p) held text = IsPlanReport p held text
-Answers (to_bans b) held text = IsBansReport b held text
+-- the text that the command prints where it is done, and what it has written into the folder
+abbrev pub Answers : Command → Contents → Option Contents → List ℕ → Type 0
+Answers (to_plan p) held after text = IsPlanReport p held after text
+Answers (to_check c) held after text = AcceptsCertificate c held text
+Answers (to_bans b) held after text = IsBansReport b held text
 
--- the text that the command prints where it rejects a file that it judges; plans and bans judge none
-abbrev pub Rejects : Command → Option Contents → List ℕ → Type 0
-Rejects (to_plan p) told text = ⊥
-Rejects (to_bans b) told text = ⊥
+-- the command judges a file, which it may reject
+abbrev pub Judges : Command → Type 0
+Judges (to_plan p) = ⊥
+Judges (to_check c) = ⊤
+Judges (to_bans b) = ⊥
+
+-- the text that the command prints where it rejects the file that it judges
+abbrev pub Rejects : Command → Contents → List ℕ → Type 0
+Rejects (to_plan p) held text = ⊥
+Rejects (to_check c) held text = RejectsCertificate c held text
+Rejects (to_bans b) held text = ⊥
 
 -- the command has come to its end
 abbrev pub IsFinished : Command → Status → Type 0
 IsFinished (to_plan p) status = status ≡ Done
+IsFinished (to_check c) status = (status ≡ Done) ⊎ (status ≡ Rejected)
 IsFinished (to_bans b) status = status ≡ Done
 
--- no failed read or write was counted that could stop the command
-pub record GoesUndisturbed (old new : FolderState) (from to : SinkState) : Type 0 where
-  pub reads : FailedToRead old new → ⊥
-  pub appends : FailedToAppend from to → ⊥
+-- the plan writes a file of this name
+abbrev pub PlanWrites : Option (List ℕ) → Type 0
+PlanWrites None = ⊥
+PlanWrites (Some name) = ⊤
 
-abbrev pub IsUndisturbed : Command → FolderState → FolderState → SinkState → SinkState → Type 0
-IsUndisturbed (to_plan p) old new from to = GoesUndisturbed old new from to
-IsUndisturbed (to_bans b) old new from to = GoesUndisturbed old new from to
+-- the command writes files
+abbrev pub WritesFiles : Command → Type 0
+WritesFiles (to_plan p) = PlanWrites p.certificate
+WritesFiles (to_check c) = ⊥
+WritesFiles (to_bans b) = ⊥
+
+-- no failed read or write was counted that could stop the command
+pub record IsUndisturbed (command : Command) (old new : FolderState) (from to : SinkState) : Type 0 where
+  pub reads : FailedToRead old new → ⊥
+  pub writes : WritesFiles command → FailedToWrite old new → ⊥
+  pub appends : FailedToAppend from to → ⊥
 
 -- words that read no file: those that are no command
 abbrev pub ReadsNothing : Option Command → Type 0
 ReadsNothing None = ⊤
 ReadsNothing (Some (to_plan p)) = ⊥
+ReadsNothing (Some (to_check c)) = ⊥
 ReadsNothing (Some (to_bans b)) = ⊥
 
--- the state in which the words leave the folder: all files are as they were
+-- a certificate of the plan's routes was written under the name, whole, where the folder tells its contents; all else is as it was
+pub record PutsCertificate (p : Plan) (name : List ℕ) (old new : FolderState) : Type 0 where
+  pub others : SpoilsFile old new (path_of p.dir name)
+  pub whole : IfTold old (λ held. IsCertified p name held new.contents)
+
+-- how a plan leaves the file of its certificate, by its status
+abbrev pub LeavesCertificate : Plan → List ℕ → FolderState → FolderState → Status → Type 0
+LeavesCertificate p name old new Done = PutsCertificate p name old new
+LeavesCertificate p name old new Rejected = KeepsFiles old new
+LeavesCertificate p name old new Usage = KeepsFiles old new
+LeavesCertificate p name old new BadInputStatus = KeepsFiles old new
+LeavesCertificate p name old new ReadFault = KeepsFiles old new
+LeavesCertificate p name old new WriteFault =
+    KeepsFiles old new ⊎ (PutsCertificate p name old new ⊎ (FailedToWrite old new × SpoilsFile old new (path_of p.dir name)))
+LeavesCertificate p name old new NoMemory = (new.contents ≡ old.contents) ⊎ PutsCertificate p name old new
+LeavesCertificate p name old new BadRequest = KeepsFiles old new
+
+-- how a plan leaves the folder: all files are as they were, but for a certificate that was asked for
+abbrev pub LeavesPlan : Plan → Option (List ℕ) → FolderState → FolderState → Status → Type 0
+LeavesPlan p None old new status = KeepsFiles old new
+LeavesPlan p (Some name) old new status = LeavesCertificate p name old new status
+
+-- the state in which the words leave the folder
 abbrev pub LeavesFiles : Option Command → FolderState → FolderState → Status → Type 0
 LeavesFiles None old new status = KeepsFiles old new
-LeavesFiles (Some (to_plan p)) old new status = KeepsFiles old new
+LeavesFiles (Some (to_plan p)) old new status = LeavesPlan p p.certificate old new status
+LeavesFiles (Some (to_check c)) old new status = KeepsFiles old new
 LeavesFiles (Some (to_bans b)) old new status = KeepsFiles old new

@@ -1,2 +1,4 @@
 -- Facts that only the proofs need: no law (source: own).
 pub mod Halting
+pub mod Planning
+pub mod Judging

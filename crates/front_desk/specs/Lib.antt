@@ -1,4 +1,5 @@
 pub mod Bans
+pub mod Check
 pub mod CommandLine
 pub mod Commands
 pub mod Files

@@ -1,6 +1,6 @@
 -- The report of the command that plans a trip (source: own).
-use Rattle.std.specs.Prelude.{◌≡◌, ℕ, Option, Some, List}
-use Rattle.route_base.specs.Contents.{Contents}
+use Rattle.std.specs.Prelude.{◌≡◌, ℕ, ⊤, Option, Some, None, List}
+use Rattle.route_base.specs.Contents.{Contents, Holds}
 use Rattle.route_base.specs.Front.{IsRight}
 use Rattle.route_base.specs.Setting.{Setting}
 use Rattle.route_base.specs.declared.faults.BadInput.{BadInput}
@@ -10,24 +10,55 @@ use Rattle.route_base.specs.declared.types.Request.{Request}
 use Rattle.route_base.specs.declared.types.Route.{Route}
 use Rattle.network_tables.specs.NetworkModel.{NetworkModel}
 use Rattle.network_tables.specs.RoadSetting.{road_setting}
+use Rattle.certificate.specs.Writable.{IsCertificateText}
+use Rattle.certificate.specs.declared.Certificate.{Certificate}
+use Rattle.certificate_check.specs.Verdicts.{IsGood}
 use Rattle.front_desk.specs.CommandLine.{Plan}
+use Rattle.front_desk.specs.Files.{path_of}
 use Rattle.front_desk.specs.ReadingOrder.{first_folder_fault, network_held}
 use Rattle.front_desk.specs.Texts.{report_text}
 use Rattle.front_desk.specs.Trips.{Trip, failed_check, request_of, vehicle_named}
 
--- the text of right routes: of the Pareto front, each pair with a lawful itinerary
-pub record IsFrontText (form : Form) (s : Setting) (request : Request) (text : List ℕ) : Type 0 where
+-- the bytes are the text of a good certificate with just these routes
+pub record IsCertificateOf (s : Setting) (request : Request) (routes : List Route) (bytes : List ℕ) : Type 0 where
+  pub certificate : Certificate
+  pub same : certificate.routes ≡ routes
+  pub good : IsGood s request certificate
+  pub is_text : IsCertificateText bytes certificate
+
+-- the folder holds a good certificate of the routes under this path, and all else is as it was
+pub record HoldsCertificate (s : Setting) (request : Request) (routes : List Route) (path : List ℕ) (before after : Option Contents) : Type 0 where
+  pub bytes : List ℕ
+  pub certifies : IsCertificateOf s request routes bytes
+  pub held : Holds before after path bytes
+
+-- where a certificate is asked for by a name, the folder dir holds it
+abbrev pub Certifies : Setting → Request → List Route → List ℕ → Option (List ℕ) → Option Contents → Option Contents → Type 0
+Certifies s request routes dir None before after = ⊤
+Certifies s request routes dir (Some name) before after = HoldsCertificate s request routes (path_of dir name) before after
+
+-- the text reports right routes, the Pareto front with a lawful itinerary for each pair, and the certificate that was asked for has
+-- just these routes
+pub record IsPlanned (s : Setting) (p : Plan) (before after : Option Contents) (text : List ℕ) : Type 0 where
   pub routes : List Route
-  pub right : IsRight s request routes
-  pub is_text : report_text form s request routes ≡ Some text
+  pub right : IsRight s (request_of p.trip) routes
+  pub is_text : report_text p.form s (request_of p.trip) routes ≡ Some text
+  pub certified : Certifies s (request_of p.trip) routes p.dir p.certificate before after
 
 -- the road setting of the trip's vehicle
 abbrev pub trip_setting : NetworkModel → Trip → Setting
 trip_setting network trip = road_setting network (vehicle_named network trip.vehicle)
 
--- the text reports the front of the plan's trip over the road setting of the folder's network for its vehicle
-abbrev pub IsPlanReport : Plan → Contents → List ℕ → Type 0
-IsPlanReport p held text = IsFrontText p.form (trip_setting (network_held held p.dir) p.trip) (request_of p.trip) text
+-- the text reports the front of the plan's trip over the roads of the folder's network for its vehicle
+abbrev pub IsPlanReport : Plan → Contents → Option Contents → List ℕ → Type 0
+IsPlanReport p held after text = IsPlanned (trip_setting (network_held held p.dir) p.trip) p (Some held) after text
+
+-- a good certificate of right routes of the plan's trip stands under this name in the plan's folder, and all else is as it was
+pub record IsCertified (p : Plan) (name : List ℕ) (held : Contents) (after : Option Contents) : Type 0 where
+  pub routes : List Route
+  pub right : IsRight (trip_setting (network_held held p.dir) p.trip) (request_of p.trip) routes
+  pub certified : HoldsCertificate (trip_setting (network_held held p.dir) p.trip) (request_of p.trip) routes (path_of p.dir name)
+      (Some held) after
 
 -- the first fault of the plan's files
 abbrev pub plan_fault : Plan → Contents → Option BadInput

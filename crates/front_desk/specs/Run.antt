@@ -1,8 +1,8 @@
 -- The text that a run prints for its words over a folder, by its status (source: own).
 use Rattle.std.specs.Prelude.{◌≡◌, ◌⊎◌, ℕ, ⊤, Option, Some, None, List}
 use Rattle.route_base.specs.Contents.{Contents}
-use Rattle.route_base.specs.FolderState.{FolderState, MissedFile}
-use Rattle.route_base.specs.SinkState.{SinkState, Appends, AppendsPrefix, FailedToAppend}
+use Rattle.route_base.specs.FolderState.{FolderState, MissedFile, FailedToWrite}
+use Rattle.route_base.specs.SinkState.{SinkState, Appends, AppendsPrefix, StaysSilent, FailedToAppend}
 use Rattle.route_base.specs.declared.faults.BadInput.{BadInput}
 use Rattle.route_base.specs.declared.faults.Cause.TheVariants.{Missing}
 use Rattle.route_base.specs.declared.faults.RequestFault.{RequestFault}
@@ -10,29 +10,36 @@ use Rattle.route_base.specs.declared.status.Status.{Status}
 use Rattle.route_base.specs.declared.status.Status.TheVariants.{Done, Rejected, Usage, BadInput as BadInputStatus, ReadFault}
 use Rattle.route_base.specs.declared.status.Status.TheVariants.{WriteFault, NoMemory, BadRequest}
 use Rattle.front_desk.specs.CommandLine.{Command, command_of}
-use Rattle.front_desk.specs.Commands.{first_fault_for, failed_check_for, Answers, Rejects}
+use Rattle.front_desk.specs.Commands.{first_fault_for, failed_check_for, Answers, Judges, Rejects, WritesFiles}
 use Rattle.front_desk.specs.Files.{IfTold}
 use Rattle.front_desk.specs.Texts.{refusal_text_of}
 use Rattle.front_desk.specs.declared.outcome.Refusal.{Refusal}
 use Rattle.front_desk.specs.declared.outcome.Refusal.TheVariants.{Usage as UsageRefusal, Input, Request}
 
 -- the command's files have no fault, its request passes all checks, and the text is its answer
-pub record IsAnsweredBy (command : Command) (held : Contents) (text : List ℕ) : Type 0 where
+pub record IsAnsweredBy (command : Command) (held : Contents) (after : Option Contents) (text : List ℕ) : Type 0 where
   pub faultless : first_fault_for command held ≡ None
   pub good : failed_check_for command held ≡ None
-  pub answer : Answers command held text
+  pub answer : Answers command held after text
 
 -- the words are a command, and where the folder tells its contents, the text is the command's answer
-pub record IsAnswer (words : List (List ℕ)) (old : FolderState) (text : List ℕ) : Type 0 where
+pub record IsAnswer (words : List (List ℕ)) (old new : FolderState) (text : List ℕ) : Type 0 where
   pub command : Command
   pub is_command : command_of words ≡ Some command
-  pub answered : IfTold old (λ held. IsAnsweredBy command held text)
+  pub answered : IfTold old (λ held. IsAnsweredBy command held new.contents text)
 
--- the words are a command, and the text rejects the file that it judges
+-- the command's files have no fault, its request passes all checks, and the text rejects the file that it judges
+pub record IsRejectedBy (command : Command) (held : Contents) (text : List ℕ) : Type 0 where
+  pub faultless : first_fault_for command held ≡ None
+  pub good : failed_check_for command held ≡ None
+  pub rejects : Rejects command held text
+
+-- the words are a command that judges a file, and where the folder tells its contents, the text rejects that file
 pub record IsRejection (words : List (List ℕ)) (old : FolderState) (text : List ℕ) : Type 0 where
   pub command : Command
   pub is_command : command_of words ≡ Some command
-  pub rejects : Rejects command old.contents text
+  pub judges : Judges command
+  pub rejected : IfTold old (λ held. IsRejectedBy command held text)
 
 -- a fault is the first, where the folder tells its contents; a missing file was counted
 pub record IsFirstFault (first_fault : Contents → Option BadInput) (old new : FolderState) (fault : BadInput) : Type 0 where
@@ -77,7 +84,7 @@ pub record Refuses (words : List (List ℕ)) (old new : FolderState) (status : S
 
 -- the text that is due with a status
 abbrev pub IsDue : List (List ℕ) → FolderState → FolderState → Status → List ℕ → Type 0
-IsDue words old new Done text = IsAnswer words old text
+IsDue words old new Done text = IsAnswer words old new text
 IsDue words old new Rejected text = IsRejection words old text
 IsDue words old new Usage text = Refuses words old new Usage text
 IsDue words old new BadInputStatus text = Refuses words old new BadInputStatus text
@@ -111,9 +118,17 @@ pub record FailsToPrint (P : Status → List ℕ → Type 0) (from to : SinkStat
   pub is_due : P status text
   pub gained : AppendsPrefix from to text
 
--- how writing failed: no command so far writes files, so it was the sink
+-- a failed write of a file was counted, by a command that writes files, and nothing was printed
+pub record FailsInFolder (words : List (List ℕ)) (old new : FolderState) (from to : SinkState) : Type 0 where
+  pub command : Command
+  pub is_command : command_of words ≡ Some command
+  pub writes : WritesFiles command
+  pub counted : FailedToWrite old new
+  pub silent : StaysSilent from to
+
+-- how writing failed: in the folder, or in the sink
 abbrev pub FailsToWrite : List (List ℕ) → FolderState → FolderState → SinkState → SinkState → Type 0
-FailsToWrite words old new from to = FailsToPrint (IsDue words old new) from to
+FailsToWrite words old new from to = FailsInFolder words old new from to ⊎ FailsToPrint (IsDue words old new) from to
 
 -- reading, writing or memory failed
 abbrev pub HasFailed : Status → Type 0

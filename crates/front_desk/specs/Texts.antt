@@ -64,3 +64,11 @@ refused_text (Request fault) = codes "request " ++ request_fault_name_of fault
 -- the line of a refusal
 abbrev pub refusal_text_of : Refusal → List ℕ
 refusal_text_of refusal = codes "refused " ++ refused_text refusal ++ codes "\n"
+
+-- a certificate is accepted, with its number of pairs
+abbrev pub accepted_text_of : ℕ → List ℕ
+accepted_text_of pairs = codes "accepted " ++ decimal pairs ++ codes "\n"
+
+-- a file is rejected: 0 for no certificate's text, else the number of the first condition that fails
+abbrev pub rejected_text_of : ℕ → List ℕ
+rejected_text_of number = codes "rejected " ++ decimal number ++ codes "\n"

@@ -1,11 +1,11 @@
 // The command that prints the closed minutes of an arc.
-ghost use Rattle.std.specs.Prelude.{◌≡◌, ◌≤◌, length, IfOk, IfErr};
-ghost use Rattle.front_desk.specs.Words.{KeepsFiles, IsInstant, IfTold, StopsCommand, IsAnsweredBy};
+ghost use Rattle.std.specs.Prelude.{◌≡◌, ◌≤◌, false, length, IfOk, IfErr};
+ghost use Rattle.front_desk.specs.Words.{KeepsFiles, IsInstant, StopsCommand, ReportsOn};
 ghost use Rattle.front_desk.specs.Words.{bans_in, to_bans, vehicle_named, IsBansText};
 
 use crate::command_line::Bans;
-use crate::outcome::{Halt, Refusal};
-use crate::plan::load_network;
+use crate::networks::load_network;
+use crate::outcome::{Halt, Refusal, Report};
 use crate::requests::vehicle_of_bans;
 use crate::texts::bans_text;
 use ban_expansion::closed_set;
@@ -42,11 +42,12 @@ pub fn report_bans<F: Folder>(
     alloc: Global,
     folder: &mut F,
     bans: Bans<'_>,
-) -> Result<Vec<u8>, Halt>
+) -> Result<Report, Halt>
     requires depart { IsInstant bans.depart }
     requires until { IsInstant bans.until }
-    ensures answered { IfOk result (λ text. IfTold (F.state folder.old)
-        (λ held. IsAnsweredBy (to_bans (bans_in bans.entry)) held text.items)) }
+    ensures reports { IfOk result (ReportsOn (to_bans (bans_in bans.entry))
+        (F.state folder.old) (F.state folder.new)) }
+    ensures done { IfOk result (λ report. report.rejects ≡ false) }
     ensures halted { IfErr result (StopsCommand (to_bans (bans_in bans.entry))
         (F.state folder.old) (F.state folder.new)) }
     ensures kept { KeepsFiles (F.state folder.old) (F.state folder.new) }
@@ -54,6 +55,9 @@ pub fn report_bans<F: Folder>(
     let network = load_network(alloc, folder, bans.dir)?;
     match vehicle_of_bans(&network, bans) {
         Err(fault) => Err(Halt::Refused(Refusal::Request(fault))),
-        Ok(vehicle) => Ok(closed_report(alloc, &network, vehicle, bans)?),
+        Ok(vehicle) => Ok(Report {
+            text: closed_report(alloc, &network, vehicle, bans)?,
+            rejects: false,
+        }),
     }
 }

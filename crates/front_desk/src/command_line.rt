@@ -1,19 +1,30 @@
 // Reads the words of the command line.
 ghost use Rattle.std.specs.Prelude.{◌≡◌, IfSome, option_map};
 ghost use Rattle.front_desk.specs.Words.{is_folder_name, node_of, trip_of, plan_of, plan_in, command_of, command_in};
-ghost use Rattle.front_desk.specs.Words.{IsSupported, AsksSupported, IsInstant, trip_in, bans_of, bans_in};
+ghost use Rattle.front_desk.specs.Words.{IsSupported, AsksSupported, IsTimed, IsInstant, trip_in, trip_over, bans_of, bans_in};
+ghost use Rattle.front_desk.specs.Words.{is_certificate_name, plain_plan_of, certified_plan_of, check_of, check_in};
 
 use crate::requests::Trip;
 use calendar_days::read_instant;
 use route_base::limits::LONGEST_FOLDER;
 use route_base::{Form, Minute, Text, is_name_field, read_plain_number};
 
-/// The command that plans a trip over the files of the folder `dir` and reports it in a form.
+/// The command that plans a trip over the files of the folder `dir`, reports it in a form, and writes a certificate into the folder
+/// where a name is given for it.
 #[derive(Clone, Copy)]
 pub struct Plan<'a> {
     pub dir: &'a str,
     pub trip: Trip<'a>,
     pub form: Form,
+    pub certificate: Option<&'a str>,
+}
+
+/// The command that judges the certificate `name` for a trip over the files of the folder `dir`.
+#[derive(Clone, Copy)]
+pub struct Check<'a> {
+    pub dir: &'a str,
+    pub trip: Trip<'a>,
+    pub name: &'a str,
 }
 
 /// The command that prints the minutes from `depart` up to, but not with, `until` at which an arc is closed to a vehicle, over the
@@ -31,6 +42,7 @@ pub struct Bans<'a> {
 #[derive(Clone, Copy)]
 pub enum Command<'a> {
     Plan(Plan<'a>),
+    Check(Check<'a>),
     Bans(Bans<'a>),
 }
 
@@ -42,6 +54,14 @@ fn is_folder_word(word: &str) -> bool
         [] => false,
         [first, ..] => *first != b'-' && word.len() <= LONGEST_FOLDER,
     }
+}
+
+// Whether a word is the name of a certificate.
+#[tactic(auto, unfolding(crate::specs::CommandLine::is_certificate_name))]
+fn is_certificate_word(word: &str) -> bool
+    ensures { result ≡ is_certificate_name word.now }
+{
+    is_name_field(word.as_bytes()) && word.as_bytes().ends_with(b".cert")
 }
 
 // The number of a node or of an arc.
@@ -66,7 +86,7 @@ fn trip_words<'a>(
 ) -> Option<Trip<'a>>
     ensures trip { option_map trip_in result
         ≡ trip_of vehicle.now origin.now goal.now depart.now until.now }
-    ensures instants { IfSome result (λ trip. IsInstant trip.depart × IsInstant trip.until) }
+    ensures timed { IfSome result (λ trip. IsTimed (trip_in trip)) }
 {
     Some(Trip {
         vehicle,
@@ -77,18 +97,36 @@ fn trip_words<'a>(
     })
 }
 
-// The plan of the words behind the command's name.
-fn plan_words(words: &[Text]) -> Option<Plan<'_>>
-    ensures plan { option_map plan_in result ≡ plan_of words.now }
+// The trip of a folder's word and five more.
+#[tactic(auto, unfolding(crate::specs::CommandLine::trip_over))]
+fn trip_over<'a>(
+    dir: &str,
+    vehicle: &'a str,
+    origin: &str,
+    goal: &str,
+    depart: &str,
+    until: &str,
+) -> Option<Trip<'a>>
+    ensures trip { option_map trip_in result
+        ≡ trip_over dir.now vehicle.now origin.now goal.now depart.now until.now }
+    ensures timed { IfSome result (λ trip. IsTimed (trip_in trip)) }
+{
+    if !is_name_field(vehicle.as_bytes()) || !is_folder_word(dir) {
+        return None;
+    }
+    trip_words(vehicle, origin, goal, depart, until)
+}
+
+// The plan of the words behind the command's name, without a certificate.
+fn plain_plan(words: &[Text]) -> Option<Plan<'_>>
+    ensures plan { option_map plan_in result ≡ plain_plan_of words.now }
     ensures supported { IfSome result (λ p. IsSupported (plan_in p)) }
 {
     let [dir, vehicle, origin, goal, depart, until] = words else {
         return None;
     };
-    if !is_name_field(vehicle.as_str().as_bytes()) || !is_folder_word(dir.as_str()) {
-        return None;
-    }
-    let trip = trip_words(
+    let trip = trip_over(
+        dir.as_str(),
         vehicle.as_str(),
         origin.as_str(),
         goal.as_str(),
@@ -99,6 +137,81 @@ fn plan_words(words: &[Text]) -> Option<Plan<'_>>
         dir: dir.as_str(),
         trip,
         form: Form::Plain,
+        certificate: None,
+    })
+}
+
+// The plan of the words behind the command's name, with a certificate.
+fn certified_plan(words: &[Text]) -> Option<Plan<'_>>
+    ensures plan { option_map plan_in result ≡ certified_plan_of words.now }
+    ensures supported { IfSome result (λ p. IsSupported (plan_in p)) }
+{
+    let [
+        dir,
+        vehicle,
+        origin,
+        goal,
+        depart,
+        until,
+        option,
+        name,
+    ] = words
+    else {
+        return None;
+    };
+    if option.as_str() != "--certificate" || !is_certificate_word(name.as_str()) {
+        return None;
+    }
+    let trip = trip_over(
+        dir.as_str(),
+        vehicle.as_str(),
+        origin.as_str(),
+        goal.as_str(),
+        depart.as_str(),
+        until.as_str(),
+    )?;
+    Some(Plan {
+        dir: dir.as_str(),
+        trip,
+        form: Form::Plain,
+        certificate: Some(name.as_str()),
+    })
+}
+
+// The plan of the words behind the command's name.
+fn plan_words(words: &[Text]) -> Option<Plan<'_>>
+    ensures plan { option_map plan_in result ≡ plan_of words.now }
+    ensures supported { IfSome result (λ p. IsSupported (plan_in p)) }
+{
+    match plain_plan(words) {
+        Some(plan) => Some(plan),
+        None => certified_plan(words),
+    }
+}
+
+// The check of the words behind the command's name.
+fn check_words(words: &[Text]) -> Option<Check<'_>>
+    ensures check { option_map check_in result ≡ check_of words.now }
+    ensures timed { IfSome result (λ c. IsTimed (check_in c).trip) }
+{
+    let [dir, vehicle, origin, goal, depart, until, name] = words else {
+        return None;
+    };
+    if !is_certificate_word(name.as_str()) {
+        return None;
+    }
+    let trip = trip_over(
+        dir.as_str(),
+        vehicle.as_str(),
+        origin.as_str(),
+        goal.as_str(),
+        depart.as_str(),
+        until.as_str(),
+    )?;
+    Some(Check {
+        dir: dir.as_str(),
+        trip,
+        name: name.as_str(),
     })
 }
 
@@ -124,9 +237,10 @@ fn bans_words(words: &[Text]) -> Option<Bans<'_>>
 
 /// The command that the words are; `None` exactly where they are none. Linear in the length of the words.
 ///
-/// The commands are `plan DIR VEHICLE FROM TO DEPART UNTIL` and `bans DIR VEHICLE ARC DEPART UNTIL`. DIR has 1 to 4,096 bytes and doesn't
-/// begin with `-`; VEHICLE is a name, and `any` is one; FROM, TO and ARC are numbers of 32 bits without a leading zero; DEPART and UNTIL are
-/// instants, as texts or as Unix minutes.
+/// The commands are `plan DIR VEHICLE FROM TO DEPART UNTIL`, which `--certificate NAME` may follow, `check DIR VEHICLE FROM TO DEPART
+/// UNTIL NAME` and `bans DIR VEHICLE ARC DEPART UNTIL`. DIR has 1 to 4,096 bytes and doesn't begin with `-`; VEHICLE is a name, and
+/// `any` is one; FROM, TO and ARC are numbers of 32 bits without a leading zero; DEPART and UNTIL are instants, as texts or as Unix
+/// minutes; NAME is a name that ends in `.cert`.
 pub fn read_command(words: &[Text]) -> Option<Command<'_>>
     ensures command { option_map command_in result ≡ command_of words.now }
     ensures supported { IfSome result (λ c. AsksSupported (command_in c)) }
@@ -136,6 +250,9 @@ pub fn read_command(words: &[Text]) -> Option<Command<'_>>
     };
     if name.as_str() == "plan" {
         return Some(Command::Plan(plan_words(rest)?));
+    }
+    if name.as_str() == "check" {
+        return Some(Command::Check(check_words(rest)?));
     }
     if name.as_str() == "bans" {
         return Some(Command::Bans(bans_words(rest)?));

@@ -2,7 +2,7 @@
 ghost use Rattle.std.specs.Prelude.{◌≢◌};
 ghost use Rattle.route_base.specs.declared.faults.Cause.TheVariants.{Missing};
 
-use route_base::limits::LONGEST_FILE;
+use route_base::limits::{LONGEST_CERTIFICATE, LONGEST_FILE};
 use route_base::{Cause, FileKind};
 
 /// A file to read: its kind, its name below the folder, whether it has to be there, the most bytes that it may have, and the
@@ -44,6 +44,25 @@ impl FileToRead<'static> {
             name: kind.label(),
             required: false,
             limit: LONGEST_FILE,
+            beyond: Cause::TooLong,
+        }
+    }
+}
+
+impl<'a> FileToRead<'a> {
+    ghost use Rattle.std.specs.Prelude.{◌≡◌};
+    ghost use Rattle.front_desk.specs.Files.{file_in};
+    ghost use Rattle.front_desk.specs.Check.{certificate_file};
+
+    /// The certificate of this name, which has to be there.
+    pub fn certificate(name: &'a str) -> FileToRead<'a>
+        ensures { file_in result ≡ certificate_file name.now }
+    {
+        FileToRead {
+            kind: FileKind::Certificate,
+            name,
+            required: true,
+            limit: LONGEST_CERTIFICATE,
             beyond: Cause::TooLong,
         }
     }

@@ -1,7 +1,8 @@
 // Reads the files of a folder one after another.
-ghost use Rattle.std.specs.Prelude.{◌≡◌, Some, None, IfOk, OnOk, IfErr, string_bytes, map, length};
+ghost use Rattle.std.specs.Prelude.{◌≡◌, ◌++◌, ◌∷◌, [], Some, None, IfOk, OnOk, IfErr, string_bytes, map, length};
 ghost use Rattle.front_desk.specs.Words.{KeepsFiles, IfTold, path_of, whole_fault, fault_of_file, first_unreadable, file_in, IsRead};
 ghost use Rattle.front_desk.specs.Words.{AreRead, network_files, files_from, files_of, StopsReading};
+ghost use Rattle.front_desk.specs.Words.{bytes_at, certificate_file};
 
 use crate::file_to_read::FileToRead;
 use crate::outcome::{Halt, Refusal};
@@ -29,8 +30,39 @@ fn network_files() -> [FileToRead<'static>; 10]
     ]
 }
 
-// The name under which the folder is asked for a file of dir.
-fn path_to(alloc: Global, dir: &str, name: &str) -> Result<String, OutOfMemory>
+// The files of a network, and then the certificate of this name.
+fn files_to_check(name: &str) -> [FileToRead<'_>; 11]
+    ensures { map file_in result ≡ network_files ++ certificate_file name.now ∷ [] }
+{
+    let [
+        graph,
+        zones,
+        areas,
+        roads,
+        vehicles,
+        rules,
+        closures,
+        ratings,
+        parking,
+        holidays,
+    ] = network_files();
+    [
+        graph,
+        zones,
+        areas,
+        roads,
+        vehicles,
+        rules,
+        closures,
+        ratings,
+        parking,
+        holidays,
+        FileToRead::certificate(name),
+    ]
+}
+
+/// The name under which the folder is asked for a file of dir.
+pub fn path_to(alloc: Global, dir: &str, name: &str) -> Result<String, OutOfMemory>
     ensures { IfOk result (λ path. string_bytes path ≡ path_of dir.now name.now) }
 {
     let mut path = String::from_str(alloc, dir)?;
@@ -156,4 +188,48 @@ pub fn read_network_files<F: Folder>(
     let files = network_files();
     let read = read_each(alloc, folder, dir, &files)?;
     Ok(named_files(read))
+}
+
+// The bytes of the files of a network, and then of the certificate of this name.
+fn read_each_to_check<F: Folder>(
+    alloc: Global,
+    folder: &mut F,
+    dir: &str,
+    name: &str,
+) -> Result<Vec<FileBytes>, Halt>
+    ensures read { IfOk result (λ read. AreRead (F.state folder.old) dir.now
+        (network_files ++ certificate_file name.now ∷ []) read.items) }
+    ensures halted { IfErr result (StopsReading (λ held.
+        first_unreadable held dir.now (network_files ++ certificate_file name.now ∷ []))
+        (F.state folder.old) (F.state folder.new)) }
+    ensures kept { KeepsFiles (F.state folder.old) (F.state folder.new) }
+{
+    let files = files_to_check(name);
+    read_each(alloc, folder, dir, &files)
+}
+
+/// The files of a network in the folder dir, and the bytes of the certificate of this name, which is read behind them. Linear in the
+/// bytes.
+pub fn read_files_to_check<F: Folder>(
+    alloc: Global,
+    folder: &mut F,
+    dir: &str,
+    name: &str,
+) -> Result<(Files, FileBytes), Halt>
+    ensures files { IfOk result (λ read.
+        IfTold (F.state folder.old) (λ held. read.0 ≡ files_of held dir.now)) }
+    ensures certificate { IfOk result (λ read. IfTold (F.state folder.old)
+        (λ held. read.1 ≡ bytes_at held dir.now (certificate_file name.now))) }
+    ensures readable { OnOk result (IfTold (F.state folder.old) (λ held.
+        first_unreadable held dir.now (network_files ++ certificate_file name.now ∷ []) ≡ None)) }
+    ensures halted { IfErr result (StopsReading (λ held.
+        first_unreadable held dir.now (network_files ++ certificate_file name.now ∷ []))
+        (F.state folder.old) (F.state folder.new)) }
+    ensures kept { KeepsFiles (F.state folder.old) (F.state folder.new) }
+{
+    let mut read = read_each_to_check(alloc, folder, dir, name)?;
+    match read.pop() {
+        Some(certificate) => Ok((named_files(read), certificate)),
+        None => unreachable!(),
+    }
 }

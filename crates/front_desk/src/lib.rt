@@ -1,14 +1,15 @@
 //! The program itself: from command-line words and files to the printed answer.
 //!
-//! `command_line` reads the words, `files` reads a folder's files one after another, `requests` checks a request and finds its vehicle,
-//! and `texts` writes reports and the lines of refusals. Each command has a module of its own, `plan` and `bans`; `commands` has one
-//! case for each. `desk` has the top call, `run`; `outcome` says why a command may end without its text.
+//! `command_line` reads the words, `files` reads a folder's files one after another, `networks` makes a network of them and the net of a
+//! trip, `requests` checks a request and finds its vehicle, and `texts` writes reports and the lines of refusals. Each command has a module
+//! of its own, `plan`, `judgement` (of certificates) and `bans`; `commands` has one case for each. `desk` has the top call, `run`;
+//! `outcome` says how a command may end.
 //!
 //! The law of `run` is in `specs/`. `Run` says which text is due with each status, over `Commands` (the answer, the refusals and the
 //! files of each command, one line a command), `CommandLine` (the command that words are), `ReadingOrder` and `Files` (the first
-//! fault of a folder's files, and the network that they state), `Trips` (the first check that fails), `Plan` and `Bans` (the reports
-//! of the commands) and `Texts`. It is proved on `run`; each other call answers exactly what its definition says. `Inside` is no law:
-//! it has the facts that the functions hand to one another. `Words` passes the names of all these on to the contracts.
+//! fault of a folder's files, and the network that they state), `Trips` (the first check that fails), `Plan`, `Check` and `Bans` (the
+//! answers of the commands) and `Texts`. It is proved on `run`; each other call answers exactly what its definition says. `Inside` is no
+//! law: it has the facts that the functions hand to one another. `Words` passes the names of all these on to the contracts.
 #![tactic(auto)]
 
 mod bans;
@@ -17,6 +18,8 @@ mod commands;
 mod desk;
 mod file_to_read;
 mod files;
+mod judgement;
+mod networks;
 mod outcome;
 mod plan;
 mod requests;

@@ -1,6 +1,7 @@
 // Why a command ends without its text.
 ghost use Rattle.std.specs.Prelude.{◌≡◌};
 ghost use Rattle.front_desk.specs.Run.{status_of};
+ghost use Rattle.front_desk.specs.Inside.Halting.{status_of_report};
 
 use route_base::{BadInput, OutOfMemory, RequestFault, Status};
 
@@ -25,11 +26,32 @@ impl Refusal {
     }
 }
 
-/// Why a command ends before its text is there: it is refused, reading failed, or memory ran out.
+/// The text of a command that came to its end, and whether it rejects the file that the command judges.
+#[derive(Drop)]
+pub struct Report {
+    pub text: Vec<u8>,
+    pub rejects: bool,
+}
+
+impl Report {
+    /// The status of the report.
+    pub fn status(&self) -> Status
+        ensures { result ≡ status_of_report self.now }
+    {
+        if self.rejects {
+            Status::Rejected
+        } else {
+            Status::Done
+        }
+    }
+}
+
+/// Why a command ends before its text is there: it is refused, reading failed, writing a file failed, or memory ran out.
 #[derive(Clone, Copy, Debug, PartialEq, Eq)]
 pub enum Halt {
     Refused(Refusal),
     ReadFault,
+    WriteFault,
     NoMemory,
 }
 

@@ -1,81 +1,171 @@
 // The command that plans a trip.
-ghost use Rattle.std.specs.Prelude.{◌≡◌, None, IfOk, OnOk, IfErr};
-ghost use Rattle.front_desk.specs.Words.{KeepsFiles, IsInstant, IsGoodNetwork, trip_setting, vehicle_named, plan_in, to_plan, IsSupported};
-ghost use Rattle.front_desk.specs.Words.{first_folder_fault, network_held, IsFrontText, IsAnsweredBy, request_of, trip_in};
-ghost use Rattle.front_desk.specs.Words.{IsGoodTrip, StopsReading, StopsCommand, IfTold};
+ghost use Rattle.std.specs.Prelude.{◌≡◌, Some, IfOk, OnOk, IfErr, IfSome, false};
+ghost use Rattle.front_desk.specs.Words.{CountsRise, IsGoodNetwork, trip_setting, vehicle_named, plan_in, to_plan, IsSupported};
+ghost use Rattle.front_desk.specs.Words.{request_of, trip_in, IsGoodTrip, IsCertificateOf, IsTripNet, IsFileFor, IsReady};
+ghost use Rattle.front_desk.specs.Words.{StopsCommand, ReportsOn, LeavesPlan, IfTold, status_of_halt, HandsOver, IsWritten, IsUnwritten};
+ghost use Rattle.route_base.specs.Front.{IsRight};
+ghost use Rattle.route_base.specs.declared.status.Status.TheVariants.{Done};
 
 use crate::command_line::Plan;
-use crate::files::read_network_files;
-use crate::outcome::{Halt, Refusal};
+use crate::files::path_to;
+use crate::networks::{load_network, net_of_trip};
+use crate::outcome::{Halt, Refusal, Report};
 use crate::requests::{Trip, request_of, vehicle_of_trip};
 use crate::texts::plain_text;
-use ban_expansion::expand_plain;
-use network_tables::{Network, NetworkFault, read_network};
+use certificate::write;
+use certificate_check::verdicts_agree;
+use network_tables::Network;
 use plain_search::TableEngine;
-use route_base::{Folder, Form, FrontSearch, OutOfMemory, Run, settings_agree};
+use plan_certificate::certify;
+use route_base::{
+    Folder, FrontSearch, OutOfMemory, Routes, TimedNet, WriteError, settings_agree,
+};
 use std::alloc::Global;
 use vehicle_classes::Vehicle;
 
-/// The network of the folder's files.
-pub fn load_network<F: Folder>(alloc: Global, folder: &mut F, dir: &str) -> Result<Network, Halt>
-    ensures faultless { OnOk result
-        (IfTold (F.state folder.old) (λ held. first_folder_fault held dir.now ≡ None)) }
-    ensures found { IfOk result (λ network.
-        IfTold (F.state folder.old) (λ held. network ≡ network_held held dir.now)) }
-    ensures halted { IfErr result (StopsReading (λ held. first_folder_fault held dir.now)
-        (F.state folder.old) (F.state folder.new)) }
-    ensures kept { KeepsFiles (F.state folder.old) (F.state folder.new) }
+/// The bytes of a certificate, and the name of the file that they are for.
+#[derive(Drop)]
+pub struct CertificateFile<'a> {
+    pub name: &'a str,
+    pub bytes: Vec<u8>,
+}
+
+/// The text of a plan, and its certificate where one is asked for.
+#[derive(Drop)]
+pub struct Planned<'a> {
+    pub text: Vec<u8>,
+    pub certificate: Option<CertificateFile<'a>>,
+}
+
+// The text of a certificate of the trip's routes over the net.
+fn certificate_bytes(
+    alloc: Global,
+    network: &Network,
+    net: &TimedNet,
+    trip: Trip<'_>,
+    routes: Routes,
+) -> Result<Vec<u8>, OutOfMemory>
+    requires net { IsTripNet network.now (trip_in trip) net.now }
+    requires good { IsGoodTrip network.now.graph.nodes (trip_in trip) }
+    requires right { IsRight (trip_setting network.now (trip_in trip)) (request_of (trip_in trip)) routes }
+    ensures { IfOk result (λ bytes. IsCertificateOf (trip_setting network.now (trip_in trip.entry))
+        (request_of (trip_in trip.entry)) routes bytes.items) }
 {
-    let files = read_network_files(alloc, folder, dir)?;
-    match read_network(alloc, &files) {
-        Ok(network) => Ok(network),
-        Err(NetworkFault::Bad(fault)) => Err(Halt::Refused(Refusal::Input(fault))),
-        Err(NetworkFault::OutOfMemory) => Err(Halt::NoMemory),
+    settings_agree();
+    verdicts_agree();
+    let certificate = certify(alloc, net, request_of(trip), routes)?;
+    write(alloc, &certificate)
+}
+
+// The certificate's file, where one is asked for.
+fn file_for<'a>(
+    alloc: Global,
+    network: &Network,
+    net: &TimedNet,
+    plan: Plan<'a>,
+    routes: Routes,
+) -> Result<Option<CertificateFile<'a>>, OutOfMemory>
+    requires net { IsTripNet network.now (plan_in plan).trip net.now }
+    requires good { IsGoodTrip network.now.graph.nodes (plan_in plan).trip }
+    requires right { IsRight (trip_setting network.now (plan_in plan).trip) (request_of (plan_in plan).trip) routes }
+    ensures { IfOk result (IsFileFor (trip_setting network.now (plan_in plan.entry).trip)
+        (request_of (plan_in plan.entry).trip) routes (plan_in plan.entry).certificate) }
+{
+    match plan.certificate {
+        None => Ok(None),
+        Some(name) => {
+            let bytes = certificate_bytes(alloc, network, net, plan.trip, routes)?;
+            Ok(Some(CertificateFile { name, bytes }))
+        }
     }
 }
 
-// The report of a trip that passes the checks, for its vehicle.
-fn front_text(
+// What the plan of a trip that passes the checks prints and writes, for its vehicle.
+fn planned_trip<'a>(
     alloc: Global,
     network: &Network,
     vehicle: &Vehicle,
-    trip: Trip<'_>,
-) -> Result<Vec<u8>, OutOfMemory>
+    plan: Plan<'a>,
+) -> Result<Planned<'a>, OutOfMemory>
     requires network { IsGoodNetwork network.now }
-    requires vehicle { vehicle.now ≡ vehicle_named network.now (trip_in trip).vehicle }
-    requires good { IsGoodTrip network.now.graph.nodes (trip_in trip) }
-    requires depart { IsInstant trip.depart }
-    requires until { IsInstant trip.until }
-    ensures { IfOk result (λ text.
-        IsFrontText Form.Plain (trip_setting network.now (trip_in trip.entry))
-        (request_of (trip_in trip.entry)) text.items) }
+    requires vehicle { vehicle.now ≡ vehicle_named network.now (plan_in plan).trip.vehicle }
+    requires good { IsGoodTrip network.now.graph.nodes (plan_in plan).trip }
+    requires supported { IsSupported (plan_in plan) }
+    ensures { IfOk result (IsReady (trip_setting network.now (plan_in plan.entry).trip) (plan_in plan.entry)) }
 {
-    let window = Run {
-        lo: trip.depart,
-        hi: trip.until,
-    };
-    let net = expand_plain(alloc, network, vehicle, window)?;
+    let net = net_of_trip(alloc, network, vehicle, plan.trip)?;
     settings_agree();
-    let routes = TableEngine.front(alloc, &net, request_of(trip))?;
-    plain_text(alloc, &routes)
+    let routes = TableEngine.front(alloc, &net, request_of(plan.trip))?;
+    let text = plain_text(alloc, &routes)?;
+    let certificate = file_for(alloc, network, &net, plan, routes)?;
+    Ok(Planned { text, certificate })
 }
 
-/// The report of the plan's trip over the files of its folder.
+// Writes the certificate's file below dir, if there is one.
+fn put_file<F: Folder>(
+    alloc: Global,
+    folder: &mut F,
+    dir: &str,
+    certificate: Option<CertificateFile<'_>>,
+) -> Result<(), Halt>
+    ensures written { OnOk result
+        (IsWritten (F.state folder.old) (F.state folder.new) dir.now certificate.entry) }
+    ensures unwritten { IfErr result
+        (IsUnwritten (F.state folder.old) (F.state folder.new) dir.now certificate.entry) }
+{
+    let Some(file) = certificate else {
+        return Ok(());
+    };
+    let path = path_to(alloc, dir, file.name)?;
+    match folder.write_file(path.as_str(), file.bytes.as_slice()) {
+        Ok(()) => Ok(()),
+        Err(WriteError::Failed) => Err(Halt::WriteFault),
+        Err(WriteError::OutOfMemory) => Err(Halt::NoMemory),
+    }
+}
+
+// Writes the certificate of a plan, if there is one, and hands over the text.
+fn hand_over<F: Folder>(
+    alloc: Global,
+    folder: &mut F,
+    dir: &str,
+    planned: Planned<'_>,
+) -> Result<Report, Halt>
+    ensures { HandsOver (F.state folder.old) (F.state folder.new) dir.now planned.entry result }
+{
+    let Planned { text, certificate } = planned;
+    put_file(alloc, folder, dir, certificate)?;
+    Ok(Report {
+        text,
+        rejects: false,
+    })
+}
+
+/// The report of the plan's trip over the files of its folder, into which its certificate is written where one is asked for.
 pub fn report_plan<F: Folder>(
     alloc: Global,
     folder: &mut F,
     plan: Plan<'_>,
-) -> Result<Vec<u8>, Halt>
+) -> Result<Report, Halt>
     requires supported { IsSupported (plan_in plan) }
-    ensures answered { IfOk result (λ text. IfTold (F.state folder.old)
-        (λ held. IsAnsweredBy (to_plan (plan_in plan.entry)) held text.items)) }
+    ensures reports { IfOk result (ReportsOn (to_plan (plan_in plan.entry))
+        (F.state folder.old) (F.state folder.new)) }
+    ensures done { IfOk result (λ report. report.rejects ≡ false) }
     ensures halted { IfErr result (StopsCommand (to_plan (plan_in plan.entry))
         (F.state folder.old) (F.state folder.new)) }
-    ensures kept { KeepsFiles (F.state folder.old) (F.state folder.new) }
+    ensures left { OnOk result (LeavesPlan (plan_in plan.entry) (plan_in plan.entry).certificate
+        (F.state folder.old) (F.state folder.new) Done) }
+    ensures left_halted { IfErr result (λ halt. LeavesPlan (plan_in plan.entry)
+        (plan_in plan.entry).certificate (F.state folder.old) (F.state folder.new)
+        (status_of_halt halt)) }
+    ensures counts { CountsRise (F.state folder.old) (F.state folder.new) }
 {
     let network = load_network(alloc, folder, plan.dir)?;
     match vehicle_of_trip(&network, plan.trip) {
-        Ok(vehicle) => Ok(front_text(alloc, &network, vehicle, plan.trip)?),
+        Ok(vehicle) => {
+            let planned = planned_trip(alloc, &network, vehicle, plan)?;
+            hand_over(alloc, folder, plan.dir, planned)
+        }
         Err(fault) => Err(Halt::Refused(Refusal::Request(fault))),
     }
 }

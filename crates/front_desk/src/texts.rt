@@ -1,6 +1,6 @@
 // Writes reports and the lines of refusals.
 ghost use Rattle.std.specs.Prelude.{◌≡◌, ◌++◌, All, OnOk, IfOk, decimal, flat_map};
-ghost use Rattle.front_desk.specs.Words.{IsInstant, closed_text, bans_text_of};
+ghost use Rattle.front_desk.specs.Words.{IsInstant, closed_text, bans_text_of, accepted_text_of, rejected_text_of};
 ghost use Rattle.front_desk.specs.Words.{thousandths_of, leg_text, route_text, plain_text_of, fault_text, refusal_text_of};
 
 use crate::outcome::Refusal;
@@ -139,6 +139,28 @@ pub fn bans_text(alloc: Global, runs: &[Run], passed: u64) -> Result<Vec<u8>, Ou
     push_closures(&mut out, runs)?;
     push_text(&mut out, "passed ")?;
     push_number(&mut out, passed)?;
+    push_text(&mut out, "\n")?;
+    Ok(out)
+}
+
+/// The line that accepts a certificate of this number of pairs.
+pub fn accepted_text(alloc: Global, pairs: usize) -> Result<Vec<u8>, OutOfMemory>
+    ensures { IfOk result (λ v. v.items ≡ accepted_text_of pairs) }
+{
+    let mut out = Vec::new(alloc);
+    push_text(&mut out, "accepted ")?;
+    push_number(&mut out, pairs as u64)?;
+    push_text(&mut out, "\n")?;
+    Ok(out)
+}
+
+/// The line that rejects a file: 0 for one that is no certificate's text, else the number of the first condition that fails.
+pub fn rejected_text(alloc: Global, number: u32) -> Result<Vec<u8>, OutOfMemory>
+    ensures { IfOk result (λ v. v.items ≡ rejected_text_of number) }
+{
+    let mut out = Vec::new(alloc);
+    push_text(&mut out, "rejected ")?;
+    push_number(&mut out, number as u64)?;
     push_text(&mut out, "\n")?;
     Ok(out)
 }

@@ -1,6 +1,7 @@
 //! The tests that cross crates, by subject: whole runs, the objects in memory, and the edge to the system.
 
 mod bans;
+mod certificates;
 mod faults;
 mod fronts;
 mod graph;

@@ -109,3 +109,50 @@ fn counts_calls_over_reading_and_writing(rt: HostRuntime) -> Result<(), Fail> {
     assert_eq!(rt; folder.contents("abc"), None);
     Ok(())
 }
+
+#[test]
+fn leaves_certificates_whole_or_not_at_all(rt: HostRuntime) -> Result<(), Fail> {
+    let words = words_of(
+        rt.alloc(),
+        "plan d any 1 3 26563680 26564080 --certificate c.cert",
+    )?;
+    // Fourteen calls read, and the fifteenth writes the certificate.
+    for failing in 1..=15 {
+        let mut folder = failing_folder(rt.alloc(), NETWORK, failing)?;
+        let mut sink = MemSink::new(rt.alloc(), just(rt.alloc(), 0)?);
+        let ended = run(
+            &rt,
+            rt.alloc(),
+            words.as_slice(),
+            &mut folder,
+            &mut sink,
+        );
+        let due = if failing == 15 {
+            Status::WriteFault
+        } else {
+            Status::ReadFault
+        };
+        assert_eq!(rt; ended, due, "failing at {failing}");
+        assert_eq!(rt; sink.written().len(), 0);
+        assert!(rt; folder.contents("d/c.cert").is_none() || failing == 15);
+    }
+    let mut folder = failing_folder(rt.alloc(), NETWORK, 0)?;
+    let mut sink = MemSink::new(rt.alloc(), just(rt.alloc(), 1)?);
+    let ended = run(
+        &rt,
+        rt.alloc(),
+        words.as_slice(),
+        &mut folder,
+        &mut sink,
+    );
+    assert_eq!(rt; ended, Status::WriteFault);
+    assert_eq!(rt; sink.written().len(), 0);
+    match folder.contents("d/c.cert") {
+        Some(bytes) => {
+            assert!(rt; bytes.starts_with(b"lorry-certificate 1\npairs 2\n"));
+            assert!(rt; bytes.ends_with(b"\nend\n"));
+        }
+        None => assert!(rt; false),
+    }
+    Ok(())
+}

@@ -1,0 +1,189 @@
+-- A plan that is ready is handed over.
+use Rattle.std.proofs.Common.{◌≡◌, inl, inr, ℕ, ◌≤◌, true, false, Some, None, Option, List, Result, Ok, Err, refl, ap, sym, subst, ◌∙◌, arith}
+use Rattle.std.specs.Prelude.{IfOk, IfErr, OnOk}
+use Rattle.std.proofs.lemmas.Bool.{both_ways}
+use Rattle.route_base.specs.Contents.{Contents, Holds, LeavesOpen}
+use Rattle.route_base.specs.Counts.{HasRisen}
+use Rattle.route_base.specs.FolderState.{FolderState, CountsRise, KeepsFiles, FailedToWrite}
+use Rattle.route_base.specs.Front.{IsRight}
+use Rattle.route_base.specs.Setting.{Setting}
+use Rattle.route_base.specs.declared.status.Status.TheVariants.{Done}
+use Rattle.route_base.specs.declared.types.Route.{Route}
+use Rattle.network_tables.specs.NetworkModel.{NetworkModel}
+use Rattle.front_desk.specs.CommandLine.{Plan, to_plan}
+use Rattle.front_desk.specs.Commands.{PlanWrites, PutsCertificate, LeavesPlan}
+use Rattle.front_desk.specs.Files.{IfTold, path_of}
+use Rattle.front_desk.specs.Inside.Halting.{ReportsOn, StopsCommand, status_of_halt}
+use Rattle.front_desk.specs.Inside.Planning.{IsFileFor, IsReady, IsWritten, IsUnwritten, HandsOver}
+use Rattle.front_desk.specs.Plan.{Certifies, HoldsCertificate, IsPlanned, plan_fault, plan_check, trip_setting}
+use Rattle.front_desk.specs.ReadingOrder.{network_held}
+use Rattle.front_desk.specs.Trips.{failed_check, request_of}
+use Rattle.front_desk.specs.declared.outcome.Halt.{Halt}
+use Rattle.front_desk.specs.declared.outcome.Halt.TheVariants.{Refused, ReadFault, WriteFault, NoMemory}
+use Rattle.front_desk.specs.declared.outcome.Refusal.TheVariants.{Usage, Input, Request}
+use Rattle.front_desk.specs.declared.outcome.Report.{Report}
+use Rattle.front_desk.specs.declared.plan.CertificateFile.{CertificateFile}
+use Rattle.front_desk.specs.declared.plan.Planned.{Planned}
+
+-- what holds under a name leaves all else open
+opened : (before after : Option Contents) (path bytes : List ℕ) → Holds before after path bytes → LeavesOpen before after path
+opened None None path bytes holds = tt
+opened None (Some new) path bytes holds = holds
+opened (Some old) None path bytes holds = holds
+opened (Some old) (Some new) path bytes holds = holds.1
+
+kept_more : (old mid new : FolderState) → KeepsFiles old mid → KeepsFiles mid new → KeepsFiles old new
+kept_more old mid new a b = record {
+  contents = b.contents ∙ a.contents;
+  missing = omega (arith, a.missing, b.missing);
+  read_faults = omega (arith, a.read_faults, b.read_faults);
+  write_faults = b.write_faults ∙ a.write_faults;
+}
+
+rise_more : (old mid new : FolderState) → KeepsFiles old mid → CountsRise mid new → CountsRise old new
+rise_more old mid new a b = record {
+  missing = omega (arith, a.missing, b.missing);
+  read_faults = omega (arith, a.read_faults, b.read_faults);
+  write_faults = omega (arith, a.write_faults, b.write_faults);
+}
+
+pub kept_rises : (old new : FolderState) → KeepsFiles old new → CountsRise old new
+kept_rises old new a = record {
+  missing = a.missing;
+  read_faults = a.read_faults;
+  write_faults = omega (arith, a.write_faults);
+}
+
+-- files that are as they were are left so by every halt
+pub kept_leaves : (p : Plan) (asked : Option (List ℕ)) (old new : FolderState) (halt : Halt) → KeepsFiles old new
+    → LeavesPlan p asked old new (status_of_halt halt)
+kept_leaves p None old new halt kept = kept
+kept_leaves p (Some name) old new (Refused Usage) kept = kept
+kept_leaves p (Some name) old new (Refused (Input fault)) kept = kept
+kept_leaves p (Some name) old new (Refused (Request fault)) kept = kept
+kept_leaves p (Some name) old new ReadFault kept = kept
+kept_leaves p (Some name) old new WriteFault kept = inl kept
+kept_leaves p (Some name) old new NoMemory kept = inl kept.contents
+
+failed_since : (old mid new : FolderState) → KeepsFiles old mid → FailedToWrite mid new → FailedToWrite old new
+failed_since old mid new a b = subst (λ (n : ℕ). HasRisen n new.write_faults) a.write_faults b
+
+module _ (p : Plan) (old mid new : FolderState) (kept : KeepsFiles old mid) (network : NetworkModel)
+    (found : IfTold old (λ held. network ≡ network_held held p.dir)) (planned : Planned)
+    (ready : IsReady (trip_setting network p.trip) p planned) where
+  -- a certificate that was written is held
+  holds : (s : Setting) (name : List ℕ) (file : CertificateFile) (held : Contents) → old.contents ≡ Some held
+      → IsFileFor s (request_of p.trip) ready.routes (Some name) (Some file)
+      → Holds mid.contents new.contents (path_of p.dir file.name.now) file.bytes.items
+      → HoldsCertificate s (request_of p.trip) ready.routes (path_of p.dir name) (Some held) new.contents
+  holds s name file held is for put = record {
+    bytes = file.bytes.items;
+    certifies = for.1;
+    held = subst (λ (n : List ℕ). Holds (Some held) new.contents (path_of p.dir n) file.bytes.items) for.0
+        (subst (λ (o : Option Contents). Holds o new.contents (path_of p.dir file.name.now) file.bytes.items) (kept.contents ∙ is) put);
+  }
+
+  certified : (s : Setting) (asked : Option (List ℕ)) (file : Option CertificateFile) (held : Contents) → old.contents ≡ Some held
+      → IsFileFor s (request_of p.trip) ready.routes asked file → IsWritten mid new p.dir file
+      → Certifies s (request_of p.trip) ready.routes p.dir asked (Some held) new.contents
+  certified s None file held is for written = tt
+  certified s (Some name) None held is for written = absurd for
+  certified s (Some name) (Some file) held is for written = holds s name file held is for written.1
+
+  rises : (file : Option CertificateFile) → IsWritten mid new p.dir file → CountsRise old new
+  rises None written = kept_rises old new (kept_more old mid new kept written)
+  rises (Some file) written = rise_more old mid new kept written.0
+
+  unwritten_rises : (file : Option CertificateFile) (halt : Halt) → IsUnwritten mid new p.dir file halt → CountsRise old new
+  unwritten_rises None halt why = absurd why
+  unwritten_rises (Some file) (Refused refusal) why = absurd why
+  unwritten_rises (Some file) ReadFault why = absurd why
+  unwritten_rises (Some file) WriteFault why = rise_more old mid new kept why.0
+  unwritten_rises (Some file) NoMemory why = rise_more old mid new kept why.0
+
+  leaves : (asked : Option (List ℕ)) (file : Option CertificateFile)
+      → IsFileFor (trip_setting network p.trip) (request_of p.trip) ready.routes asked file → IsWritten mid new p.dir file
+      → LeavesPlan p asked old new Done
+  leaves None None for written = kept_more old mid new kept written
+  leaves None (Some file) for written = absurd for
+  leaves (Some name) None for written = absurd for
+  leaves (Some name) (Some file) for written = record {
+    others = subst (λ (n : List ℕ). LeavesOpen old.contents new.contents (path_of p.dir n)) for.0
+        (subst (λ (o : Option Contents). LeavesOpen o new.contents (path_of p.dir file.name.now)) kept.contents
+        (opened mid.contents new.contents (path_of p.dir file.name.now) file.bytes.items written.1));
+    whole = λ held is. record {
+      routes = ready.routes;
+      right = subst (λ (n : NetworkModel). IsRight (trip_setting n p.trip) (request_of p.trip) ready.routes) (found held is) ready.right;
+      certified = subst
+          (λ (n : NetworkModel). HoldsCertificate (trip_setting n p.trip) (request_of p.trip) ready.routes (path_of p.dir name) (Some held) new.contents)
+          (found held is) (holds (trip_setting network p.trip) name file held is for written.1);
+    };
+  }
+
+  unwritten_leaves : (asked : Option (List ℕ)) (file : Option CertificateFile) (halt : Halt)
+      → IsFileFor (trip_setting network p.trip) (request_of p.trip) ready.routes asked file → IsUnwritten mid new p.dir file halt
+      → LeavesPlan p asked old new (status_of_halt halt)
+  unwritten_leaves asked None halt for why = absurd why
+  unwritten_leaves None (Some file) halt for why = absurd for
+  unwritten_leaves (Some name) (Some file) (Refused refusal) for why = absurd why
+  unwritten_leaves (Some name) (Some file) ReadFault for why = absurd why
+  unwritten_leaves (Some name) (Some file) WriteFault for why = inr (inr (
+    failed_since old mid new kept why.1.0,
+    subst (λ (n : List ℕ). LeavesOpen old.contents new.contents (path_of p.dir n)) for.0
+    (subst (λ (o : Option Contents). LeavesOpen o new.contents (path_of p.dir file.name.now)) kept.contents why.1.1),
+  ))
+  unwritten_leaves (Some name) (Some file) NoMemory for why = inl (why.1 ∙ kept.contents)
+
+  writes : (asked : Option (List ℕ)) (file : CertificateFile)
+      → IsFileFor (trip_setting network p.trip) (request_of p.trip) ready.routes asked (Some file) → PlanWrites asked
+  writes None file for = for
+  writes (Some name) file for = tt
+
+  unwritten_stops : (file : Option CertificateFile) (halt : Halt)
+      → IsFileFor (trip_setting network p.trip) (request_of p.trip) ready.routes p.certificate file → IsUnwritten mid new p.dir file halt
+      → StopsCommand (to_plan p) old new halt
+  unwritten_stops None halt for why = absurd why
+  unwritten_stops (Some file) (Refused refusal) for why = absurd why
+  unwritten_stops (Some file) ReadFault for why = absurd why
+  unwritten_stops (Some file) WriteFault for why = (writes p.certificate file for, failed_since old mid new kept why.1.0)
+  unwritten_stops (Some file) NoMemory for why = tt
+
+  module _ (faultless : IfTold old (λ held. plan_fault p held ≡ None)) (passed : failed_check network p.trip ≡ None) where
+    pub reports_handed : (result : Result Report Halt) → HandsOver mid new p.dir planned result → IfOk result (ReportsOn (to_plan p) old new)
+    reports_handed (Ok report) h = record {
+      answered = λ _ held is. record {
+        faultless = faultless held is;
+        good = ap (λ (n : NetworkModel). failed_check n p.trip) (sym (found held is)) ∙ passed;
+        answer = subst (λ (n : NetworkModel). IsPlanned (trip_setting n p.trip) p (Some held) new.contents report.text.items) (found held is)
+            (record {
+              routes = ready.routes;
+              right = ready.right;
+              is_text = ready.is_text ∙ ap Some (sym h.1.0);
+              certified = certified (trip_setting network p.trip) p.certificate planned.certificate held is ready.file h.1.1;
+            });
+      };
+      judges = λ rejects. absurd (both_ways report.rejects h.0 rejects);
+      rejected = λ rejects. absurd (both_ways report.rejects h.0 rejects);
+    }
+    reports_handed (Err halt) h = tt
+
+  pub done_handed : (result : Result Report Halt) → HandsOver mid new p.dir planned result → IfOk result (λ report. report.rejects ≡ false)
+  done_handed (Ok report) h = h.0
+  done_handed (Err halt) h = tt
+
+  pub halted_handed : (result : Result Report Halt) → HandsOver mid new p.dir planned result → IfErr result (StopsCommand (to_plan p) old new)
+  halted_handed (Ok report) h = tt
+  halted_handed (Err halt) h = unwritten_stops planned.certificate halt ready.file h
+
+  pub left_handed : (result : Result Report Halt) → HandsOver mid new p.dir planned result → OnOk result (LeavesPlan p p.certificate old new Done)
+  left_handed (Ok report) h = leaves p.certificate planned.certificate ready.file h.1.1
+  left_handed (Err halt) h = tt
+
+  pub left_halted : (result : Result Report Halt) → HandsOver mid new p.dir planned result
+      → IfErr result (λ halt. LeavesPlan p p.certificate old new (status_of_halt halt))
+  left_halted (Ok report) h = tt
+  left_halted (Err halt) h = unwritten_leaves p.certificate planned.certificate halt ready.file h
+
+  pub counts_handed : (result : Result Report Halt) → HandsOver mid new p.dir planned result → CountsRise old new
+  counts_handed (Ok report) h = rises planned.certificate h.1.1
+  counts_handed (Err halt) h = unwritten_rises planned.certificate halt h

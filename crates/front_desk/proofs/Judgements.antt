@@ -1,0 +1,70 @@
+-- The report on a certificate's file judges it.
+use Rattle.std.proofs.Common.{◌≡◌, ℕ, true, false, None, List, refl, ap, sym, subst, ◌∙◌}
+use Rattle.std.proofs.lemmas.Bool.{both_ways}
+use Rattle.route_base.specs.Front.{IsFront}
+use Rattle.route_base.specs.Setting.{Setting}
+use Rattle.route_base.specs.declared.types.Request.{Request}
+use Rattle.certificate.specs.Writable.{IsCertificateText, IsNoCertificateText}
+use Rattle.certificate.specs.declared.Certificate.{Certificate}
+use Rattle.certificate_check.specs.Conditions.{pairs_of}
+use Rattle.certificate_check.specs.Verdicts.{IsVerdict}
+use Rattle.certificate_check.specs.declared.checking.Verdict.{Verdict}
+use Rattle.certificate_check.specs.declared.checking.Verdict.TheVariants.{Accepted, Rejected}
+use Rattle.route_base.specs.FolderState.{FolderState}
+use Rattle.network_tables.specs.NetworkModel.{NetworkModel}
+use Rattle.front_desk.specs.Check.{no_certificate, condition_fails, check_fault, certificate_held, IsAccepted, IsRejected}
+use Rattle.front_desk.specs.CommandLine.{Check, to_check}
+use Rattle.front_desk.specs.Files.{IfTold}
+use Rattle.front_desk.specs.Inside.Halting.{ReportsOn}
+use Rattle.front_desk.specs.Inside.Judging.{Tells, IsJudged}
+use Rattle.front_desk.specs.Plan.{trip_setting}
+use Rattle.front_desk.specs.ReadingOrder.{network_held}
+use Rattle.front_desk.specs.Texts.{rejected_text_of}
+use Rattle.front_desk.specs.Trips.{failed_check, request_of}
+use Rattle.front_desk.specs.declared.outcome.Report.{Report}
+
+module _ (s : Setting) (request : Request) (bytes : List ℕ) (report : Report) where
+  pub judged_by : (certificate : Certificate) → IsCertificateText bytes certificate → (verdict : Verdict) → IsVerdict s request certificate verdict
+      → (verdict ≡ Accepted → IsFront s request (pairs_of certificate.routes)) → Tells certificate verdict report
+      → IsJudged s request bytes report
+  judged_by certificate read Accepted good sound tells = record {
+    accepted = λ _. record { certificate = certificate; read = read; good = good; front = sound refl; is_text = tells.1 };
+    rejected = λ rejects. absurd (both_ways report.rejects tells.0 rejects);
+  }
+  judged_by certificate read (Rejected k) fails sound tells = record {
+    accepted = λ accepts. absurd (both_ways report.rejects accepts tells.0);
+    rejected = λ _. record { number = k; fails = condition_fails certificate k read fails; is_text = tells.1 };
+  }
+
+  -- no certificate has the bytes as its text
+  pub judged_unread : IsNoCertificateText bytes → report.rejects ≡ true → report.text.items ≡ rejected_text_of 0
+      → IsJudged s request bytes report
+  judged_unread none rejects is_text = record {
+    accepted = λ accepts. absurd (both_ways report.rejects accepts rejects);
+    rejected = λ _. record { number = 0; fails = no_certificate none; is_text = is_text };
+  }
+
+module _ (k : Check) (old new : FolderState) (network : NetworkModel) (bytes : List ℕ) (report : Report)
+    (faultless : IfTold old (λ held. check_fault k held ≡ None)) (found : IfTold old (λ held. network ≡ network_held held k.dir))
+    (certificate : IfTold old (λ held. bytes ≡ certificate_held k held)) (passed : failed_check network k.trip ≡ None) where
+  -- a report that judges the bytes of the check's certificate is that of the check
+  pub reports_judged : IsJudged (trip_setting network k.trip) (request_of k.trip) bytes report → ReportsOn (to_check k) old new report
+  reports_judged judged = record {
+    answered = λ accepts held is. record {
+      faultless = faultless held is;
+      good = ap (λ (n : NetworkModel). failed_check n k.trip) (sym (found held is)) ∙ passed;
+      answer = subst (λ (n : NetworkModel). IsAccepted (trip_setting n k.trip) (request_of k.trip) (certificate_held k held) report.text.items)
+          (found held is)
+          (subst (λ (bs : List ℕ). IsAccepted (trip_setting network k.trip) (request_of k.trip) bs report.text.items) (certificate held is)
+          (judged.accepted accepts));
+    };
+    judges = λ _. tt;
+    rejected = λ rejects held is. record {
+      faultless = faultless held is;
+      good = ap (λ (n : NetworkModel). failed_check n k.trip) (sym (found held is)) ∙ passed;
+      rejects = subst (λ (n : NetworkModel). IsRejected (trip_setting n k.trip) (request_of k.trip) (certificate_held k held) report.text.items)
+          (found held is)
+          (subst (λ (bs : List ℕ). IsRejected (trip_setting network k.trip) (request_of k.trip) bs report.text.items) (certificate held is)
+          (judged.rejected rejects));
+    };
+  }

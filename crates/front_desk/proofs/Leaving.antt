@@ -1,0 +1,105 @@
+-- The text that is due with a report, and the files that a status leaves.
+use Rattle.std.proofs.Common.{◌≡◌, ◌⊎◌, inl, inr, ⊎_elim, ℕ, Bool, true, false, cond, Some, None, Option, List, refl, sym, subst}
+use Rattle.route_base.specs.FolderState.{FolderState, KeepsFiles}
+use Rattle.route_base.specs.declared.status.Status.{Status}
+use Rattle.route_base.specs.declared.status.Status.TheVariants.{Done, Rejected, Usage, BadInput, ReadFault, WriteFault, NoMemory, BadRequest}
+use Rattle.front_desk.specs.CommandLine.{Command, Plan, to_plan, to_check, to_bans, command_of}
+use Rattle.front_desk.specs.Commands.{Judges, LeavesCertificate, LeavesPlan, LeavesFiles}
+use Rattle.front_desk.specs.Files.{IfTold}
+use Rattle.front_desk.specs.Inside.Halting.{ReportsOn, status_of_report}
+use Rattle.front_desk.specs.Run.{IsAnsweredBy, IsRejectedBy, IsDue}
+use Rattle.front_desk.specs.declared.outcome.Report.{Report}
+
+module _ (words : List (List ℕ)) (command : Command) (is : command_of words ≡ Some command) (old new : FolderState) where
+  due_by : (text : List ℕ) (rejects : Bool) → (rejects ≡ false → IfTold old (λ held. IsAnsweredBy command held new.contents text))
+      → (rejects ≡ true → Judges command) → (rejects ≡ true → IfTold old (λ held. IsRejectedBy command held text))
+      → IsDue words old new (cond rejects Rejected Done) text
+  due_by text true answered judges rejected =
+      record { command = command; is_command = is; judges = judges refl; rejected = rejected refl }
+  due_by text false answered judges rejected = record { command = command; is_command = is; answered = answered refl }
+
+  -- a report on the command of the words is due with its status
+  pub report_due : (report : Report) → ReportsOn command old new report → IsDue words old new (status_of_report report) report.text.items
+  report_due report reports = due_by report.text.items report.rejects reports.answered reports.judges reports.rejected
+
+-- the status of a report that rejects nothing
+pub status_done : (report : Report) → report.rejects ≡ false → status_of_report report ≡ Done
+status_done report accepts = subst (λ (b : Bool). cond b Rejected Done ≡ Done) (sym accepts) refl
+
+module _ (old new : FolderState) where
+  certificate_fault : (p : Plan) (name : List ℕ) (due : Status) → (due ≡ NoMemory → ⊥) → LeavesCertificate p name old new due
+      → LeavesCertificate p name old new WriteFault
+  certificate_fault p name Done not left = inr (inl left)
+  certificate_fault p name Rejected not left = inl left
+  certificate_fault p name Usage not left = inl left
+  certificate_fault p name BadInput not left = inl left
+  certificate_fault p name ReadFault not left = inl left
+  certificate_fault p name WriteFault not left = left
+  certificate_fault p name NoMemory not left = absurd (not refl)
+  certificate_fault p name BadRequest not left = inl left
+
+  certificate_memory : (p : Plan) (name : List ℕ) (due : Status) → (due ≡ WriteFault → ⊥) → LeavesCertificate p name old new due
+      → LeavesCertificate p name old new NoMemory
+  certificate_memory p name Done not left = inr left
+  certificate_memory p name Rejected not left = inl left.contents
+  certificate_memory p name Usage not left = inl left.contents
+  certificate_memory p name BadInput not left = inl left.contents
+  certificate_memory p name ReadFault not left = inl left.contents
+  certificate_memory p name WriteFault not left = absurd (not refl)
+  certificate_memory p name NoMemory not left = left
+  certificate_memory p name BadRequest not left = inl left.contents
+
+  plan_fault : (p : Plan) (asked : Option (List ℕ)) (due : Status) → (due ≡ NoMemory → ⊥) → LeavesPlan p asked old new due
+      → LeavesPlan p asked old new WriteFault
+  plan_fault p None due not left = left
+  plan_fault p (Some name) due not left = certificate_fault p name due not left
+
+  plan_memory : (p : Plan) (asked : Option (List ℕ)) (due : Status) → (due ≡ WriteFault → ⊥) → LeavesPlan p asked old new due
+      → LeavesPlan p asked old new NoMemory
+  plan_memory p None due not left = left
+  plan_memory p (Some name) due not left = certificate_memory p name due not left
+
+  files_fault : (command : Option Command) (due : Status) → (due ≡ NoMemory → ⊥) → LeavesFiles command old new due
+      → LeavesFiles command old new WriteFault
+  files_fault None due not left = left
+  files_fault (Some (to_plan p)) due not left = plan_fault p p.certificate due not left
+  files_fault (Some (to_check c)) due not left = left
+  files_fault (Some (to_bans b)) due not left = left
+
+  files_memory : (command : Option Command) (due : Status) → (due ≡ WriteFault → ⊥) → LeavesFiles command old new due
+      → LeavesFiles command old new NoMemory
+  files_memory None due not left = left
+  files_memory (Some (to_plan p)) due not left = plan_memory p p.certificate due not left
+  files_memory (Some (to_check c)) due not left = left
+  files_memory (Some (to_bans b)) due not left = left
+
+  -- where a text couldn't be written, the files are as its command left them
+  pub still_left : (command : Option Command) (due status : Status) → (due ≡ WriteFault → ⊥) → (due ≡ NoMemory → ⊥)
+      → (status ≡ due) ⊎ ((status ≡ WriteFault) ⊎ (status ≡ NoMemory)) → LeavesFiles command old new due
+      → LeavesFiles command old new status
+  still_left command due status not_fault not_memory others left =
+      ⊎_elim
+      (λ (same : status ≡ due). subst (λ (k : Status). LeavesFiles command old new k) (sym same) left)
+      (λ (failed : (status ≡ WriteFault) ⊎ (status ≡ NoMemory)).
+      ⊎_elim
+      (λ (fault : status ≡ WriteFault).
+      subst (λ (k : Status). LeavesFiles command old new k) (sym fault) (files_fault command due not_memory left))
+      (λ (memory : status ≡ NoMemory).
+      subst (λ (k : Status). LeavesFiles command old new k) (sym memory) (files_memory command due not_fault left))
+      failed)
+      others
+
+-- the status of a report is that of neither a failed write nor of want of memory
+pub never_fault : (report : Report) → status_of_report report ≡ WriteFault → ⊥
+never_fault report = not report.rejects
+  where
+    not : (rejects : Bool) → cond rejects Rejected Done ≡ WriteFault → ⊥
+    not true same = cc
+    not false same = cc
+
+pub never_memory : (report : Report) → status_of_report report ≡ NoMemory → ⊥
+never_memory report = not report.rejects
+  where
+    not : (rejects : Bool) → cond rejects Rejected Done ≡ NoMemory → ⊥
+    not true same = cc
+    not false same = cc

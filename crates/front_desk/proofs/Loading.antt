@@ -1,0 +1,37 @@
+-- Files that could be read, and the network that they state or don't.
+use Rattle.std.proofs.Common.{◌≡◌, ℕ, None, Option, List, ap, sym, subst, ◌∙◌}
+use Rattle.std.specs.Option.{option_or}
+use Rattle.route_base.specs.Causes.{IsOfContents}
+use Rattle.route_base.specs.FolderState.{FolderState}
+use Rattle.route_base.specs.declared.faults.BadInput.{BadInput}
+use Rattle.network_tables.specs.NetworkFiles.{contents_fault}
+use Rattle.network_tables.specs.declared.files.Files.{Files}
+use Rattle.front_desk.specs.Files.{FileToRead, IfTold, first_unreadable}
+use Rattle.front_desk.specs.Inside.Halting.{StopsReading, StopsStating}
+use Rattle.front_desk.specs.ReadingOrder.{files_of}
+use Rattle.front_desk.specs.declared.outcome.Halt.{Halt}
+use Rattle.front_desk.specs.declared.outcome.Halt.TheVariants.{Refused, ReadFault, WriteFault, NoMemory}
+use Rattle.front_desk.specs.declared.outcome.Refusal.TheVariants.{Usage, Input, Request}
+
+module _ (old : FolderState) (dir : List ℕ) (list : List FileToRead) (files : Files)
+    (readable : IfTold old (λ held. first_unreadable held dir list ≡ None)) (same : IfTold old (λ held. files ≡ files_of held dir)) where
+  -- the fault of the files is that of their contents
+  fault_is : IfTold old (λ held. option_or (first_unreadable held dir list) (contents_fault (files_of held dir)) ≡ contents_fault files)
+  fault_is held is =
+      ap (λ (o : Option BadInput). option_or o (contents_fault (files_of held dir))) (readable held is) ∙ ap contents_fault (sym (same held is))
+
+  pub loaded : contents_fault files ≡ None
+      → IfTold old (λ held. option_or (first_unreadable held dir list) (contents_fault (files_of held dir)) ≡ None)
+  loaded none held is = fault_is held is ∙ none
+
+  pub stops_loading : (new : FolderState) (halt : Halt) → StopsStating (contents_fault files) halt
+      → StopsReading (λ held. option_or (first_unreadable held dir list) (contents_fault (files_of held dir))) old new halt
+  stops_loading new (Refused Usage) why = why
+  stops_loading new (Refused (Input bad)) why = record {
+    first = λ held is. fault_is held is ∙ why.0;
+    missed = λ missing. absurd (subst IsOfContents missing why.1);
+  }
+  stops_loading new (Refused (Request failed)) why = why
+  stops_loading new ReadFault why = absurd why
+  stops_loading new WriteFault why = why
+  stops_loading new NoMemory why = tt

@@ -1,0 +1,75 @@
+-- The judgement of the command that checks a certificate (source: own).
+use Rattle.std.specs.Prelude.{◌≡◌, ℕ, true, Option, List, [], ◌∷◌, ◌++◌, length}
+use Rattle.std.specs.Option.{option_or}
+use Rattle.route_base.specs.Contents.{Contents}
+use Rattle.route_base.specs.Front.{IsFront}
+use Rattle.route_base.specs.Setting.{Setting}
+use Rattle.route_base.specs.declared.faults.BadInput.{BadInput}
+use Rattle.route_base.specs.declared.faults.Cause.TheVariants.{TooLong}
+use Rattle.route_base.specs.declared.faults.FileKind.TheVariants.{Certificate as CertificateKind}
+use Rattle.route_base.specs.declared.faults.RequestFault.{RequestFault}
+use Rattle.route_base.specs.declared.limits.TheConstants.{LONGEST_CERTIFICATE}
+use Rattle.route_base.specs.declared.types.Request.{Request}
+use Rattle.network_tables.specs.NetworkFiles.{contents_fault}
+use Rattle.certificate.specs.Writable.{IsCertificateText, IsNoCertificateText}
+use Rattle.certificate.specs.declared.Certificate.{Certificate}
+use Rattle.certificate_check.specs.Conditions.{pairs_of}
+use Rattle.certificate_check.specs.Verdicts.{IsGood, FailsFirst}
+use Rattle.front_desk.specs.CommandLine.{Check}
+use Rattle.front_desk.specs.Files.{FileToRead, first_unreadable, bytes_at}
+use Rattle.front_desk.specs.Plan.{trip_setting}
+use Rattle.front_desk.specs.ReadingOrder.{network_files, files_of, network_held}
+use Rattle.front_desk.specs.Texts.{accepted_text_of, rejected_text_of}
+use Rattle.front_desk.specs.Trips.{failed_check, request_of}
+
+-- a certificate, which has to be there
+abbrev pub certificate_file : List ℕ → FileToRead
+certificate_file name = record { kind = CertificateKind; name = name; required = true; limit = LONGEST_CERTIFICATE; beyond = TooLong }
+
+-- the files of a check in the order in which they are read: those of the network, and then the certificate
+abbrev pub files_to_check : Check → List FileToRead
+files_to_check c = network_files ++ certificate_file c.name ∷ []
+
+-- the first fault of a check's files: a file that can't be read, else a fault of the contents of the network's files
+abbrev pub check_fault : Check → Contents → Option BadInput
+check_fault c held = option_or (first_unreadable held c.dir (files_to_check c)) (contents_fault (files_of held c.dir))
+
+-- the first check that the trip fails
+abbrev pub check_check : Check → Contents → Option RequestFault
+check_check c held = failed_check (network_held held c.dir) c.trip
+
+-- the bytes of the certificate's file
+abbrev pub certificate_held : Check → Contents → List ℕ
+certificate_held c held = bytes_at held c.dir (certificate_file c.name)
+
+-- the setting of a check: the roads of the folder's network for the trip's vehicle
+abbrev pub check_setting : Check → Contents → Setting
+check_setting c held = trip_setting (network_held held c.dir) c.trip
+
+-- the bytes are the text of a good certificate, whose pairs are the Pareto front of the trip; the text tells their number
+pub record IsAccepted (s : Setting) (request : Request) (bytes text : List ℕ) : Type 0 where
+  pub certificate : Certificate
+  pub read : IsCertificateText bytes certificate
+  pub good : IsGood s request certificate
+  pub front : IsFront s request (pairs_of certificate.routes)
+  pub is_text : text ≡ accepted_text_of (length certificate.routes)
+
+-- why bytes are rejected: 0 for bytes that are no certificate's text, else the number of the first condition that fails
+pub data FailsWith (s : Setting) (request : Request) (bytes : List ℕ) : ℕ → Type 0 where
+  no_certificate : IsNoCertificateText bytes → FailsWith s request bytes 0
+  condition_fails : (certificate : Certificate) (k : ℕ) → IsCertificateText bytes certificate → FailsFirst s request certificate k
+      → FailsWith s request bytes k
+
+-- the text tells why the bytes are rejected
+pub record IsRejected (s : Setting) (request : Request) (bytes text : List ℕ) : Type 0 where
+  pub number : ℕ
+  pub fails : FailsWith s request bytes number
+  pub is_text : text ≡ rejected_text_of number
+
+-- the text accepts the file's certificate
+abbrev pub AcceptsCertificate : Check → Contents → List ℕ → Type 0
+AcceptsCertificate c held text = IsAccepted (check_setting c held) (request_of c.trip) (certificate_held c held) text
+
+-- the text rejects the file
+abbrev pub RejectsCertificate : Check → Contents → List ℕ → Type 0
+RejectsCertificate c held text = IsRejected (check_setting c held) (request_of c.trip) (certificate_held c held) text

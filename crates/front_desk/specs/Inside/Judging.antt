@@ -1,0 +1,20 @@
+-- The report on a certificate's file (source: own).
+use Rattle.std.specs.Prelude.{◌≡◌, ℕ, true, false, List, length}
+use Rattle.route_base.specs.Setting.{Setting}
+use Rattle.route_base.specs.declared.types.Request.{Request}
+use Rattle.certificate.specs.declared.Certificate.{Certificate}
+use Rattle.certificate_check.specs.declared.checking.Verdict.{Verdict}
+use Rattle.certificate_check.specs.declared.checking.Verdict.TheVariants.{Accepted, Rejected}
+use Rattle.front_desk.specs.Check.{IsAccepted, IsRejected}
+use Rattle.front_desk.specs.Texts.{accepted_text_of, rejected_text_of}
+use Rattle.front_desk.specs.declared.outcome.Report.{Report}
+
+-- the report tells the verdict on a certificate
+abbrev pub Tells : Certificate → Verdict → Report → Type 0
+Tells certificate Accepted report = (report.rejects ≡ false) × (report.text.items ≡ accepted_text_of (length certificate.routes))
+Tells certificate (Rejected number) report = (report.rejects ≡ true) × (report.text.items ≡ rejected_text_of number)
+
+-- the report accepts the bytes, or rejects them
+pub record IsJudged (s : Setting) (request : Request) (bytes : List ℕ) (report : Report) : Type 0 where
+  pub accepted : report.rejects ≡ false → IsAccepted s request bytes report.text.items
+  pub rejected : report.rejects ≡ true → IsRejected s request bytes report.text.items

@@ -1,0 +1,69 @@
+-- The net of a trip, and what a plan has ready before it writes (source: own).
+use Rattle.std.specs.Prelude.{◌≡◌, ℕ, ◌≤◌, false, ⊤, Option, Some, None, List, length, Result, Ok, Err}
+use Rattle.route_base.specs.FolderState.{FolderState, CountsRise, KeepsFiles, FailedToWrite, PutsFile, SpoilsFile}
+use Rattle.route_base.specs.Front.{IsRight}
+use Rattle.route_base.specs.Legs.{CostsFit}
+use Rattle.route_base.specs.Matching.{StandsFor}
+use Rattle.route_base.specs.Net.{Net, IsGoodRequest, setting_of}
+use Rattle.route_base.specs.Setting.{Setting}
+use Rattle.route_base.specs.declared.limits.TheConstants.{MOST_NODES, MOST_ARCS}
+use Rattle.route_base.specs.declared.types.Request.{Request}
+use Rattle.route_base.specs.declared.types.Route.{Route}
+use Rattle.route_base.specs.declared.types.Run.{Run}
+use Rattle.network_tables.specs.NetworkModel.{NetworkModel}
+use Rattle.front_desk.specs.CommandLine.{Plan}
+use Rattle.front_desk.specs.Files.{path_of}
+use Rattle.front_desk.specs.Plan.{IsCertificateOf, trip_setting}
+use Rattle.front_desk.specs.Texts.{report_text}
+use Rattle.front_desk.specs.Trips.{Trip, request_of}
+use Rattle.front_desk.specs.declared.outcome.Halt.{Halt}
+use Rattle.front_desk.specs.declared.outcome.Halt.TheVariants.{Refused, ReadFault, WriteFault, NoMemory}
+use Rattle.front_desk.specs.declared.outcome.Report.{Report}
+use Rattle.front_desk.specs.declared.plan.CertificateFile.{CertificateFile}
+use Rattle.front_desk.specs.declared.plan.Planned.{Planned}
+
+-- the minutes of a trip
+abbrev pub trip_window : Trip → Run
+trip_window trip = record { lo = trip.depart; hi = trip.until }
+
+-- the net stands for the roads of the trip's vehicle in the trip's minutes, and the trip is a request over it
+pub record IsTripNet (network : NetworkModel) (trip : Trip) (net : Net) : Type 0 where
+  pub stands : StandsFor (setting_of net) (trip_setting network trip) (trip_window trip)
+  pub good : IsGoodRequest net (request_of trip)
+  pub fit : CostsFit (setting_of net) (request_of trip)
+  pub nodes : net.nodes ≤ MOST_NODES
+  pub arcs : length net.arcs ≤ MOST_ARCS
+
+-- the file is the certificate that was asked for
+abbrev pub IsFileFor : Setting → Request → List Route → Option (List ℕ) → Option CertificateFile → Type 0
+IsFileFor s request routes None None = ⊤
+IsFileFor s request routes None (Some file) = ⊥
+IsFileFor s request routes (Some name) None = ⊥
+IsFileFor s request routes (Some name) (Some file) = (file.name.now ≡ name) × IsCertificateOf s request routes file.bytes.items
+
+-- the text reports right routes, and the certificate of these routes is ready where one is asked for
+pub record IsReady (s : Setting) (p : Plan) (planned : Planned) : Type 0 where
+  pub routes : List Route
+  pub right : IsRight s (request_of p.trip) routes
+  pub is_text : report_text p.form s (request_of p.trip) routes ≡ Some planned.text.items
+  pub file : IsFileFor s (request_of p.trip) routes p.certificate planned.certificate
+
+-- the file was written, if there is one, and no other file is changed
+abbrev pub IsWritten : FolderState → FolderState → List ℕ → Option CertificateFile → Type 0
+IsWritten old new dir None = KeepsFiles old new
+IsWritten old new dir (Some file) = CountsRise old new × PutsFile old new (path_of dir file.name.now) file.bytes.items
+
+-- the file couldn't be written
+abbrev pub IsUnwritten : FolderState → FolderState → List ℕ → Option CertificateFile → Halt → Type 0
+IsUnwritten old new dir None halt = ⊥
+IsUnwritten old new dir (Some file) (Refused refusal) = ⊥
+IsUnwritten old new dir (Some file) ReadFault = ⊥
+IsUnwritten old new dir (Some file) WriteFault =
+    CountsRise old new × (FailedToWrite old new × SpoilsFile old new (path_of dir file.name.now))
+IsUnwritten old new dir (Some file) NoMemory = CountsRise old new × (new.contents ≡ old.contents)
+
+-- the text is handed over and its certificate was written, or why not
+abbrev pub HandsOver : FolderState → FolderState → List ℕ → Planned → Result Report Halt → Type 0
+HandsOver old new dir planned (Ok report) =
+    (report.rejects ≡ false) × ((report.text.items ≡ planned.text.items) × IsWritten old new dir planned.certificate)
+HandsOver old new dir planned (Err halt) = IsUnwritten old new dir planned.certificate halt

@@ -1,0 +1,88 @@
+// Reads a folder's network, and makes the net of a trip over it.
+ghost use Rattle.std.specs.Prelude.{◌≡◌, None, IfOk, OnOk, IfErr};
+ghost use Rattle.front_desk.specs.Words.{KeepsFiles, IfTold, IsGoodNetwork, vehicle_named, trip_in, IsGoodTrip, IsTimed};
+ghost use Rattle.front_desk.specs.Words.{contents_fault, network_in_files, first_folder_fault, network_held, bytes_at};
+ghost use Rattle.front_desk.specs.Words.{check_in, check_fault, certificate_held, StopsReading, StopsStating, IsTripNet};
+
+use crate::command_line::Check;
+use crate::files::{read_files_to_check, read_network_files};
+use crate::outcome::{Halt, Refusal};
+use crate::requests::Trip;
+use ban_expansion::expand_plain;
+use network_tables::{Files, Network, NetworkFault, read_network};
+use route_base::{FileBytes, Folder, OutOfMemory, Run, TimedNet, settings_agree};
+use std::alloc::Global;
+use vehicle_classes::Vehicle;
+
+// The network that these files state.
+fn network_of(alloc: Global, files: &Files) -> Result<Network, Halt>
+    ensures found { IfOk result (λ network. network ≡ network_in_files files.now) }
+    ensures faultless { OnOk result (contents_fault files.now ≡ None) }
+    ensures halted { IfErr result (StopsStating (contents_fault files.now)) }
+{
+    match read_network(alloc, files) {
+        Ok(network) => Ok(network),
+        Err(NetworkFault::Bad(fault)) => Err(Halt::Refused(Refusal::Input(fault))),
+        Err(NetworkFault::OutOfMemory) => Err(Halt::NoMemory),
+    }
+}
+
+/// The network of the folder's files.
+pub fn load_network<F: Folder>(alloc: Global, folder: &mut F, dir: &str) -> Result<Network, Halt>
+    ensures faultless { OnOk result
+        (IfTold (F.state folder.old) (λ held. first_folder_fault held dir.now ≡ None)) }
+    ensures found { IfOk result (λ network.
+        IfTold (F.state folder.old) (λ held. network ≡ network_held held dir.now)) }
+    ensures halted { IfErr result (StopsReading (λ held. first_folder_fault held dir.now)
+        (F.state folder.old) (F.state folder.new)) }
+    ensures kept { KeepsFiles (F.state folder.old) (F.state folder.new) }
+{
+    let files = read_network_files(alloc, folder, dir)?;
+    let network = network_of(alloc, &files)?;
+    Ok(network)
+}
+
+/// The network of the files of a check's folder, and the bytes of the certificate.
+pub fn load_to_check<F: Folder>(
+    alloc: Global,
+    folder: &mut F,
+    check: Check<'_>,
+) -> Result<(Network, FileBytes), Halt>
+    ensures faultless { OnOk result (IfTold (F.state folder.old)
+        (λ held. check_fault (check_in check.entry) held ≡ None)) }
+    ensures found { IfOk result (λ loaded. IfTold (F.state folder.old)
+        (λ held. loaded.0 ≡ network_held held check.entry.dir.now)) }
+    ensures certificate { IfOk result (λ loaded. IfTold (F.state folder.old)
+        (λ held. loaded.1 ≡ certificate_held (check_in check.entry) held)) }
+    ensures halted { IfErr result (StopsReading (check_fault (check_in check.entry))
+        (F.state folder.old) (F.state folder.new)) }
+    ensures kept { KeepsFiles (F.state folder.old) (F.state folder.new) }
+{
+    let (files, bytes) = read_files_to_check(alloc, folder, check.dir, check.name)?;
+    let network = network_of(alloc, &files)?;
+    Ok((network, bytes))
+}
+
+/// The net of a trip that passes the checks, for its vehicle: it stands for the network's roads in the trip's minutes.
+pub fn net_of_trip(
+    alloc: Global,
+    network: &Network,
+    vehicle: &Vehicle,
+    trip: Trip<'_>,
+) -> Result<TimedNet, OutOfMemory>
+    requires network { IsGoodNetwork network.now }
+    requires vehicle { vehicle.now ≡ vehicle_named network.now (trip_in trip).vehicle }
+    requires good { IsGoodTrip network.now.graph.nodes (trip_in trip) }
+    requires timed { IsTimed (trip_in trip) }
+    ensures { IfOk result (IsTripNet network.now (trip_in trip.entry)) }
+{
+    let window = Run {
+        lo: trip.depart,
+        hi: trip.until,
+    };
+    let graph = network.graph();
+    let _nodes = graph.node_count();
+    let net = expand_plain(alloc, network, vehicle, window)?;
+    settings_agree();
+    Ok(net)
+}
