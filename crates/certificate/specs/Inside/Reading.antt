@@ -96,6 +96,10 @@ bounds_in lines = option_and_then as_rising (counted (codes "bounds") length (fi
 abbrev pub functions_in : Reading (List (NodeId × List Piece))
 functions_in lines = option_and_then as_rising (counted (codes "pieces") (λ fs. length (all_pieces fs)) function_in lines)
 
+-- the first line is of a piece of this node
+abbrev pub IsFirstNode : NodeId → List Tokens → Type 0
+IsFirstNode node lines = (piece : Piece) × (others : List Tokens) × (first_line piece_in lines ≡ Some ((node, piece), others))
+
 -- the lines behind the name and the version
 abbrev pub behind_title : List Tokens → Option (List Tokens)
 behind_title lines = option_and_then (λ r. if bytes_eq r.0 (codes "1") then Some r.1 else None) (first_line (count_in (codes "lorry-certificate")) lines)
