@@ -6,7 +6,8 @@ use Rattle.route_base.specs.declared.types.NodeId.{NodeId}
 use Rattle.cost_functions.specs.declared.pieces.Piece.{Piece}
 use Rattle.cost_functions.specs.Pieces.{ArePieces}
 use Rattle.certificate.specs.CertificateText.{all_pieces}
-use Rattle.certificate.specs.Writable.{IsWritable}
+use Rattle.certificate.specs.Writable.{IsWritable, IsWritableNode}
+use Rattle.certificate.specs.ByNode.{AreRising}
 use Rattle.certificate.specs.declared.Certificate.{Certificate}
 
 module _ {A : Type 0} (at : A → ℕ) (xs : List A) (rising : AllPairs (λ x y. at x < at y) xs) (d : A) where
@@ -42,9 +43,12 @@ all_pieces_length (e ∷ fs) all =
     let others = all_pieces_length fs (All-tail (λ d. ArePieces d.1) e fs all) in
     omega (arith, first, others, length-append e.1 (all_pieces fs))
 
--- the number of all pieces of a certificate that can be written is no large number
-pub pieces_fit : (c : Certificate) → IsWritable c → length (all_pieces c.functions) < 2 ^ 64
-pieces_fit c writable =
-    let nodes = rising_length (λ e. e.0.0) c.functions 500000 writable.rising_functions (λ i d within. (writable.function_nodes i d within).1) in
-    let pieces = all_pieces_length c.functions writable.pieces in
+-- the number of all pieces of functions is no large number
+pub all_pieces_fit : (fs : List (NodeId × List Piece)) → All (λ e. IsWritableNode e.0) fs → All (λ e. ArePieces e.1) fs → AreRising fs → length (all_pieces fs) < 2 ^ 64
+all_pieces_fit fs writable are rising =
+    let nodes = rising_length (λ e. e.0.0) fs 500000 rising (λ i d within. (writable i d within).1) in
+    let pieces = all_pieces_length fs are in
     omega (arith, nodes, pieces)
+
+pub pieces_fit : (c : Certificate) → IsWritable c → length (all_pieces c.functions) < 2 ^ 64
+pieces_fit c writable = all_pieces_fit c.functions writable.function_nodes writable.pieces writable.rising_functions

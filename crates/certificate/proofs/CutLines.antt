@@ -1,5 +1,5 @@
 -- Bytes cut into lines, and lines cut into tokens.
-use Rattle.std.proofs.Common.{◌≡◌, ◌==◌, ℕ, ◌<◌, Option, Some, None, List, [], ◌∷◌, length, map, refl, ◌∙◌, ap, Bool, arith}
+use Rattle.std.proofs.Common.{◌≡◌, ◌==◌, ℕ, ◌<◌, Option, Some, None, List, [], ◌∷◌, length, map, refl, ◌∙◌, ap, subst, Bool, arith}
 use Rattle.std.specs.Prelude.{option_map, unwrap_or}
 use Rattle.std.specs.List.{slice_split}
 use Rattle.std.proofs.lemmas.List.{length-map}
@@ -55,5 +55,5 @@ module _ {A : Type 0} (read : Tokens → Option A) where
             line = line;
             lines_are = ap (λ ls. line ∷ ls) rest;
             is_read = was ∙ ap (λ (r : A × List Tokens). Some r.0) same;
-            some = omega (arith, ap length rest);
+            some = subst (λ (ls : List Tokens). 0 < length ls) rest (omega arith);
           }

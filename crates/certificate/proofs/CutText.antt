@@ -29,7 +29,7 @@ text_again (l ∷ m ∷ lines) =
     ∙ sym (append_assoc (join_with_byte 32 l) (10 ∷ []) (flat_map line_text (m ∷ lines)))
 
 -- the last line
-end_lines : (lines : List Tokens) → is_end lines ≡ true → lines ≡ (codes "end" ∷ []) ∷ ([] ∷ []) ∷ []
+pub end_lines : (lines : List Tokens) → is_end lines ≡ true → lines ≡ (codes "end" ∷ []) ∷ ([] ∷ []) ∷ []
 end_lines [] is = absurd (cc)
 end_lines ([] ∷ lines) is = absurd (cc)
 end_lines ((w ∷ []) ∷ []) is = absurd (cc)

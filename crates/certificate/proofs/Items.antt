@@ -62,9 +62,10 @@ module _ {A : Type 0} (read : Reading A) where
         → (length others < length lines) × (xs ≢ [])
     items_fewer [] x behind xs others first is = absurd (let fewer = shorter [] x behind first in omega (arith, fewer))
     items_fewer (line ∷ lines) x behind xs others first is =
-        let next = sym is ∙ items_next (length lines) (line ∷ lines) x behind first in
-        (omega (arith, ap (λ (r : List A × List Tokens). length r.1) next, left_of (length lines) behind, shorter (line ∷ lines) x behind first),
-        λ none. absurd (omega (arith, ap (λ (r : List A × List Tokens). length r.0) next, ap length none)))
+        let next = sym is ∙ items_next (length lines) (line ∷ lines) x behind first in (
+          omega (arith, ap (λ (r : List A × List Tokens). length r.1) next, left_of (length lines) behind, shorter (line ∷ lines) x behind first),
+          λ none. absurd (omega (arith, ap (λ (r : List A × List Tokens). length r.0) next, ap length none)),
+        )
 
   -- both ways between items and their lines
   module _ (spell : A → List Tokens) where
@@ -119,10 +120,12 @@ module _ {A : Type 0} (read : Tokens → Option A) (line : A → Tokens) where
     where
       are : (ys : List A) → All (λ x. read (line x) ≡ Some x) ys → AreRead (first_line read) (λ x. line x ∷ []) ys others
       are [] rest = end
-      are (y ∷ ys) rest = (omega arith,
+      are (y ∷ ys) rest = (
+        omega arith,
         read_first read (line y) (flat_map (λ x. line x ∷ []) ys ++ others) y (omega (arith, some, length-append (flat_map (λ x. line x ∷ []) ys) others))
-        (All-head (λ x. read (line x) ≡ Some x) y ys rest),
-        are ys (All-tail (λ x. read (line x) ≡ Some x) y ys rest))
+            (All-head (λ x. read (line x) ≡ Some x) y ys rest),
+        are ys (All-tail (λ x. read (line x) ≡ Some x) y ys rest),
+      )
 
   module _ (P : A → Type 0) (each : (tokens : Tokens) (x : A) → read tokens ≡ Some x → (tokens ≡ line x) × P x) where
     pub lines_found : (lines : List Tokens) (xs : List A) (others : List Tokens) → items_in (first_line read) lines ≡ (xs, others) → (lines ≡ map line xs ++ others) × All P xs

@@ -111,7 +111,7 @@ module _ (word number : List ℕ) (leg : Leg) where
 
   leg_from_found : (b : Bool) → bytes_eq word (codes "drive") ≡ b
       → cond b (option_map (λ n. Drive (record { 0 = n })) (number_within 1 MOST_ARCS number))
-        (cond (bytes_eq word (codes "wait")) (option_map (λ n. Wait n) (number_within 1 LAST_INSTANT number)) None) ≡ Some leg
+      (cond (bytes_eq word (codes "wait")) (option_map (λ n. Wait n) (number_within 1 LAST_INSTANT number)) None) ≡ Some leg
       → (word ∷ number ∷ [] ≡ leg_line leg) × IsWritableLeg leg
   leg_from_found true named is = drive_found (equal_bytes word (codes "drive") named) is
   leg_from_found false named is = waiting_found (bytes_eq word (codes "wait")) refl is
@@ -130,9 +130,9 @@ pub record IsWritablePair (p : Pair) : Type 0 where
 pub pair_again : (p : Pair) (legs : List ℕ) → IsWritablePair p → pair_in (codes "pair" ∷ decimal p.arrival ∷ decimal p.cost ∷ legs ∷ []) ≡ Some (p, legs)
 pair_again p legs writable =
     ap (λ o. option_map (λ q. (q, legs)) (option_and_then (λ a. option_map (λ c. record { arrival = a; cost = c }) (number_within 0 HIGHEST_PIECE_COST (decimal p.cost))) o))
-      (number_again 0 LAST_INSTANT p.arrival (omega arith) writable.arrival (omega arith))
+    (number_again 0 LAST_INSTANT p.arrival (omega arith) writable.arrival (omega arith))
     ∙ ap (λ o. option_map (λ q. (q, legs)) (option_map (λ c. record { arrival = p.arrival; cost = c }) o))
-      (number_again 0 HIGHEST_PIECE_COST p.cost (omega arith) writable.cost (omega arith))
+    (number_again 0 HIGHEST_PIECE_COST p.cost (omega arith) writable.cost (omega arith))
 
 pair_from_found : (arrival cost : List ℕ) (p : Pair) → pair_from arrival cost ≡ Some p → (arrival ≡ decimal p.arrival) × (cost ≡ decimal p.cost) × IsWritablePair p
 pair_from_found arrival cost p is =
@@ -154,11 +154,13 @@ pair_found (word ∷ a ∷ c ∷ n ∷ []) p legs is =
     let parts = mapped_of (pair_from a c) (λ q. (q, n)) (p, legs) tests.1 in
     let same : parts.0 ≡ p = ap (λ (r : Pair × List ℕ). r.0) parts.2 in
     let last : n ≡ legs = ap (λ (r : Pair × List ℕ). r.1) parts.2 in
-    let numbers = pair_from_found a c p (parts.1 ∙ ap Some same) in
-    (ap (λ w. w ∷ a ∷ c ∷ n ∷ []) (equal_bytes word (codes "pair") tests.0)
-    ∙ ap (λ t. codes "pair" ∷ t ∷ c ∷ n ∷ []) numbers.0
-    ∙ ap (λ t. codes "pair" ∷ decimal p.arrival ∷ t ∷ n ∷ []) numbers.1
-    ∙ ap (λ t. codes "pair" ∷ decimal p.arrival ∷ decimal p.cost ∷ t ∷ []) last, numbers.2)
+    let numbers = pair_from_found a c p (parts.1 ∙ ap Some same) in (
+      ap (λ w. w ∷ a ∷ c ∷ n ∷ []) (equal_bytes word (codes "pair") tests.0)
+          ∙ ap (λ t. codes "pair" ∷ t ∷ c ∷ n ∷ []) numbers.0
+          ∙ ap (λ t. codes "pair" ∷ decimal p.arrival ∷ t ∷ n ∷ []) numbers.1
+          ∙ ap (λ t. codes "pair" ∷ decimal p.arrival ∷ decimal p.cost ∷ t ∷ []) last,
+      numbers.2,
+    )
 pair_found (word ∷ a ∷ c ∷ n ∷ other ∷ tokens) p legs is = absurd (cc)
 
 -- bounds
@@ -170,9 +172,9 @@ pub bound_again : (e : NodeId × Bound) → IsWritableNode e.0 → IsWritableBou
 bound_again e node bound =
     ap (λ o. option_and_then (λ v. option_map (λ b. (v, b)) (bound_from (decimal e.1.minutes) (decimal e.1.cost))) o) (node_again e.0 node)
     ∙ ap (λ o. option_map (λ b. (e.0, b)) (option_and_then (λ m. option_map (λ c. record { minutes = m; cost = c }) (number_within 0 HIGHEST_PIECE_COST (decimal e.1.cost))) o))
-      (number_again 0 LONGEST_BOUND e.1.minutes (omega arith) bound.minutes (omega arith))
+    (number_again 0 LONGEST_BOUND e.1.minutes (omega arith) bound.minutes (omega arith))
     ∙ ap (λ o. option_map (λ b. (e.0, b)) (option_map (λ c. record { minutes = e.1.minutes; cost = c }) o))
-      (number_again 0 HIGHEST_PIECE_COST e.1.cost (omega arith) bound.cost (omega arith))
+    (number_again 0 HIGHEST_PIECE_COST e.1.cost (omega arith) bound.cost (omega arith))
 
 bound_from_found : (minutes cost : List ℕ) (b : Bound) → bound_from minutes cost ≡ Some b → (minutes ≡ decimal b.minutes) × (cost ≡ decimal b.cost) × IsWritableBound b
 bound_from_found minutes cost b is =
@@ -194,11 +196,14 @@ bound_found (word ∷ v ∷ m ∷ c ∷ []) e is =
     let inner = mapped_of (bound_from m c) (λ b. (outer.0, b)) e outer.2 in
     let node = node_found v outer.0 outer.1 in
     let numbers = bound_from_found m c inner.0 inner.1 in
-    subst (λ (d : NodeId × Bound). (word ∷ v ∷ m ∷ c ∷ [] ≡ bound_line d) × IsWritableNode d.0 × IsWritableBound d.1) inner.2
-    (ap (λ w. w ∷ v ∷ m ∷ c ∷ []) (equal_bytes word (codes "bound") tests.0)
-    ∙ ap (λ t. codes "bound" ∷ t ∷ m ∷ c ∷ []) node.0
-    ∙ ap (λ t. codes "bound" ∷ decimal outer.0.0 ∷ t ∷ c ∷ []) numbers.0
-    ∙ ap (λ t. codes "bound" ∷ decimal outer.0.0 ∷ decimal inner.0.minutes ∷ t ∷ []) numbers.1, node.1, numbers.2)
+    subst (λ (d : NodeId × Bound). (word ∷ v ∷ m ∷ c ∷ [] ≡ bound_line d) × IsWritableNode d.0 × IsWritableBound d.1) inner.2 (
+      ap (λ w. w ∷ v ∷ m ∷ c ∷ []) (equal_bytes word (codes "bound") tests.0)
+          ∙ ap (λ t. codes "bound" ∷ t ∷ m ∷ c ∷ []) node.0
+          ∙ ap (λ t. codes "bound" ∷ decimal outer.0.0 ∷ t ∷ c ∷ []) numbers.0
+          ∙ ap (λ t. codes "bound" ∷ decimal outer.0.0 ∷ decimal inner.0.minutes ∷ t ∷ []) numbers.1,
+      node.1,
+      numbers.2,
+    )
 bound_found (word ∷ v ∷ m ∷ c ∷ other ∷ tokens) e is = absurd (cc)
 
 -- pieces
@@ -228,7 +233,7 @@ piece_from_again p piece =
       number_again 0 LAST_INSTANT p.hi (omega arith) piece.minutes (omega arith),
       number_again 0 HIGHEST_PIECE_COST p.cost (omega arith) piece.cost (omega arith),
       number_again 0 HIGHEST_COST p.slope (omega arith) piece.slope (omega arith),
-      test_again p piece
+      test_again p piece,
     )
 
 pub piece_again : (v : NodeId) (p : Piece) → IsWritableNode v → IsPiece p → piece_in (piece_line v p) ≡ Some (v, p)
@@ -281,13 +286,16 @@ piece_found (word ∷ n ∷ l ∷ h ∷ c ∷ s ∷ []) v p is =
     let inner = mapped_of (piece_from l h c s) (λ q. (outer.0, q)) (v, p) outer.2 in
     let node = node_found n outer.0 outer.1 in
     let numbers = piece_from_found l h c s inner.0 inner.1 in
-    subst (λ (d : NodeId × Piece). (word ∷ n ∷ l ∷ h ∷ c ∷ s ∷ [] ≡ piece_line d.0 d.1) × IsWritableNode d.0 × IsPiece d.1) inner.2
-    (ap (λ w. w ∷ n ∷ l ∷ h ∷ c ∷ s ∷ []) (equal_bytes word (codes "piece") tests.0)
-    ∙ ap (λ t. codes "piece" ∷ t ∷ l ∷ h ∷ c ∷ s ∷ []) node.0
-    ∙ ap (λ t. codes "piece" ∷ decimal outer.0.0 ∷ t ∷ h ∷ c ∷ s ∷ []) numbers.lo_is
-    ∙ ap (λ t. codes "piece" ∷ decimal outer.0.0 ∷ decimal inner.0.lo ∷ t ∷ c ∷ s ∷ []) numbers.hi_is
-    ∙ ap (λ t. codes "piece" ∷ decimal outer.0.0 ∷ decimal inner.0.lo ∷ decimal inner.0.hi ∷ t ∷ s ∷ []) numbers.cost_is
-    ∙ ap (λ t. codes "piece" ∷ decimal outer.0.0 ∷ decimal inner.0.lo ∷ decimal inner.0.hi ∷ decimal inner.0.cost ∷ t ∷ []) numbers.slope_is, node.1, numbers.piece)
+    subst (λ (d : NodeId × Piece). (word ∷ n ∷ l ∷ h ∷ c ∷ s ∷ [] ≡ piece_line d.0 d.1) × IsWritableNode d.0 × IsPiece d.1) inner.2 (
+      ap (λ w. w ∷ n ∷ l ∷ h ∷ c ∷ s ∷ []) (equal_bytes word (codes "piece") tests.0)
+          ∙ ap (λ t. codes "piece" ∷ t ∷ l ∷ h ∷ c ∷ s ∷ []) node.0
+          ∙ ap (λ t. codes "piece" ∷ decimal outer.0.0 ∷ t ∷ h ∷ c ∷ s ∷ []) numbers.lo_is
+          ∙ ap (λ t. codes "piece" ∷ decimal outer.0.0 ∷ decimal inner.0.lo ∷ t ∷ c ∷ s ∷ []) numbers.hi_is
+          ∙ ap (λ t. codes "piece" ∷ decimal outer.0.0 ∷ decimal inner.0.lo ∷ decimal inner.0.hi ∷ t ∷ s ∷ []) numbers.cost_is
+          ∙ ap (λ t. codes "piece" ∷ decimal outer.0.0 ∷ decimal inner.0.lo ∷ decimal inner.0.hi ∷ decimal inner.0.cost ∷ t ∷ []) numbers.slope_is,
+      node.1,
+      numbers.piece,
+    )
 piece_found (word ∷ n ∷ l ∷ h ∷ c ∷ s ∷ other ∷ tokens) v p is = absurd (cc)
 
 -- pieces of one node

@@ -49,7 +49,11 @@ impl<'a> LineReader<'a> {
     }
 
     /// Reads lines of this kind as long as there are any.
-    pub fn take_all<T: Drop, K: LineKind<T>>(&mut self, alloc: Global, kind: &K) -> Result<Vec<T>, OutOfMemory>
+    pub fn take_all<T: Drop, K: LineKind<T>>(
+        &mut self,
+        alloc: Global,
+        kind: &K,
+    ) -> Result<Vec<T>, OutOfMemory>
         ensures { IfOk result (λ items. (items.items, self.new) ≡ items_in (first_line (K.reading kind.now)) self.old) }
     {
         let mut items = Vec::new(alloc);

@@ -139,8 +139,8 @@ fn push_functions(out: &mut Vec<u8>, functions: &[(NodeId, CostFn)]) -> Result<(
     Ok(())
 }
 
-// The number of pieces of all functions.
-fn piece_count(functions: &[(NodeId, CostFn)]) -> u64
+/// The number of pieces of all functions. Linear in the functions.
+pub fn piece_count(functions: &[(NodeId, CostFn)]) -> u64
     requires { length (all_pieces functions.now) < 2 ^ 64 }
     ensures { result ≡ length (all_pieces functions.now) }
 {

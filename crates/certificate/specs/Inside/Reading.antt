@@ -74,27 +74,23 @@ function_behind v r = if neighbours_pass may_follow_piece r.0 then Some ((v, r.0
 abbrev pub function_in : Reading (NodeId × List Piece)
 function_in lines = option_and_then (λ r. function_behind r.0.0 (items_in (first_line (piece_at r.0.0)) lines)) (first_line piece_in lines)
 
--- the items, where they have the size that was announced
-abbrev pub as_announced : {A : Type 0} → (List A → ℕ) → List ℕ → List A × List Tokens → Option (List A × List Tokens)
-as_announced size count r = if bytes_eq count (decimal (size r.0)) then Some r else None
+-- the items, where they pass a test and have the size that was announced
+abbrev pub as_announced : {A : Type 0} → (List A → ℕ) → (List A → Bool) → List ℕ → List A × List Tokens → Option (List A × List Tokens)
+as_announced size passes count r = if passes r.0 && bytes_eq count (decimal (size r.0)) then Some r else None
 
 -- a line of a word and a count, and the items behind it
-abbrev pub counted : {A : Type 0} → List ℕ → (List A → ℕ) → Reading A → Reading (List A)
-counted word size read lines = option_and_then (λ r. as_announced size r.0 (items_in read r.1)) (first_line (count_in word) lines)
-
--- entries, where their nodes rise
-abbrev pub as_rising : {A : Type 0} → List (NodeId × A) × List Tokens → Option (List (NodeId × A) × List Tokens)
-as_rising r = if neighbours_pass may_follow_entry r.0 then Some r else None
+abbrev pub counted : {A : Type 0} → List ℕ → (List A → ℕ) → (List A → Bool) → Reading A → Reading (List A)
+counted word size passes read lines = option_and_then (λ r. as_announced size passes r.0 (items_in read r.1)) (first_line (count_in word) lines)
 
 -- the three blocks of lines
 abbrev pub routes_in : Reading (List Route)
-routes_in lines = counted (codes "pairs") length route_in lines
+routes_in lines = counted (codes "pairs") length (λ routes. true) route_in lines
 
 abbrev pub bounds_in : Reading (List (NodeId × Bound))
-bounds_in lines = option_and_then as_rising (counted (codes "bounds") length (first_line bound_in) lines)
+bounds_in lines = counted (codes "bounds") length (neighbours_pass may_follow_entry) (first_line bound_in) lines
 
 abbrev pub functions_in : Reading (List (NodeId × List Piece))
-functions_in lines = option_and_then as_rising (counted (codes "pieces") (λ fs. length (all_pieces fs)) function_in lines)
+functions_in lines = counted (codes "pieces") (λ fs. length (all_pieces fs)) (neighbours_pass may_follow_entry) function_in lines
 
 -- the first line is of a piece of this node
 abbrev pub IsFirstNode : NodeId → List Tokens → Type 0

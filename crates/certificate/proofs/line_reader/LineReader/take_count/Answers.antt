@@ -8,4 +8,4 @@ pub returns-clause-some : goal.returns-clause-some
 returns-clause-some c =
     ap (first_line (count_in c.args.word.now)) (sym c.self.view_is)
     ∙ first_read (count_in c.args.word.now) c.self.inside.rest.now c.in_ok-line.line.now c.in_ok-line.rest.now c.in_ok-count.count.now
-      c.in_ok-line.ensures.parts c.in_ok-count.ensures
+    c.in_ok-line.ensures.parts c.in_ok-count.ensures

@@ -8,4 +8,4 @@ pub returns-clause-some : goal.returns-clause-some
 returns-clause-some c =
     ap (first_line pair_in) (sym c.self.view_is)
     ∙ first_read pair_in c.self.inside.rest.now c.in_ok-line.line.now c.in_ok-line.rest.now (c.in_ok-pair.pair, c.in_ok-pair.legs.now)
-      c.in_ok-line.ensures.parts c.in_ok-pair.ensures
+    c.in_ok-line.ensures.parts c.in_ok-pair.ensures
