@@ -71,21 +71,22 @@ abbrev pub AreClean : List Tokens → Type 0
 AreClean lines = All (λ l. is_clean l ≡ true) lines
 
 -- the text of clean lines has just these lines, and an empty one behind the last line feed
-pub lines_again : (lines : List Tokens) → AreClean lines → lines_of (flat_map line_text lines) ≡ lines ++ ([] ∷ []) ∷ []
-lines_again [] clean = refl
-lines_again (l ∷ lines) clean =
+pub lines_of_text : (lines : List Tokens) → AreClean lines → lines_of (flat_map line_text lines) ≡ lines ++ ([] ∷ []) ∷ []
+lines_of_text [] clean = refl
+lines_of_text (l ∷ lines) clean =
     let first = All-head (λ k. is_clean k ≡ true) l lines clean in
     let others = flat_map line_text lines in
     ap lines_of (append_assoc (join_with_byte 32 l) (10 ∷ []) others)
     ∙ ap (map tokens_of) (slice_split_at (λ b. b == 10) (join_with_byte 32 l) 10 others (feedless l first) refl)
     ∙ ap (λ t. t ∷ lines_of others) (tokens_again l first)
-    ∙ ap (λ ls. l ∷ ls) (lines_again lines (All-tail (λ k. is_clean k ≡ true) l lines clean))
+    ∙ ap (λ ls. l ∷ ls) (lines_of_text lines (All-tail (λ k. is_clean k ≡ true) l lines clean))
 
 -- digits are plain
 glyph_plain : (d : ℕ) → d < 10 → is_plain (digit_glyph false d) ≡ true
 glyph_plain d small =
     ap is_plain (ap (λ b. cond b (48 + d) (87 + d)) (lt-ltb d 10 small))
-    ∙ and_true (not (48 + d == 32)) (not (48 + d == 10)) (ap not (ne_eqb (48 + d) 32 (λ same. omega (arith, same)))) (ap not (ne_eqb (48 + d) 10 (λ same. omega (arith, same))))
+    ∙ and_true (not (48 + d == 32)) (not (48 + d == 10))
+    (ap not (ne_eqb (48 + d) 32 (λ same. omega (arith, same)))) (ap not (ne_eqb (48 + d) 10 (λ same. omega (arith, same))))
 
 onto_plain : (k n : ℕ) (acc : List ℕ) → are_plain acc ≡ true → are_plain (digits_onto k 10 false n acc) ≡ true
 onto_plain zero n acc plain = plain
@@ -112,7 +113,8 @@ two_clean : (a b : List ℕ) → are_plain a ≡ true → are_plain b ≡ true �
 two_clean a b h k = and_true (are_plain a) (are_plain b) h k
 
 pair_clean : (route : Route) → is_clean (pair_line route) ≡ true
-pair_clean route = and_true (are_plain (decimal route.pair.arrival)) (is_clean (decimal route.pair.cost ∷ decimal (length route.legs) ∷ [])) (decimal_plain route.pair.arrival)
+pair_clean route = and_true (are_plain (decimal route.pair.arrival))
+    (is_clean (decimal route.pair.cost ∷ decimal (length route.legs) ∷ [])) (decimal_plain route.pair.arrival)
     (two_clean (decimal route.pair.cost) (decimal (length route.legs)) (decimal_plain route.pair.cost) (decimal_plain (length route.legs)))
 
 bound_clean : (e : NodeId × Bound) → is_clean (bound_line e) ≡ true
@@ -137,7 +139,8 @@ joined_clean lines each (x ∷ xs) = All-append (λ l. is_clean l ≡ true) (lin
 pub certificate_clean : (c : Certificate) → AreClean (certificate_lines c)
 certificate_clean c =
     let P = λ (l : Tokens). is_clean l ≡ true in
-    let routes = joined_clean route_lines (λ r. All-cons P (pair_line r) (map leg_line r.legs) (pair_clean r) (mapped_clean leg_line leg_clean r.legs)) c.routes in
+    let routes = joined_clean route_lines
+    (λ r. All-cons P (pair_line r) (map leg_line r.legs) (pair_clean r) (mapped_clean leg_line leg_clean r.legs)) c.routes in
     let bounds = mapped_clean bound_line bound_clean c.bounds in
     let functions = joined_clean function_lines (λ e. mapped_clean (piece_line e.0) (piece_clean e.0) e.1) c.functions in
     let first = (codes "lorry-certificate" ∷ codes "1" ∷ []) ∷ count_line (codes "pairs") (length c.routes) ∷ flat_map route_lines c.routes in
@@ -149,5 +152,6 @@ certificate_clean c =
     (All-cons P (codes "lorry-certificate" ∷ codes "1" ∷ []) (count_line (codes "pairs") (length c.routes) ∷ flat_map route_lines c.routes) refl
     (All-cons P (count_line (codes "pairs") (length c.routes)) (flat_map route_lines c.routes) (decimal_plain (length c.routes)) routes))
     (All-cons P (count_line (codes "bounds") (length c.bounds)) (map bound_line c.bounds) (decimal_plain (length c.bounds)) bounds))
-    (All-cons P (count_line (codes "pieces") (length (all_pieces c.functions))) (flat_map function_lines c.functions) (decimal_plain (length (all_pieces c.functions))) functions))
+    (All-cons P (count_line (codes "pieces") (length (all_pieces c.functions))) (flat_map function_lines c.functions)
+    (decimal_plain (length (all_pieces c.functions))) functions))
     (All-cons P (codes "end" ∷ []) [] refl (All-nil P))

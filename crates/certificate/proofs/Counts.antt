@@ -44,7 +44,8 @@ all_pieces_length (e ∷ fs) all =
     omega (arith, first, others, length-append e.1 (all_pieces fs))
 
 -- the number of all pieces of functions is no large number
-pub all_pieces_fit : (fs : List (NodeId × List Piece)) → All (λ e. IsWritableNode e.0) fs → All (λ e. ArePieces e.1) fs → AreRising fs → length (all_pieces fs) < 2 ^ 64
+pub all_pieces_fit : (fs : List (NodeId × List Piece)) → All (λ e. IsWritableNode e.0) fs → All (λ e. ArePieces e.1) fs → AreRising fs
+    → length (all_pieces fs) < 2 ^ 64
 all_pieces_fit fs writable are rising =
     let nodes = rising_length (λ e. e.0.0) fs 500000 rising (λ i d within. (writable i d within).1) in
     let pieces = all_pieces_length fs are in

@@ -12,13 +12,17 @@ use Rattle.certificate.specs.Inside.Reading.{lines_of, first_line}
 pub some_part : {X : Type 0} (p : X → Bool) (xs : List X) → 0 < length (slice_split p xs)
 some_part p xs = omega (arith, length-slice_split p xs)
 
+some_line : (line : Tokens) (lines : List Tokens) → 0 < length (line ∷ lines)
+some_line line lines = omega arith
+
 module _ {A : Type 0} (read : Tokens → Option A) where
   pub read_first : (line : Tokens) (lines : List Tokens) (x : A) → 0 < length lines → read line ≡ Some x → first_line read (line ∷ lines) ≡ Some (x, lines)
   read_first line [] x some is = absurd (omega (arith, some))
   read_first line (next ∷ lines) x some is = ap (λ o. option_map (λ y. (y, next ∷ lines)) o) is
 
   -- a line that was read
-  pub first_read : (bytes line rest : List ℕ) (x : A) → slice_split (λ b. b == 10) bytes ≡ line ∷ slice_split (λ b. b == 10) rest → read (tokens_of line) ≡ Some x
+  pub first_read : (bytes line rest : List ℕ) (x : A) → slice_split (λ b. b == 10) bytes ≡ line ∷ slice_split (λ b. b == 10) rest
+      → read (tokens_of line) ≡ Some x
       → first_line read (lines_of bytes) ≡ Some (x, lines_of rest)
   first_read bytes line rest x parts is =
       ap (λ ls. first_line read (map tokens_of ls)) parts
@@ -32,7 +36,9 @@ module _ {A : Type 0} (read : Tokens → Option A) where
     where
       shorter : (o : Option A) → option_map {U = A × List Tokens} (λ y. (y, next ∷ lines)) o ≡ Some (x, others) → length others < length (line ∷ next ∷ lines)
       shorter None e = absurd (cc)
-      shorter (Some y) e = let same : (y, next ∷ lines) ≡ (x, others) = ap (λ w. unwrap_or w (y, next ∷ lines)) e in omega (arith, ap (λ (r : A × List Tokens). length r.1) same)
+      shorter (Some y) e =
+          let same : (y, next ∷ lines) ≡ (x, others) = ap (λ w. unwrap_or w (y, next ∷ lines)) e in
+          omega (arith, ap (λ (r : A × List Tokens). length r.1) same)
 
   pub record IsFirstLine (lines : List Tokens) (x : A) (others : List Tokens) : Type 0 where
     pub line : Tokens
@@ -46,7 +52,8 @@ module _ {A : Type 0} (read : Tokens → Option A) where
   first_found (line ∷ []) x others is = absurd (cc)
   first_found (line ∷ next ∷ lines) x others is = found (read line) refl is
     where
-      found : (o : Option A) → read line ≡ o → option_map {U = A × List Tokens} (λ y. (y, next ∷ lines)) o ≡ Some (x, others) → IsFirstLine (line ∷ next ∷ lines) x others
+      found : (o : Option A) → read line ≡ o → option_map {U = A × List Tokens} (λ y. (y, next ∷ lines)) o ≡ Some (x, others)
+          → IsFirstLine (line ∷ next ∷ lines) x others
       found None was e = absurd (cc)
       found (Some y) was e =
           let same : (y, next ∷ lines) ≡ (x, others) = ap (λ w. unwrap_or w (y, next ∷ lines)) e in
@@ -55,5 +62,5 @@ module _ {A : Type 0} (read : Tokens → Option A) where
             line = line;
             lines_are = ap (λ ls. line ∷ ls) rest;
             is_read = was ∙ ap (λ (r : A × List Tokens). Some r.0) same;
-            some = subst (λ (ls : List Tokens). 0 < length ls) rest (omega arith);
+            some = subst (λ (ls : List Tokens). 0 < length ls) rest (some_line next lines);
           }

@@ -43,7 +43,9 @@ end_lines ((w ∷ v ∷ tokens) ∷ lines) is = absurd (cc)
 pub end_test : (bytes : List ℕ) → bytes_eq bytes (codes "end\n") ≡ is_end (lines_of bytes)
 end_test bytes = tested (bytes_eq bytes (codes "end\n")) refl (is_end (lines_of bytes)) refl
   where
-    tested : (b : Bool) → bytes_eq bytes (codes "end\n") ≡ b → (d : Bool) → is_end (lines_of bytes) ≡ d → bytes_eq bytes (codes "end\n") ≡ is_end (lines_of bytes)
+    tested : (b : Bool) → bytes_eq bytes (codes "end\n") ≡ b → (d : Bool) → is_end (lines_of bytes) ≡ d
+        → bytes_eq bytes (codes "end\n") ≡ is_end (lines_of bytes)
     tested true is d end = is ∙ sym (ap (λ bs. is_end (lines_of bs)) (equal_bytes bytes (codes "end\n") is))
-    tested false is true end = ap (λ bs. bytes_eq bs (codes "end\n")) (bytes_again bytes ((codes "end" ∷ []) ∷ ([] ∷ []) ∷ []) (end_lines (lines_of bytes) end)) ∙ sym end
+    tested false is true end = ap (λ bs. bytes_eq bs (codes "end\n"))
+        (bytes_again bytes ((codes "end" ∷ []) ∷ ([] ∷ []) ∷ []) (end_lines (lines_of bytes) end)) ∙ sym end
     tested false is false end = is ∙ sym end

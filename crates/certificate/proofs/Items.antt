@@ -23,7 +23,8 @@ module _ {A : Type 0} (read : Reading A) where
       → read others ≡ Some (x, behind) → length behind < length others → AreTaken read lines (items ++ x ∷ []) behind
   taken_more lines items others x behind taken is fewer = more taken.left taken.enough taken.so_far
     where
-      more : (left : ℕ) → length others ≤ left → items_in read lines ≡ (items ++ (items_up_to read left others).0, (items_up_to read left others).1) → AreTaken read lines (items ++ x ∷ []) behind
+      more : (left : ℕ) → length others ≤ left → items_in read lines ≡ (items ++ (items_up_to read left others).0, (items_up_to read left others).1)
+          → AreTaken read lines (items ++ x ∷ []) behind
       more zero enough so_far = absurd (omega (arith, enough, fewer))
       more (suc k) enough so_far = record {
         left = k;
@@ -32,7 +33,8 @@ module _ {A : Type 0} (read : Reading A) where
             ∙ ap (λ xs. (xs, (items_up_to read k behind).1)) (sym (append_assoc items (x ∷ []) (items_up_to read k behind).0));
       }
 
-  pub taken_all : (lines : List Tokens) (items : List A) (others : List Tokens) → AreTaken read lines items others → read others ≡ None → (items, others) ≡ items_in read lines
+  pub taken_all : (lines : List Tokens) (items : List A) (others : List Tokens) → AreTaken read lines items others → read others ≡ None
+      → (items, others) ≡ items_in read lines
   taken_all lines items others taken is =
       sym (taken.so_far ∙ ap (λ r. (items ++ r.0, r.1)) (items_end taken.left others is) ∙ ap (λ xs. (xs, others)) (append-nil items))
 
@@ -51,14 +53,16 @@ module _ {A : Type 0} (read : Reading A) where
     left_of zero lines = omega arith
     left_of (suc k) lines = by (left_of k) (read lines) refl
       where
-        by : ((ls : List Tokens) → length (items_up_to read k ls).1 ≤ length ls) → (o : Option (A × List Tokens)) → read lines ≡ o → length (items_up_to read (suc k) lines).1 ≤ length lines
+        by : ((ls : List Tokens) → length (items_up_to read k ls).1 ≤ length ls) → (o : Option (A × List Tokens)) → read lines ≡ o
+            → length (items_up_to read (suc k) lines).1 ≤ length lines
         by more None is = omega (arith, ap (λ (r : List A × List Tokens). length r.1) (items_end (suc k) lines is))
         by more (Some r) is = omega (arith, ap (λ (r : List A × List Tokens). length r.1) (items_next k lines r.0 r.1 is), more r.1, shorter lines r.0 r.1 is)
 
     pub items_left : (lines : List Tokens) (xs : List A) (others : List Tokens) → items_in read lines ≡ (xs, others) → length others ≤ length lines
     items_left lines xs others is = omega (arith, left_of (length lines) lines, ap (λ (r : List A × List Tokens). length r.1) is)
 
-    pub items_fewer : (lines : List Tokens) (x : A) (behind : List Tokens) (xs : List A) (others : List Tokens) → read lines ≡ Some (x, behind) → items_in read lines ≡ (xs, others)
+    pub items_fewer : (lines : List Tokens) (x : A) (behind : List Tokens) (xs : List A) (others : List Tokens) → read lines ≡ Some (x, behind)
+        → items_in read lines ≡ (xs, others)
         → (length others < length lines) × (xs ≢ [])
     items_fewer [] x behind xs others first is = absurd (let fewer = shorter [] x behind first in omega (arith, fewer))
     items_fewer (line ∷ lines) x behind xs others first is =
@@ -69,7 +73,8 @@ module _ {A : Type 0} (read : Reading A) where
 
   -- both ways between items and their lines
   module _ (spell : A → List Tokens) where
-    module _ (P : A → Type 0) (each : (lines : List Tokens) (x : A) (others : List Tokens) → read lines ≡ Some (x, others) → (lines ≡ spell x ++ others) × P x) where
+    module _ (P : A → Type 0)
+        (each : (lines : List Tokens) (x : A) (others : List Tokens) → read lines ≡ Some (x, others) → (lines ≡ spell x ++ others) × P x) where
       abbrev Found : List Tokens → List A × List Tokens → Type 0
       Found lines r = (lines ≡ flat_map spell r.0 ++ r.1) × All P r.0
 
@@ -77,24 +82,30 @@ module _ {A : Type 0} (read : Reading A) where
       up_to_found zero lines = (refl, All-nil P)
       up_to_found (suc k) lines = by (up_to_found k) (read lines) refl
         where
-          by : ((ls : List Tokens) → Found ls (items_up_to read k ls)) → (o : Option (A × List Tokens)) → read lines ≡ o → Found lines (items_up_to read (suc k) lines)
+          by : ((ls : List Tokens) → Found ls (items_up_to read k ls)) → (o : Option (A × List Tokens)) → read lines ≡ o
+              → Found lines (items_up_to read (suc k) lines)
           by more None is = subst (Found lines) (sym (items_end (suc k) lines is)) (refl, All-nil P)
           by more (Some r) is =
               let first = each lines r.0 r.1 is in
               let others = more r.1 in
               let found = items_up_to read k r.1 in
-              subst (Found lines) (sym (items_next k lines r.0 r.1 is))
-              (first.0 ∙ ap (λ ls. spell r.0 ++ ls) others.0 ∙ sym (append_assoc (spell r.0) (flat_map spell found.0) found.1), All-cons P r.0 found.0 first.1 others.1)
+              subst (Found lines) (sym (items_next k lines r.0 r.1 is)) (
+                first.0 ∙ ap (λ ls. spell r.0 ++ ls) others.0 ∙ sym (append_assoc (spell r.0) (flat_map spell found.0) found.1),
+                All-cons P r.0 found.0 first.1 others.1,
+              )
 
-      pub items_found : (lines : List Tokens) (xs : List A) (others : List Tokens) → items_in read lines ≡ (xs, others) → (lines ≡ flat_map spell xs ++ others) × All P xs
+      pub items_found : (lines : List Tokens) (xs : List A) (others : List Tokens) → items_in read lines ≡ (xs, others)
+          → (lines ≡ flat_map spell xs ++ others) × All P xs
       items_found lines xs others is = subst (Found lines) is (up_to_found (length lines) lines)
 
     -- each item is read from its lines, and then no other
     abbrev pub AreRead : List A → List Tokens → Type 0
     AreRead [] others = read others ≡ None
-    AreRead (x ∷ xs) others = (0 < length (spell x)) × (read (spell x ++ (flat_map spell xs ++ others)) ≡ Some (x, flat_map spell xs ++ others)) × AreRead xs others
+    AreRead (x ∷ xs) others = (0 < length (spell x)) × (read (spell x ++ (flat_map spell xs ++ others)) ≡ Some (x, flat_map spell xs ++ others))
+        × AreRead xs others
 
-    up_to_again : (xs : List A) (others : List Tokens) (k : ℕ) → length xs ≤ k → AreRead xs others → items_up_to read k (flat_map spell xs ++ others) ≡ (xs, others)
+    up_to_again : (xs : List A) (others : List Tokens) (k : ℕ) → length xs ≤ k → AreRead xs others
+        → items_up_to read k (flat_map spell xs ++ others) ≡ (xs, others)
     up_to_again [] others k enough end = items_end k others end
     up_to_again (x ∷ xs) others zero enough are = absurd (omega (arith, enough))
     up_to_again (x ∷ xs) others (suc k) enough are =
@@ -128,7 +139,8 @@ module _ {A : Type 0} (read : Tokens → Option A) (line : A → Tokens) where
       )
 
   module _ (P : A → Type 0) (each : (tokens : Tokens) (x : A) → read tokens ≡ Some x → (tokens ≡ line x) × P x) where
-    pub lines_found : (lines : List Tokens) (xs : List A) (others : List Tokens) → items_in (first_line read) lines ≡ (xs, others) → (lines ≡ map line xs ++ others) × All P xs
+    pub lines_found : (lines : List Tokens) (xs : List A) (others : List Tokens) → items_in (first_line read) lines ≡ (xs, others)
+        → (lines ≡ map line xs ++ others) × All P xs
     lines_found lines xs others is =
         let found = items_found (first_line read) (λ x. line x ∷ []) P first lines xs others is in
         (found.0 ∙ ap (λ ls. ls ++ others) (flat_map_single line xs), found.1)

@@ -129,14 +129,17 @@ pub record IsWritablePair (p : Pair) : Type 0 where
 
 pub pair_again : (p : Pair) (legs : List ℕ) → IsWritablePair p → pair_in (codes "pair" ∷ decimal p.arrival ∷ decimal p.cost ∷ legs ∷ []) ≡ Some (p, legs)
 pair_again p legs writable =
-    ap (λ o. option_map (λ q. (q, legs)) (option_and_then (λ a. option_map (λ c. record { arrival = a; cost = c }) (number_within 0 HIGHEST_PIECE_COST (decimal p.cost))) o))
+    ap (λ o. option_map (λ q. (q, legs))
+    (option_and_then (λ a. option_map (λ c. record { arrival = a; cost = c }) (number_within 0 HIGHEST_PIECE_COST (decimal p.cost))) o))
     (number_again 0 LAST_INSTANT p.arrival (omega arith) writable.arrival (omega arith))
     ∙ ap (λ o. option_map (λ q. (q, legs)) (option_map (λ c. record { arrival = p.arrival; cost = c }) o))
     (number_again 0 HIGHEST_PIECE_COST p.cost (omega arith) writable.cost (omega arith))
 
-pair_from_found : (arrival cost : List ℕ) (p : Pair) → pair_from arrival cost ≡ Some p → (arrival ≡ decimal p.arrival) × (cost ≡ decimal p.cost) × IsWritablePair p
+pair_from_found : (arrival cost : List ℕ) (p : Pair) → pair_from arrival cost ≡ Some p
+    → (arrival ≡ decimal p.arrival) × (cost ≡ decimal p.cost) × IsWritablePair p
 pair_from_found arrival cost p is =
-    let first = some_of (number_within 0 LAST_INSTANT arrival) (λ a. option_map (λ c. record { arrival = a; cost = c }) (number_within 0 HIGHEST_PIECE_COST cost)) p is in
+    let first = some_of (number_within 0 LAST_INSTANT arrival)
+    (λ a. option_map (λ c. record { arrival = a; cost = c }) (number_within 0 HIGHEST_PIECE_COST cost)) p is in
     let second = mapped_of (number_within 0 HIGHEST_PIECE_COST cost) (λ c. record { arrival = first.0; cost = c }) p first.2 in
     let a = number_found 0 LAST_INSTANT arrival first.0 first.1 in
     let c = number_found 0 HIGHEST_PIECE_COST cost second.0 second.1 in
@@ -171,14 +174,17 @@ pub record IsWritableBound (b : Bound) : Type 0 where
 pub bound_again : (e : NodeId × Bound) → IsWritableNode e.0 → IsWritableBound e.1 → bound_in (bound_line e) ≡ Some e
 bound_again e node bound =
     ap (λ o. option_and_then (λ v. option_map (λ b. (v, b)) (bound_from (decimal e.1.minutes) (decimal e.1.cost))) o) (node_again e.0 node)
-    ∙ ap (λ o. option_map (λ b. (e.0, b)) (option_and_then (λ m. option_map (λ c. record { minutes = m; cost = c }) (number_within 0 HIGHEST_PIECE_COST (decimal e.1.cost))) o))
+    ∙ ap (λ o. option_map (λ b. (e.0, b))
+    (option_and_then (λ m. option_map (λ c. record { minutes = m; cost = c }) (number_within 0 HIGHEST_PIECE_COST (decimal e.1.cost))) o))
     (number_again 0 LONGEST_BOUND e.1.minutes (omega arith) bound.minutes (omega arith))
     ∙ ap (λ o. option_map (λ b. (e.0, b)) (option_map (λ c. record { minutes = e.1.minutes; cost = c }) o))
     (number_again 0 HIGHEST_PIECE_COST e.1.cost (omega arith) bound.cost (omega arith))
 
-bound_from_found : (minutes cost : List ℕ) (b : Bound) → bound_from minutes cost ≡ Some b → (minutes ≡ decimal b.minutes) × (cost ≡ decimal b.cost) × IsWritableBound b
+bound_from_found : (minutes cost : List ℕ) (b : Bound) → bound_from minutes cost ≡ Some b
+    → (minutes ≡ decimal b.minutes) × (cost ≡ decimal b.cost) × IsWritableBound b
 bound_from_found minutes cost b is =
-    let first = some_of (number_within 0 LONGEST_BOUND minutes) (λ m. option_map (λ c. record { minutes = m; cost = c }) (number_within 0 HIGHEST_PIECE_COST cost)) b is in
+    let first = some_of (number_within 0 LONGEST_BOUND minutes)
+    (λ m. option_map (λ c. record { minutes = m; cost = c }) (number_within 0 HIGHEST_PIECE_COST cost)) b is in
     let second = mapped_of (number_within 0 HIGHEST_PIECE_COST cost) (λ c. record { minutes = first.0; cost = c }) b first.2 in
     let m = number_found 0 LONGEST_BOUND minutes first.0 first.1 in
     let c = number_found 0 HIGHEST_PIECE_COST cost second.0 second.1 in
@@ -238,7 +244,8 @@ piece_from_again p piece =
 
 pub piece_again : (v : NodeId) (p : Piece) → IsWritableNode v → IsPiece p → piece_in (piece_line v p) ≡ Some (v, p)
 piece_again v p node piece =
-    ap (λ o. option_and_then (λ u. option_map (λ q. (u, q)) (piece_from (decimal p.lo) (decimal p.hi) (decimal p.cost) (decimal p.slope))) o) (node_again v node)
+    ap (λ o. option_and_then (λ u. option_map (λ q. (u, q)) (piece_from (decimal p.lo) (decimal p.hi) (decimal p.cost) (decimal p.slope))) o)
+    (node_again v node)
     ∙ ap (λ o. option_map (λ q. (v, q)) o) (piece_from_again p piece)
 
 pub record IsPieceOf (lo hi cost slope : List ℕ) (p : Piece) : Type 0 where
@@ -254,9 +261,14 @@ tested l h c s = cond (nat_lt l h || (l == h && s == 0)) (Some (record { lo = l;
 
 pub piece_from_found : (lo hi cost slope : List ℕ) (p : Piece) → piece_from lo hi cost slope ≡ Some p → IsPieceOf lo hi cost slope p
 piece_from_found lo hi cost slope p is =
-    let first = some_of (number_within 0 LAST_INSTANT lo) (λ l. option_and_then (λ h. option_and_then (λ c. option_and_then (λ s. tested l h c s) (number_within 0 HIGHEST_COST slope)) (number_within 0 HIGHEST_PIECE_COST cost)) (number_within 0 LAST_INSTANT hi)) p is in
-    let second = some_of (number_within 0 LAST_INSTANT hi) (λ h. option_and_then (λ c. option_and_then (λ s. tested first.0 h c s) (number_within 0 HIGHEST_COST slope)) (number_within 0 HIGHEST_PIECE_COST cost)) p first.2 in
-    let third = some_of (number_within 0 HIGHEST_PIECE_COST cost) (λ c. option_and_then (λ s. tested first.0 second.0 c s) (number_within 0 HIGHEST_COST slope)) p second.2 in
+    let first = some_of (number_within 0 LAST_INSTANT lo)
+    (λ l. option_and_then (λ h. option_and_then (λ c. option_and_then (λ s. tested l h c s)
+    (number_within 0 HIGHEST_COST slope)) (number_within 0 HIGHEST_PIECE_COST cost)) (number_within 0 LAST_INSTANT hi)) p is in
+    let second = some_of (number_within 0 LAST_INSTANT hi)
+    (λ h. option_and_then (λ c. option_and_then (λ s. tested first.0 h c s) (number_within 0 HIGHEST_COST slope))
+    (number_within 0 HIGHEST_PIECE_COST cost)) p first.2 in
+    let third = some_of (number_within 0 HIGHEST_PIECE_COST cost)
+    (λ c. option_and_then (λ s. tested first.0 second.0 c s) (number_within 0 HIGHEST_COST slope)) p second.2 in
     let fourth = some_of (number_within 0 HIGHEST_COST slope) (λ s. tested first.0 second.0 third.0 s) p third.2 in
     let l = number_found 0 LAST_INSTANT lo first.0 first.1 in
     let h = number_found 0 LAST_INSTANT hi second.0 second.1 in
@@ -265,7 +277,8 @@ piece_from_found lo hi cost slope p is =
     let made : Option Piece = Some (record { lo = first.0; hi = second.0; cost = third.0; slope = fourth.0 }) in
     let test = if_some (nat_lt first.0 second.0 || (first.0 == second.0 && fourth.0 == 0)) made p fourth.2 in
     let minutes = test_found first.0 second.0 fourth.0 test.0 in
-    subst (λ (q : Piece). IsPieceOf lo hi cost slope q) (same_some (record { lo = first.0; hi = second.0; cost = third.0; slope = fourth.0 }) p test.1) (record {
+    subst (λ (q : Piece). IsPieceOf lo hi cost slope q)
+    (same_some (record { lo = first.0; hi = second.0; cost = third.0; slope = fourth.0 }) p test.1) (record {
       lo_is = l.token_is;
       hi_is = h.token_is;
       cost_is = c.token_is;

@@ -26,7 +26,8 @@ module _ {A : Type 0} (test : A → A → Bool) (R : A → A → Type 0) where
         let rest = pairs_from (y ∷ xs) others parts.1 in
         let first = holds x y parts.0 in
         AllPairs-cons R x (y ∷ xs)
-        (All-cons (R x) y xs first (λ k d within. across x y (get_or xs k d) (All-head P y xs others) first (rest 0 (suc k) d (omega arith) (omega (arith, within))))) rest
+        (All-cons (R x) y xs first
+        (λ k d within. across x y (get_or xs k d) (All-head P y xs others) first (rest 0 (suc k) d (omega arith) (omega (arith, within))))) rest
 
   module _ (passes : (x y : A) → R x y → test x y ≡ true) where
     pub pass_from : (xs : List A) → AllPairs R xs → neighbours_pass test xs ≡ true

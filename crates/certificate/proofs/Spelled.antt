@@ -22,14 +22,16 @@ pub line_pushed : (out named numbered ended word ns : List ℕ) → named ≡ ou
     → ended ≡ out ++ line_text (word ∷ map decimal ns)
 line_pushed out named numbered ended word ns named-is numbered-is ended-is =
     ended-is
-    ∙ ap (λ t. t ++ 10 ∷ []) (numbered-is ∙ ap (λ t. t ++ flat_map spaced ns) named-is ∙ append_assoc out word (flat_map spaced ns) ∙ ap (λ t. out ++ t) (sym (joined_numbers word ns)))
+    ∙ ap (λ t. t ++ 10 ∷ []) (numbered-is ∙ ap (λ t. t ++ flat_map spaced ns) named-is
+    ∙ append_assoc out word (flat_map spaced ns) ∙ ap (λ t. out ++ t) (sym (joined_numbers word ns)))
     ∙ append_assoc out (join_with_byte 32 (word ∷ map decimal ns)) (10 ∷ [])
 
 regrouped : (a b c d e f g h : List ℕ) → ((a ++ (b ++ c)) ++ (d ++ e)) ++ (f ++ g) ++ (h ++ []) ≡ a ++ b ++ c ++ d ++ e ++ f ++ g ++ h
 regrouped a b c d e f g h = simp (append_assoc, append-nil)
 
 -- the text of all lines, part by part
-module _ {A B C : Type 0} (f : A → List Tokens) (g : B → Tokens) (h : C → List Tokens) (first pairs bounds pieces last : Tokens) (rs : List A) (bs : List B) (fs : List C) where
+module _ {A B C : Type 0} (f : A → List Tokens) (g : B → Tokens) (h : C → List Tokens)
+    (first pairs bounds pieces last : Tokens) (rs : List A) (bs : List B) (fs : List C) where
   parts : flat_map line_text (first ∷ pairs ∷ flat_map f rs ++ bounds ∷ map g bs ++ pieces ∷ flat_map h fs ++ last ∷ [])
       ≡ line_text first ++ line_text pairs ++ flat_map line_text (flat_map f rs) ++ line_text bounds ++ flat_map line_text (map g bs)
       ++ line_text pieces ++ flat_map line_text (flat_map h fs) ++ line_text last

@@ -13,11 +13,10 @@ use Rattle.certificate.specs.declared.Certificate.{Certificate}
 use Rattle.certificate.specs.Inside.LineForms.{bound_in, count_in, leg_in, pair_in}
 use Rattle.certificate.specs.Inside.Reading.{lines_of, first_line, neighbours_pass, may_follow_entry, route_in, function_in, routes_in, bounds_in, functions_in, behind_title, is_end, certificate_in}
 use Rattle.certificate.proofs.Blocks.{none_first, IsWritableRoute, IsWritableFunction, routes_found, routes_read, functions_found, functions_read, counted_found, counted_again}
-use Rattle.certificate.proofs.CleanLines.{lines_again, certificate_clean}
+use Rattle.certificate.proofs.CleanLines.{lines_of_text, certificate_clean}
 use Rattle.certificate.proofs.CutLines.{read_first, first_found}
 use Rattle.certificate.proofs.CutText.{bytes_again, text_again, end_lines}
-use Rattle.certificate.proofs.Items.{items_again, lines_found}
-use Rattle.certificate.proofs.Items as items
+use Rattle.certificate.proofs.Items.{items_again, lines_again, lines_found}
 use Rattle.certificate.proofs.LineForms.{some_of, if_some, same_some, equal_bytes, count_found, IsWritableBound, bound_again, bound_found}
 use Rattle.certificate.proofs.Orders.{entries_rise, entries_pass}
 
@@ -79,20 +78,24 @@ module _ (c : Certificate) (writable : IsWritable c) where
   bounds_back others =
       let behind = piece_lines c.functions others in
       counted_again (codes "bounds") length (neighbours_pass may_follow_entry) (first_line bound_in) (map bound_line c.bounds ++ behind) c.bounds behind
-      (items.lines_again bound_in bound_line c.bounds behind
-      (λ k d within. bound_again (get_or c.bounds k d) (writable.bound_nodes k d within) (record { minutes = writable.bound_minutes k d within; cost = writable.bound_costs k d within }))
+      (lines_again bound_in bound_line c.bounds behind
+      (λ k d within. bound_again (get_or c.bounds k d) (writable.bound_nodes k d within)
+      (record { minutes = writable.bound_minutes k d within; cost = writable.bound_costs k d within }))
       (omega arith) (none_first bound_in (count_line (codes "pieces") (length (all_pieces c.functions))) (flat_map function_lines c.functions ++ others) refl))
       (entries_pass c.bounds writable.rising_bounds) (omega (arith, length-append (map bound_line c.bounds) behind))
 
   functions_back : functions_in (piece_lines c.functions last_lines) ≡ Some (c.functions, last_lines)
   functions_back =
-      counted_again (codes "pieces") (λ fs. length (all_pieces fs)) (neighbours_pass may_follow_entry) function_in (flat_map function_lines c.functions ++ last_lines) c.functions last_lines
-      (items_again function_in function_lines c.functions last_lines (functions_read c.functions last_lines writable_functions writable.rising_functions (omega arith) (λ v. refl) refl))
+      counted_again (codes "pieces") (λ fs. length (all_pieces fs)) (neighbours_pass may_follow_entry) function_in
+      (flat_map function_lines c.functions ++ last_lines) c.functions last_lines
+      (items_again function_in function_lines c.functions last_lines
+      (functions_read c.functions last_lines writable_functions writable.rising_functions (omega arith) (λ v. refl) refl))
       (entries_pass c.functions writable.rising_functions) (omega (arith, length-append (flat_map function_lines c.functions) last_lines))
 
   title_back : (others : List Tokens) → 0 < length others → behind_title (title ∷ others) ≡ Some others
   title_back others some =
-      ap (option_and_then (λ r. cond (bytes_eq r.0 (codes "1")) (Some r.1) None)) (read_first (count_in (codes "lorry-certificate")) title others (codes "1") some refl)
+      ap (option_and_then (λ r. cond (bytes_eq r.0 (codes "1")) (Some r.1) None))
+      (read_first (count_in (codes "lorry-certificate")) title others (codes "1") some refl)
 
   certificate_back : certificate_in (all_lines c) ≡ Some c
   certificate_back =
@@ -120,7 +123,8 @@ title_found lines others is =
     ∙ ap (λ t. (codes "lorry-certificate" ∷ t ∷ []) ∷ head.0.1) (equal_bytes head.0.0 (codes "1") test.0)
     ∙ ap (λ ls. title ∷ ls) (same_some head.0.1 others test.1)
 
-routes_block : (lines : List Tokens) (rs : List Route) (others : List Tokens) → routes_in lines ≡ Some (rs, others) → (lines ≡ pair_lines rs others) × All IsWritableRoute rs
+routes_block : (lines : List Tokens) (rs : List Route) (others : List Tokens) → routes_in lines ≡ Some (rs, others)
+    → (lines ≡ pair_lines rs others) × All IsWritableRoute rs
 routes_block lines rs others is =
     let block = counted_found (codes "pairs") length (λ xs. true) route_in lines rs others is in
     let found = routes_found block.rest rs others block.items_are in
@@ -134,7 +138,8 @@ pub record AreBoundsRead (lines : List Tokens) (bs : List (NodeId × Bound)) (ot
 bounds_block : (lines : List Tokens) (bs : List (NodeId × Bound)) (others : List Tokens) → bounds_in lines ≡ Some (bs, others) → AreBoundsRead lines bs others
 bounds_block lines bs others is =
     let block = counted_found (codes "bounds") length (neighbours_pass may_follow_entry) (first_line bound_in) lines bs others is in
-    let found = lines_found bound_in bound_line (λ e. IsWritableNode e.0 × IsWritableBound e.1) (λ ts e k. (let f = bound_found ts e k in (f.0, (f.1, f.2)))) block.rest bs others block.items_are in
+    let found = lines_found bound_in bound_line (λ e. IsWritableNode e.0 × IsWritableBound e.1)
+    (λ ts e k. (let f = bound_found ts e k in (f.0, (f.1, f.2)))) block.rest bs others block.items_are in
     record {
       lines_are = block.lines_are ∙ ap (λ ls. count_line (codes "bounds") (length bs) ∷ ls) found.0;
       each = found.1;
@@ -146,7 +151,8 @@ pub record AreFunctionsRead (lines : List Tokens) (fs : List (NodeId × List Pie
   pub each : All IsWritableFunction fs
   pub rising : AreRising fs
 
-functions_block : (lines : List Tokens) (fs : List (NodeId × List Piece)) (others : List Tokens) → functions_in lines ≡ Some (fs, others) → AreFunctionsRead lines fs others
+functions_block : (lines : List Tokens) (fs : List (NodeId × List Piece)) (others : List Tokens) → functions_in lines ≡ Some (fs, others)
+    → AreFunctionsRead lines fs others
 functions_block lines fs others is =
     let block = counted_found (codes "pieces") (λ gs. length (all_pieces gs)) (neighbours_pass may_follow_entry) function_in lines fs others is in
     let found = functions_found block.rest fs others block.items_are in
@@ -207,7 +213,7 @@ text_found bytes c is =
 pub text_back : (bytes : List ℕ) (c : Certificate) → IsCertificateText bytes c → certificate_in (lines_of bytes) ≡ Some c
 text_back bytes c is =
     ap (λ bs. certificate_in (lines_of bs)) (sym is.text)
-    ∙ ap certificate_in (lines_again (certificate_lines c) (certificate_clean c) ∙ all_lines_are c)
+    ∙ ap certificate_in (lines_of_text (certificate_lines c) (certificate_clean c) ∙ all_lines_are c)
     ∙ certificate_back c is.writable
 
 pub one_certificate : (bytes : List ℕ) (c d : Certificate) → IsCertificateText bytes c → IsCertificateText bytes d → c ≡ d

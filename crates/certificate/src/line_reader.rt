@@ -2,7 +2,8 @@
 ghost use Rattle.std.specs.Prelude.{◌≡◌, if◌then◌else◌, IfOk, IfSome, IfNone, MatchOption, Option};
 ghost use Rattle.certificate.specs.Inside.LineForms.{pair_in, piece_in, count_in};
 ghost use Rattle.certificate.specs.Inside.Reading.{lines_of, first_line, items_in, Takes};
-ghost use Rattle.certificate.specs.Inside.Reading.{route_in, function_in, IsFirstNode, is_end, behind_title};
+ghost use Rattle.certificate.specs.Inside.Reading.{route_in, function_in, IsFirstNode};
+ghost use Rattle.certificate.specs.Inside.Reading.{behind_title, is_end};
 
 use crate::lines::{
     AllPieceLines, LegLines, LineKind, PieceLines, is_number, read_count, read_pair,
@@ -13,7 +14,7 @@ use route_base::{Listing, NodeId, OutOfMemory, Pair, Route, cut};
 use std::alloc::Global;
 use std::marker::Model;
 
-/// The bytes that are left, which contracts see as their lines, each a list of tokens; behind the last line feed is one more line.
+/// The bytes that are left, which contracts see as their lines, each a list of tokens. The last line has no line feed.
 #[derive(Drop)]
 pub struct LineReader<'a> {
     rest: &'a [u8],
@@ -38,7 +39,8 @@ impl<'a> LineReader<'a> {
 
     /// Reads the first line, where it is of this kind; else the line stays.
     pub fn take<T, K: LineKind<T>>(&mut self, kind: &K) -> Option<T>
-        ensures some { IfSome result (λ x. first_line (K.reading kind.now) self.old ≡ Option.Some (x, self.new)) }
+        ensures some { IfSome result (λ x.
+            first_line (K.reading kind.now) self.old ≡ Option.Some (x, self.new)) }
         ensures none { IfNone result (first_line (K.reading kind.now) self.old ≡ Option.None) }
         ensures kept { IfNone result (self.new ≡ self.old) }
     {
@@ -54,7 +56,8 @@ impl<'a> LineReader<'a> {
         alloc: Global,
         kind: &K,
     ) -> Result<Vec<T>, OutOfMemory>
-        ensures { IfOk result (λ items. (items.items, self.new) ≡ items_in (first_line (K.reading kind.now)) self.old) }
+        ensures { IfOk result (λ items.
+            (items.items, self.new) ≡ items_in (first_line (K.reading kind.now)) self.old) }
     {
         let mut items = Vec::new(alloc);
         'lines: while let Some(item) = self.take(kind) {
@@ -65,7 +68,8 @@ impl<'a> LineReader<'a> {
 
     /// Reads the line of a pair, with the token that announces the number of its legs; else the line stays.
     pub fn take_pair(&mut self) -> Option<(Pair, &'a [u8])>
-        ensures some { IfSome result (λ r. first_line pair_in self.old ≡ Option.Some ((r.0, r.1.now), self.new)) }
+        ensures some { IfSome result (λ r.
+            first_line pair_in self.old ≡ Option.Some ((r.0, r.1.now), self.new)) }
         ensures none { IfNone result (first_line pair_in self.old ≡ Option.None) }
         ensures kept { IfNone result (self.new ≡ self.old) }
     {
@@ -77,7 +81,8 @@ impl<'a> LineReader<'a> {
 
     /// Reads the line of this word, which gives the token behind the word; else the line stays.
     pub fn take_count(&mut self, word: &[u8]) -> Option<&'a [u8]>
-        ensures some { IfSome result (λ count. first_line (count_in word.now) self.old ≡ Option.Some (count.now, self.new)) }
+        ensures some { IfSome result (λ count.
+            first_line (count_in word.now) self.old ≡ Option.Some (count.now, self.new)) }
         ensures none { IfNone result (first_line (count_in word.now) self.old ≡ Option.None) }
     {
         let (line, rest) = cut(self.rest, b'\n')?;
@@ -163,7 +168,8 @@ impl<'a> LineReader<'a> {
 
     /// Reads functions as long as there are any.
     pub fn take_functions(&mut self, alloc: Global) -> Result<Vec<(NodeId, CostFn)>, OutOfMemory>
-        ensures { IfOk result (λ functions. (functions.items, self.new) ≡ items_in function_in self.old) }
+        ensures { IfOk result (λ functions.
+            (functions.items, self.new) ≡ items_in function_in self.old) }
     {
         let mut functions = Vec::new(alloc);
         'functions: while let Some(function) = self.take_function(alloc)? {

@@ -1,12 +1,12 @@
 // Tests of neighbours in a list.
 ghost use Rattle.std.specs.Prelude.{◌≡◌, Bool};
-ghost use Rattle.certificate.specs.Inside.Reading.{is_wait, may_follow_entry, may_follow_leg, may_follow_piece};
-ghost use Rattle.certificate.specs.Inside.Reading.{neighbours_pass};
+ghost use Rattle.certificate.specs.Inside.Reading.{is_wait, may_follow_entry, may_follow_leg};
+ghost use Rattle.certificate.specs.Inside.Reading.{may_follow_piece, neighbours_pass};
 
 use cost_functions::Piece;
 use route_base::{Leg, NodeId};
 
-/// Items of a list in which not any item may follow any other.
+/// An item that not every other may follow.
 pub trait Follow {
     /// Whether the second may come right behind the first.
     ghost test: { Self → Self → Bool };
@@ -40,7 +40,7 @@ impl<T> Follow for (NodeId, T) {
     }
 }
 
-/// Whether each item may come right behind the one before it. Linear in their number.
+/// Whether each item may come right behind the one before it. Linear in their number; no memory.
 pub fn are_in_order<T: Follow>(items: &[T]) -> bool
     ensures { result ≡ neighbours_pass T.test items.now }
 {
@@ -57,6 +57,7 @@ pub fn are_in_order<T: Follow>(items: &[T]) -> bool
     true
 }
 
+// Whether the leg is a wait.
 fn is_wait(leg: Leg) -> bool
     ensures { result ≡ is_wait leg }
 {

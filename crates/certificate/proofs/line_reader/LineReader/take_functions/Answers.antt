@@ -7,14 +7,17 @@ use Rattle.certificate.proofs.line_reader.LineReader.take_functions.Goals as goa
 pub functions-smaller : goal.functions-smaller
 functions-smaller c =
     (function_found c.functions.self c.in-Some.function c.take_function.new.self
-    (taken_some function_in c.functions.self c.in_ok-function.field-0 c.take_function.new.self c.in-Some.function c.in_ok-function.ensures.function c.in-Some.is)).fewer
+    (taken_some function_in c.functions.self c.in_ok-function.field-0 c.take_function.new.self
+    c.in-Some.function c.in_ok-function.ensures.function c.in-Some.is)).fewer
 
 pub functions-preserved : goal.functions-preserved
 functions-preserved c =
-    let some = taken_some function_in c.functions.self c.in_ok-function.field-0 c.take_function.new.self c.in-Some.function c.in_ok-function.ensures.function c.in-Some.is in
+    let some = taken_some function_in c.functions.self c.in_ok-function.field-0 c.take_function.new.self
+    c.in-Some.function c.in_ok-function.ensures.function c.in-Some.is in
     let fewer = (function_found c.functions.self c.in-Some.function c.take_function.new.self some).fewer in
     subst (λ items. AreTaken function_in c.args.self.now items c.take_function.new.self) (sym c.in_ok-push.ensures.items)
-    (taken_more function_in c.args.self.now c.functions.functions.items c.functions.self c.in-Some.function c.take_function.new.self c.functions.invariant some fewer)
+    (taken_more function_in c.args.self.now c.functions.functions.items c.functions.self
+    c.in-Some.function c.take_function.new.self c.functions.invariant some fewer)
 
 pub returns : goal.returns
 returns c =
