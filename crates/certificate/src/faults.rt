@@ -1,7 +1,7 @@
 // The refusal of a certificate's text.
 ghost use Rattle.std.specs.Prelude.{◌≡◌};
-ghost use Rattle.certificate.specs.declared.faults.CertificateFault.TheVariants.{OutOfMemory};
 
+use route_base::OutOfMemory;
 use std::alloc::{AllocError, AllocFailed};
 
 /// The refusal of a certificate's text: the bytes are the text of no certificate, or out of memory.
@@ -12,6 +12,8 @@ pub enum CertificateFault {
 }
 
 impl From<AllocError> for CertificateFault {
+    ghost use Rattle.certificate.specs.declared.faults.CertificateFault.TheVariants.{OutOfMemory};
+
     ghost from_gives = { λ _ e. e ≡ OutOfMemory };
 
     fn from(_: AllocError) -> Self {
@@ -20,9 +22,21 @@ impl From<AllocError> for CertificateFault {
 }
 
 impl<T: Drop> From<AllocFailed<T>> for CertificateFault {
+    ghost use Rattle.certificate.specs.declared.faults.CertificateFault.TheVariants.{OutOfMemory};
+
     ghost from_gives = { λ _ e. e ≡ OutOfMemory };
 
     fn from(_: AllocFailed<T>) -> Self {
+        CertificateFault::OutOfMemory
+    }
+}
+
+impl From<OutOfMemory> for CertificateFault {
+    ghost use Rattle.certificate.specs.declared.faults.CertificateFault.TheVariants.{OutOfMemory};
+
+    ghost from_gives = { λ _ e. e ≡ OutOfMemory };
+
+    fn from(_: OutOfMemory) -> Self {
         CertificateFault::OutOfMemory
     }
 }

@@ -1,0 +1,4 @@
+-- Machinery of the reader and the writer, which is no law (source: own).
+pub mod LineForms
+pub mod Reading
+pub mod Spelling

@@ -1,0 +1,123 @@
+// Texts that are certificates, and texts that aren't.
+use crate::{CertificateFault, read, write};
+use route_base::{Bound, NodeId};
+
+// A certificate with all kinds of lines.
+const SAMPLE: &str = "\
+lorry-certificate 1\n\
+pairs 2\n\
+pair 26563920 360000 3\n\
+drive 1\n\
+wait 120\n\
+drive 2\n\
+pair 26563980 300000 1\n\
+drive 3\n\
+bounds 3\n\
+bound 1 120 120000\n\
+bound 2 60 60000\n\
+bound 3 0 0\n\
+pieces 2\n\
+piece 1 26563680 26563680 0 0\n\
+piece 2 26563740 26563859 60000 2000\n\
+end\n";
+
+// A certificate with the largest numbers.
+const LARGE: &str = "\
+lorry-certificate 1\n\
+pairs 2\n\
+pair 0 0 0\n\
+pair 120968639 10000000000000 2\n\
+wait 120968639\n\
+drive 1000000\n\
+bounds 1\n\
+bound 500000 10000000000 10000000000000\n\
+pieces 3\n\
+piece 1 0 1 0 10000000000\n\
+piece 1 2 2 10000000000000 0\n\
+piece 500000 0 120968639 7 0\n\
+end\n";
+
+#[test]
+fn reads_and_writes_back(rt: HostRuntime) {
+    let none = "lorry-certificate 1\npairs 0\nbounds 0\npieces 0\nend\n";
+    for text in [SAMPLE, LARGE, none] {
+        match read(rt.alloc(), text.as_bytes()) {
+            Ok(certificate) => match write(rt.alloc(), &certificate) {
+                Ok(again) => assert!(rt; again.as_slice() == text.as_bytes(), "at {text}"),
+                Err(_) => assert!(rt; false, "out of memory"),
+            },
+            Err(_) => assert!(rt; false, "refused: {text}"),
+        }
+    }
+}
+
+#[test]
+fn finds_by_node(rt: HostRuntime) {
+    match read(rt.alloc(), SAMPLE.as_bytes()) {
+        Ok(certificate) => {
+            assert_eq!(rt; certificate.routes.len(), 2);
+            let bound = Bound {
+                minutes: 60,
+                cost: 60_000,
+            };
+            assert!(rt; certificate.bounds.get(NodeId(2)).copied() == Some(bound));
+            assert!(rt; certificate.bounds.get(NodeId(4)).is_none());
+            match certificate.functions.get(NodeId(2)) {
+                Some(function) => assert!(rt; function.at(26_563_742) == Some(64_000)),
+                None => assert!(rt; false, "no function"),
+            }
+        }
+        Err(_) => assert!(rt; false, "refused"),
+    }
+}
+
+#[test]
+fn refuses_other_texts(rt: HostRuntime) {
+    let texts = [
+        "",
+        "\n",
+        "\0\0\0",
+        "lorry-certificate 1\npairs 0\nbounds 0\npieces 0\nend",
+        "lorry-certificate 1\r\npairs 0\r\nbounds 0\r\npieces 0\r\nend\r\n",
+        "lorry-certificate 1\npairs 0\nbounds 0\npieces 0\nend\n\n",
+        "lorry-certificate 1\npairs 0\nbounds 0\npieces 0\nend\nend\n",
+        "lorry-certificate 1\npairs 0\nbounds 0\nend\n",
+        "lorry-certificate 1\npairs 0\nbounds 0\npieces 0\n",
+        "lorry-certificate 2\npairs 0\nbounds 0\npieces 0\nend\n",
+        "lorry-certificate 1\npairs 4398046511104\nbounds 0\npieces 0\nend\n",
+        "lorry-certificate 1\npairs 0\nbounds 4294967295\npieces 0\nend\n",
+        "lorry-certificate 1\npairs 00\nbounds 0\npieces 0\nend\n",
+        "lorry-certificate 1\npairs 0 \nbounds 0\npieces 0\nend\n",
+        "lorry-certificate 1\npairs  0\nbounds 0\npieces 0\nend\n",
+        "lorry-certificate 1\npairs 1\nbounds 0\npieces 0\nend\n",
+        "lorry-certificate 1\npairs 0\npair 1 1 0\nbounds 0\npieces 0\nend\n",
+        "lorry-certificate 1\npairs 1\npair 1 1 1\nbounds 0\npieces 0\nend\n",
+        "lorry-certificate 1\npairs 1\npair 1 1 0\ndrive 1\nbounds 0\npieces 0\nend\n",
+        "lorry-certificate 1\npairs 1\npair 1 1 1\nwait 0\nbounds 0\npieces 0\nend\n",
+        "lorry-certificate 1\npairs 1\npair 1 1 2\nwait 1\nwait 1\nbounds 0\npieces 0\nend\n",
+        "lorry-certificate 1\npairs 1\npair 1 1 1\ndrive 0\nbounds 0\npieces 0\nend\n",
+        "lorry-certificate 1\npairs 1\npair 1 1 1\ndrive 1000001\nbounds 0\npieces 0\nend\n",
+        "lorry-certificate 1\npairs 1\npair 120968640 1 0\nbounds 0\npieces 0\nend\n",
+        "lorry-certificate 1\npairs 1\npair 1 10000000000001 0\nbounds 0\npieces 0\nend\n",
+        "lorry-certificate 1\npairs 0\nbounds 1\nbound 1 0120 0\npieces 0\nend\n",
+        "lorry-certificate 1\npairs 0\nbounds 2\nbound 1 0 0\nbound 1 0 0\npieces 0\nend\n",
+        "lorry-certificate 1\npairs 0\nbounds 2\nbound 2 0 0\nbound 1 0 0\npieces 0\nend\n",
+        "lorry-certificate 1\npairs 0\nbounds 1\nbound 500001 0 0\npieces 0\nend\n",
+        "lorry-certificate 1\npairs 0\nbounds 1\nbound 1 10000000001 0\npieces 0\nend\n",
+        "lorry-certificate 1\npairs 0\nbounds 0\npieces 1\npiece 1 5 5 0 1\nend\n",
+        "lorry-certificate 1\npairs 0\nbounds 0\npieces 1\npiece 1 6 5 0 0\nend\n",
+        "lorry-certificate 1\npairs 0\nbounds 0\npieces 1\npiece 1 5 6 0 10000000001\nend\n",
+        "lorry-certificate 1\npairs 0\nbounds 0\npieces 2\npiece 1 5 6 0 0\npiece 1 6 7 0 0\nend\n",
+        "lorry-certificate 1\npairs 0\nbounds 0\npieces 2\npiece 2 5 6 0 0\npiece 1 5 6 0 0\nend\n",
+        "lorry-certificate 1\npairs 0\nbounds 0\npieces 3\npiece 1 5 6 0 0\npiece 2 5 6 0 0\npiece 1 8 8 0 0\nend\n",
+        "lorry-certificate 1\npairs 0\nbounds 0\npieces 1\npiece 1 5 6 0 0 0\nend\n",
+    ];
+    for text in texts {
+        match read(rt.alloc(), text.as_bytes()) {
+            Err(fault) => {
+                assert!(rt; fault == CertificateFault::NotACertificate, "at {text}");
+            }
+            Ok(_) => assert!(rt; false, "taken: {text}"),
+        }
+    }
+}
