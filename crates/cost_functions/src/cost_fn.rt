@@ -1,12 +1,12 @@
 // A cost function.
-ghost use Rattle.std.specs.Prelude.{◌≡◌, ◌↔◌, ◌<◌, ◌≤◌, ℕ, List, [], All, AllPairs, IsTrue, IfOk};
+ghost use Rattle.std.specs.Prelude.{◌≡◌, ◌≢◌, ◌↔◌, ◌<◌, ◌≤◌, ℕ, Some, None, List, [], All, AllPairs, IsTrue, IfOk};
 ghost use Rattle.cost_functions.specs.Pieces.{value_at, point_at, ArePieces, IsReduced, AreSmall};
 ghost use Rattle.cost_functions.specs.Building.{AreBuilt};
 ghost use Rattle.route_base.specs.declared.limits.TheConstants.{LAST_INSTANT, HIGHEST_COST};
 ghost use Rattle.cost_functions.specs.declared.pieces.Piece.{Piece};
 
 use crate::pieces::Piece;
-use crate::reading::{are_reduced, reduced, through, value_of};
+use crate::reading::{are_reduced, of_one, reduced, through, value_of};
 use route_base::{Cost, Minute, OutOfMemory};
 use std::alloc::Global;
 use std::marker::Model;
@@ -41,6 +41,17 @@ impl CostFn {
         CostFn {
             held: Vec::new(alloc),
         }
+    }
+
+    /// The function with one value. Memory for one piece.
+    pub fn single(alloc: Global, at: Minute, cost: Cost) -> Result<CostFn, OutOfMemory>
+        requires minute { at ≤ LAST_INSTANT }
+        requires cost { cost ≤ HIGHEST_COST }
+        ensures here { IfOk result (λ f. value_at f at ≡ Some cost) }
+        ensures elsewhere { IfOk result (λ f. (t : ℕ) → t ≢ at → value_at f t ≡ None) }
+        ensures built { IfOk result AreBuilt }
+    {
+        of_one(alloc, (at, cost))
     }
 
     /// The value at a minute; `None` exactly where no piece has it. Logarithmic in the number of pieces; no memory.

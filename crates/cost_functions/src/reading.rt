@@ -1,5 +1,5 @@
 // Lists of pieces read from the left.
-ghost use Rattle.std.specs.Prelude.{◌≡◌, ◌↔◌, ◌<◌, ◌≤◌, ℕ, List, [], All, AllPairs, IsTrue, IfOk};
+ghost use Rattle.std.specs.Prelude.{◌≡◌, ◌≢◌, ◌↔◌, ◌<◌, ◌≤◌, ℕ, Some, None, List, [], All, AllPairs, IsTrue, IfOk};
 ghost use Rattle.cost_functions.specs.Pieces.{value_at, point_at, ArePieces, IsReduced, AreSmall};
 ghost use Rattle.cost_functions.specs.Building.{AreBuilt};
 ghost use Rattle.route_base.specs.declared.limits.TheConstants.{LAST_INSTANT, HIGHEST_COST};
@@ -72,6 +72,19 @@ pub fn through(alloc: Global, points: &[(Minute, Cost)]) -> Result<CostFn, OutOf
     for point in points {
         built.push(at_one(*point))?;
     }
+    Ok(built.finish())
+}
+
+/// The function with the value of one point.
+pub fn of_one(alloc: Global, point: (Minute, Cost)) -> Result<CostFn, OutOfMemory>
+    requires minute { point.0 ≤ LAST_INSTANT }
+    requires cost { point.1 ≤ HIGHEST_COST }
+    ensures here { IfOk result (λ f. value_at f point.0 ≡ Some point.1) }
+    ensures elsewhere { IfOk result (λ f. (t : ℕ) → t ≢ point.0 → value_at f t ≡ None) }
+    ensures built { IfOk result AreBuilt }
+{
+    let mut built = Builder::new(alloc);
+    built.push(at_one(point))?;
     Ok(built.finish())
 }
 
