@@ -8,14 +8,14 @@ ghost use Rattle.cost_functions.specs.Building.{AreBuilt};
 ghost use Rattle.function_merge.specs.Pruning.{IsPruned};
 ghost use Rattle.function_merge.specs.Inside.Prefixes.{stays_cheaper, IsUndominatedUntil, IsClearUntil};
 
-use crate::stretches::held_for;
-use cost_functions::{Builder, CostFn, Piece};
+use cost_functions::{Builder, CostFn, Piece, held_for};
 use route_base::{Bound, Cost, Minute, OutOfMemory, Pair};
 use std::alloc::Global;
 
-/// The function of a node with this bound to the goal, without its points that are late or dominated: from a late one the goal
-/// is out of reach by `until`, and from a dominated one each arrival is no earlier and no cheaper than one of the pairs. Along a
-/// piece neither minutes nor costs fall, so a prefix of each piece stays. A binary search in the pairs for each piece.
+/// The function without its points that are late or dominated, for a node with this bound to the goal: from a late point the goal
+/// is out of reach by `until`, and from a dominated one it is reached no earlier and no cheaper than one of the pairs says. Along a
+/// piece neither minutes nor costs fall, so a prefix of each piece stays. A binary search in the pairs for each piece; memory for
+/// the pieces that stay.
 pub fn prune(
     alloc: Global,
     f: &CostFn,
@@ -25,7 +25,8 @@ pub fn prune(
 ) -> Result<CostFn, OutOfMemory>
     requires trade { RiseAndFall pairs.now }
     requires small { AreSmall f.now }
-    ensures values { IfOk result (λ g. IsPruned until pairs.now bound (value_at f.now) (value_at g)) }
+    ensures values { IfOk result (λ g.
+        IsPruned until pairs.now bound (value_at f.now) (value_at g)) }
     ensures built { IfOk result AreBuilt }
 {
     let mut built = Builder::new(alloc);
@@ -42,8 +43,10 @@ fn add_before(built: &mut Builder, piece: Piece, end: Minute) -> Result<(), OutO
     requires small { IsSmall piece }
     requires upto { end ≤ piece.hi + 1 }
     requires later { All (λ q. q.hi < piece.lo) built.old }
-    ensures front { OnOk result ((t : ℕ) → t < piece.lo → value_at built.new t ≡ value_at built.old t) }
-    ensures part { OnOk result ((t : ℕ) → piece.lo ≤ t → t < end → value_at built.new t ≡ Some (line_at piece t)) }
+    ensures front { OnOk result ((t : ℕ) →
+        t < piece.lo → value_at built.new t ≡ value_at built.old t) }
+    ensures part { OnOk result ((t : ℕ) →
+        piece.lo ≤ t → t < end → value_at built.new t ≡ Some (line_at piece t)) }
     ensures rest { OnOk result ((t : ℕ) → piece.lo ≤ t → end ≤ t → value_at built.new t ≡ None) }
     ensures ended { OnOk result (All (λ q. q.hi ≤ piece.hi) built.new) }
 {
@@ -84,7 +87,8 @@ fn undominated_until(piece: Piece, pairs: &[Pair], bound: Bound) -> Minute
 // The minute at which the pair at this place arrives; a minute behind the piece, if there is no such pair.
 fn arrived_by(piece: Piece, pairs: &[Pair], place: usize, bound: Bound) -> Minute
     requires { IsPiece piece }
-    ensures some { (d : Pair) → place < length pairs.now → result ≡ (slice_index_or pairs.now place d).arrival - bound.minutes }
+    ensures some { (d : Pair) → place < length pairs.now
+        → result ≡ (slice_index_or pairs.now place d).arrival - bound.minutes }
     ensures none { length pairs.now ≤ place → result ≡ piece.hi + 1 }
 {
     match pairs.get(place) {
