@@ -1,3 +1,4 @@
+pub mod AddedRuns
 pub mod FirstItems
 pub mod FirstRuns
 pub mod FreeMinutes

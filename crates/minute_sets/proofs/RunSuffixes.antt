@@ -1,5 +1,5 @@
 -- The runs from a place on.
-use Rattle.std.proofs.Common.{◌≡◌, ⊎_elim, ℕ, ◌≤◌, ◌<◌, zero, suc, List, [], ◌∷◌, length, get_or, drop, refl, ◌∙◌, ap, sym, arith}
+use Rattle.std.proofs.Common.{◌≡◌, ⊎_elim, ℕ, ◌≤◌, zero, suc, List, [], ◌∷◌, length, get_or, drop, refl, ◌∙◌, ap, sym, arith}
 use Rattle.std.specs.List.{AllWithin}
 use Rattle.std.specs.List.Sorted.{IsNonDecreasingBy}
 use Rattle.std.proofs.lemmas.Bool.{cases_eq}
