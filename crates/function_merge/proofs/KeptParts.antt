@@ -73,7 +73,7 @@ module _ (ps : List Piece) (rs : List Run) where
         (λ t late. ap (λ xs. value_at xs t) (sym (first_and_rest left (record { lo = 0; hi = 0; cost = 0; slope = 0 }) some)) ∙ values t late)
         (λ t late. ap (λ xs. any_has xs t) (sym (first_and_rest open' (record { lo = 0; hi = 0 }) one)) ∙ held t late)
 
-chosen : (b : Bool) (o : Option ℕ) (v : ℕ) → cond b o None ≡ Some v → o ≡ Some v
+pub chosen : (b : Bool) (o : Option ℕ) (v : ℕ) → cond b o None ≡ Some v → o ≡ Some v
 chosen true o v is = is
 chosen false o v is = cc
 
