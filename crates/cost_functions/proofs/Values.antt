@@ -47,7 +47,8 @@ value_behind (p ∷ ps) xs ys t same = ap (λ v. cond (is_on_piece t p) (Some (l
 -- a piece behind
 pub value_last : (ps : List Piece) (p : Piece) (t : ℕ) → All (λ q. q.hi < t) ps → p.lo ≤ t → t ≤ p.hi → value_at (ps ++ p ∷ []) t ≡ Some (line_at p t)
 value_last [] p t all from upto = value_here p [] t from upto
-value_last (q ∷ ps) p t all from upto = value_after q (ps ++ p ∷ []) t (All-head (λ q. q.hi < t) q ps all) ∙ value_last ps p t (All-tail (λ q. q.hi < t) q ps all) from upto
+value_last (q ∷ ps) p t all from upto = value_after q (ps ++ p ∷ []) t (All-head (λ q. q.hi < t) q ps all)
+    ∙ value_last ps p t (All-tail (λ q. q.hi < t) q ps all) from upto
 
 pub value_front : (ps : List Piece) (p : Piece) (t : ℕ) → is_on_piece t p ≡ false → value_at (ps ++ p ∷ []) t ≡ value_at ps t
 unfolding value_at

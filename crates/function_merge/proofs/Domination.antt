@@ -34,7 +34,8 @@ module _ (pairs : List Pair) (trade : RiseAndFall pairs) where
     cheaper_first i j d le within cheaper =
         let earlier = arrivals i j d le within in
         let dearer = costs i j d le within in
-        let rise = line_rises piece (min ((get_or pairs i d).arrival - bound.minutes) piece.hi) (min ((get_or pairs j d).arrival - bound.minutes) piece.hi) (omega (arith, earlier)) in
+        let rise = line_rises piece (min ((get_or pairs i d).arrival - bound.minutes) piece.hi) (min ((get_or pairs j d).arrival - bound.minutes) piece.hi)
+        (omega (arith, earlier)) in
         let below = ltb-true _ _ cheaper in
         lt-ltb _ _ (omega (arith, below, rise, dearer))
 
@@ -69,7 +70,8 @@ module _ (pairs : List Pair) (trade : RiseAndFall pairs) where
       by_arrival : (t : ℕ) → piece.lo ≤ t → arrived ≤ t → t ≤ piece.hi → HasPair pairs (t + bound.minutes) (line_at piece t + bound.cost)
       by_arrival t from late upto =
           let d : Pair = record { arrival = 0; cost = 0 } in
-          let within : i < length pairs = ⊎_elim (λ (in' : i < length pairs). in') (λ (out : length pairs ≤ i). absurd (omega (arith, none out, late, upto))) (cases_lt i (length pairs)) in
+          let within : i < length pairs = ⊎_elim (λ (in' : i < length pairs). in') (λ (out : length pairs ≤ i). absurd (omega (arith, none out, late, upto)))
+          (cases_lt i (length pairs)) in
           let is = some d within in
           let rise = line_rises piece (min ((get_or pairs i d).arrival - bound.minutes) piece.hi) t (omega (arith, is, late)) in
           let dear = ltb-false _ _ (others i d (omega arith) within) in
@@ -84,7 +86,8 @@ module _ (pairs : List Pair) (trade : RiseAndFall pairs) where
       by_cost : (t : ℕ) → piece.lo ≤ t → cheap ≤ t → t ≤ piece.hi → HasPair pairs (t + bound.minutes) (line_at piece t + bound.cost)
       by_cost t from late upto =
           let d : Pair = record { arrival = 0; cost = 0 } in
-          let one : 1 ≤ i = ⊎_elim (λ (zero' : i ≡ 0). absurd (omega (arith, no_first zero', late, upto))) (λ (more : i ≡ 0 → ⊥). omega (arith, more)) (cases_eq i 0) in
+          let one : 1 ≤ i = ⊎_elim (λ (zero' : i ≡ 0). absurd (omega (arith, no_first zero', late, upto))) (λ (more : i ≡ 0 → ⊥). omega (arith, more))
+          (cases_eq i 0) in
           let dear = after d one t from late upto in
           let pair = get_or pairs (i - 1) d in
           let cheaper = ltb-true _ _ (first (i - 1) d (omega arith) (omega (arith, one))) in
@@ -94,7 +97,8 @@ module _ (pairs : List Pair) (trade : RiseAndFall pairs) where
             arrival =
                 ⊎_elim
                 (λ (begun : min (pair.arrival - bound.minutes) piece.hi < t). omega (arith, begun, upto))
-                (λ (not_yet : t ≤ min (pair.arrival - bound.minutes) piece.hi). (let rise = line_rises piece t (min (pair.arrival - bound.minutes) piece.hi) not_yet in absurd (omega (arith, rise, cheaper, dear))))
+                (λ (not_yet : t ≤ min (pair.arrival - bound.minutes) piece.hi). (let rise = line_rises piece t
+                (min (pair.arrival - bound.minutes) piece.hi) not_yet in absurd (omega (arith, rise, cheaper, dear))))
                 (cases_lt (min (pair.arrival - bound.minutes) piece.hi) t);
             cost = omega (arith, dear);
           }

@@ -45,12 +45,14 @@ module _ (until : ℕ) (pairs : List Pair) (bound : Bound) (f g new : List Piece
       (λ (before : p.minute < piece.lo). old.clear p (sym (front p.minute before) ∙ is))
       (λ (from : piece.lo ≤ p.minute).
       ⊎_elim
-      (λ (within : p.minute < end). (let same : Some (line_at piece p.minute) ≡ Some p.cost = sym (part p.minute from within) ∙ is in clear.before p from within cc))
+      (λ (within : p.minute < end). (let same : Some (line_at piece p.minute) ≡ Some p.cost = sym (part p.minute from within) ∙ is in
+      clear.before p from within cc))
       (λ (gone : end ≤ p.minute). (let none : None ≡ Some p.cost = sym (rest p.minute from gone) ∙ is in absurd cc))
       (cases_lt p.minute end))
       (cases_lt p.minute piece.lo)
 
-  left : (p : Position) → value_at (f ++ piece ∷ []) p.minute ≡ Some p.cost → (value_at new p.minute ≡ Some p.cost) ⊎ IsDominatedOrLate until pairs (Some bound) p
+  left : (p : Position) → value_at (f ++ piece ∷ []) p.minute ≡ Some p.cost → (value_at new p.minute ≡ Some p.cost) ⊎ IsDominatedOrLate until pairs
+      (Some bound) p
   left p is =
       ⊎_elim
       (λ (before : p.minute < piece.lo).
@@ -74,7 +76,8 @@ module _ (until : ℕ) (pairs : List Pair) (bound : Bound) (f g new : List Piece
   pruned_more = record { kept = kept; clear = undominated; left = left }
 
 -- nothing of nothing is left
-pub pruned_none : (until : ℕ) (pairs : List Pair) (bound : Bound) (g : List Piece) → ((t : ℕ) → value_at g t ≡ None) → IsPruned until pairs bound (value_at []) (value_at g)
+pub pruned_none : (until : ℕ) (pairs : List Pair) (bound : Bound) (g : List Piece) → ((t : ℕ) → value_at g t ≡ None)
+    → IsPruned until pairs bound (value_at []) (value_at g)
 pruned_none until pairs bound g none = record {
   kept = λ t x is. (let e : None ≡ Some x = sym (none t) ∙ is in absurd cc);
   clear = λ p is. (let e : None ≡ Some p.cost = sym (none p.minute) ∙ is in absurd cc);

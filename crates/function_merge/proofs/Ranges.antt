@@ -19,8 +19,10 @@ use Rattle.function_merge.proofs.LeastWaits.{waited_least}
 module _ (minutes cost : ℕ) (ps : List Piece) where
   pub can_move : All (EndsInRange minutes cost) ps → CanMove minutes cost (value_at ps)
   can_move all = record {
-    minutes_fit = λ t v is. values_of_pieces (λ u x. u + minutes ≤ LAST_INSTANT) ps (λ k d within u from upto. (let last = (all k d within).last in omega (arith, last, upto))) t v is;
-    values_fit = λ t v is. values_of_pieces (λ u x. x + cost ≤ HIGHEST_COST) ps (λ k d within u from upto. (let most = (all k d within).most in let rise = line_rises (get_or ps k d) u (get_or ps k d).hi upto in omega (arith, most, rise))) t v is;
+    minutes_fit = λ t v is. values_of_pieces (λ u x. u + minutes ≤ LAST_INSTANT) ps (λ k d within u from upto.
+        (let last = (all k d within).last in omega (arith, last, upto))) t v is;
+    values_fit = λ t v is. values_of_pieces (λ u x. x + cost ≤ HIGHEST_COST) ps (λ k d within u from upto.
+        (let most = (all k d within).most in let rise = line_rises (get_or ps k d) u (get_or ps k d).hi upto in omega (arith, most, rise))) t v is;
   }
 
   pub all_fit : ArePieces ps → CanMove minutes cost (value_at ps) → All (EndsInRange minutes cost) ps

@@ -1,5 +1,6 @@
 -- Pieces cut into those before a place and those from it on.
-use Rattle.std.proofs.Common.{◌≡◌, ⊎_elim, ◌++◌, ℕ, ◌+◌, ◌≤◌, ◌<◌, cond, zero, suc, Some, None, List, [], ◌∷◌, length, get_or, take, drop, All, AllPairs, refl, ◌∙◌, ap, sym, subst, arith}
+use Rattle.std.proofs.Common.{◌≡◌, ⊎_elim, ◌++◌, ℕ, ◌+◌, ◌≤◌, ◌<◌, cond, zero, suc, Some, None, List, [], ◌∷◌, length, get_or, take, drop, All, AllPairs}
+use Rattle.std.proofs.Common.{refl, ◌∙◌, ap, sym, subst, arith}
 use Rattle.std.specs.List.{AllWithin}
 use Rattle.std.proofs.lemmas.List.{get_or-take, get_or-drop, length-take-le, length-drop, get_or_default, take-append-drop}
 use Rattle.std.proofs.lemmas.Bool.{cases_lt, cases_eq}
@@ -28,7 +29,8 @@ value_take (p ∷ ps) (suc k) t after = ap (λ v. cond (is_on_piece t p) (Some (
 
 module _ {X : Type 0} (xs : List X) (k : ℕ) (le : k ≤ length xs) where
   pub all_take : (P : X → Type 0) → AllWithin P xs 0 k → All P (take k xs)
-  all_take P before j d within = let lt : j < k = omega (arith, within, length-take-le k xs le) in subst P (sym (get_or-take k xs j d lt)) (before j d (omega arith) lt)
+  all_take P before j d within = let lt : j < k = omega (arith, within, length-take-le k xs le) in
+      subst P (sym (get_or-take k xs j d lt)) (before j d (omega arith) lt)
 
   pub all_drop : (P : X → Type 0) → AllWithin P xs k (length xs) → All P (drop k xs)
   all_drop P after j d within = subst P (sym (get_or-drop k xs j d)) (after (k + j) d (omega arith) (omega (arith, within, length-drop k xs)))
@@ -66,7 +68,8 @@ pub begins_rise : (ps : List Piece) → ArePieces ps → IsNonDecreasingBy (λ p
 begins_rise ps are i j d le within =
     ⊎_elim
     (λ (same : i ≡ j). omega (arith, ap (λ n. (get_or ps n d).lo) same))
-    (λ (other : i ≡ j → ⊥). (let far = are.apart i j d (omega (arith, le, other)) within in let filled = (are.each i d (omega (arith, le, within))).filled in omega (arith, far, filled)))
+    (λ (other : i ≡ j → ⊥). (let far = are.apart i j d (omega (arith, le, other)) within in let filled = (are.each i d (omega (arith, le, within))).filled in
+    omega (arith, far, filled)))
     (cases_eq i j)
 
 -- nothing ends behind the last piece

@@ -1,5 +1,6 @@
 -- Runs that stay, and behind them the others with those of another set.
-use Rattle.std.proofs.Common.{◌≡◌, ⊎_elim, ℕ, ◌+◌, ◌≤◌, ◌<◌, ◌||◌, Bool, true, false, zero, suc, List, [], ◌∷◌, ◌++◌, length, get_or, take, drop, All, AllPairs, ◌∙◌, ap, sym, arith}
+use Rattle.std.proofs.Common.{◌≡◌, ⊎_elim, ℕ, ◌+◌, ◌≤◌, ◌<◌, ◌||◌, Bool, true, false, zero, suc, List, [], ◌∷◌, ◌++◌, length, get_or, take, drop, All}
+use Rattle.std.proofs.Common.{AllPairs, ◌∙◌, ap, sym, arith}
 use Rattle.std.specs.List.{AllWithin}
 use Rattle.std.proofs.lemmas.Bool.{cases_lt, cases_eq, both_ways}
 use Rattle.std.proofs.lemmas.List.{get_or_default, get_or-take, get_or-drop, length-take-le, length-drop, take-append-drop}
@@ -57,7 +58,8 @@ module _ (held other both : List Run) (k minute : ℕ) (le : k ≤ length held) 
       let begin = ap (λ (r : Run). r.lo) (get_or-drop k held m z) in
       let end = ap (λ (r : Run). r.hi) (get_or_default held i d z (omega (arith, lt, le))) in
       omega (arith, far, begin, end, same, over))) in
-      let second : any_has other y.lo ≡ false = none_before other y.lo (λ m z low. (let begin = late m z low in let end = early i d (omega arith) lt in omega (arith, begin, end, same, over))) in
+      let second : any_has other y.lo ≡ false = none_before other y.lo (λ m z low. (let begin = late m z low in let end = early i d (omega arith) lt in
+      omega (arith, begin, end, same, over))) in
       absurd (both_ways (any_has both y.lo) (minutes y.lo ∙ or_none (any_has (drop k held) y.lo) (any_has other y.lo) first second) has))
       (cases_lt x.hi y.lo)
 
@@ -77,5 +79,6 @@ begin_late rs d are k e within =
     let same = ap (λ (r : Run). r.lo) (get_or_default rs 0 d e (omega (arith, within))) in
     ⊎_elim
     (λ (head : 0 ≡ k). omega (arith, same, ap (λ n. (get_or rs n e).lo) head))
-    (λ (behind : 0 ≡ k → ⊥). (let far = are.apart 0 k e (omega (arith, behind)) within in let filled = are.filled 0 e (omega (arith, within)) in omega (arith, far, filled, same)))
+    (λ (behind : 0 ≡ k → ⊥). (let far = are.apart 0 k e (omega (arith, behind)) within in let filled = are.filled 0 e (omega (arith, within)) in
+    omega (arith, far, filled, same)))
     (cases_eq 0 k)

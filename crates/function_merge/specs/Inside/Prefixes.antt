@@ -20,4 +20,5 @@ pub record IsUndominatedUntil (pairs : List Pair) (bound : Bound) (piece : Piece
 pub record IsClearUntil (until : ℕ) (pairs : List Pair) (bound : Bound) (piece : Piece) (end : ℕ) : Type 0 where
   pub upto : end ≤ piece.hi + 1
   pub before : (p : Position) → piece.lo ≤ p.minute → p.minute < end → p.cost ≡ line_at piece p.minute → IsDominatedOrLate until pairs (Some bound) p → ⊥
-  pub after : (p : Position) → piece.lo ≤ p.minute → end ≤ p.minute → p.minute ≤ piece.hi → p.cost ≡ line_at piece p.minute → IsDominatedOrLate until pairs (Some bound) p
+  pub after : (p : Position) → piece.lo ≤ p.minute → end ≤ p.minute → p.minute ≤ piece.hi → p.cost ≡ line_at piece p.minute
+      → IsDominatedOrLate until pairs (Some bound) p

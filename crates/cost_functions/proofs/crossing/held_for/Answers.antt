@@ -6,4 +6,5 @@ pub returns-else-slope-other-clause-held : goal.returns-else-slope-other-clause-
 returns-else-slope-other-clause-held c = λ x upto. within_slack c.args.slack c.args.slope c.args.other x (omega arith) (omega arith)
 
 pub returns-else-slope-other-clause-longest : goal.returns-else-slope-other-clause-longest
-returns-else-slope-other-clause-longest c = λ x upto rise. let far = no_farther c.args.slack c.args.slope c.args.other x (omega arith) rise in omega (arith, far, upto, c.min.ensures)
+returns-else-slope-other-clause-longest c = λ x upto rise. let far = no_farther c.args.slack c.args.slope c.args.other x (omega arith) rise in
+    omega (arith, far, upto, c.min.ensures)

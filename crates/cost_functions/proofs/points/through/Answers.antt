@@ -19,7 +19,9 @@ loop-point-preserved c =
     let p = get_or xs i none in
     let push = c.in_ok-push.ensures in
     record {
-      values = λ t. push.values t ∙ ap (λ (q : Piece). value_at (c.loop-point.built ++ q ∷ []) t) c.at_one.ensures ∙ point_onto c.loop-point.built (take i xs) (p.0) (p.1) t (c.loop-point.invariant.values t) ∙ ap (λ ys. point_at ys t) (sym (take_more xs i none c.loop-point-test.true));
+      values = λ t. push.values t ∙ ap (λ (q : Piece). value_at (c.loop-point.built ++ q ∷ []) t) c.at_one.ensures
+          ∙ point_onto c.loop-point.built (take i xs) (p.0) (p.1) t (c.loop-point.invariant.values t)
+          ∙ ap (λ ys. point_at ys t) (sym (take_more xs i none c.loop-point-test.true));
       ended = λ d h k d' w.
           (let here = push.ended k d' w in
           let next = c.requires.rising i (i + 1) none (omega arith) h in

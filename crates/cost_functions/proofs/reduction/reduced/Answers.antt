@@ -12,7 +12,8 @@ loop-piece-preserved c =
     let none : Piece = record { lo = 0; hi = 0; cost = 0; slope = 0 } in
     let push = c.in_ok-push.ensures in
     record {
-      values = λ t. push.values t ∙ value_onto c.loop-piece.built (take i xs) (get_or xs i none ∷ []) t (c.loop-piece.invariant.values t) ∙ ap (λ ys. value_at ys t) (sym (take_more xs i none c.loop-piece-test.true));
+      values = λ t. push.values t ∙ value_onto c.loop-piece.built (take i xs) (get_or xs i none ∷ []) t (c.loop-piece.invariant.values t)
+          ∙ ap (λ ys. value_at ys t) (sym (take_more xs i none c.loop-piece-test.true));
       ended = λ d h k d' w.
           (let here = push.ended k d' w in
           let next = c.requires.pieces.apart i (i + 1) none (omega arith) h in

@@ -5,4 +5,5 @@ use Rattle.function_merge.proofs.conditions.can_wait.Goals as goal
 
 pub returns : goal.returns
 returns c = λ yes.
-    can_wait c.args.weight c.args.until c.args.f.now (subst (All (WaitsInRange c.args.weight c.args.until)) c.pieces.ensures.items (c.all_fit_wait.ensures.0 yes))
+    can_wait c.args.weight c.args.until c.args.f.now (subst (All (WaitsInRange c.args.weight c.args.until)) c.pieces.ensures.items
+    (c.all_fit_wait.ensures.0 yes))

@@ -10,7 +10,8 @@ use Rattle.function_merge.proofs.merging.merged_from.Given as goal
 abbrev pub invariant-sweep : goal.invariant-sweep
 invariant-sweep l = record {
   start : l.start ≤ l.from;
-  settled : (wanted : ℕ → Option ℕ) → IsSettled wanted l.fn.before l.start → ((t : ℕ) → l.start ≤ t → wanted t ≡ least_at l.f l.g t) → IsSettled wanted l.built l.from;
+  settled : (wanted : ℕ → Option ℕ) → IsSettled wanted l.fn.before l.start → ((t : ℕ) → l.start ≤ t → wanted t ≡ least_at l.f l.g t)
+      → IsSettled wanted l.built l.from;
   ended : All (λ p. p.hi < l.from) l.built;
   marked : IsSwept (λ t. leb l.start t && better_at l.f l.g t) l.improved l.from;
   runs : AreRuns l.improved;

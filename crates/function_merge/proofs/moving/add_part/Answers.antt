@@ -10,7 +10,8 @@ use Rattle.function_merge.proofs.moving.add_part.Goals as goal
 part_line : (p : Piece) (lo minutes cost t : ℕ) → p.lo ≤ lo → lo ≤ t → line_at p t + cost ≡ line_at p lo + cost + p.slope * (t + minutes - (lo + minutes))
 part_line p lo minutes cost t from upto =
     let line = further p.cost p.slope p.lo lo t from upto in
-    let same : p.slope * (t + minutes - (lo + minutes)) ≡ p.slope * (t - lo) = ap (λ n. p.slope * n) (let e : t + minutes - (lo + minutes) ≡ t - lo = omega arith in e) in
+    let same : p.slope * (t + minutes - (lo + minutes)) ≡ p.slope * (t - lo) = ap (λ n. p.slope * n)
+    (let e : t + minutes - (lo + minutes) ≡ t - lo = omega arith in e) in
     omega (arith, line, same)
 
 pub returns-in_ok-push : goal.returns-in_ok-push
@@ -28,4 +29,5 @@ returns-in_ok-push c = λ wanted settled right.
     let before : t < c.args.end = omega (arith, upto, at, c.if-lo-end.true) in
     let line = part_line p lo m c.args.cost t c.requires.from begun in
     let value = c.value.ensures in
-    subst (λ (n : ℕ). wanted n ≡ Some (line_at part n)) at (right t begun before ∙ ap Some (line ∙ ap (λ v. v + c.args.cost + p.slope * (t + m - (lo + m))) (sym value))))))
+    subst (λ (n : ℕ). wanted n ≡ Some (line_at part n)) at (right t begun before ∙ ap Some
+    (line ∙ ap (λ v. v + c.args.cost + p.slope * (t + m - (lo + m))) (sym value))))))

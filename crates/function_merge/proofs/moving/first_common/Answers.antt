@@ -11,5 +11,6 @@ returns-in-len1-up-runs c = λ t early.
     let rs = c.args.runs.now in
     ⊎_elim
     (λ (before : t < (first_of ps).lo). kept_nothing ps rs t (first_none ps c.in-len1-up.len_at_least c.requires.pieces t before))
-    (λ (begun : (first_of ps).lo ≤ t). kept_nowhere ps rs t (head_before rs c.in-len1-up-runs.len_at_least c.requires.runs t (omega (arith, early, begun, c.max.ensures))))
+    (λ (begun : (first_of ps).lo ≤ t). kept_nowhere ps rs t (head_before rs c.in-len1-up-runs.len_at_least c.requires.runs t
+    (omega (arith, early, begun, c.max.ensures))))
     (cases_lt t (first_of ps).lo)

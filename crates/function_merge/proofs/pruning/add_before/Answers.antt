@@ -11,12 +11,15 @@ returns-in_ok-push-clause-front c = λ t early.
 pub returns-in_ok-push-clause-part : goal.returns-in_ok-push-clause-part
 returns-in_ok-push-clause-part c = λ t from early.
     let cut : Piece = record { lo = c.args.piece.lo; hi = c.args.end - 1; cost = c.args.piece.cost; slope = c.args.piece.slope } in
-    c.in_ok-push.ensures.values t ∙ value_last c.args.built.now cut t (λ k d within. (let e = c.requires.later k d within in omega (arith, e, from))) from (omega (arith, early))
+    c.in_ok-push.ensures.values t ∙ value_last c.args.built.now cut t (λ k d within. (let e = c.requires.later k d within in omega (arith, e, from))) from
+    (omega (arith, early))
 
 pub returns-in_ok-push-clause-rest : goal.returns-in_ok-push-clause-rest
 returns-in_ok-push-clause-rest c = λ t from late.
     let cut : Piece = record { lo = c.args.piece.lo; hi = c.args.end - 1; cost = c.args.piece.cost; slope = c.args.piece.slope } in
-    c.in_ok-push.ensures.values t ∙ value_front c.args.built.now cut t (has_not_after cut t (omega (arith, late, c.if-piece-end.true))) ∙ none_after c.args.built.now t (λ k d within. (let e = c.requires.later k d within in omega (arith, e, from)))
+    c.in_ok-push.ensures.values t ∙ value_front c.args.built.now cut t (has_not_after cut t (omega (arith, late, c.if-piece-end.true)))
+    ∙ none_after c.args.built.now t (λ k d within. (let e = c.requires.later k d within in omega (arith, e, from)))
 
 pub returns-else-piece-end-clause-rest : goal.returns-else-piece-end-clause-rest
-returns-else-piece-end-clause-rest c = λ t from late. none_after c.args.built.now t (λ k d within. (let e = c.requires.later k d within in omega (arith, e, from)))
+returns-else-piece-end-clause-rest c = λ t from late. none_after c.args.built.now t (λ k d within.
+    (let e = c.requires.later k d within in omega (arith, e, from)))

@@ -9,7 +9,8 @@ use Rattle.function_merge.proofs.pruning.prune.Goals as goal
 
 pub loop-piece-init : goal.loop-piece-init
 loop-piece-init c = record {
-  pruned = pruned_none c.args.until c.args.pairs.now c.args.bound c.new-built.result (λ t. ap (λ ps. value_at ps t) c.new-built.ensures ∙ none_after [] t (λ k d within. absurd (omega (arith, within))));
+  pruned = pruned_none c.args.until c.args.pairs.now c.args.bound c.new-built.result (λ t. ap (λ ps. value_at ps t) c.new-built.ensures
+      ∙ none_after [] t (λ k d within. absurd (omega (arith, within))));
   ended = λ d h k d' w. absurd (let empty = ap length c.new-built.ensures in omega (arith, w, empty));
 }
 

@@ -9,4 +9,5 @@ returns-clause-values c = λ t late.
     let ps = c.args.pieces.now in
     let k = c.ending_before.result in
     let kept = c.ending_before.ensures in
-    ap (λ xs. value_at xs t) (take_rest ps k) ∙ value_drop ps k t kept.within (λ j d from upto. (let end = kept.before j d from upto in omega (arith, end, late)))
+    ap (λ xs. value_at xs t) (take_rest ps k) ∙ value_drop ps k t kept.within (λ j d from upto.
+    (let end = kept.before j d from upto in omega (arith, end, late)))

@@ -24,7 +24,8 @@ append_all-requires-clause-whole c =
     let both = c.in_ok-both.both in
     let minutes = told held c.deref-2.result.now both k (any_has other) c.deref-2.ensures.value c.in_ok-both.ensures.minutes in
     subst AreRuns (ap (λ rs. rs ++ both) (sym c.truncate.ensures.items) ∙ ap (λ rs. c.truncate.new.self.items ++ rs) (sym c.runs.ensures.items))
-    (added_runs held other both k (get_or other 0 first).lo le c.requires.held c.in_ok-both.ensures.runs early (begin_late other first c.requires.other) minutes)
+    (added_runs held other both k (get_or other 0 first).lo le c.requires.held c.in_ok-both.ensures.runs early
+    (begin_late other first c.requires.other) minutes)
 
 pub returns-clause-minutes : goal.returns-clause-minutes
 returns-clause-minutes c =
@@ -40,4 +41,5 @@ returns-clause-minutes c =
     let whole = ap (λ rs. rs ++ c.runs.result.now) c.truncate.ensures.items ∙ ap (λ rs. take k held ++ rs) c.runs.ensures.items in
     on_ok_weaker c.append_all.result (λ items t.
     (ap (λ rs. any_has rs t) (items ∙ whole)
-    ∙ added_minutes held other both k (get_or other 0 first).lo le c.requires.held c.in_ok-both.ensures.runs early (begin_late other first c.requires.other) minutes t)) c.append_all.ensures.items
+    ∙ added_minutes held other both k (get_or other 0 first).lo le c.requires.held c.in_ok-both.ensures.runs early
+    (begin_late other first c.requires.other) minutes t)) c.append_all.ensures.items
