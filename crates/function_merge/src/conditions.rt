@@ -16,7 +16,8 @@ use route_base::{Cost, Minute};
 /// number of pieces; no memory.
 pub fn can_shift(f: &CostFn, minutes: u64, cost: Cost) -> bool
     ensures values { IsTrue result ↔ CanMove minutes cost (value_at f.now) }
-    ensures kept { IsTrue result → (entries : List Run) → CanMove minutes cost (kept_at f.now entries) }
+    ensures kept { IsTrue result
+        → (entries : List Run) → CanMove minutes cost (kept_at f.now entries) }
 {
     all_fit(f.pieces(), minutes, cost)
 }

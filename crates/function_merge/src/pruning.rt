@@ -1,12 +1,13 @@
 // Functions without the points from which no better arrival can come.
-ghost use Rattle.std.specs.Prelude.{◌≡◌, ◌+◌, ◌-◌, ◌<◌, ◌≤◌, ℕ, Some, None, All, IfOk, OnOk, length, slice_index_or};
+ghost use Rattle.std.specs.Prelude.{◌≡◌, ◌+◌, ◌-◌, ◌<◌, ◌≤◌, ℕ, All, IfOk, OnOk, length, take, slice_index_or};
 ghost use Rattle.route_base.specs.Front.{RiseAndFall};
 ghost use Rattle.route_base.specs.declared.types.Pair.{Pair};
 ghost use Rattle.cost_functions.specs.Lines.{line_at, IsPiece, IsSmall};
-ghost use Rattle.cost_functions.specs.Pieces.{value_at, AreSmall};
+ghost use Rattle.cost_functions.specs.Pieces.{value_at, ArePieces, AreSmall};
 ghost use Rattle.cost_functions.specs.Building.{AreBuilt};
 ghost use Rattle.function_merge.specs.Pruning.{IsPruned};
 ghost use Rattle.function_merge.specs.Inside.Prefixes.{stays_cheaper, IsUndominatedUntil, IsClearUntil};
+ghost use Rattle.function_merge.specs.Inside.Prefixes.{HasPrefix};
 
 use cost_functions::{Builder, CostFn, Piece, held_for};
 use route_base::{Bound, Cost, Minute, OutOfMemory, Pair};
@@ -37,18 +38,90 @@ pub fn prune(
     Ok(built.finish())
 }
 
+/// The same for a function that is given away, in place and without memory. The result may not be reduced: a piece of which one
+/// minute stays can be on one line with the piece before it.
+pub fn into_pruned(f: CostFn, until: Minute, pairs: &[Pair], bound: Bound) -> CostFn
+    requires trade { RiseAndFall pairs.now }
+    requires small { AreSmall f }
+    ensures values { IsPruned until pairs.now bound (value_at f) (value_at result) }
+    ensures small { AreSmall result }
+{
+    let mut pieces = f.into_pieces();
+    let kept = keep_prefixes(&mut pieces, until, pairs, bound);
+    pieces.truncate(kept);
+    CostFn::from_pieces(pieces)
+}
+
+// Writes the prefixes that stay to the front, and returns their number.
+fn keep_prefixes(pieces: &mut [Piece], until: Minute, pairs: &[Pair], bound: Bound) -> usize
+    requires trade { RiseAndFall pairs.now }
+    requires pieces { ArePieces pieces.old }
+    requires small { AreSmall pieces.old }
+    ensures values { IsPruned until pairs.now bound
+        (value_at pieces.old) (value_at (take result pieces.new)) }
+    ensures pieces { ArePieces (take result pieces.new) }
+    ensures small { AreSmall (take result pieces.new) }
+{
+    let mut kept = 0;
+    for i in 0..pieces.len() {
+        let piece = pieces[i];
+        let end = clear_until(piece, until, pairs, bound);
+        kept = put_before(pieces, kept, piece, end);
+    }
+    kept
+}
+
+// Writes the values of a piece before a minute to a place behind other pieces, and returns the place behind them.
+fn put_before(pieces: &mut [Piece], place: usize, piece: Piece, end: Minute) -> usize
+    requires place { place < length pieces.old }
+    requires pieces { ArePieces (take place pieces.old) }
+    requires small { AreSmall (take place pieces.old) }
+    requires piece { IsPiece piece }
+    requires piece_small { IsSmall piece }
+    requires upto { end ≤ piece.hi + 1 }
+    requires later { All (λ q. q.hi < piece.lo) (take place pieces.old) }
+    ensures within { result ≤ place + 1 }
+    ensures length { length pieces.new ≡ length pieces.old }
+    ensures others { (j : ℕ) (d : Piece) → place < j
+        → slice_index_or pieces.new j d ≡ slice_index_or pieces.old j d }
+    ensures pieces { ArePieces (take result pieces.new) }
+    ensures small { AreSmall (take result pieces.new) }
+    ensures put { HasPrefix piece end (take place pieces.old) (take result pieces.new) }
+{
+    if end <= piece.lo {
+        return place;
+    }
+    pieces[place] = cut_before(piece, end);
+    place + 1
+}
+
+// The piece without its minutes from this one on, of which it keeps some.
+fn cut_before(piece: Piece, end: Minute) -> Piece
+    requires piece { IsPiece piece }
+    requires small { IsSmall piece }
+    requires some { piece.lo < end }
+    requires upto { end ≤ piece.hi + 1 }
+    ensures piece { IsPiece result }
+    ensures small { IsSmall result }
+    ensures lo { result.lo ≡ piece.lo }
+    ensures hi { result.hi + 1 ≡ end }
+    ensures line { (t : ℕ) → piece.lo ≤ t → t < end → line_at result t ≡ line_at piece t }
+{
+    let slope = if piece.lo + 1 < end { piece.slope } else { 0 };
+    Piece {
+        hi: end - 1,
+        slope,
+        ..piece
+    }
+}
+
 // Adds the values of a piece before a minute.
 fn add_before(built: &mut Builder, piece: Piece, end: Minute) -> Result<(), OutOfMemory>
     requires piece { IsPiece piece }
     requires small { IsSmall piece }
     requires upto { end ≤ piece.hi + 1 }
     requires later { All (λ q. q.hi < piece.lo) built.old }
-    ensures front { OnOk result ((t : ℕ) →
-        t < piece.lo → value_at built.new t ≡ value_at built.old t) }
-    ensures part { OnOk result ((t : ℕ) →
-        piece.lo ≤ t → t < end → value_at built.new t ≡ Some (line_at piece t)) }
-    ensures rest { OnOk result ((t : ℕ) → piece.lo ≤ t → end ≤ t → value_at built.new t ≡ None) }
-    ensures ended { OnOk result (All (λ q. q.hi ≤ piece.hi) built.new) }
+    ensures { OnOk result (HasPrefix piece end built.old built.new) }
 {
     if piece.lo < end {
         built.push(Piece {

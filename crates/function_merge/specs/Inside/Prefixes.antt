@@ -1,10 +1,11 @@
 -- The minutes of a piece before it is dominated or late (source: own; no law).
-use Rattle.std.specs.Prelude.{◌≡◌, ℕ, ◌+◌, ◌-◌, ◌<◌, ◌≤◌, min, Bool, nat_lt, Some, List}
+use Rattle.std.specs.Prelude.{◌≡◌, ℕ, ◌+◌, ◌-◌, ◌<◌, ◌≤◌, min, Bool, nat_lt, Some, None, List, All}
 use Rattle.route_base.specs.Itinerary.{Position}
 use Rattle.route_base.specs.Relaxing.{HasPair, IsDominatedOrLate}
 use Rattle.route_base.specs.declared.types.Pair.{Pair}
 use Rattle.route_base.specs.declared.types.Bound.{Bound}
 use Rattle.cost_functions.specs.Lines.{line_at}
+use Rattle.cost_functions.specs.Pieces.{value_at}
 use Rattle.cost_functions.specs.declared.pieces.Piece.{Piece}
 
 -- when the pair arrives, or at the piece's end, the piece with the bound to the goal is still cheaper than the pair
@@ -22,3 +23,10 @@ pub record IsClearUntil (until : ℕ) (pairs : List Pair) (bound : Bound) (piece
   pub before : (p : Position) → piece.lo ≤ p.minute → p.minute < end → p.cost ≡ line_at piece p.minute → IsDominatedOrLate until pairs (Some bound) p → ⊥
   pub after : (p : Position) → piece.lo ≤ p.minute → end ≤ p.minute → p.minute ≤ piece.hi → p.cost ≡ line_at piece p.minute
       → IsDominatedOrLate until pairs (Some bound) p
+
+-- the new pieces have the values of the old ones, and behind them those of the piece before the minute
+pub record HasPrefix (piece : Piece) (end : ℕ) (old new : List Piece) : Type 0 where
+  pub front : (t : ℕ) → t < piece.lo → value_at new t ≡ value_at old t
+  pub part : (t : ℕ) → piece.lo ≤ t → t < end → value_at new t ≡ Some (line_at piece t)
+  pub rest : (t : ℕ) → piece.lo ≤ t → end ≤ t → value_at new t ≡ None
+  pub ended : All (λ q. q.hi ≤ piece.hi) new

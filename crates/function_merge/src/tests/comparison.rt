@@ -5,7 +5,9 @@ ghost use Rattle.cost_functions.specs.Building.{AreBuilt};
 ghost use Rattle.route_base.specs.Front.{RiseAndFall};
 
 use super::plain_lists::{is_better, lesser, pruned, shifted, value, waited};
-use crate::{can_shift, can_wait, cut, improve_in_place, is_improved, least, prune, shift, wait};
+use crate::{
+    can_shift, can_wait, cut, improve_in_place, into_pruned, is_improved, least, prune, shift, wait,
+};
 use cost_functions::CostFn;
 use minute_sets::MinuteSet;
 use route_base::{Bound, OutOfMemory, Pair, Run};
@@ -226,8 +228,10 @@ fn prunes_as_lists(
         cost: random.below(30),
     };
     let made = prune(alloc, f, until, &pairs, bound)?;
+    let in_place = into_pruned(f.reduce(alloc)?, until, &pairs, bound);
     for t in 0..COMPARED {
-        if made.at(t) != pruned(a, until, &pairs, bound, t) {
+        let wanted = pruned(a, until, &pairs, bound, t);
+        if made.at(t) != wanted || in_place.at(t) != wanted {
             return Ok(false);
         }
     }

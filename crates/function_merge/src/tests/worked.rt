@@ -2,7 +2,9 @@
 ghost use Rattle.std.specs.Prelude.{◌≡◌, ◌∷◌, [], IfOk};
 ghost use Rattle.cost_functions.specs.Lines.{IsPiece};
 
-use crate::{can_shift, can_wait, cut, improve, is_improved, least, prune, shift, wait};
+use crate::{
+    can_shift, can_wait, cut, improve, into_pruned, is_improved, least, prune, shift, wait,
+};
 use cost_functions::{CostFn, Piece};
 use minute_sets::MinuteSet;
 use route_base::{Bound, OutOfMemory, Pair, Run};
@@ -72,7 +74,7 @@ fn moves_and_prunes(rt: HostRuntime) -> Result<(), Fail> {
     };
     let in_time = prune(rt.alloc(), &f, 9, &[], bound)?;
     assert!(rt; in_time.pieces() == [Piece { hi: 4, ..RISING }].as_slice());
-    let cheap = prune(rt.alloc(), &f, 100, &[pair], bound)?;
+    let cheap = into_pruned(f, 100, &[pair], bound);
     assert!(rt; cheap.pieces() == [Piece { hi: 4, ..RISING }].as_slice());
     Ok(())
 }

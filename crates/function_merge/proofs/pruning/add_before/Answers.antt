@@ -1,25 +1,15 @@
-use Rattle.std.proofs.Common.{◌-◌, ◌∙◌, arith}
+use Rattle.std.proofs.Common.{◌-◌, refl, arith}
 use Rattle.cost_functions.specs.declared.pieces.Piece.{Piece}
-use Rattle.cost_functions.proofs.Values.{value_front, value_last, none_after, has_not_before, has_not_after}
+use Rattle.function_merge.proofs.PrunedPieces.{put_none, put_some}
 use Rattle.function_merge.proofs.pruning.add_before.Goals as goal
 
-pub returns-in_ok-push-clause-front : goal.returns-in_ok-push-clause-front
-returns-in_ok-push-clause-front c = λ t early.
+pub returns-in_ok-push : goal.returns-in_ok-push
+returns-in_ok-push c =
     let cut : Piece = record { lo = c.args.piece.lo; hi = c.args.end - 1; cost = c.args.piece.cost; slope = c.args.piece.slope } in
-    c.in_ok-push.ensures.values t ∙ value_front c.args.built.now cut t (has_not_before cut t early)
+    let push = c.in_ok-push.ensures in
+    let some = c.if-piece-end.true in
+    put_some c.args.piece c.args.end c.args.built.now c.requires.later c.push.new.self cut some refl (omega (arith, some)) (λ t from before. refl) push.values
+    (λ k d within. (let e = push.ended k d within in let upto = c.requires.upto in omega (arith, e, upto)))
 
-pub returns-in_ok-push-clause-part : goal.returns-in_ok-push-clause-part
-returns-in_ok-push-clause-part c = λ t from early.
-    let cut : Piece = record { lo = c.args.piece.lo; hi = c.args.end - 1; cost = c.args.piece.cost; slope = c.args.piece.slope } in
-    c.in_ok-push.ensures.values t ∙ value_last c.args.built.now cut t (λ k d within. (let e = c.requires.later k d within in omega (arith, e, from))) from
-    (omega (arith, early))
-
-pub returns-in_ok-push-clause-rest : goal.returns-in_ok-push-clause-rest
-returns-in_ok-push-clause-rest c = λ t from late.
-    let cut : Piece = record { lo = c.args.piece.lo; hi = c.args.end - 1; cost = c.args.piece.cost; slope = c.args.piece.slope } in
-    c.in_ok-push.ensures.values t ∙ value_front c.args.built.now cut t (has_not_after cut t (omega (arith, late, c.if-piece-end.true)))
-    ∙ none_after c.args.built.now t (λ k d within. (let e = c.requires.later k d within in omega (arith, e, from)))
-
-pub returns-else-piece-end-clause-rest : goal.returns-else-piece-end-clause-rest
-returns-else-piece-end-clause-rest c = λ t from late. none_after c.args.built.now t (λ k d within.
-    (let e = c.requires.later k d within in omega (arith, e, from)))
+pub returns-else-piece-end : goal.returns-else-piece-end
+returns-else-piece-end c = put_none c.args.piece c.args.end c.args.built.now c.requires.later c.requires.piece.filled (omega (arith, c.if-piece-end.false))
