@@ -2,6 +2,7 @@ pub mod Appended
 pub mod FirstItems
 pub mod Joining
 pub mod Lasts
+pub mod PieceValues
 pub mod Places
 pub mod Settling
 pub mod Slopes

@@ -47,7 +47,8 @@ value_behind (p ∷ ps) xs ys t same = ap (λ v. cond (is_on_piece t p) (Some (l
 -- a piece behind
 pub value_last : (ps : List Piece) (p : Piece) (t : ℕ) → All (λ q. q.hi < t) ps → p.lo ≤ t → t ≤ p.hi → value_at (ps ++ p ∷ []) t ≡ Some (line_at p t)
 value_last [] p t all from upto = value_here p [] t from upto
-value_last (q ∷ ps) p t all from upto = value_after q (ps ++ p ∷ []) t (All-head (λ q. q.hi < t) q ps all) ∙ value_last ps p t (All-tail (λ q. q.hi < t) q ps all) from upto
+value_last (q ∷ ps) p t all from upto = value_after q (ps ++ p ∷ []) t (All-head (λ q. q.hi < t) q ps all)
+    ∙ value_last ps p t (All-tail (λ q. q.hi < t) q ps all) from upto
 
 pub value_front : (ps : List Piece) (p : Piece) (t : ℕ) → is_on_piece t p ≡ false → value_at (ps ++ p ∷ []) t ≡ value_at ps t
 unfolding value_at
@@ -63,9 +64,6 @@ pieces_tail p ps are = record {
   each = All-tail IsPiece p ps are.each;
   apart = λ i j d lt within. are.apart (suc i) (suc j) d (omega (arith, lt)) (omega (arith, within));
 }
-
-pub pieces_head : (p : Piece) (ps : List Piece) → ArePieces (p ∷ ps) → IsPiece p
-pieces_head p ps are = All-head IsPiece p ps are.each
 
 -- a minute at or before the first piece's end has no value in the others
 pub none_behind : (p : Piece) (ps : List Piece) (t : ℕ) → ArePieces (p ∷ ps) → t ≤ p.hi → value_at ps t ≡ None

@@ -45,7 +45,8 @@ module _ (ps : List Piece) (some : 1 ≤ length ps) (are : ArePieces ps) where
       let same = ap (λ (p : Piece). p.hi) (get_or_default ps 0 (record { lo = 0; hi = 0; cost = 0; slope = 0 }) d (omega (arith, some))) in
       ⊎_elim
       (λ (head : 0 ≡ k). subst (λ (n : ℕ). from ≤ (get_or ps n d).hi) head (omega (arith, same, first)))
-      (λ (behind : 0 ≡ k → ⊥). (let far = are.apart 0 k d (omega (arith, behind)) within in let is = are.each k d within in let filled = is.filled in omega (arith, far, filled, same, first)))
+      (λ (behind : 0 ≡ k → ⊥). (let far = are.apart 0 k d (omega (arith, behind)) within in let is = are.each k d within in let filled = is.filled in
+      omega (arith, far, filled, same, first)))
       (cases_eq 0 k)
 
   -- no piece begins before the first
@@ -54,5 +55,6 @@ module _ (ps : List Piece) (some : 1 ≤ length ps) (are : ArePieces ps) where
       let same = ap (λ (p : Piece). p.lo) (get_or_default ps 0 (record { lo = 0; hi = 0; cost = 0; slope = 0 }) d (omega (arith, some))) in
       ⊎_elim
       (λ (head : 0 ≡ k). subst (λ (n : ℕ). (first_of ps).lo ≤ (get_or ps n d).lo) head (omega (arith, same)))
-      (λ (behind : 0 ≡ k → ⊥). (let far = are.apart 0 k d (omega (arith, behind)) within in let is = are.each 0 d (omega (arith, some)) in let filled = is.filled in omega (arith, far, filled, same)))
+      (λ (behind : 0 ≡ k → ⊥). (let far = are.apart 0 k d (omega (arith, behind)) within in let is = are.each 0 d (omega (arith, some)) in
+      let filled = is.filled in omega (arith, far, filled, same)))
       (cases_eq 0 k)

@@ -1,5 +1,6 @@
 -- Values at some minutes, moved to later ones: a step of the sweep.
-use Rattle.std.proofs.Common.{◌≡◌, ⊎_elim, ℕ, ◌+◌, ◌-◌, ◌≤◌, ◌<◌, max, min, Bool, true, false, cond, Option, Some, None, List, ◌∷◌, length, get_or, take, drop, refl, ◌∙◌, ap, sym, subst, arith}
+use Rattle.std.proofs.Common.{◌≡◌, ⊎_elim, ℕ, ◌+◌, ◌-◌, ◌≤◌, ◌<◌, max, min, Bool, true, false, cond, Option, Some, None, List, ◌∷◌, length, get_or, take}
+use Rattle.std.proofs.Common.{drop, refl, ◌∙◌, ap, sym, subst, arith}
 use Rattle.std.specs.Option.{option_map}
 use Rattle.std.proofs.lemmas.Bool.{cases_lt, le-leb, lt-leb}
 use Rattle.route_base.specs.Runs.{any_has, AreRuns}
@@ -22,14 +23,6 @@ module _ (minutes cost : ℕ) (f : ℕ → Option ℕ) where
       ap (λ b. cond b (option_map (λ v. v + cost) (f (u - minutes))) None) (le-leb minutes u (omega (arith, is)))
       ∙ ap (λ n. option_map (λ v. v + cost) (f n)) (let same : u - minutes ≡ t = omega (arith, is) in same)
 
--- cut to no other minutes and moved by nothing
-pub moved_nowhere : (f : ℕ → Option ℕ) (t : ℕ) → moved_at 0 0 f t ≡ f t
-moved_nowhere f t = moved_late 0 0 f t t (omega arith) ∙ plain (f t)
-  where
-    plain : (o : Option ℕ) → option_map (λ v. v + 0) o ≡ o
-    plain None = refl
-    plain (Some v) = ap Some (let same : v + 0 ≡ v = omega arith in same)
-
 abbrev nothing : Option ℕ
 nothing = None
 
@@ -48,11 +41,13 @@ module _ (ps : List Piece) (rs : List Run) where
   kept_value t held = ap (λ b. cond b (value_at ps t) None) held
 
   -- the first piece and the first run of what is left
-  module _ (from : ℕ) (p : Piece) (later : List Piece) (r : Run) (after : List Run) (are : ArePieces (p ∷ later)) (runs : AreRuns (r ∷ after)) (values : (t : ℕ) → from ≤ t → value_at (p ∷ later) t ≡ value_at ps t) (held : (t : ℕ) → from ≤ t → any_has (r ∷ after) t ≡ any_has rs t) where
+  module _ (from : ℕ) (p : Piece) (later : List Piece) (r : Run) (after : List Run) (are : ArePieces (p ∷ later)) (runs : AreRuns (r ∷ after))
+      (values : (t : ℕ) → from ≤ t → value_at (p ∷ later) t ≡ value_at ps t) (held : (t : ℕ) → from ≤ t → any_has (r ∷ after) t ≡ any_has rs t) where
     pub kept_gap : (t : ℕ) → from ≤ t → t < max (max from p.lo) r.lo → kept_at ps rs t ≡ None
     kept_gap t late before =
         ⊎_elim
-        (λ (early : t < p.lo). kept_nothing t (sym (values t late) ∙ value_before p later t early ∙ none_behind p later t are (let filled = are.each 0 p (omega arith) in let fills = filled.filled in omega (arith, early, fills))))
+        (λ (early : t < p.lo). kept_nothing t (sym (values t late) ∙ value_before p later t early
+        ∙ none_behind p later t are (let filled = are.each 0 p (omega arith) in let fills = filled.filled in omega (arith, early, fills))))
         (λ (begun : p.lo ≤ t). kept_nowhere t (sym (held t late) ∙ before_first r after t runs (omega (arith, begun, before, late))))
         (cases_lt t p.lo)
 
@@ -64,24 +59,31 @@ module _ (ps : List Piece) (rs : List Run) where
         ∙ value_here p later t (omega (arith, begun)) (omega (arith, before))
 
   -- the same for lists that have a first item
-  module _ (from : ℕ) (left : List Piece) (open' : List Run) (some : 1 ≤ length left) (one : 1 ≤ length open') (are : ArePieces left) (runs : AreRuns open') (values : (t : ℕ) → from ≤ t → value_at left t ≡ value_at ps t) (held : (t : ℕ) → from ≤ t → any_has open' t ≡ any_has rs t) where
-    pub first_gap : (t : ℕ) → from ≤ t → t < max (max from (get_or left 0 (record { lo = 0; hi = 0; cost = 0; slope = 0 })).lo) (get_or open' 0 (record { lo = 0; hi = 0 })).lo → kept_at ps rs t ≡ None
+  module _ (from : ℕ) (left : List Piece) (open' : List Run) (some : 1 ≤ length left) (one : 1 ≤ length open') (are : ArePieces left) (runs : AreRuns open')
+      (values : (t : ℕ) → from ≤ t → value_at left t ≡ value_at ps t) (held : (t : ℕ) → from ≤ t → any_has open' t ≡ any_has rs t) where
+    pub first_gap : (t : ℕ) → from ≤ t → t < max (max from (get_or left 0 (record { lo = 0; hi = 0; cost = 0; slope = 0 })).lo)
+        (get_or open' 0 (record { lo = 0; hi = 0 })).lo → kept_at ps rs t ≡ None
     first_gap =
-        kept_gap from (get_or left 0 (record { lo = 0; hi = 0; cost = 0; slope = 0 })) (take (length left - 1) (drop 1 left)) (get_or open' 0 (record { lo = 0; hi = 0 })) (take (length open' - 1) (drop 1 open'))
+        kept_gap from (get_or left 0 (record { lo = 0; hi = 0; cost = 0; slope = 0 })) (take (length left - 1) (drop 1 left))
+        (get_or open' 0 (record { lo = 0; hi = 0 })) (take (length open' - 1) (drop 1 open'))
         (subst ArePieces (first_and_rest left (record { lo = 0; hi = 0; cost = 0; slope = 0 }) some) are)
         (subst AreRuns (first_and_rest open' (record { lo = 0; hi = 0 }) one) runs)
         (λ t late. ap (λ xs. value_at xs t) (sym (first_and_rest left (record { lo = 0; hi = 0; cost = 0; slope = 0 }) some)) ∙ values t late)
         (λ t late. ap (λ xs. any_has xs t) (sym (first_and_rest open' (record { lo = 0; hi = 0 }) one)) ∙ held t late)
 
-    pub first_part : (t : ℕ) → max (max from (get_or left 0 (record { lo = 0; hi = 0; cost = 0; slope = 0 })).lo) (get_or open' 0 (record { lo = 0; hi = 0 })).lo ≤ t → t < min (get_or open' 0 (record { lo = 0; hi = 0 })).hi ((get_or left 0 (record { lo = 0; hi = 0; cost = 0; slope = 0 })).hi + 1) → kept_at ps rs t ≡ Some (line_at (get_or left 0 (record { lo = 0; hi = 0; cost = 0; slope = 0 })) t)
+    pub first_part : (t : ℕ) → max (max from (get_or left 0 (record { lo = 0; hi = 0; cost = 0; slope = 0 })).lo)
+        (get_or open' 0 (record { lo = 0; hi = 0 })).lo ≤ t → t < min (get_or open' 0 (record { lo = 0; hi = 0 })).hi
+        ((get_or left 0 (record { lo = 0; hi = 0; cost = 0; slope = 0 })).hi + 1) → kept_at ps rs t ≡ Some
+        (line_at (get_or left 0 (record { lo = 0; hi = 0; cost = 0; slope = 0 })) t)
     first_part =
-        kept_part from (get_or left 0 (record { lo = 0; hi = 0; cost = 0; slope = 0 })) (take (length left - 1) (drop 1 left)) (get_or open' 0 (record { lo = 0; hi = 0 })) (take (length open' - 1) (drop 1 open'))
+        kept_part from (get_or left 0 (record { lo = 0; hi = 0; cost = 0; slope = 0 })) (take (length left - 1) (drop 1 left))
+        (get_or open' 0 (record { lo = 0; hi = 0 })) (take (length open' - 1) (drop 1 open'))
         (subst ArePieces (first_and_rest left (record { lo = 0; hi = 0; cost = 0; slope = 0 }) some) are)
         (subst AreRuns (first_and_rest open' (record { lo = 0; hi = 0 }) one) runs)
         (λ t late. ap (λ xs. value_at xs t) (sym (first_and_rest left (record { lo = 0; hi = 0; cost = 0; slope = 0 }) some)) ∙ values t late)
         (λ t late. ap (λ xs. any_has xs t) (sym (first_and_rest open' (record { lo = 0; hi = 0 }) one)) ∙ held t late)
 
-chosen : (b : Bool) (o : Option ℕ) (v : ℕ) → cond b o None ≡ Some v → o ≡ Some v
+pub chosen : (b : Bool) (o : Option ℕ) (v : ℕ) → cond b o None ≡ Some v → o ≡ Some v
 chosen true o v is = is
 chosen false o v is = cc
 

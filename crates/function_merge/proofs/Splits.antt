@@ -1,5 +1,6 @@
 -- Pieces cut into those before a place and those from it on.
-use Rattle.std.proofs.Common.{◌≡◌, ⊎_elim, ◌++◌, ℕ, ◌+◌, ◌≤◌, ◌<◌, cond, zero, suc, Some, None, List, [], ◌∷◌, length, get_or, take, drop, All, AllPairs, refl, ◌∙◌, ap, sym, subst, arith}
+use Rattle.std.proofs.Common.{◌≡◌, ⊎_elim, ◌++◌, ℕ, ◌+◌, ◌≤◌, ◌<◌, cond, zero, suc, Some, None, List, [], ◌∷◌, length, get_or, take, drop, All, AllPairs}
+use Rattle.std.proofs.Common.{refl, ◌∙◌, ap, sym, subst, arith}
 use Rattle.std.specs.List.{AllWithin}
 use Rattle.std.proofs.lemmas.List.{get_or-take, get_or-drop, length-take-le, length-drop, get_or_default, take-append-drop}
 use Rattle.std.proofs.lemmas.Bool.{cases_lt, cases_eq}
@@ -28,7 +29,8 @@ value_take (p ∷ ps) (suc k) t after = ap (λ v. cond (is_on_piece t p) (Some (
 
 module _ {X : Type 0} (xs : List X) (k : ℕ) (le : k ≤ length xs) where
   pub all_take : (P : X → Type 0) → AllWithin P xs 0 k → All P (take k xs)
-  all_take P before j d within = let lt : j < k = omega (arith, within, length-take-le k xs le) in subst P (sym (get_or-take k xs j d lt)) (before j d (omega arith) lt)
+  all_take P before j d within = let lt : j < k = omega (arith, within, length-take-le k xs le) in
+      subst P (sym (get_or-take k xs j d lt)) (before j d (omega arith) lt)
 
   pub all_drop : (P : X → Type 0) → AllWithin P xs k (length xs) → All P (drop k xs)
   all_drop P after j d within = subst P (sym (get_or-drop k xs j d)) (after (k + j) d (omega arith) (omega (arith, within, length-drop k xs)))
@@ -54,13 +56,6 @@ module _ (ps : List Piece) (k : ℕ) (le : k ≤ length ps) where
   pub pieces_drop : ArePieces ps → ArePieces (drop k ps)
   pieces_drop are = record { each = every_drop ps k le IsPiece are.each; apart = pairs_drop ps k le (λ p q. p.hi < q.lo) are.apart }
 
-  pub built_take : AreBuilt ps → AreBuilt (take k ps)
-  built_take built = record {
-    pieces = record { each = every_take ps k le IsPiece built.pieces.each; apart = pairs_take ps k le (λ p q. p.hi < q.lo) built.pieces.apart };
-    reduced = pairs_take ps k le (λ p q. (slope : ℕ) → AreOneLine p q slope → ⊥) built.reduced;
-    small = every_take ps k le IsSmall built.small;
-  }
-
   -- a piece before the place ends before each from it on begins
   pub apart_at : ArePieces ps → (i : ℕ) (d : Piece) → i < k → All (λ p. (get_or ps i d).hi < p.lo) (drop k ps)
   apart_at are i d before j e within =
@@ -68,19 +63,13 @@ module _ (ps : List Piece) (k : ℕ) (le : k ≤ length ps) where
       let P : Piece → Type 0 = λ p. (get_or ps i d).hi < p.lo in
       subst P (sym (get_or-drop k ps j e ∙ get_or_default ps (k + j) e d (omega (arith, within, length-drop k ps)))) far
 
-  pub built_drop : AreBuilt ps → AreBuilt (drop k ps)
-  built_drop built = record {
-    pieces = pieces_drop built.pieces;
-    reduced = pairs_drop ps k le (λ p q. (slope : ℕ) → AreOneLine p q slope → ⊥) built.reduced;
-    small = every_drop ps k le IsSmall built.small;
-  }
-
 -- the beginnings rise
 pub begins_rise : (ps : List Piece) → ArePieces ps → IsNonDecreasingBy (λ p. p.lo) ps
 begins_rise ps are i j d le within =
     ⊎_elim
     (λ (same : i ≡ j). omega (arith, ap (λ n. (get_or ps n d).lo) same))
-    (λ (other : i ≡ j → ⊥). (let far = are.apart i j d (omega (arith, le, other)) within in let filled = (are.each i d (omega (arith, le, within))).filled in omega (arith, far, filled)))
+    (λ (other : i ≡ j → ⊥). (let far = are.apart i j d (omega (arith, le, other)) within in let filled = (are.each i d (omega (arith, le, within))).filled in
+    omega (arith, far, filled)))
     (cases_eq i j)
 
 -- nothing ends behind the last piece

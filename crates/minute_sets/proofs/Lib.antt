@@ -1,6 +1,8 @@
+pub mod AddedRuns
 pub mod FirstItems
 pub mod FirstRuns
 pub mod FreeMinutes
 pub mod HeadRuns
 pub mod MergedRuns
 pub mod OneList
+pub mod RunSuffixes

@@ -4,6 +4,7 @@ ghost use Rattle.route_base.specs.Runs.{any_has, has_minute, AreRuns};
 ghost use Rattle.minute_sets.specs.Entries.{IsEntry};
 ghost use Rattle.route_base.specs.declared.types.Run.{Run};
 
+use crate::addition::add_all;
 use crate::entries::entries_of;
 use crate::merge::{add, merged};
 use crate::sweep::{Combination, combined};
@@ -68,6 +69,16 @@ impl MinuteSet {
         ensures begins { OnOk result (All (λ r. r.lo ≤ run.lo) self.new) }
     {
         add(&mut self.held, run)
+    }
+
+    /// Adds the minutes of another set. Runs that end before the other set begins stay where they are. Linear in the number of
+    /// the other runs of both, which a binary search finds. Out of memory leaves a set.
+    pub fn add_all(&mut self, alloc: Global, other: &MinuteSet) -> Result<(), OutOfMemory>
+        ensures minutes { OnOk result ((t : ℕ) →
+            any_has self.new t ≡ (any_has self.old t || any_has other.now t)) }
+        ensures runs { AreRuns self.new }
+    {
+        add_all(alloc, &mut self.held, &other.held)
     }
 
     /// The minutes of either set. Linear in the number of runs of both, in time and memory.
@@ -194,6 +205,9 @@ mod tests {
         assert!(rt; entries.runs() == entry_runs.as_slice());
         let between = MinuteSet::whole(alloc, Run { lo: 30, hi: 40 })?;
         let joined = set.union(alloc, &between)?;
+        let mut grown = MinuteSet::from_runs(alloc, set.runs())?;
+        grown.add_all(alloc, &between)?;
+        assert!(rt; grown.runs() == joined.runs());
         assert!(rt; joined.runs() == [Run { lo: 10, hi: 50 }].as_slice());
         assert!(rt; joined.intersection(alloc, &gaps)?.runs() == between.runs());
         assert!(rt; joined.minus(alloc, &between)?.runs() == set.runs());

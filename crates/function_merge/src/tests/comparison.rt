@@ -1,0 +1,263 @@
+// Random functions, against lists of their values.
+ghost use Rattle.std.specs.Prelude.{◌≡◌, ◌<◌, ◌≤◌, ◌+◌, All, AllPairs, IfOk, OnOk};
+ghost use Rattle.cost_functions.specs.Pieces.{AreSmall};
+ghost use Rattle.cost_functions.specs.Building.{AreBuilt};
+ghost use Rattle.route_base.specs.Front.{RiseAndFall};
+
+use super::plain_lists::{is_better, lesser, pruned, shifted, value, waited};
+use crate::{
+    can_shift, can_wait, cut, improve_in_place, into_pruned, is_improved, least, prune, shift, wait,
+};
+use cost_functions::CostFn;
+use minute_sets::MinuteSet;
+use route_base::{Bound, OutOfMemory, Pair, Run};
+use std::alloc::Global;
+use std::test::Fail;
+
+const SEED: u64 = 20201207;
+
+const CASES: u64 = 5000;
+
+// Minutes from 0 on that have values.
+const MINUTES: u64 = 24;
+
+// Minutes from 0 on at which results are compared.
+const COMPARED: u64 = 40;
+
+// Numbers that look random (source: SplitMix64).
+#[derive(Drop)]
+struct Random {
+    state: u64,
+}
+
+impl Random {
+    fn next(&mut self) -> u64 {
+        self.state = self.state.wrapping_add(0x9E3779B97F4A7C15);
+        let mut z = self.state;
+        z = (z ^ (z >> 30)).wrapping_mul(0xBF58476D1CE4E5B9);
+        z = (z ^ (z >> 27)).wrapping_mul(0x94D049BB133111EB);
+        z ^ (z >> 31)
+    }
+
+    fn below(&mut self, n: u64) -> u64
+        requires { 1 ≤ n }
+        ensures { result < n }
+    {
+        self.next() % n
+    }
+}
+
+// Values on a few lines, with gaps.
+fn random_values(alloc: Global, random: &mut Random) -> Result<Vec<Option<u64>>, OutOfMemory> {
+    let mut values = Vec::new(alloc);
+    let mut cost = 0;
+    let mut slope = 0;
+    let mut is_there = false;
+    for _ in 0..MINUTES {
+        if random.below(4) == 0 {
+            is_there = random.below(4) != 0;
+            cost = random.below(40);
+            slope = random.below(5);
+        }
+        values.push(if is_there { Some(cost) } else { None })?;
+        cost = cost.saturating_add(slope);
+    }
+    Ok(values)
+}
+
+fn random_keep(alloc: Global, random: &mut Random) -> Result<Vec<bool>, OutOfMemory> {
+    let mut keep = Vec::new(alloc);
+    let mut is_kept = false;
+    for _ in 0..MINUTES {
+        if random.below(3) == 0 {
+            is_kept = random.below(2) == 0;
+        }
+        keep.push(is_kept)?;
+    }
+    Ok(keep)
+}
+
+fn function_of(alloc: Global, values: &[Option<u64>]) -> Result<CostFn, OutOfMemory>
+    ensures { IfOk result AreBuilt }
+{
+    let mut points = Vec::new(alloc);
+    for t in 0..MINUTES {
+        add_point(&mut points, t, value(values, t))?;
+    }
+    CostFn::from_points(alloc, &points)
+}
+
+fn add_point(points: &mut Vec<(u64, u64)>, t: u64, cost: Option<u64>) -> Result<(), OutOfMemory>
+    requires rising { AllPairs (λ p q. p.0 < q.0) points.old.items }
+    requires before { All (λ p. p.0 < t) points.old.items }
+    requires costs { All (λ p. p.1 ≤ 1000) points.old.items }
+    ensures rising { OnOk result (AllPairs (λ p q. p.0 < q.0) points.new.items) }
+    ensures before { OnOk result (All (λ p. p.0 < t + 1) points.new.items) }
+    ensures costs { OnOk result (All (λ p. p.1 ≤ 1000) points.new.items) }
+{
+    if let Some(x) = cost {
+        points.push((t, x.min(1000)))?;
+    }
+    Ok(())
+}
+
+fn set_of(alloc: Global, keep: &[bool]) -> Result<MinuteSet, OutOfMemory> {
+    let mut runs = Vec::new(alloc);
+    for t in 0..MINUTES {
+        if keep.get(t as usize) == Some(&true) {
+            runs.push(Run { lo: t, hi: t + 1 })?;
+        }
+    }
+    MinuteSet::from_runs(alloc, &runs)
+}
+
+fn random_pairs(alloc: Global, random: &mut Random) -> Result<Vec<Pair>, OutOfMemory>
+    ensures { IfOk result (λ pairs. RiseAndFall pairs.items) }
+{
+    let mut pairs = Vec::new(alloc);
+    let mut arrival = random.below(MINUTES);
+    let mut cost = 20 + random.below(60);
+    'pairs: while random.below(4) != 0 && 10 < cost {
+        pairs.push(Pair { arrival, cost })?;
+        arrival += 1 + random.below(6);
+        cost -= 1 + random.below(10);
+    }
+    Ok(pairs)
+}
+
+fn has_values(f: &CostFn, values: &[Option<u64>]) -> bool {
+    for t in 0..COMPARED {
+        if f.at(t) != value(values, t) {
+            return false;
+        }
+    }
+    f.is_reduced()
+}
+
+fn merges_as_lists(
+    alloc: Global,
+    f: &CostFn,
+    a: &[Option<u64>],
+    g: &CostFn,
+    b: &[Option<u64>],
+) -> Result<bool, OutOfMemory>
+    requires first { AreBuilt f.now }
+    requires second { AreBuilt g.now }
+{
+    let merged = least(alloc, f, g)?;
+    let mut in_place = f.reduce(alloc)?;
+    let improved = improve_in_place(alloc, &mut in_place, g)?;
+    let mut is_any = false;
+    for t in 0..COMPARED {
+        let wanted = lesser(value(a, t), value(b, t));
+        let better = is_better(value(a, t), value(b, t));
+        is_any = is_any || better;
+        if merged.function.at(t) != wanted || in_place.at(t) != wanted {
+            return Ok(false);
+        }
+        if merged.improved.contains(t) != better || improved.contains(t) != better {
+            return Ok(false);
+        }
+    }
+    let reduced = merged.function.is_reduced() && in_place.is_reduced();
+    Ok(reduced && is_improved(f, g) == is_any)
+}
+
+fn moves_as_lists(
+    alloc: Global,
+    random: &mut Random,
+    f: &CostFn,
+    a: &[Option<u64>],
+) -> Result<bool, OutOfMemory>
+    requires { AreBuilt f.now }
+{
+    let kept = random_keep(alloc, random)?;
+    let keep = set_of(alloc, &kept)?;
+    let minutes = random.below(12);
+    let cost = random.below(30);
+    if !can_shift(f, minutes, cost) {
+        return Ok(false);
+    }
+    let moved = shift(alloc, f, &keep, minutes, cost)?;
+    let part = cut(alloc, f, &keep)?;
+    for t in 0..COMPARED {
+        if moved.at(t) != shifted(a, &kept, minutes, cost, t) {
+            return Ok(false);
+        }
+        if part.at(t) != shifted(a, &kept, 0, 0, t) {
+            return Ok(false);
+        }
+    }
+    Ok(moved.is_reduced() && part.is_reduced())
+}
+
+fn waits_as_lists(
+    alloc: Global,
+    random: &mut Random,
+    f: &CostFn,
+    a: &[Option<u64>],
+) -> Result<bool, OutOfMemory>
+    requires { AreBuilt f.now }
+{
+    let weight = random.below(6);
+    let until = random.below(COMPARED);
+    if !can_wait(f, weight, until) {
+        return Ok(false);
+    }
+    let made = wait(alloc, f, weight, until)?;
+    for t in 0..COMPARED {
+        if made.at(t) != waited(a, weight, until, t) {
+            return Ok(false);
+        }
+    }
+    Ok(made.is_reduced())
+}
+
+fn prunes_as_lists(
+    alloc: Global,
+    random: &mut Random,
+    f: &CostFn,
+    a: &[Option<u64>],
+) -> Result<bool, OutOfMemory>
+    requires { AreBuilt f.now }
+{
+    let pairs = random_pairs(alloc, random)?;
+    let until = random.below(COMPARED);
+    let bound = Bound {
+        minutes: random.below(6),
+        cost: random.below(30),
+    };
+    let made = prune(alloc, f, until, &pairs, bound)?;
+    let in_place = into_pruned(f.reduce(alloc)?, until, &pairs, bound);
+    for t in 0..COMPARED {
+        let wanted = pruned(a, until, &pairs, bound, t);
+        if made.at(t) != wanted || in_place.at(t) != wanted {
+            return Ok(false);
+        }
+    }
+    Ok(made.is_reduced())
+}
+
+fn is_right(alloc: Global, random: &mut Random) -> Result<bool, OutOfMemory> {
+    let a = random_values(alloc, random)?;
+    let b = random_values(alloc, random)?;
+    let f = function_of(alloc, &a)?;
+    let g = function_of(alloc, &b)?;
+    let right = has_values(&f, &a)
+        && merges_as_lists(alloc, &f, &a, &g, &b)?
+        && moves_as_lists(alloc, random, &f, &a)?
+        && waits_as_lists(alloc, random, &f, &a)?
+        && prunes_as_lists(alloc, random, &f, &a)?;
+    Ok(right)
+}
+
+#[test]
+fn agrees_with_lists_of_values(rt: HostRuntime) -> Result<(), Fail> {
+    println!(rt; "{CASES} random cases from the seed {SEED}")?;
+    let mut random = Random { state: SEED };
+    for case in 0..CASES {
+        let right = is_right(rt.alloc(), &mut random)?;
+        assert!(rt; right, "case {case}");
+    }
+    Ok(())
+}
