@@ -1,0 +1,2 @@
+-- Machinery of the reader and the writer, which is no law (source: own).
+pub mod Spelling
