@@ -3,7 +3,7 @@ use Rattle.route_base.specs.Relaxing.{HasWithin, IsDominatedOrLate}
 use Rattle.route_base.specs.Legs.{start_of}
 use Rattle.certificate.specs.ByNode.{item_at}
 use Rattle.certificate_check.specs.Conditions.{value_of}
-use Rattle.certificate_check.proofs.RelaxedSteps.{at_node, at_point, relaxed_at_node}
+use Rattle.certificate_check.proofs.RelaxedSteps.{at_node, at_point}
 use Rattle.certificate_check.proofs.start.is_start_relaxed.Goals as goal
 
 pub returns-then-is_dominated_or_late : goal.returns-then-is_dominated_or_late
