@@ -27,10 +27,10 @@ pub fn certify(
     requires in_time { request.depart ≤ request.until }
     requires horizon { request.until - request.depart ≤ LONGEST_HORIZON }
     requires fit { CostsFit (setting_of net.now) request }
-    requires right { IsRight (setting_of net.now) request routes }
     requires nodes { net.now.nodes ≤ MOST_NODES }
     requires arcs { length net.now.arcs ≤ MOST_ARCS }
-    ensures routes { IfOk result (λ certificate. certificate.routes ≡ routes) }
+    requires right { IsRight (setting_of net.now) request routes }
+    ensures same { IfOk result (λ certificate. certificate.routes ≡ routes) }
     ensures good { IfOk result (IsGood (setting_of net.now) request) }
     ensures writable { IfOk result IsWritable }
 {

@@ -17,3 +17,6 @@ mod functions;
 mod zero_bounds;
 
 pub use certifier::certify;
+
+#[cfg(test)]
+mod tests;

@@ -1,5 +1,5 @@
 -- The parts of a certificate as they are made (source: own; no law).
-use Rattle.std.specs.Prelude.{◌≡◌, ◌≢◌, ℕ, zero, suc, ◌<◌, ◌≤◌, List, [], ◌∷◌, ◌++◌, All, AllPairs}
+use Rattle.std.specs.Prelude.{◌≡◌, ℕ, zero, suc, ◌<◌, ◌≤◌, List, [], ◌∷◌, ◌++◌, All, AllPairs}
 use Rattle.std.specs.List.{AllZip}
 use Rattle.route_base.specs.declared.limits.TheConstants.{HIGHEST_COST, LAST_INSTANT}
 use Rattle.route_base.specs.declared.types.Bound.{Bound}
