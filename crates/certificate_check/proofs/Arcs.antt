@@ -37,7 +37,7 @@ pub weight_within : (ws : List (Option ℕ)) (v w : ℕ) → option_flatten (at_
 weight_within ws zero w is = absurd (none_some w None refl is)
 weight_within ws (suc k) w is = let within = joined_within ws k w (slice_get ws k) refl is in (omega arith, omega (arith, within))
 
--- what all entries have, the first of a node has
+-- a property of all entries is one of the first entry of a node
 pub item_has : {A : Type 0} (P : A → Type 0) (es : List (NodeId × A)) (v : ℕ) (x : A) → All (λ e. P e.1) es → item_at es v ≡ Some x → P x
 item_has P [] v x all is = absurd (none_some x None refl is)
 item_has {A} P (e ∷ es) v x all is =

@@ -19,7 +19,7 @@ abbrev pub AreLeastCosts : Setting → Request → (ℕ → ℕ → Option ℕ) 
 AreLeastCosts s r value = (v t x : ℕ) → (value v t ≡ Some x) ↔ IsLeastCost s r v t x
 
 module _ (s : Setting) (r : Request) (value : ℕ → ℕ → Option ℕ) (exact : AreLeastCosts s r value) where
-  -- what can be reached has a value, since some cost is the least
+  -- each position that can be reached has a value, since some cost is the least
   never : (v t : ℕ) → value v t ≡ None → (n y : ℕ) → y < n → IsReachable s r (at v t y) → ⊥
   unfolding at
   never v t none zero y below here = omega (arith, below)

@@ -120,7 +120,7 @@ module _ (es : List (NodeId × List (ℕ × ℕ))) (fs : List (NodeId × List Pi
       let minutes = All-contains (λ (w : NodeId × List (ℕ × ℕ)). AllPairs (λ p q. p.0 < q.0) w.1) es e each h.is_one in
       values_by_points es fs through v t ∙ ap (λ o. point_in o t) at ∙ point_by_place e.1 h.point.0 t x minutes h.point.1 h.point.2
 
--- what the minutes of points have, the ends of the pieces have
+-- a property of the minutes of the points is one of the ends of the pieces
 pub ends_have : (P : ℕ → Type 0) (points : List (ℕ × ℕ)) (made : List Piece) → ArePieces made → ((t : ℕ) → value_at made t ≡ point_at points t)
     → All (λ p. P p.0) points → All (λ q. P q.lo × P q.hi) made
 ends_have P points made are values all k d within =

@@ -22,7 +22,7 @@ module _ {X Y : Type 0} (R : X → Y → Type 0) where
   zip_push (v ∷ xs) [] x y zip one = absurd zip
   zip_push (v ∷ xs) (w ∷ ys) x y zip one = (zip.0, zip_push xs ys x y zip.1 one)
 
-  -- what all items of the first have, all items of the second have
+  -- a property of all items of the first list goes over to those of the second
   pub zip_all : (P : X → Type 0) (Q : Y → Type 0) → ((x : X) (y : Y) → P x → R x y → Q y) → (xs : List X) (ys : List Y) → AllZip R xs ys
       → All P xs → All Q ys
   zip_all P Q from [] [] zip all = All-nil Q
