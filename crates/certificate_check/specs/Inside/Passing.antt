@@ -21,7 +21,7 @@ point t x = record { node = 0; minute = t; cost = x }
 abbrev pub HasValueWithin : List Piece → ℕ → ℕ → Type 0
 HasValueWithin pieces t x = HasWithin (λ _. value_at pieces) (point t x)
 
--- a drive or a wait of one minute as data: its minutes, its cost, when it can't be made, the bounds of its ends, and the values of its last
+-- a drive, or a wait of one minute: its minutes, its cost, when it can't be made, the bounds where it begins and ends, and the values where it ends
 pub record Link : Type 0 where
   pub minutes : ℕ
   pub cost : ℕ
@@ -30,10 +30,11 @@ pub record Link : Type 0 where
   pub to : Option Bound
   pub values : List Piece
 
+-- a passage of the code, with its slices as lists
 abbrev pub link_of : Passage → Link
 link_of p = record { minutes = p.minutes; cost = p.cost; closed = p.closed.now; from = p.from; to = p.to; values = p.values.now }
 
--- the step's first end, at this minute and cost, is dominated or late; or the step can't be made in time; or it is relaxed
+-- at this minute and cost the position before the step is dominated or late, or the step can't be made, or the position behind it is relaxed
 abbrev pub Passes : ℕ → List Pair → Link → ℕ → ℕ → Type 0
 Passes until pairs link t x =
     IsDominatedOrLate until pairs link.from (point t x)
