@@ -1,5 +1,6 @@
 -- The verdict over a setting is that over a setting which agrees with it within the window.
-use Rattle.std.proofs.Common.{◌≡◌, ◌⊎◌, inl, inr, ⊎_elim, ℕ, ◌≤◌, Bool, true, false, cond, Option, Some, None, List, [], ◌∷◌, All, refl, sym, ◌∙◌, ap, subst, arith}
+use Rattle.std.proofs.Common.{◌≡◌, ◌⊎◌, inl, inr, ⊎_elim, ℕ, ◌≤◌, Bool, true, false, cond, Option, Some, None, List, [], ◌∷◌, All}
+use Rattle.std.proofs.Common.{refl, sym, ◌∙◌, ap, subst, arith}
 use Rattle.std.specs.Prelude.{◌==◌}
 use Rattle.std.proofs.lemmas.List.Elements.{All-head, All-tail}
 use Rattle.route_base.specs.Setting.{Setting, Road}
@@ -15,10 +16,11 @@ use Rattle.route_base.proofs.AgreeingWalks.{flipped, moves_too, walks_too}
 use Rattle.cost_functions.specs.declared.pieces.Piece.{Piece}
 use Rattle.certificate.specs.ByNode.{item_at}
 use Rattle.certificate.specs.declared.Certificate.{Certificate}
-use Rattle.certificate_check.specs.Conditions.{IsNode, IsInRange, value_in, value_of, AreAchieved, AreNodeBounds, GoesOn}
-use Rattle.certificate_check.specs.Verdicts.{Second, Third, Fifth, IsGood, FailsFirst, first_fails, second_fails, third_fails, fourth_fails, fifth_fails, sixth_fails, IsVerdict}
-use Rattle.certificate_check.specs.declared.checking.Verdict.{Verdict}
-use Rattle.certificate_check.specs.declared.checking.Verdict.TheVariants.{Accepted, Rejected}
+use Rattle.certificate_check.specs.Conditions.{IsInRange, value_in, value_of}
+use Rattle.certificate_check.specs.Verdicts.{HasLawfulLegs, HasValidBounds, HasRelaxedSteps, FailsFirst, IsVerdict}
+use Rattle.certificate_check.specs.Verdicts.{first_fails, second_fails, third_fails, fourth_fails, fifth_fails, sixth_fails}
+use Rattle.certificate_check.specs.declared.checker.Verdict.{Verdict}
+use Rattle.certificate_check.specs.declared.checker.Verdict.TheVariants.{Accepted, Rejected}
 use Rattle.certificate_check.proofs.PieceValues.{values_of_pieces, none_some}
 
 module _ (s : Setting) (r : Request) where
@@ -43,8 +45,8 @@ module _ (s : Setting) (r : Request) where
       (value_timed es (All-tail (IsInRange s r) e es all) v t x) (e.0.0 == v) has
 
 module _ (s z : Setting) (window : Run) (r : Request) (same : StandsFor s z window) (within : IsInWindow r window) (c : Certificate) where
-  second_too : Second s r c → Second z r c
-  second_too all k d inside =
+  legs_too : HasLawfulLegs s r c → HasLawfulLegs z r c
+  legs_too all k d inside =
       let legs = all k d inside in
       record {
         in_time = legs.in_time;
@@ -52,8 +54,8 @@ module _ (s z : Setting) (window : Run) (r : Request) (same : StandsFor s z wind
         walk = walks_too s z window same r.until within.1 _ (start_of r) (end_of r _) within.0 legs.walk;
       }
 
-  third_too : Third s r c → Third z r c
-  third_too bounds = record {
+  bounds_too : HasValidBounds s r c → HasValidBounds z r c
+  bounds_too bounds = record {
     nodes = λ k d inside. let node = bounds.nodes k d inside in (node.0, omega (arith, node.1, same.nodes));
     are = record {
       goal = bounds.are.goal;
@@ -61,8 +63,8 @@ module _ (s z : Setting) (window : Run) (r : Request) (same : StandsFor s z wind
     };
   }
 
-  fifth_too : Fifth s r c → Fifth z r c
-  fifth_too goes = record {
+  steps_too : HasRelaxedSteps s r c → HasRelaxedSteps z r c
+  steps_too goes = record {
     ranges = λ k d inside. let one = goes.ranges k d inside in record {
       node = (one.node.0, omega (arith, one.node.1, same.nodes));
       minutes = one.minutes;
@@ -81,24 +83,24 @@ module _ (s z : Setting) (window : Run) (r : Request) (same : StandsFor s z wind
 
   fails_too : (k : ℕ) → FailsFirst s r c k → FailsFirst z r c k
   fails_too _ (first_fails not) = first_fails not
-  fails_too _ (second_fails a not) = second_fails a (λ h. not (second_too z s window r there within c h))
-  fails_too _ (third_fails a b not) = third_fails a (second_too s z window r same within c b) (λ h. not (third_too z s window r there within c h))
+  fails_too _ (second_fails a not) = second_fails a (λ h. not (legs_too z s window r there within c h))
+  fails_too _ (third_fails a b not) = third_fails a (legs_too s z window r same within c b) (λ h. not (bounds_too z s window r there within c h))
   fails_too _ (fourth_fails a b d not) =
-      fourth_fails a (second_too s z window r same within c b) (third_too s z window r same within c d) not
+      fourth_fails a (legs_too s z window r same within c b) (bounds_too s z window r same within c d) not
   fails_too _ (fifth_fails a b d e not) =
-      fifth_fails a (second_too s z window r same within c b) (third_too s z window r same within c d) e
-      (λ h. not (fifth_too z s window r there within c h))
+      fifth_fails a (legs_too s z window r same within c b) (bounds_too s z window r same within c d) e
+      (λ h. not (steps_too z s window r there within c h))
   fails_too _ (sixth_fails a b d e f not) =
-      sixth_fails a (second_too s z window r same within c b) (third_too s z window r same within c d) e
-      (fifth_too s z window r same within c f) not
+      sixth_fails a (legs_too s z window r same within c b) (bounds_too s z window r same within c d) e
+      (steps_too s z window r same within c f) not
 
   pub verdict_too : (v : Verdict) → IsVerdict s r c v → IsVerdict z r c v
   verdict_too Accepted good = record {
     pairs = good.pairs;
-    achieved = second_too s z window r same within c good.achieved;
-    bounds = third_too s z window r same within c good.bounds;
+    achieved = legs_too s z window r same within c good.achieved;
+    bounds = bounds_too s z window r same within c good.bounds;
     start = good.start;
-    goes_on = fifth_too s z window r same within c good.goes_on;
+    goes_on = steps_too s z window r same within c good.goes_on;
     end = good.end;
   }
   verdict_too (Rejected k) fails = fails_too k fails

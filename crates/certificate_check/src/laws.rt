@@ -6,7 +6,7 @@ ghost use Rattle.route_base.specs.declared.types.Request.{Request};
 ghost use Rattle.route_base.specs.declared.types.Run.{Run};
 ghost use Rattle.certificate.specs.declared.Certificate.{Certificate};
 ghost use Rattle.certificate_check.specs.Verdicts.{IsVerdict};
-ghost use Rattle.certificate_check.specs.declared.checking.Verdict.{Verdict};
+ghost use Rattle.certificate_check.specs.declared.checker.Verdict.{Verdict};
 
 /// The law of two settings of which one stands for the other within a window: for each request of the window both judge each
 /// certificate alike. The call does nothing.

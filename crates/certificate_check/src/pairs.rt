@@ -1,35 +1,40 @@
-// Points that the pairs or the horizon excuse.
-ghost use Rattle.std.specs.Prelude.{◌≡◌, ◌↔◌, ◌+◌, ◌<◌, ◌≤◌, ◌^◌, ℕ, IsTrue};
-ghost use Rattle.route_base.specs.Front.{RiseAndFall};
-ghost use Rattle.route_base.specs.Relaxing.{HasPair};
-ghost use Rattle.certificate_check.specs.Passing.{IsExcusedAt, IsSmallBound};
+// The first condition: the order of the pairs.
+ghost use Rattle.std.specs.Prelude.{◌≡◌, ◌↔◌, IsTrue, IfOk};
+ghost use Rattle.route_base.specs.Front.{Trades};
+ghost use Rattle.certificate_check.specs.Conditions.{AreOrderedPairs, pairs_of};
 
-use route_base::{Bound, Cost, Minute, Pair};
+use route_base::{Minute, OutOfMemory, Pair, Route};
+use std::alloc::Global;
 
-/// Whether some pair arrives by t and costs at most x. Logarithmic in the number of pairs; no memory.
-pub fn has_pair(pairs: &[Pair], t: Minute, x: Cost) -> bool
-    requires { RiseAndFall pairs.now }
-    ensures { IsTrue result ↔ HasPair pairs.now t x }
+/// The pairs of the routes. Linear in their number, in time and memory.
+pub fn pairs_of_routes(alloc: Global, routes: &[Route]) -> Result<Vec<Pair>, OutOfMemory>
+    ensures { IfOk result (λ pairs. pairs.items ≡ pairs_of routes.now) }
 {
-    let later = pairs.partition_point(|pair| pair.arrival <= t);
-    if later == 0 {
-        return false;
+    let mut pairs = Vec::new(alloc);
+    for route in routes {
+        pairs.push(route.pair)?;
     }
-    pairs[later - 1].cost <= x
+    Ok(pairs)
 }
 
-/// Whether a point of a node with these bounds is excused. Logarithmic in the number of pairs; no memory.
-pub fn is_excused(until: Minute, pairs: &[Pair], bound: Option<Bound>, t: Minute, x: Cost) -> bool
-    requires pairs { RiseAndFall pairs.now }
-    requires bound { IsSmallBound bound }
-    requires minute { t < 2 ^ 62 }
-    requires cost { x < 2 ^ 62 }
-    ensures { IsTrue result ↔ IsExcusedAt until pairs.now bound t x }
+/// Whether the pairs rise in arrival and fall in cost, and none arrives after `until`. Linear in their number; no memory.
+pub fn are_ordered(until: Minute, pairs: &[Pair]) -> bool
+    ensures { IsTrue result ↔ AreOrderedPairs until pairs.now }
 {
-    match bound {
-        None => true,
-        Some(bound) => {
-            until < t + bound.minutes || has_pair(pairs, t + bound.minutes, x + bound.cost)
+    for i in 0..pairs.len() {
+        if until < pairs[i].arrival {
+            return false;
+        }
+        if 0 < i && !trades(pairs[i - 1], pairs[i]) {
+            return false;
         }
     }
+    true
+}
+
+// Whether the second pair is later and cheaper.
+fn trades(first: Pair, second: Pair) -> bool
+    ensures { IsTrue result ↔ Trades first second }
+{
+    first.arrival < second.arrival && second.cost < first.cost
 }

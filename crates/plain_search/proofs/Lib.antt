@@ -1,6 +1,7 @@
 pub mod Backward
 pub mod Chaining
 pub mod Cheapness
+pub mod Columns
 pub mod Founding
 pub mod Lowering
 pub mod NetFacts

@@ -115,11 +115,16 @@ module _ (s : Setting) (r : Request) (cost : ℕ → ℕ → ℕ) where
       in_time (drive a) m = omega (arith, m.in_time)
       in_time wait m = omega (arith, m.in_time)
 
+  -- no label is higher than the cost of a walk
+  pub bounded_at : (now : ℕ) → CostsFit s r → ComesBySteps s r cost now → IsRelaxedBefore s r.until cost (r.until + 1)
+      → (steps : List Step) (p : Position) → Walks s r.until steps (start_of r) p → IsBounded p
+  bounded_at now fit founded done steps p walk = along s r.until IsBounded (bounded_on fit done) steps (start_of r) p
+      (record { steps = []; walk = refl; within = omega (arith, founded.start) }) walk
+
   -- the cost at the goal is no higher than that of any lawful itinerary
   pub bounded : (now : ℕ) → CostsFit s r → ComesBySteps s r cost now → IsRelaxedBefore s r.until cost (r.until + 1) → (p : Pair)
       → IsAchieved s r p → IsBounded (end_of r p)
-  bounded now fit founded done p achieved = along s r.until IsBounded (bounded_on fit done) achieved.steps (start_of r) (end_of r p)
-      (record { steps = []; walk = refl; within = omega (arith, founded.start) }) achieved.walk
+  bounded now fit founded done p achieved = bounded_at now fit founded done achieved.steps (end_of r p) achieved.walk
 
   -- what is read to the horizon is right
   pub right_at_end : (now t best : ℕ) (routes : List Route) → r.depart ≤ r.until → CostsFit s r → ComesBySteps s r cost now

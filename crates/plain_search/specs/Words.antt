@@ -4,7 +4,7 @@ pub use Rattle.route_base.specs.Legs.{steps_of, steps_of_leg, start_of}
 pub use Rattle.route_base.specs.Net.{IsGoodNet, setting_of}
 pub use Rattle.route_base.specs.Front.{IsRight}
 pub use Rattle.plain_search.specs.Inside.CostTable.{cost_of}
-pub use Rattle.plain_search.specs.Inside.Costs.{none, at, ChangesLater, IsRelaxedFrom, IsRelaxedBefore}
+pub use Rattle.plain_search.specs.Inside.Costs.{none, at, IsLabel, ChangesLater, IsRelaxedFrom, IsRelaxedBefore}
 pub use Rattle.plain_search.specs.Inside.Incidence.{EndsAt}
 pub use Rattle.plain_search.specs.Inside.Predecessors.{LeadsTo, IsSingle}
 pub use Rattle.plain_search.specs.Inside.Routes.{IsRouteAt}

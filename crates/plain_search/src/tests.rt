@@ -1,11 +1,11 @@
-// A worked case: a wait until an arc opens, against a longer way that is never closed.
+// Worked cases: a wait until an arc opens, against a longer way that is never closed, and the points before it opens.
 ghost use Rattle.std.specs.Prelude.{◌≡◌, ◌-◌, ◌<◌, ◌≤◌, IfOk};
 ghost use Rattle.plain_search.specs.Words.{IsAsked};
 ghost use Rattle.plain_search.specs.Inside.SmallNet.{small_arc, small};
 
-use crate::TableEngine;
+use crate::{TableEngine, values};
 use route_base::{
-    ArcId, FrontSearch, Leg, NodeId, OutOfMemory, Pair, Request, Run, TimedArc, TimedNet,
+    ArcId, FrontSearch, Leg, Minute, NodeId, OutOfMemory, Pair, Request, Run, TimedArc, TimedNet,
 };
 use std::alloc::Global;
 use std::process::Abort;
@@ -69,16 +69,26 @@ fn expect_front<E: FrontSearch>(
     Ok(())
 }
 
+// The trip from node 1 to node 3 at midnight.
+fn trip_until(until: Minute) -> Request
+    requires from { 26563680 ≤ until }
+    requires upto { until ≤ 26650080 }
+    ensures asked { IsAsked small result }
+    ensures horizon { result.until - result.depart ≤ 86400 }
+{
+    Request {
+        origin: NodeId(1),
+        goal: NodeId(3),
+        depart: 26563680,
+        until,
+    }
+}
+
 #[test]
 fn waits_for_an_arc_or_goes_round(rt: HostRuntime) -> Result<(), Fail> {
     let alloc = rt.alloc();
     let net = small_net(alloc)?;
-    let request = Request {
-        origin: NodeId(1),
-        goal: NodeId(3),
-        depart: 26563680,
-        until: 26564080,
-    };
+    let request = trip_until(26564080);
     let wants = [
         (
             Pair {
@@ -96,4 +106,18 @@ fn waits_for_an_arc_or_goes_round(rt: HostRuntime) -> Result<(), Fail> {
         ),
     ];
     expect_front(&rt, alloc, &TableEngine, &net, request, &wants)
+}
+
+#[test]
+fn reads_the_points_of_reached_nodes(rt: HostRuntime) -> Result<(), Fail> {
+    let alloc = rt.alloc();
+    let net = small_net(alloc)?;
+    let found = values(alloc, &net, trip_until(26563740))?;
+    let wants = [(NodeId(1), 26563680, 0), (NodeId(2), 26563740, 60000)];
+    assert_eq!(rt; found.len(), wants.len());
+    for (entry, (node, minute, cost)) in found.as_slice().iter().zip(&wants) {
+        assert_eq!(rt; entry.0, *node);
+        assert_eq!(rt; entry.1.as_slice(), [(*minute, *cost)].as_slice());
+    }
+    Ok(())
 }

@@ -8,6 +8,11 @@ use Rattle.route_base.specs.declared.types.Request.{Request}
 abbrev pub none : ℕ
 none = 18446744073709551615
 
+-- x is the label of node v at minute t, which is reached
+pub record IsLabel (cost : ℕ → ℕ → ℕ) (v t x : ℕ) : Type 0 where
+  pub is : cost v t ≡ x
+  pub reached : x < none
+
 -- the label of one node and minute is lowered to x, where x is lower
 pub record Lowers (old new : ℕ → ℕ → ℕ) (v t x : ℕ) : Type 0 where
   pub here : new v t ≡ min (old v t) x

@@ -1,0 +1,44 @@
+use Rattle.std.proofs.Common.{leb, ap, arith, rules}
+use Rattle.std.proofs.lemmas.List.Sorted.{IsPartitionedBy-leb, IsPartitionPoint-from_clause}
+use Rattle.std.proofs.lemmas.Bool.{leb-false}
+use Rattle.route_base.specs.declared.types.Run.{Run}
+use Rattle.route_base.proofs.FreeRuns.{ends_rise, free_before, free_behind}
+use Rattle.certificate_check.proofs.MetRuns.{is_met}
+use Rattle.certificate_check.proofs.breaks.closed_until.Goals as goal
+
+pub returns-in_err-run-clause-none : goal.returns-in_err-run-clause-none
+returns-in_err-run-clause-none c = λ _.
+    let runs = c.args.runs.now in
+    let t = c.args.t in
+    let i = c.partition_point-later.result in
+    let parts = IsPartitionPoint-from_clause (λ r. leb r.hi t) runs i c.partition_point-later.ensures.partitioned
+    (IsPartitionedBy-leb (λ r. r.hi) runs t (ends_rise runs c.requires.runs)) (λ a r f called. search rules) in
+    free_behind runs c.requires.runs t c.args.minutes i c.requires.some parts.0 parts.1 c.in_err-run.ensures.lookup.3
+
+pub returns-then-minutes-saturating_sub-clause-none : goal.returns-then-minutes-saturating_sub-clause-none
+returns-then-minutes-saturating_sub-clause-none c = λ _.
+    let runs = c.args.runs.now in
+    let t = c.args.t in
+    let i = c.partition_point-later.result in
+    let lookup = c.in_ok-run.ensures.lookup in
+    let parts = IsPartitionPoint-from_clause (λ r. leb r.hi t) runs i c.partition_point-later.ensures.partitioned
+    (IsPartitionedBy-leb (λ r. r.hi) runs t (ends_rise runs c.requires.runs)) (λ a r f called. search rules) in
+    free_before runs c.requires.runs t c.args.minutes i c.requires.some parts.0 parts.1 c.in_ok-run.field-0.now lookup.3.0 lookup.1
+    (omega (arith, c.if-minutes-saturating_sub.true, c.saturating_sub.ensures, c.requires.some))
+
+pub returns-else-minutes-saturating_sub-clause-some : goal.returns-else-minutes-saturating_sub-clause-some
+returns-else-minutes-saturating_sub-clause-some c =
+    let runs = c.args.runs.now in
+    let t = c.args.t in
+    let i = c.partition_point-later.result in
+    let lookup = c.in_ok-run.ensures.lookup in
+    let parts = IsPartitionPoint-from_clause (λ r. leb r.hi t) runs i c.partition_point-later.ensures.partitioned
+    (IsPartitionedBy-leb (λ r. r.hi) runs t (ends_rise runs c.requires.runs)) (λ a r f called. search rules) in
+    let ends = leb-false _ _ (parts.1 i c.in_ok-run.field-0.now (omega arith) lookup.3.0) in
+    omega (arith, ends, ap (λ (r : Run). r.hi) lookup.1)
+
+pub returns-else-minutes-saturating_sub-clause-closed : goal.returns-else-minutes-saturating_sub-clause-closed
+returns-else-minutes-saturating_sub-clause-closed c = λ s from before free.
+    let lookup = c.in_ok-run.ensures.lookup in
+    is_met c.args.runs.now c.partition_point-later.result c.in_ok-run.field-0.now s c.args.minutes c.requires.runs c.requires.some lookup.3.0 lookup.1
+    (omega (arith, from, c.if-minutes-saturating_sub.false, c.saturating_sub.ensures)) before free

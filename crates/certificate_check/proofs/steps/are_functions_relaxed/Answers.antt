@@ -1,0 +1,28 @@
+use Rattle.std.proofs.Common.{rules}
+use Rattle.route_base.specs.Net.{setting_of}
+use Rattle.certificate.specs.ByNode.{item_at}
+use Rattle.certificate_check.specs.Conditions.{value_of}
+use Rattle.certificate_check.proofs.RelaxedSteps.{all_steps, steps_drives, steps_waits}
+use Rattle.certificate_check.proofs.steps.are_functions_relaxed.Goals as goal
+
+pub returns-then-not-are_drives_relaxed : goal.returns-then-not-are_drives_relaxed
+returns-then-not-are_drives_relaxed c =
+    let s = setting_of c.args.net.now in
+    let bounds = item_at c.args.certificate.now.bounds in
+    let value = value_of c.args.certificate.now.functions in (
+      (λ h. search rules),
+      (λ all. c.if-not-are_drives_relaxed.ensures.1 (steps_drives s c.args.request.until c.args.pairs.now bounds value all.steps)),
+    )
+
+pub returns : goal.returns
+returns c =
+    let s = setting_of c.args.net.now in
+    let bounds = item_at c.args.certificate.now.bounds in
+    let value = value_of c.args.certificate.now.functions in (
+      (λ h. record {
+        ranges = c.if-not-are_in_range.ensures.0 (search rules);
+        steps = all_steps s c.args.request.until c.args.pairs.now bounds value
+            (c.if-not-are_drives_relaxed.ensures.0 (search rules)) (c.are_waits_relaxed.ensures.0 h);
+      }),
+      (λ all. c.are_waits_relaxed.ensures.1 (steps_waits s c.args.request.until c.args.pairs.now bounds value all.steps)),
+    )

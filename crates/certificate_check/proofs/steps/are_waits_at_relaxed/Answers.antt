@@ -1,0 +1,26 @@
+use Rattle.std.proofs.Common.{◌≡◌, Some, [], refl, sym}
+use Rattle.std.specs.Option.{option_flatten}
+use Rattle.route_base.specs.Net.{at_number, setting_of}
+use Rattle.certificate.specs.ByNode.{item_at}
+use Rattle.certificate_check.specs.Conditions.{value_of}
+use Rattle.certificate_check.specs.Inside.Passing.{Link}
+use Rattle.certificate_check.proofs.RelaxedSteps.{waits_relaxed, waits_pass}
+use Rattle.certificate_check.proofs.steps.are_waits_at_relaxed.Goals as goal
+
+pub returns : goal.returns
+returns c =
+    let s = setting_of c.args.net.now in
+    let until = c.args.until in
+    let pairs = c.args.pairs.now in
+    let bounds = item_at c.args.certificate.now.bounds in
+    let value = value_of c.args.certificate.now.functions in
+    let weight = c.in-Some.weight in
+    let bound = c.bound_of-bound in
+    let pieces = c.pieces_of-pieces in
+    let link : Link = record { minutes = 1; cost = weight; closed = []; from = bound.result; to = bound.result; values = pieces.result.now } in
+    let rated : option_flatten (at_number c.args.net.now.weights c.args.v.0) ≡ Some weight = sym c.in-Some.ensures.value in (
+      (λ h. waits_relaxed s until pairs bounds value link pieces.result.now c.args.v.0 weight rated refl refl
+          (λ t u from upto. refl) bound.ensures.value bound.ensures.value pieces.ensures.values pieces.ensures.values (c.pieces_pass.ensures.0 h)),
+      (λ all. c.pieces_pass.ensures.1 (waits_pass s until pairs bounds value link pieces.result.now c.args.v.0 weight rated refl refl
+          (λ t u from upto. refl) bound.ensures.value bound.ensures.value pieces.ensures.values pieces.ensures.values all)),
+    )

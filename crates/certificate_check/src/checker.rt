@@ -1,0 +1,78 @@
+// The six conditions, one after another.
+ghost use Rattle.std.specs.Prelude.{◌≡◌, IfOk};
+ghost use Rattle.route_base.specs.Net.{setting_of, IsGoodRequest};
+ghost use Rattle.route_base.specs.Front.{IsFront};
+ghost use Rattle.certificate_check.specs.Conditions.{pairs_of, AreBoundsInRange};
+ghost use Rattle.certificate_check.specs.Verdicts.{IsVerdict};
+ghost use Rattle.certificate_check.specs.declared.checker.Verdict.TheVariants.{Accepted};
+
+use crate::bounds::are_node_bounds;
+use crate::goal::is_goal_covered;
+use crate::legs::are_achieved;
+use crate::lookup::pieces_of;
+use crate::pairs::{are_ordered, pairs_of_routes};
+use crate::start::is_start_relaxed;
+use crate::steps::are_functions_relaxed;
+use certificate::Certificate;
+use route_base::{OutOfMemory, Pair, Request, TimedNet};
+use std::alloc::Global;
+
+/// That a certificate is good, or the number of the first condition that fails.
+#[derive(Clone, Copy, Debug, PartialEq, Eq)]
+pub enum Verdict {
+    Accepted,
+    Rejected(u32),
+}
+
+/// Whether the certificate is good for this net and request: then its pairs are the Pareto front.
+///
+/// One binary search for each leg in the closed runs of its arc, two for each arc among the bounds, and a few for each arc and
+/// each rated node, at each piece and each break. Memory for the list of pairs alone.
+pub fn check(
+    alloc: Global,
+    net: &TimedNet,
+    request: Request,
+    certificate: &Certificate,
+) -> Result<Verdict, OutOfMemory>
+    requires request { IsGoodRequest net.now request }
+    requires bounds { AreBoundsInRange certificate.now.bounds }
+    ensures verdict { IfOk result (IsVerdict (setting_of net.now) request certificate.now) }
+    ensures sound { IfOk result (λ verdict. verdict ≡ Accepted
+        → IsFront (setting_of net.now) request (pairs_of certificate.now.routes)) }
+{
+    let pairs = pairs_of_routes(alloc, certificate.routes.as_slice())?;
+    Ok(verdict_of(net, request, &pairs, certificate))
+}
+
+// The verdict, where the pairs are at hand as a list of their own. No memory.
+fn verdict_of(
+    net: &TimedNet,
+    request: Request,
+    pairs: &[Pair],
+    certificate: &Certificate,
+) -> Verdict
+    requires request { IsGoodRequest net.now request }
+    requires bounds { AreBoundsInRange certificate.now.bounds }
+    requires pairs { pairs.now ≡ pairs_of certificate.now.routes }
+    ensures { IsVerdict (setting_of net.now) request certificate.now result }
+{
+    if !are_ordered(request.until, pairs) {
+        return Verdict::Rejected(1);
+    }
+    if !are_achieved(net, request, certificate.routes.as_slice()) {
+        return Verdict::Rejected(2);
+    }
+    if !are_node_bounds(net, request.goal, &certificate.bounds) {
+        return Verdict::Rejected(3);
+    }
+    if !is_start_relaxed(request, pairs, certificate) {
+        return Verdict::Rejected(4);
+    }
+    if !are_functions_relaxed(net, request, pairs, certificate) {
+        return Verdict::Rejected(5);
+    }
+    if !is_goal_covered(pairs, pieces_of(&certificate.functions, request.goal)) {
+        return Verdict::Rejected(6);
+    }
+    Verdict::Accepted
+}

@@ -1,0 +1,158 @@
+// The fifth condition: the steps from all values of all functions.
+ghost use Rattle.std.specs.Prelude.{◌↔◌, ◌≤◌, ℕ, IsTrue, All};
+ghost use Rattle.route_base.specs.Net.{setting_of};
+ghost use Rattle.route_base.specs.Front.{RiseAndFall};
+ghost use Rattle.certificate.specs.ByNode.{item_at};
+ghost use Rattle.certificate_check.specs.Conditions.{IsInRange, AreFunctionsRelaxed, AreBoundsInRange, value_of};
+ghost use Rattle.certificate_check.specs.Inside.Steps.{AreDrivesRelaxed, AreWaitsRelaxed};
+
+use crate::bounds::is_node;
+use crate::lookup::{bound_of, pieces_of};
+use crate::sweep::{Passage, pieces_pass};
+use certificate::{Certificate, NodeFunctions};
+use cost_functions::Piece;
+use route_base::{ArcId, Minute, NodeId, Pair, Request, TimedNet};
+
+/// Whether the functions are of nodes of the net and at minutes of the request, and all steps from their values are relaxed.
+/// For each arc and each rated node a few binary searches for each piece of its function, and for each closed run and each
+/// piece of the other function that the piece meets; no memory.
+pub fn are_functions_relaxed(
+    net: &TimedNet,
+    request: Request,
+    pairs: &[Pair],
+    certificate: &Certificate,
+) -> bool
+    requires pairs { RiseAndFall pairs.now }
+    requires bounds { AreBoundsInRange certificate.now.bounds }
+    ensures { IsTrue result ↔ AreFunctionsRelaxed (setting_of net.now) request pairs.now
+        (item_at certificate.now.bounds) certificate.now.functions }
+{
+    if !are_in_range(net, request, &certificate.functions) {
+        return false;
+    }
+    if !are_drives_relaxed(net, request.until, pairs, certificate) {
+        return false;
+    }
+    are_waits_relaxed(net, request.until, pairs, certificate)
+}
+
+// Whether the functions are of nodes of the net and at minutes of the request. Linear in the number of pieces.
+fn are_in_range(net: &TimedNet, request: Request, functions: &NodeFunctions) -> bool
+    ensures { IsTrue result ↔ All (IsInRange (setting_of net.now) request) functions.now }
+{
+    for entry in functions.as_slice() {
+        if !is_node(net, entry.0) || !are_within(request, entry.1.pieces()) {
+            return false;
+        }
+    }
+    true
+}
+
+// Whether the pieces have minutes of the request alone.
+fn are_within(request: Request, pieces: &[Piece]) -> bool
+    ensures { IsTrue result
+        ↔ All (λ p. (request.depart ≤ p.lo) × (p.hi ≤ request.until)) pieces.now }
+{
+    pieces.iter().all(|piece| request.depart <= piece.lo && piece.hi <= request.until)
+}
+
+// Whether the drives over all arcs are relaxed.
+fn are_drives_relaxed(
+    net: &TimedNet,
+    until: Minute,
+    pairs: &[Pair],
+    certificate: &Certificate,
+) -> bool
+    requires pairs { RiseAndFall pairs.now }
+    requires bounds { AreBoundsInRange certificate.now.bounds }
+    ensures { IsTrue result ↔ ((a : ℕ) → AreDrivesRelaxed (setting_of net.now) until pairs.now
+        (item_at certificate.now.bounds) (value_of certificate.now.functions) a) }
+{
+    for k in 0..net.arc_count() {
+        if !are_drives_over_relaxed(net, until, pairs, certificate, ArcId(k + 1)) {
+            return false;
+        }
+    }
+    true
+}
+
+// Whether the drives over one arc are relaxed.
+fn are_drives_over_relaxed(
+    net: &TimedNet,
+    until: Minute,
+    pairs: &[Pair],
+    certificate: &Certificate,
+    a: ArcId,
+) -> bool
+    requires pairs { RiseAndFall pairs.now }
+    requires bounds { AreBoundsInRange certificate.now.bounds }
+    ensures { IsTrue result ↔ AreDrivesRelaxed (setting_of net.now) until pairs.now
+        (item_at certificate.now.bounds) (value_of certificate.now.functions) a.0 }
+{
+    let Some(arc) = net.arc(a) else { return true };
+    let passage = Passage {
+        minutes: arc.minutes,
+        cost: arc.cost,
+        closed: net.closed_runs(a),
+        from: bound_of(&certificate.bounds, arc.tail),
+        to: bound_of(&certificate.bounds, arc.head),
+        values: pieces_of(&certificate.functions, arc.head),
+    };
+    pieces_pass(
+        until,
+        pairs,
+        passage,
+        pieces_of(&certificate.functions, arc.tail),
+    )
+}
+
+// Whether the waits at all nodes are relaxed.
+fn are_waits_relaxed(
+    net: &TimedNet,
+    until: Minute,
+    pairs: &[Pair],
+    certificate: &Certificate,
+) -> bool
+    requires pairs { RiseAndFall pairs.now }
+    requires bounds { AreBoundsInRange certificate.now.bounds }
+    ensures { IsTrue result ↔ ((v : ℕ) → AreWaitsRelaxed (setting_of net.now) until pairs.now
+        (item_at certificate.now.bounds) (value_of certificate.now.functions) v) }
+{
+    for k in 0..net.node_count() {
+        if !are_waits_at_relaxed(net, until, pairs, certificate, NodeId(k + 1)) {
+            return false;
+        }
+    }
+    true
+}
+
+// Whether the waits at one node are relaxed.
+fn are_waits_at_relaxed(
+    net: &TimedNet,
+    until: Minute,
+    pairs: &[Pair],
+    certificate: &Certificate,
+    v: NodeId,
+) -> bool
+    requires pairs { RiseAndFall pairs.now }
+    requires bounds { AreBoundsInRange certificate.now.bounds }
+    requires low { 1 ≤ v.0 }
+    requires high { v.0 ≤ net.now.nodes }
+    ensures { IsTrue result ↔ AreWaitsRelaxed (setting_of net.now) until pairs.now
+        (item_at certificate.now.bounds) (value_of certificate.now.functions) v.0 }
+{
+    let Some(weight) = net.weight(v) else {
+        return true;
+    };
+    let bound = bound_of(&certificate.bounds, v);
+    let pieces = pieces_of(&certificate.functions, v);
+    let passage = Passage {
+        minutes: 1,
+        cost: weight,
+        closed: &[],
+        from: bound,
+        to: bound,
+        values: pieces,
+    };
+    pieces_pass(until, pairs, passage, pieces)
+}
