@@ -100,9 +100,6 @@ module _ (xs : List Piece) (d : Piece) (some : 1 ≤ length xs) (one : 1 ≤ len
   reduced_rest all i j e lt within slope line =
       subst IsReduced (first_and_rest xs d some) all (suc i) (suc j) e (omega (arith, lt)) (omega (arith, within)) slope line
 
-  pub first_apart : IsReduced xs → (slope : ℕ) → AreOneLine (get_or xs 0 d) (get_or (take (length xs - 1) (drop 1 xs)) 0 d) slope → ⊥
-  first_apart all slope line = subst IsReduced (first_and_rest xs d some) all 0 1 d (omega arith) (omega (arith, one)) slope line
-
   pub reduced_whole : ((slope : ℕ) → AreOneLine (get_or xs 0 d) (get_or (take (length xs - 1) (drop 1 xs)) 0 d) slope → ⊥) → IsReduced (take (length xs - 1) (drop 1 xs)) → IsReduced xs
   reduced_whole apart reduced =
       let tail : List Piece = take (length xs - 1) (drop 1 xs) in

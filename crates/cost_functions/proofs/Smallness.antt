@@ -35,8 +35,3 @@ value_within (p ∷ ps) t v each small is =
     (omega (arith, value, rise, low), omega (arith, upto, last)))
     (cases_lt p.hi t))
     (cases_lt t p.lo)
-
-pub small_from_values : (ps : List Piece) → ArePieces ps → ((t v : ℕ) → value_at ps t ≡ Some v → v ≤ HIGHEST_COST) → AreSmall ps
-small_from_values ps are each k d within =
-    let filled = (are.each k d within).filled in
-    each (get_or ps k d).hi (line_at (get_or ps k d) (get_or ps k d).hi) (value_at_place ps k d (get_or ps k d).hi are within filled (omega arith))

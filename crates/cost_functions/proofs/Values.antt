@@ -64,9 +64,6 @@ pieces_tail p ps are = record {
   apart = λ i j d lt within. are.apart (suc i) (suc j) d (omega (arith, lt)) (omega (arith, within));
 }
 
-pub pieces_head : (p : Piece) (ps : List Piece) → ArePieces (p ∷ ps) → IsPiece p
-pieces_head p ps are = All-head IsPiece p ps are.each
-
 -- a minute at or before the first piece's end has no value in the others
 pub none_behind : (p : Piece) (ps : List Piece) (t : ℕ) → ArePieces (p ∷ ps) → t ≤ p.hi → value_at ps t ≡ None
 none_behind p ps t are upto = none_before ps t (λ k d within. (let far = rising_head p ps are k d within in omega (arith, far, upto)))

@@ -1,4 +1,4 @@
--- Cost functions as lists of pieces.
+-- Cost functions as lists of pieces (source: SEA 2020, piecewise linear cost profiles, in whole minutes).
 use Rattle.std.specs.Prelude.{ℕ, ◌<◌, ◌==◌, Option, Some, None, List, [], ◌∷◌, All, AllPairs, if◌then◌else◌}
 use Rattle.cost_functions.specs.declared.pieces.Piece.{Piece}
 use Rattle.cost_functions.specs.Lines.{is_on_piece, line_at, IsPiece, IsSmall, AreOneLine}
@@ -8,7 +8,7 @@ unfoldable pub value_at : List Piece → ℕ → Option ℕ
 value_at [] t = None
 value_at (p ∷ ps) t = if is_on_piece t p then Some (line_at p t) else value_at ps t
 
--- the value of points: that of the first at the minute
+-- the value of points at a minute: that of the first point at it
 unfoldable pub point_at : List (ℕ × ℕ) → ℕ → Option ℕ
 point_at [] t = None
 point_at (p ∷ ps) t = if p.0 == t then Some p.1 else point_at ps t
@@ -22,6 +22,6 @@ pub record ArePieces (ps : List Piece) : Type 0 where
 abbrev pub IsReduced : List Piece → Type 0
 IsReduced ps = AllPairs (λ p q. (slope : ℕ) → AreOneLine p q slope → ⊥) ps
 
--- every value is small
+-- no value is above the highest cost
 abbrev pub AreSmall : List Piece → Type 0
 AreSmall ps = All IsSmall ps

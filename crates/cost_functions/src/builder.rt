@@ -1,8 +1,9 @@
-// Functions built from the left, reduced at every moment.
+// Functions built from the left, reduced at every step.
 ghost use Rattle.std.specs.Prelude.{◌≡◌, ◌+◌, ◌-◌, ◌<◌, ◌≤◌, ℕ, List, [], ◌∷◌, ◌++◌, length, slice_set, All, None, OnOk, IfSome};
 ghost use Rattle.cost_functions.specs.Lines.{line_at, IsPiece, IsSmall, AreOneLine};
 ghost use Rattle.cost_functions.specs.Pieces.{value_at, ArePieces, IsReduced, AreSmall};
-ghost use Rattle.cost_functions.specs.Building.{AreBuilt, IsJoined, IsExtended};
+ghost use Rattle.cost_functions.specs.Building.{AreBuilt};
+ghost use Rattle.cost_functions.specs.Inside.JoinedPieces.{IsJoined, IsExtended};
 ghost use Rattle.cost_functions.specs.declared.pieces.Piece.{Piece};
 ghost use Rattle.route_base.specs.declared.limits.TheConstants.{LAST_INSTANT};
 
@@ -27,7 +28,7 @@ impl Model for Builder {
 }
 
 impl Builder {
-    /// Nothing yet. No memory.
+    /// A builder without a piece. No memory.
     pub fn new(alloc: Global) -> Builder
         ensures { result ≡ [] }
     {
@@ -36,7 +37,7 @@ impl Builder {
         }
     }
 
-    /// Goes on behind pieces that are reduced. No memory.
+    /// A builder that goes on behind these pieces, at no cost.
     pub fn behind(pieces: Vec<Piece>) -> Builder
         requires { AreBuilt pieces.items }
         ensures { result ≡ pieces.items }
@@ -44,16 +45,18 @@ impl Builder {
         Builder { held: pieces }
     }
 
-    /// Adds the values of a piece behind all others. The slope of a piece of one minute may be any. Constant time on
-    /// average.
+    /// Adds the values of a piece behind all others. A piece of one minute may have any slope. Constant time on average. Out of
+    /// memory leaves a reduced function.
     pub fn push(&mut self, piece: Piece) -> Result<(), OutOfMemory>
         requires filled { piece.lo ≤ piece.hi }
         requires minutes { piece.hi ≤ LAST_INSTANT }
         requires small { IsSmall piece }
         requires later { All (λ q. q.hi < piece.lo) self.old }
-        ensures values { OnOk result ((t : ℕ) → value_at self.new t ≡ value_at (self.old ++ piece ∷ []) t) }
+        ensures values { OnOk result ((t : ℕ) →
+            value_at self.new t ≡ value_at (self.old ++ piece ∷ []) t) }
         ensures ended { OnOk result (All (λ q. q.hi ≤ piece.hi) self.new) }
-        ensures apart { OnOk result ((z : Piece) → piece.hi < z.lo → ((slope : ℕ) → AreOneLine piece z slope → ⊥)
+        ensures apart { OnOk result ((z : Piece) → piece.hi < z.lo
+            → ((slope : ℕ) → AreOneLine piece z slope → ⊥)
             → All (λ q. (slope : ℕ) → AreOneLine q z slope → ⊥) self.new) }
     {
         let next = plain(piece);
@@ -67,11 +70,13 @@ impl Builder {
         Ok(())
     }
 
-    /// Adds the values of built pieces behind all others: the first by `push`, the others in one copy.
+    /// Adds the values of built pieces behind all others: the first by `push`, the others in one copy. Out of memory leaves a
+    /// reduced function.
     pub fn extend(&mut self, pieces: &[Piece]) -> Result<(), OutOfMemory>
         requires built { AreBuilt pieces.now }
         requires later { All (λ p. All (λ q. q.hi < p.lo) self.old) pieces.now }
-        ensures values { OnOk result ((t : ℕ) → value_at self.new t ≡ value_at (self.old ++ pieces.now) t) }
+        ensures values { OnOk result ((t : ℕ) →
+            value_at self.new t ≡ value_at (self.old ++ pieces.now) t) }
     {
         let [first, others @ ..] = pieces else {
             return Ok(());
@@ -90,7 +95,7 @@ impl Builder {
     }
 }
 
-// Appends pieces with which the others are built.
+// Appends pieces in one copy.
 fn append_all(held: &mut Vec<Piece>, others: &[Piece]) -> Result<(), OutOfMemory>
     requires whole { AreBuilt (held.old.items ++ others.now) }
     requires held { AreBuilt held.old.items }
@@ -101,7 +106,7 @@ fn append_all(held: &mut Vec<Piece>, others: &[Piece]) -> Result<(), OutOfMemory
     Ok(())
 }
 
-// The piece with slope 0 if it has but one minute.
+// The piece, with slope 0 if it has one minute.
 fn plain(piece: Piece) -> Piece
     requires filled { piece.lo ≤ piece.hi }
     requires minutes { piece.hi ≤ LAST_INSTANT }
@@ -120,13 +125,14 @@ fn plain(piece: Piece) -> Piece
     }
 }
 
-// The last piece joined with the next one, where they are on one line.
+// The last piece and the next one as one piece; `None` where they are not on one line.
 fn joined_with_last(pieces: &[Piece], next: Piece) -> Option<Piece>
     requires built { AreBuilt pieces.now }
     requires piece { IsPiece next }
     requires small { IsSmall next }
     requires later { All (λ q. q.hi < next.lo) pieces.now }
-    ensures some { IfSome result (λ joined. IsExtended pieces.now next (slice_set pieces.now (length pieces.now - 1) joined)) }
+    ensures some { IfSome result (λ joined.
+        IsExtended pieces.now next (slice_set pieces.now (length pieces.now - 1) joined)) }
     ensures held { IfSome result (λ _. 0 < length pieces.now) }
     ensures none { result ≡ None → IsExtended pieces.now next (pieces.now ++ next ∷ []) }
 {
@@ -134,7 +140,7 @@ fn joined_with_last(pieces: &[Piece], next: Piece) -> Option<Piece>
     joined(last, next)
 }
 
-// One piece in place of two that are on one line.
+// Both as one piece; `None` where they are not on one line.
 fn joined(first: Piece, second: Piece) -> Option<Piece>
     requires first { IsPiece first }
     requires second { IsPiece second }

@@ -1,17 +1,19 @@
-// A cost function.
-ghost use Rattle.std.specs.Prelude.{◌≡◌, ◌↔◌, ◌<◌, ◌≤◌, ℕ, List, [], All, AllPairs, IsTrue, IfOk};
+// Cost functions.
+ghost use Rattle.std.specs.Prelude.{◌≡◌, ◌≢◌, ◌↔◌, ◌<◌, ◌≤◌, ℕ, Some, None, List, [], All, AllPairs, IsTrue, IfOk};
 ghost use Rattle.cost_functions.specs.Pieces.{value_at, point_at, ArePieces, IsReduced, AreSmall};
 ghost use Rattle.cost_functions.specs.Building.{AreBuilt};
 ghost use Rattle.route_base.specs.declared.limits.TheConstants.{LAST_INSTANT, HIGHEST_COST};
 ghost use Rattle.cost_functions.specs.declared.pieces.Piece.{Piece};
 
+use crate::lookup::value_of;
 use crate::pieces::Piece;
-use crate::reading::{are_reduced, reduced, through, value_of};
+use crate::points::{of_one, through};
+use crate::reduction::{are_reduced, reduced};
 use route_base::{Cost, Minute, OutOfMemory};
 use std::alloc::Global;
 use std::marker::Model;
 
-/// A cost for some minutes, which contracts see as its pieces: they rise and don't overlap.
+/// A cost in thousandths for some minutes, which contracts see as its pieces: they rise and do not overlap.
 #[derive(Drop)]
 pub struct CostFn {
     held: Vec<Piece>,
@@ -26,7 +28,7 @@ impl Model for CostFn {
 }
 
 impl CostFn {
-    /// The function of these pieces, at no cost.
+    /// The function of these pieces, at no cost. They need not be reduced.
     pub fn from_pieces(pieces: Vec<Piece>) -> CostFn
         requires { ArePieces pieces.items }
         ensures { result ≡ pieces.items }
@@ -43,6 +45,17 @@ impl CostFn {
         }
     }
 
+    /// The function with this one value. Constant time; memory for one piece.
+    pub fn single(alloc: Global, at: Minute, cost: Cost) -> Result<CostFn, OutOfMemory>
+        requires minute { at ≤ LAST_INSTANT }
+        requires cost { cost ≤ HIGHEST_COST }
+        ensures here { IfOk result (λ f. value_at f at ≡ Some cost) }
+        ensures elsewhere { IfOk result (λ f. (t : ℕ) → t ≢ at → value_at f t ≡ None) }
+        ensures built { IfOk result AreBuilt }
+    {
+        of_one(alloc, (at, cost))
+    }
+
     /// The value at a minute; `None` exactly where no piece has it. Logarithmic in the number of pieces; no memory.
     pub fn at(&self, t: Minute) -> Option<Cost>
         ensures { result ≡ value_at self.now t }
@@ -50,23 +63,24 @@ impl CostFn {
         value_of(&self.held, t)
     }
 
-    /// Whether no two pieces that touch are on one line. Linear in the number of pieces; no memory.
+    /// Whether no two pieces that touch are on one line of a slope of 0 or more. Linear in the number of pieces; no memory.
     pub fn is_reduced(&self) -> bool
         ensures { IsTrue result ↔ IsReduced self.now }
     {
         are_reduced(&self.held)
     }
 
-    /// The same values in as few pieces as reading from the left makes. Linear in the number of pieces.
+    /// The reduced function with the same values. Linear in the number of pieces, in time and memory.
     pub fn reduce(&self, alloc: Global) -> Result<CostFn, OutOfMemory>
         requires { AreSmall self.now }
-        ensures values { IfOk result (λ reduced. (t : ℕ) → value_at reduced t ≡ value_at self.now t) }
+        ensures values { IfOk result (λ reduced. (t : ℕ) →
+            value_at reduced t ≡ value_at self.now t) }
         ensures built { IfOk result AreBuilt }
     {
         reduced(alloc, &self.held)
     }
 
-    /// The function with exactly these values, reduced. Linear in the number of points.
+    /// The reduced function with exactly these values. Linear in the number of points, in time and memory.
     pub fn from_points(alloc: Global, points: &[(Minute, Cost)]) -> Result<CostFn, OutOfMemory>
         requires rising { AllPairs (λ p q. p.0 < q.0) points.now }
         requires minutes { All (λ p. p.0 ≤ LAST_INSTANT) points.now }

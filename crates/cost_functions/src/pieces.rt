@@ -1,11 +1,12 @@
-// One piece of a cost function.
+// Pieces of cost functions.
 ghost use Rattle.std.specs.Prelude.{◌≡◌, ◌+◌, ◌*◌, ◌-◌, ◌<◌, ◌≤◌, ℕ, IfSome};
 ghost use Rattle.cost_functions.specs.Lines.{line_at, IsPiece, IsSmall, AreOneLine};
 ghost use Rattle.route_base.specs.declared.limits.TheConstants.{HIGHEST_COST};
 
 use route_base::{Cost, Minute};
 
-/// The minutes from `lo` to `hi`, both included, with the cost `cost + slope * (t - lo)` at t.
+/// The minutes from `lo` to `hi`, both included, with the cost `cost + slope * (t - lo)` at minute t, in thousandths. The slope is
+/// the cost of one minute more, 0 for a piece of one minute.
 #[derive(Clone, Copy, Debug, PartialEq, Eq)]
 pub struct Piece {
     pub lo: Minute,
@@ -15,7 +16,7 @@ pub struct Piece {
 }
 
 impl Piece {
-    /// The cost at a minute of the piece.
+    /// The cost at a minute of the piece, and `cost` before it. In constant time.
     pub fn value(self, t: Minute) -> Cost
         requires piece { IsPiece self }
         requires within { t ≤ self.hi }
@@ -25,7 +26,8 @@ impl Piece {
     }
 }
 
-// The slope of the one line on which both are, where the second begins right behind the first.
+// The slope of the line that both pieces are on, where the second begins right behind the first; `None` where there is no such
+// line.
 pub fn common_slope(first: Piece, second: Piece) -> Option<u64>
     requires first { IsPiece first }
     requires second { IsPiece second }

@@ -22,14 +22,6 @@ module _ (minutes cost : ℕ) (f : ℕ → Option ℕ) where
       ap (λ b. cond b (option_map (λ v. v + cost) (f (u - minutes))) None) (le-leb minutes u (omega (arith, is)))
       ∙ ap (λ n. option_map (λ v. v + cost) (f n)) (let same : u - minutes ≡ t = omega (arith, is) in same)
 
--- cut to no other minutes and moved by nothing
-pub moved_nowhere : (f : ℕ → Option ℕ) (t : ℕ) → moved_at 0 0 f t ≡ f t
-moved_nowhere f t = moved_late 0 0 f t t (omega arith) ∙ plain (f t)
-  where
-    plain : (o : Option ℕ) → option_map (λ v. v + 0) o ≡ o
-    plain None = refl
-    plain (Some v) = ap Some (let same : v + 0 ≡ v = omega arith in same)
-
 abbrev nothing : Option ℕ
 nothing = None
 

@@ -5,11 +5,13 @@ use Rattle.cost_functions.specs.Pieces.{value_at, ArePieces}
 use Rattle.function_merge.proofs.FirstPieces.{first_of, first_is, first_value, first_none}
 use Rattle.cost_functions.specs.declared.pieces.Piece.{Piece}
 use Rattle.route_base.specs.declared.limits.TheConstants.{LAST_INSTANT}
-use Rattle.function_merge.specs.Least.{least_of, is_better, least_at, better_at, IsNext, IsMarked}
+use Rattle.function_merge.specs.Least.{least_of, is_better, least_at, better_at}
+use Rattle.function_merge.specs.Inside.Segments.{IsNext}
+use Rattle.minute_sets.specs.Combination.{IsSwept}
 use Rattle.route_base.specs.declared.types.Run.{Run}
 use Rattle.std.proofs.lemmas.Bool.{cases_lt, le-leb, lt-leb}
 use Rattle.cost_functions.proofs.Values.{none_before}
-use Rattle.function_merge.specs.declared.stretches.Stretch.{Stretch}
+use Rattle.function_merge.specs.declared.lower_envelope.Segment.{Segment}
 
 module _ (f g : List Piece) (t : ℕ) where
   pub least_none : value_at f t ≡ None → value_at g t ≡ None → least_at f g t ≡ None
@@ -33,7 +35,7 @@ module _ (f g : List Piece) (t : ℕ) where
   pub better_both : (a b : ℕ) → value_at f t ≡ Some a → value_at g t ≡ Some b → better_at f g t ≡ ltb b a
   better_both a b first second = ap (λ v. is_better v (value_at g t)) first ∙ ap (λ v. is_better (Some a) v) second
 
-module _ (f g : List Piece) (from : ℕ) (s : Stretch) (starts : from ≤ s.piece.lo) (filled : s.piece.lo ≤ s.piece.hi) (minutes : s.piece.hi ≤ LAST_INSTANT) (small : IsSmall s.piece)
+module _ (f g : List Piece) (from : ℕ) (s : Segment) (starts : from ≤ s.piece.lo) (filled : s.piece.lo ≤ s.piece.hi) (minutes : s.piece.hi ≤ LAST_INSTANT) (small : IsSmall s.piece)
     (gap_f : (t : ℕ) → from ≤ t → t < s.piece.lo → value_at f t ≡ None) (gap_g : (t : ℕ) → from ≤ t → t < s.piece.lo → value_at g t ≡ None) where
   pub next_first : (p : Piece) → ((t : ℕ) → s.piece.lo ≤ t → line_at s.piece t ≡ line_at p t) → ((t : ℕ) → s.piece.lo ≤ t → t ≤ s.piece.hi → value_at f t ≡ Some (line_at p t)) → ((t : ℕ) → s.piece.lo ≤ t → t ≤ s.piece.hi → value_at g t ≡ None) → s.improves ≡ false → IsNext f g from s
   next_first p line first second improves = record {
@@ -71,7 +73,7 @@ module _ (f g : List Piece) (from : ℕ) (s : Stretch) (starts : from ≤ s.piec
     better = λ t late upto. better_both f g t (line_at p t) (line_at q t) (first t late upto) (second t late upto) ∙ lower t late upto;
   }
 
-module _ (f g : List Piece) (from : ℕ) (s : Stretch) (filled : s.piece.lo ≤ s.piece.hi) (small : IsSmall s.piece) where
+module _ (f g : List Piece) (from : ℕ) (s : Segment) (filled : s.piece.lo ≤ s.piece.hi) (small : IsSmall s.piece) where
   -- a part of the first piece of f, where g has nothing
   pub next_in_first : (some : 1 ≤ length f) → ArePieces f → s.piece.lo ≡ max from (first_of f).lo → s.piece.hi ≤ (first_of f).hi → ((t : ℕ) → s.piece.lo ≤ t → line_at s.piece t ≡ line_at (first_of f) t) → ((t : ℕ) → from ≤ t → t ≤ s.piece.hi → value_at g t ≡ None) → s.improves ≡ false → IsNext f g from s
   next_in_first some are lo hi line none improves =
@@ -122,7 +124,7 @@ better_same f g h k t first second = ap (λ v. is_better v (value_at g t)) first
 pub from_start : (start t : ℕ) (b : Bool) → start ≤ t → (leb start t && b) ≡ b
 from_start start t b le = ap (λ a. a && b) (le-leb start t le)
 
-pub marked_skip : (wanted : ℕ → Bool) (set : List Run) (from to : ℕ) → from ≤ to → IsMarked wanted set from → ((t : ℕ) → from ≤ t → t < to → wanted t ≡ false) → IsMarked wanted set to
+pub marked_skip : (wanted : ℕ → Bool) (set : List Run) (from to : ℕ) → from ≤ to → IsSwept wanted set from → ((t : ℕ) → from ≤ t → t < to → wanted t ≡ false) → IsSwept wanted set to
 marked_skip wanted set from to le marked gap = record {
   before = λ t early. ⊎_elim (λ (soon : t < from). marked.before t soon) (λ (late : from ≤ t). marked.after t late ∙ sym (gap t late early)) (cases_lt t from);
   after = λ t late. marked.after t (omega (arith, le, late));

@@ -54,26 +54,12 @@ module _ (ps : List Piece) (k : ℕ) (le : k ≤ length ps) where
   pub pieces_drop : ArePieces ps → ArePieces (drop k ps)
   pieces_drop are = record { each = every_drop ps k le IsPiece are.each; apart = pairs_drop ps k le (λ p q. p.hi < q.lo) are.apart }
 
-  pub built_take : AreBuilt ps → AreBuilt (take k ps)
-  built_take built = record {
-    pieces = record { each = every_take ps k le IsPiece built.pieces.each; apart = pairs_take ps k le (λ p q. p.hi < q.lo) built.pieces.apart };
-    reduced = pairs_take ps k le (λ p q. (slope : ℕ) → AreOneLine p q slope → ⊥) built.reduced;
-    small = every_take ps k le IsSmall built.small;
-  }
-
   -- a piece before the place ends before each from it on begins
   pub apart_at : ArePieces ps → (i : ℕ) (d : Piece) → i < k → All (λ p. (get_or ps i d).hi < p.lo) (drop k ps)
   apart_at are i d before j e within =
       let far = are.apart i (k + j) d (omega (arith, before)) (omega (arith, within, length-drop k ps)) in
       let P : Piece → Type 0 = λ p. (get_or ps i d).hi < p.lo in
       subst P (sym (get_or-drop k ps j e ∙ get_or_default ps (k + j) e d (omega (arith, within, length-drop k ps)))) far
-
-  pub built_drop : AreBuilt ps → AreBuilt (drop k ps)
-  built_drop built = record {
-    pieces = pieces_drop built.pieces;
-    reduced = pairs_drop ps k le (λ p q. (slope : ℕ) → AreOneLine p q slope → ⊥) built.reduced;
-    small = every_drop ps k le IsSmall built.small;
-  }
 
 -- the beginnings rise
 pub begins_rise : (ps : List Piece) → ArePieces ps → IsNonDecreasingBy (λ p. p.lo) ps

@@ -1,4 +1,4 @@
--- What cutting and shifting do to the values of a function.
+-- What cutting and shifting do to the values of a function (source: SEA 2020, linking a cost profile with an arc).
 use Rattle.std.specs.Prelude.{◌≡◌, ℕ, ◌+◌, ◌-◌, ◌≤◌, Option, Some, None, List, nat_le, if◌then◌else◌}
 use Rattle.std.specs.Option.{option_map}
 use Rattle.route_base.specs.Runs.{any_has}
@@ -11,7 +11,7 @@ use Rattle.route_base.specs.declared.limits.TheConstants.{LAST_INSTANT, HIGHEST_
 abbrev pub kept_at : List Piece → List Run → ℕ → Option ℕ
 kept_at ps runs t = if any_has runs t then value_at ps t else None
 
--- the values so many minutes later, at a cost
+-- the values that many minutes later, at a cost
 abbrev pub moved_at : ℕ → ℕ → (ℕ → Option ℕ) → ℕ → Option ℕ
 moved_at minutes cost values t = if nat_le minutes t then option_map (λ v. v + cost) (values (t - minutes)) else None
 

@@ -1,46 +1,52 @@
-// The least of two functions.
+// The least of two functions, as a function of its own or in place of the first.
 ghost use Rattle.std.specs.Prelude.{◌≡◌, ◌+◌, ◌<◌, ◌≤◌, ◌↔◌, ◌&&◌, nat_le, ℕ, Bool, true, false, Option, All, IsTrue, IfOk, OnOk, OnErr, [], length};
 ghost use Rattle.std.specs.List.{AllWithin};
 ghost use Rattle.route_base.specs.Runs.{any_has, AreRuns};
 ghost use Rattle.cost_functions.specs.Pieces.{value_at, ArePieces, AreSmall};
 ghost use Rattle.cost_functions.specs.Building.{AreBuilt, IsSettled};
 ghost use Rattle.route_base.specs.declared.limits.TheConstants.{LAST_INSTANT};
-ghost use Rattle.function_merge.specs.Least.{least_at, better_at, IsMarked};
+ghost use Rattle.function_merge.specs.Least.{least_at, better_at};
+ghost use Rattle.minute_sets.specs.Combination.{IsSwept};
 
-use crate::lists::pieces_reaching;
-use crate::stretches::{Stretch, next_stretch};
+use crate::lower_envelope::{Segment, next_segment};
+use crate::suffixes::{beginning_by, ending_before, find_pieces, skip_pieces};
 use cost_functions::{Builder, CostFn, Piece};
 use minute_sets::MinuteSet;
 use route_base::{Minute, OutOfMemory, Run};
 use std::alloc::Global;
 use std::mem;
 
-/// The least of two functions, and the minutes at which the second improves on the first.
+/// The least of two functions, and the minutes at which the second is better than the first.
 #[derive(Drop)]
 pub struct Merged {
     pub function: CostFn,
     pub improved: MinuteSet,
 }
 
-/// At each minute the lesser of the values that are there; `improved` has the minutes at which g has a value and f has none
-/// or a larger one. Linear in the number of pieces.
+/// The function that has at each minute the lesser of the values that are there; `improved` has the minutes at which g has a value
+/// and f has none or a larger one. Linear in the number of pieces of both, in time and memory.
 pub fn least(alloc: Global, f: &CostFn, g: &CostFn) -> Result<Merged, OutOfMemory>
     requires first { AreSmall f.now }
     requires second { AreSmall g.now }
-    ensures values { IfOk result (λ merged. (t : ℕ) → value_at merged.function t ≡ least_at f.now g.now t) }
-    ensures improved { IfOk result (λ merged. (t : ℕ) → any_has merged.improved t ≡ better_at f.now g.now t) }
+    ensures values { IfOk result (λ merged. (t : ℕ) →
+        value_at merged.function t ≡ least_at f.now g.now t) }
+    ensures improved { IfOk result (λ merged. (t : ℕ) →
+        any_has merged.improved t ≡ better_at f.now g.now t) }
     ensures built { IfOk result (λ merged. AreBuilt merged.function) }
 {
     merged_from(alloc, Builder::new(alloc), f.pieces(), g.pieces(), 0)
 }
 
-/// The same as `least` for a function that is given away: what of it ends before g begins stays where it is, and costs
-/// nothing. Linear in the number of the other pieces.
+/// The same as `least` for a reduced function f that is given away. Pieces of f that end before g begins stay where they are;
+/// two binary searches find the pieces between the ends of g; those behind are copied twice, each time in one block. Linear in the
+/// number of pieces of both between the ends of g.
 pub fn improve(alloc: Global, f: CostFn, g: &CostFn) -> Result<Merged, OutOfMemory>
     requires first { AreBuilt f }
     requires second { AreSmall g.now }
-    ensures values { IfOk result (λ merged. (t : ℕ) → value_at merged.function t ≡ least_at f g.now t) }
-    ensures improved { IfOk result (λ merged. (t : ℕ) → any_has merged.improved t ≡ better_at f g.now t) }
+    ensures values { IfOk result (λ merged. (t : ℕ) →
+        value_at merged.function t ≡ least_at f g.now t) }
+    ensures improved { IfOk result (λ merged. (t : ℕ) →
+        any_has merged.improved t ≡ better_at f g.now t) }
     ensures built { IfOk result (λ merged. AreBuilt merged.function) }
 {
     let other = g.pieces();
@@ -53,12 +59,14 @@ pub fn improve(alloc: Global, f: CostFn, g: &CostFn) -> Result<Merged, OutOfMemo
     }
 }
 
-/// The same in place; what improved is returned. After an `Err` the function is empty.
+/// Makes f the least of f and g, and returns the minutes at which g was better. It costs as much as `improve`. Out of memory leaves
+/// f without a piece.
 pub fn improve_in_place(alloc: Global, f: &mut CostFn, g: &CostFn) -> Result<MinuteSet, OutOfMemory>
     requires first { AreBuilt f.old }
     requires second { AreSmall g.now }
     ensures values { OnOk result ((t : ℕ) → value_at f.new t ≡ least_at f.old g.now t) }
-    ensures improved { IfOk result (λ improved. (t : ℕ) → any_has improved t ≡ better_at f.old g.now t) }
+    ensures improved { IfOk result (λ improved. (t : ℕ) →
+        any_has improved t ≡ better_at f.old g.now t) }
     ensures built { AreBuilt f.new }
     ensures err { OnErr result (f.new ≡ []) }
 {
@@ -69,7 +77,7 @@ pub fn improve_in_place(alloc: Global, f: &mut CostFn, g: &CostFn) -> Result<Min
     Ok(improved)
 }
 
-// The same for pieces; those that begin behind the second function are put back in one copy.
+// The same for pieces, where g begins at `first`; those that begin behind g are put back in one copy.
 fn improve_within(
     alloc: Global,
     f: Vec<Piece>,
@@ -81,8 +89,10 @@ fn improve_within(
     requires some { 1 ≤ length g.now }
     requires small { AreSmall g.now }
     requires begins { All (λ p. first ≤ p.lo) g.now }
-    ensures values { IfOk result (λ merged. (t : ℕ) → value_at merged.function t ≡ least_at f.items g.now t) }
-    ensures improved { IfOk result (λ merged. (t : ℕ) → any_has merged.improved t ≡ better_at f.items g.now t) }
+    ensures values { IfOk result (λ merged. (t : ℕ) →
+        value_at merged.function t ≡ least_at f.items g.now t) }
+    ensures improved { IfOk result (λ merged. (t : ℕ) →
+        any_has merged.improved t ≡ better_at f.items g.now t) }
     ensures built { IfOk result (λ merged. AreBuilt merged.function) }
 {
     let mut front = f;
@@ -98,15 +108,6 @@ fn improve_within(
     })
 }
 
-// How many pieces begin by a minute.
-fn beginning_by(pieces: &[Piece], minute: Minute) -> usize
-    requires { ArePieces pieces.now }
-    ensures within { result ≤ length pieces.now }
-    ensures after { AllWithin (λ p. minute < p.lo) pieces.now result (length pieces.now) }
-{
-    pieces.partition_point(|piece| piece.lo <= minute)
-}
-
 // The last minute of the pieces.
 fn last_minute(pieces: &[Piece]) -> Minute
     requires pieces { ArePieces pieces.now }
@@ -116,7 +117,7 @@ fn last_minute(pieces: &[Piece]) -> Minute
     pieces[pieces.len() - 1].hi
 }
 
-// The same for pieces, where the second function begins at this minute.
+// The same, where all pieces of f begin before g ends.
 fn improve_from(
     alloc: Global,
     f: Vec<Piece>,
@@ -127,8 +128,10 @@ fn improve_from(
     requires second { ArePieces g.now }
     requires small { AreSmall g.now }
     requires begins { All (λ p. first ≤ p.lo) g.now }
-    ensures values { IfOk result (λ merged. (t : ℕ) → value_at merged.function t ≡ least_at f.items g.now t) }
-    ensures improved { IfOk result (λ merged. (t : ℕ) → any_has merged.improved t ≡ better_at f.items g.now t) }
+    ensures values { IfOk result (λ merged. (t : ℕ) →
+        value_at merged.function t ≡ least_at f.items g.now t) }
+    ensures improved { IfOk result (λ merged. (t : ℕ) →
+        any_has merged.improved t ≡ better_at f.items g.now t) }
     ensures built { IfOk result (λ merged. AreBuilt merged.function) }
 {
     let mut before = f;
@@ -138,17 +141,7 @@ fn improve_from(
     merged_from(alloc, Builder::behind(before), &rest, g, start)
 }
 
-// How many pieces end before a minute.
-fn ending_before(pieces: &[Piece], minute: Minute) -> usize
-    requires { ArePieces pieces.now }
-    ensures within { result ≤ length pieces.now }
-    ensures before { AllWithin (λ p. p.hi < minute) pieces.now 0 result }
-    ensures after { AllWithin (λ p. minute ≤ p.hi) pieces.now result (length pieces.now) }
-{
-    pieces.partition_point(|piece| piece.hi < minute)
-}
-
-// The first minute of the pieces, if it is before this one.
+// The minute, or the first minute of the pieces if that is earlier.
 fn first_minute(pieces: &[Piece], minute: Minute) -> Minute
     requires { ArePieces pieces.now }
     ensures upto { result ≤ minute }
@@ -161,8 +154,8 @@ fn first_minute(pieces: &[Piece], minute: Minute) -> Minute
     }
 }
 
-/// Whether g has a value at some minute at which f has none or a larger one. Linear in the number of pieces from g's first
-/// minute on; no memory.
+/// Whether g has a value at some minute at which f has none or a larger one. A binary search in f for the first minute of g, and
+/// linear in the number of pieces of both from there on, until such a minute is found or g ends; no memory.
 pub fn is_improved(f: &CostFn, g: &CostFn) -> bool
     requires first { AreSmall f.now }
     requires second { AreSmall g.now }
@@ -171,15 +164,12 @@ pub fn is_improved(f: &CostFn, g: &CostFn) -> bool
     let pieces = f.pieces();
     let other = g.pieces();
     match other {
-        [first, ..] => {
-            let keep = ending_before(pieces, first.lo);
-            improves_from(&pieces[keep..], other, first.lo)
-        }
+        [first, ..] => improves_from(find_pieces(pieces, first.lo), other, first.lo),
         [] => false,
     }
 }
 
-// Whether the second is better from a minute on.
+// Whether g is better at some minute from `start` on.
 fn improves_from(f: &[Piece], g: &[Piece], start: Minute) -> bool
     requires first { ArePieces f.now }
     requires second { ArePieces g.now }
@@ -193,19 +183,19 @@ fn improves_from(f: &[Piece], g: &[Piece], start: Minute) -> bool
     let mut left = f;
     let mut other = g;
     let mut from: Minute = start;
-    'sweep: while let Some(stretch) = next_stretch(left, other, from) {
-        if stretch.improves {
+    'sweep: while let Some(segment) = next_segment(left, other, from) {
+        if segment.improves {
             return true;
         }
-        from = stretch.piece.hi + 1;
-        left = pieces_reaching(left, from);
-        other = pieces_reaching(other, from);
+        from = segment.piece.hi + 1;
+        left = skip_pieces(left, from);
+        other = skip_pieces(other, from);
         let [_, ..] = other else { return false };
     }
     false
 }
 
-// The least values from a minute on, behind what is built before it.
+// The least values from `start` on, behind those that are built before it.
 fn merged_from(
     alloc: Global,
     before: Builder,
@@ -223,7 +213,8 @@ fn merged_from(
     ensures values { IfOk result (λ merged. (wanted : ℕ → Option ℕ) → IsSettled wanted before start
         → ((t : ℕ) → start ≤ t → wanted t ≡ least_at f.now g.now t)
         → (t : ℕ) → value_at merged.function t ≡ wanted t) }
-    ensures improved { IfOk result (λ merged. (t : ℕ) → any_has merged.improved t ≡ (nat_le start t && better_at f.now g.now t)) }
+    ensures improved { IfOk result (λ merged. (t : ℕ) →
+        any_has merged.improved t ≡ (nat_le start t && better_at f.now g.now t)) }
     ensures built { IfOk result (λ merged. AreBuilt merged.function) }
 {
     let mut built = before;
@@ -231,12 +222,12 @@ fn merged_from(
     let mut left = f;
     let mut other = g;
     let mut from: Minute = start;
-    'sweep: while let Some(stretch) = next_stretch(left, other, from) {
-        built.push(stretch.piece)?;
-        mark(&mut improved, stretch)?;
-        from = stretch.piece.hi + 1;
-        left = pieces_reaching(left, from);
-        other = pieces_reaching(other, from);
+    'sweep: while let Some(segment) = next_segment(left, other, from) {
+        built.push(segment.piece)?;
+        mark(&mut improved, segment)?;
+        from = segment.piece.hi + 1;
+        left = skip_pieces(left, from);
+        other = skip_pieces(other, from);
     }
     Ok(Merged {
         function: built.finish(),
@@ -244,21 +235,21 @@ fn merged_from(
     })
 }
 
-// Adds the minutes of a stretch that improves.
-fn mark(improved: &mut MinuteSet, stretch: Stretch) -> Result<(), OutOfMemory>
+// Adds the minutes of the segment, if it improves.
+fn mark(improved: &mut MinuteSet, segment: Segment) -> Result<(), OutOfMemory>
     requires runs { AreRuns improved.old }
-    requires later { All (λ r. r.lo ≤ stretch.piece.lo) improved.old }
-    requires filled { stretch.piece.lo ≤ stretch.piece.hi }
-    requires minutes { stretch.piece.hi ≤ LAST_INSTANT }
+    requires later { All (λ r. r.lo ≤ segment.piece.lo) improved.old }
+    requires filled { segment.piece.lo ≤ segment.piece.hi }
+    requires minutes { segment.piece.hi ≤ LAST_INSTANT }
     ensures runs { AreRuns improved.new }
-    ensures marked { OnOk result ((wanted : ℕ → Bool) → IsMarked wanted improved.old stretch.piece.lo
-        → ((t : ℕ) → stretch.piece.lo ≤ t → t ≤ stretch.piece.hi → wanted t ≡ stretch.improves)
-        → IsMarked wanted improved.new (stretch.piece.hi + 1)) }
+    ensures marked { OnOk result ((wanted : ℕ → Bool) → IsSwept wanted improved.old segment.piece.lo
+        → ((t : ℕ) → segment.piece.lo ≤ t → t ≤ segment.piece.hi → wanted t ≡ segment.improves)
+        → IsSwept wanted improved.new (segment.piece.hi + 1)) }
 {
-    if stretch.improves {
+    if segment.improves {
         improved.append(Run {
-            lo: stretch.piece.lo,
-            hi: stretch.piece.hi + 1,
+            lo: segment.piece.lo,
+            hi: segment.piece.hi + 1,
         })?;
     }
     Ok(())

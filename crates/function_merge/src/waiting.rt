@@ -1,25 +1,26 @@
-// Functions with waiting.
+// Functions with waits.
 ghost use Rattle.std.specs.Prelude.{◌≡◌, ◌+◌, ◌*◌, ◌<◌, ◌≤◌, ℕ, Option, Some, None, min, All, IfOk, IfSome};
 ghost use Rattle.cost_functions.specs.Lines.{line_at, IsPiece, IsSmall};
 ghost use Rattle.cost_functions.specs.Pieces.{value_at, ArePieces, AreSmall};
 ghost use Rattle.cost_functions.specs.Building.{AreBuilt};
 ghost use Rattle.route_base.specs.declared.limits.TheConstants.{LAST_INSTANT, HIGHEST_COST};
-ghost use Rattle.function_merge.specs.Waits.{IsLeastWait, waited_at, carried_to, IsNextWait, CanWait};
+ghost use Rattle.function_merge.specs.Waits.{IsLeastWait, waited_at, carried_to, CanWait};
+ghost use Rattle.function_merge.specs.Inside.NextWaits.{IsNextWait};
 
-use crate::lists::pieces_reaching;
-use crate::stretches::held_for;
-use cost_functions::{Builder, CostFn, Piece};
+use crate::suffixes::skip_pieces;
+use cost_functions::{Builder, CostFn, Piece, held_for};
 use route_base::{Cost, Minute, OutOfMemory};
 use std::alloc::Global;
 
-/// At each minute up to `until` the least cost of a value of f so far and a wait since then, and nothing afterwards. Linear
-/// in the number of pieces.
+/// The function that has at each minute up to `until` the least cost of a value of f at it or before and of the wait since then, at
+/// `weight` thousandths a minute, and no value afterwards. Linear in the number of pieces, in time and memory.
 pub fn wait(alloc: Global, f: &CostFn, weight: Cost, until: Minute) -> Result<CostFn, OutOfMemory>
     requires small { AreSmall f.now }
     requires weight { weight ≤ HIGHEST_COST }
     requires until { until ≤ LAST_INSTANT }
     requires fit { CanWait (value_at f.now) weight until }
-    ensures values { IfOk result (λ waited. (t : ℕ) → t ≤ until → IsLeastWait (value_at f.now) weight t (value_at waited t)) }
+    ensures values { IfOk result (λ waited. (t : ℕ) →
+        t ≤ until → IsLeastWait (value_at f.now) weight t (value_at waited t)) }
     ensures ended { IfOk result (λ waited. (t : ℕ) → until < t → value_at waited t ≡ None) }
     ensures built { IfOk result AreBuilt }
 {
@@ -31,12 +32,12 @@ pub fn wait(alloc: Global, f: &CostFn, weight: Cost, until: Minute) -> Result<Co
         built.push(piece)?;
         carried = Some(last_value(piece) + weight);
         from = piece.hi + 1;
-        left = pieces_reaching(left, from);
+        left = skip_pieces(left, from);
     }
     Ok(built.finish())
 }
 
-// The cost at the last minute.
+// The cost at the last minute of the piece.
 fn last_value(piece: Piece) -> Cost
     requires filled { piece.lo ≤ piece.hi }
     requires small { IsSmall piece }
@@ -45,7 +46,7 @@ fn last_value(piece: Piece) -> Cost
     piece.cost + piece.slope * (piece.hi - piece.lo)
 }
 
-// The next piece with waiting from a minute on, where this cost is carried into it.
+// The next piece of the function with waits from a minute on, where `carried` is the cost of waiting until that minute.
 fn next_wait(
     left: &[Piece],
     from: Minute,
@@ -56,10 +57,13 @@ fn next_wait(
     requires pieces { ArePieces left.now }
     requires small { AreSmall left.now }
     requires reach { All (λ p. from ≤ p.hi) left.now }
-    ensures some { IfSome result (λ piece. (values : ℕ → Option ℕ) → ((t : ℕ) → from ≤ t → values t ≡ value_at left.now t)
+    ensures some { IfSome result (λ piece. (values : ℕ → Option ℕ)
+        → ((t : ℕ) → from ≤ t → values t ≡ value_at left.now t)
         → carried_to values weight from ≡ carried → IsNextWait values weight from until piece) }
-    ensures none { result ≡ None → (values : ℕ → Option ℕ) → ((t : ℕ) → from ≤ t → values t ≡ value_at left.now t)
-        → carried_to values weight from ≡ carried → (t : ℕ) → from ≤ t → t ≤ until → waited_at values weight t ≡ None }
+    ensures none { result ≡ None → (values : ℕ → Option ℕ)
+        → ((t : ℕ) → from ≤ t → values t ≡ value_at left.now t)
+        → carried_to values weight from ≡ carried
+        → (t : ℕ) → from ≤ t → t ≤ until → waited_at values weight t ≡ None }
 {
     if until < from {
         return None;
@@ -70,15 +74,18 @@ fn next_wait(
     }
 }
 
-// The same where nothing is carried.
+// The same where there is no cost of waiting, since no value is before the minute.
 fn first_wait(left: &[Piece], from: Minute, weight: Cost, until: Minute) -> Option<Piece>
     requires pieces { ArePieces left.now }
     requires small { AreSmall left.now }
     requires reach { All (λ p. from ≤ p.hi) left.now }
-    ensures some { IfSome result (λ piece. (values : ℕ → Option ℕ) → ((t : ℕ) → from ≤ t → values t ≡ value_at left.now t)
+    ensures some { IfSome result (λ piece. (values : ℕ → Option ℕ)
+        → ((t : ℕ) → from ≤ t → values t ≡ value_at left.now t)
         → carried_to values weight from ≡ None → IsNextWait values weight from until piece) }
-    ensures none { result ≡ None → (values : ℕ → Option ℕ) → ((t : ℕ) → from ≤ t → values t ≡ value_at left.now t)
-        → carried_to values weight from ≡ None → (t : ℕ) → from ≤ t → t ≤ until → waited_at values weight t ≡ None }
+    ensures none { result ≡ None → (values : ℕ → Option ℕ)
+        → ((t : ℕ) → from ≤ t → values t ≡ value_at left.now t)
+        → carried_to values weight from ≡ None
+        → (t : ℕ) → from ≤ t → t ≤ until → waited_at values weight t ≡ None }
 {
     let [piece, ..] = left else { return None };
     let lo = from.max(piece.lo);
@@ -88,7 +95,7 @@ fn first_wait(left: &[Piece], from: Minute, weight: Cost, until: Minute) -> Opti
     Some(own_line(*piece, lo, weight, until))
 }
 
-// The same where a cost is carried.
+// The same where there is a cost of waiting.
 fn wait_on(left: &[Piece], from: Minute, cost: Cost, weight: Cost, until: Minute) -> Piece
     requires pieces { ArePieces left.now }
     requires small { AreSmall left.now }
@@ -127,13 +134,18 @@ fn wait_on(left: &[Piece], from: Minute, cost: Cost, weight: Cost, until: Minute
     }
 }
 
-// The piece from a minute on, or a wait at it where that is cheaper.
+// The piece from `lo` on up to `until`; where it is steeper than waiting, a wait from its value at `lo`.
 fn own_line(piece: Piece, lo: Minute, weight: Cost, until: Minute) -> Piece
     requires piece { IsPiece piece }
     requires from { piece.lo ≤ lo }
     requires upto { lo ≤ piece.hi }
     requires until { lo ≤ until }
-    ensures { result ≡ record { lo = lo; hi = min piece.hi until; cost = line_at piece lo; slope = min piece.slope weight } }
+    ensures { result ≡ record {
+      lo = lo;
+      hi = min piece.hi until;
+      cost = line_at piece lo;
+      slope = min piece.slope weight;
+    } }
 {
     Piece {
         lo,

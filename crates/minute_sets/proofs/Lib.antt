@@ -4,3 +4,4 @@ pub mod FreeMinutes
 pub mod HeadRuns
 pub mod MergedRuns
 pub mod OneList
+pub mod RunSuffixes

@@ -3,7 +3,8 @@ use Rattle.route_base.specs.Runs.{AreRuns}
 use Rattle.cost_functions.specs.Pieces.{value_at, ArePieces, AreSmall}
 use Rattle.cost_functions.specs.Building.{IsSettled}
 use Rattle.route_base.specs.declared.limits.TheConstants.{LAST_INSTANT}
-use Rattle.function_merge.specs.Least.{least_at, better_at, IsMarked}
+use Rattle.function_merge.specs.Least.{least_at, better_at}
+use Rattle.minute_sets.specs.Combination.{IsSwept}
 use Rattle.function_merge.proofs.merging.merged_from.Given as goal
 
 abbrev pub invariant-sweep : goal.invariant-sweep
@@ -11,7 +12,7 @@ invariant-sweep l = record {
   start : l.start ≤ l.from;
   settled : (wanted : ℕ → Option ℕ) → IsSettled wanted l.fn.before l.start → ((t : ℕ) → l.start ≤ t → wanted t ≡ least_at l.f l.g t) → IsSettled wanted l.built l.from;
   ended : All (λ p. p.hi < l.from) l.built;
-  marked : IsMarked (λ t. leb l.start t && better_at l.f l.g t) l.improved l.from;
+  marked : IsSwept (λ t. leb l.start t && better_at l.f l.g t) l.improved l.from;
   runs : AreRuns l.improved;
   first : ArePieces l.left;
   second : ArePieces l.other;

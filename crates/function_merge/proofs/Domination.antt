@@ -1,0 +1,110 @@
+-- Pairs that dominate a piece, from the first minute on at which one does.
+use Rattle.std.proofs.Common.{◌≡◌, ⊎_elim, ℕ, ◌+◌, ◌-◌, ◌≤◌, ◌<◌, min, true, false, List, length, get_or, ap, arith}
+use Rattle.std.specs.List.{AllWithin}
+use Rattle.std.specs.List.Sorted.{IsPartitionedBy}
+use Rattle.std.proofs.lemmas.Bool.{cases_lt, cases_eq, lt-ltb, ltb-true, ltb-false}
+use Rattle.std.proofs.lemmas.List.{get_or_default}
+use Rattle.route_base.specs.Front.{RiseAndFall}
+use Rattle.route_base.specs.Relaxing.{HasPair}
+use Rattle.route_base.specs.declared.types.Bound.{Bound}
+use Rattle.route_base.specs.declared.types.Pair.{Pair}
+use Rattle.cost_functions.specs.Lines.{line_at}
+use Rattle.cost_functions.specs.declared.pieces.Piece.{Piece}
+use Rattle.cost_functions.proofs.Smallness.{line_rises}
+use Rattle.function_merge.specs.Inside.Prefixes.{stays_cheaper, IsUndominatedUntil}
+
+module _ (pairs : List Pair) (trade : RiseAndFall pairs) where
+  -- later pairs arrive no earlier and are no dearer
+  arrivals : (i j : ℕ) (d : Pair) → i ≤ j → j < length pairs → (get_or pairs i d).arrival ≤ (get_or pairs j d).arrival
+  arrivals i j d le within =
+      ⊎_elim
+      (λ (same : i ≡ j). omega (arith, ap (λ n. (get_or pairs n d).arrival) same))
+      (λ (other : i ≡ j → ⊥). (let far = trade i j d (omega (arith, le, other)) within in omega (arith, far.0)))
+      (cases_eq i j)
+
+  costs : (i j : ℕ) (d : Pair) → i ≤ j → j < length pairs → (get_or pairs j d).cost ≤ (get_or pairs i d).cost
+  costs i j d le within =
+      ⊎_elim
+      (λ (same : i ≡ j). omega (arith, ap (λ n. (get_or pairs n d).cost) same))
+      (λ (other : i ≡ j → ⊥). (let far = trade i j d (omega (arith, le, other)) within in omega (arith, far.1)))
+      (cases_eq i j)
+
+  module _ (piece : Piece) (bound : Bound) where
+    pub cheaper_first : IsPartitionedBy (stays_cheaper piece bound) pairs
+    cheaper_first i j d le within cheaper =
+        let earlier = arrivals i j d le within in
+        let dearer = costs i j d le within in
+        let rise = line_rises piece (min ((get_or pairs i d).arrival - bound.minutes) piece.hi) (min ((get_or pairs j d).arrival - bound.minutes) piece.hi) (omega (arith, earlier)) in
+        let below = ltb-true _ _ cheaper in
+        lt-ltb _ _ (omega (arith, below, rise, dearer))
+
+    module _ (i arrived cheap : ℕ)
+        (first : AllWithin (λ p. stays_cheaper piece bound p ≡ true) pairs 0 i)
+        (others : AllWithin (λ p. stays_cheaper piece bound p ≡ false) pairs i (length pairs))
+        (some : (d : Pair) → i < length pairs → arrived ≡ (get_or pairs i d).arrival - bound.minutes)
+        (none : length pairs ≤ i → arrived ≡ piece.hi + 1)
+        (inside : i ≤ length pairs)
+        (no_first : i ≡ 0 → cheap ≡ piece.hi + 1)
+        (before : (d : Pair) → 1 ≤ i → (t : ℕ) → piece.lo ≤ t → t < cheap → t ≤ piece.hi → line_at piece t < (get_or pairs (i - 1) d).cost - bound.cost)
+        (after : (d : Pair) → 1 ≤ i → (t : ℕ) → piece.lo ≤ t → cheap ≤ t → t ≤ piece.hi → (get_or pairs (i - 1) d).cost - bound.cost ≤ line_at piece t) where
+      none_yet : (t : ℕ) → piece.lo ≤ t → t < arrived → t < cheap → t ≤ piece.hi → HasPair pairs (t + bound.minutes) (line_at piece t + bound.cost) → ⊥
+      none_yet t from early cheaper upto h =
+          let k : ℕ = h.is_one.0 in
+          let pair = h.pair in
+          let same = h.is_one.2 in
+          let arrival = ap (λ (p : Pair). p.arrival) same in
+          let cost = ap (λ (p : Pair). p.cost) same in
+          let in_time = h.arrival in
+          let no_dearer = h.cost in
+          ⊎_elim
+          (λ (low : k < i). (let less = costs k (i - 1) pair (omega (arith, low)) (omega (arith, low, inside)) in
+          let below = before pair (omega (arith, low)) t from cheaper upto in
+          omega (arith, less, below, cost, no_dearer)))
+          (λ (high : i ≤ k). (let more = arrivals i k pair high h.is_one.1 in
+          let is = some pair (omega (arith, high, h.is_one.1)) in
+          omega (arith, more, is, arrival, in_time, early)))
+          (cases_lt k i)
+
+      -- the pair at the place has arrived
+      by_arrival : (t : ℕ) → piece.lo ≤ t → arrived ≤ t → t ≤ piece.hi → HasPair pairs (t + bound.minutes) (line_at piece t + bound.cost)
+      by_arrival t from late upto =
+          let d : Pair = record { arrival = 0; cost = 0 } in
+          let within : i < length pairs = ⊎_elim (λ (in' : i < length pairs). in') (λ (out : length pairs ≤ i). absurd (omega (arith, none out, late, upto))) (cases_lt i (length pairs)) in
+          let is = some d within in
+          let rise = line_rises piece (min ((get_or pairs i d).arrival - bound.minutes) piece.hi) t (omega (arith, is, late)) in
+          let dear = ltb-false _ _ (others i d (omega arith) within) in
+          record {
+            pair = get_or pairs i d;
+            is_one = (i, within, get_or_default pairs i (get_or pairs i d) d within);
+            arrival = omega (arith, is, late);
+            cost = omega (arith, rise, dear);
+          }
+
+      -- the piece is as dear as the pair before the place
+      by_cost : (t : ℕ) → piece.lo ≤ t → cheap ≤ t → t ≤ piece.hi → HasPair pairs (t + bound.minutes) (line_at piece t + bound.cost)
+      by_cost t from late upto =
+          let d : Pair = record { arrival = 0; cost = 0 } in
+          let one : 1 ≤ i = ⊎_elim (λ (zero' : i ≡ 0). absurd (omega (arith, no_first zero', late, upto))) (λ (more : i ≡ 0 → ⊥). omega (arith, more)) (cases_eq i 0) in
+          let dear = after d one t from late upto in
+          let pair = get_or pairs (i - 1) d in
+          let cheaper = ltb-true _ _ (first (i - 1) d (omega arith) (omega (arith, one))) in
+          record {
+            pair = pair;
+            is_one = (i - 1, omega (arith, one, inside), get_or_default pairs (i - 1) pair d (omega (arith, one, inside)));
+            arrival =
+                ⊎_elim
+                (λ (begun : min (pair.arrival - bound.minutes) piece.hi < t). omega (arith, begun, upto))
+                (λ (not_yet : t ≤ min (pair.arrival - bound.minutes) piece.hi). (let rise = line_rises piece t (min (pair.arrival - bound.minutes) piece.hi) not_yet in absurd (omega (arith, rise, cheaper, dear))))
+                (cases_lt (min (pair.arrival - bound.minutes) piece.hi) t);
+            cost = omega (arith, dear);
+          }
+
+      pub are_undominated : IsUndominatedUntil pairs bound piece (min arrived cheap)
+      are_undominated = record {
+        before = λ t from early upto. none_yet t from (omega (arith, early)) (omega (arith, early)) upto;
+        after = λ t from late upto.
+            ⊎_elim
+            (λ (lt : t < arrived). by_cost t from (omega (arith, lt, late)) upto)
+            (λ (ge : arrived ≤ t). by_arrival t from ge upto)
+            (cases_lt t arrived);
+      }

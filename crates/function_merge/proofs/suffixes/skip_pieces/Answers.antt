@@ -1,0 +1,18 @@
+use Rattle.std.proofs.Common.{◌∙◌, arith}
+use Rattle.cost_functions.specs.Lines.{IsSmall}
+use Rattle.function_merge.proofs.FirstPieces.{rest_are, rest_every, rest_values, reach_all}
+use Rattle.function_merge.proofs.suffixes.skip_pieces.Goals as goal
+
+pub skip-preserved : goal.skip-preserved
+skip-preserved c =
+    let left = c.skip.left.now in
+    let inv = c.skip.invariant in
+    let some = c.in-len1-up.len_at_least in
+    record {
+      pieces = rest_are left some inv.pieces;
+      small = rest_every left some inv.pieces IsSmall inv.small;
+      values = λ t late. rest_values left some inv.pieces t (omega (arith, late, c.if-from-first.false)) ∙ inv.values t late;
+    }
+
+pub returns-then-from-first-clause-reach : goal.returns-then-from-first-clause-reach
+returns-then-from-first-clause-reach c = reach_all c.skip.left.now c.in-len1-up.len_at_least c.skip.invariant.pieces c.args.from c.if-from-first.true

@@ -1,0 +1,23 @@
+-- The minutes of a piece before it is dominated or late (source: own; no law).
+use Rattle.std.specs.Prelude.{◌≡◌, ℕ, ◌+◌, ◌-◌, ◌<◌, ◌≤◌, min, Bool, nat_lt, Some, List}
+use Rattle.route_base.specs.Itinerary.{Position}
+use Rattle.route_base.specs.Relaxing.{HasPair, IsDominatedOrLate}
+use Rattle.route_base.specs.declared.types.Pair.{Pair}
+use Rattle.route_base.specs.declared.types.Bound.{Bound}
+use Rattle.cost_functions.specs.Lines.{line_at}
+use Rattle.cost_functions.specs.declared.pieces.Piece.{Piece}
+
+-- when the pair arrives, or at the piece's end, the piece with the bound to the goal is still cheaper than the pair
+abbrev pub stays_cheaper : Piece → Bound → Pair → Bool
+stays_cheaper piece bound pair = nat_lt (line_at piece (min (pair.arrival - bound.minutes) piece.hi)) (pair.cost - bound.cost)
+
+-- from the minute on a pair dominates the piece, and before it none does
+pub record IsUndominatedUntil (pairs : List Pair) (bound : Bound) (piece : Piece) (end : ℕ) : Type 0 where
+  pub before : (t : ℕ) → piece.lo ≤ t → t < end → t ≤ piece.hi → HasPair pairs (t + bound.minutes) (line_at piece t + bound.cost) → ⊥
+  pub after : (t : ℕ) → piece.lo ≤ t → end ≤ t → t ≤ piece.hi → HasPair pairs (t + bound.minutes) (line_at piece t + bound.cost)
+
+-- from the minute on the piece is dominated or late, and before it neither
+pub record IsClearUntil (until : ℕ) (pairs : List Pair) (bound : Bound) (piece : Piece) (end : ℕ) : Type 0 where
+  pub upto : end ≤ piece.hi + 1
+  pub before : (p : Position) → piece.lo ≤ p.minute → p.minute < end → p.cost ≡ line_at piece p.minute → IsDominatedOrLate until pairs (Some bound) p → ⊥
+  pub after : (p : Position) → piece.lo ≤ p.minute → end ≤ p.minute → p.minute ≤ piece.hi → p.cost ≡ line_at piece p.minute → IsDominatedOrLate until pairs (Some bound) p

@@ -1,0 +1,103 @@
+// Stretches of minutes on which one of two functions is the lesser.
+ghost use Rattle.std.specs.Prelude.{◌≡◌, ◌+◌, ◌*◌, ◌-◌, ◌<◌, ◌≤◌, ℕ, min, false, nat_lt, None, All, IfSome};
+ghost use Rattle.cost_functions.specs.Lines.{line_at, IsPiece, IsSmall};
+ghost use Rattle.cost_functions.specs.Pieces.{ArePieces, AreSmall};
+ghost use Rattle.function_merge.specs.Least.{least_at, better_at};
+ghost use Rattle.function_merge.specs.Inside.Segments.{IsNext};
+
+use cost_functions::{Piece, held_for};
+use route_base::Minute;
+
+// The values of the lesser function at some minutes, and whether they improve on the first function.
+#[derive(Clone, Copy)]
+pub struct Segment {
+    pub piece: Piece,
+    pub improves: bool,
+}
+
+// The next segment from a minute on, where no piece ends before the minute; `None` where no value is left.
+pub fn next_segment(f: &[Piece], g: &[Piece], from: Minute) -> Option<Segment>
+    requires first { ArePieces f.now }
+    requires second { ArePieces g.now }
+    requires first_small { AreSmall f.now }
+    requires second_small { AreSmall g.now }
+    requires first_from { All (λ p. from ≤ p.hi) f.now }
+    requires second_from { All (λ p. from ≤ p.hi) g.now }
+    ensures some { IfSome result (IsNext f.now g.now from) }
+    ensures none_least { result ≡ None → (t : ℕ) → from ≤ t → least_at f.now g.now t ≡ None }
+    ensures none_better { result ≡ None → (t : ℕ) → from ≤ t → better_at f.now g.now t ≡ false }
+{
+    let [p, ..] = f else {
+        let [q, ..] = g else { return None };
+        return Some(part(*q, from.max(q.lo), q.hi, true));
+    };
+    let p_lo = from.max(p.lo);
+    let [q, ..] = g else {
+        return Some(part(*p, p_lo, p.hi, false));
+    };
+    let q_lo = from.max(q.lo);
+    if p_lo < q_lo {
+        Some(part(*p, p_lo, p.hi.min(q_lo - 1), false))
+    } else if q_lo < p_lo {
+        Some(part(*q, q_lo, q.hi.min(p_lo - 1), true))
+    } else {
+        Some(lesser(*p, *q, p_lo))
+    }
+}
+
+// The segment of a piece from one of its minutes to another.
+fn part(piece: Piece, lo: Minute, hi: Minute, improves: bool) -> Segment
+    requires piece { IsPiece piece }
+    requires small { IsSmall piece }
+    requires from { piece.lo ≤ lo }
+    requires filled { lo ≤ hi }
+    requires upto { hi ≤ piece.hi }
+    ensures lo { result.piece.lo ≡ lo }
+    ensures hi { result.piece.hi ≡ hi }
+    ensures improves { result.improves ≡ improves }
+    ensures line { (t : ℕ) → lo ≤ t → line_at result.piece t ≡ line_at piece t }
+    ensures small { IsSmall result.piece }
+{
+    Segment {
+        piece: Piece {
+            lo,
+            hi,
+            cost: piece.value(lo),
+            slope: piece.slope,
+        },
+        improves,
+    }
+}
+
+// The segment from a minute on that both pieces have: the lesser piece, as long as it stays the lesser, and the first where they
+// are equal.
+fn lesser(p: Piece, q: Piece, lo: Minute) -> Segment
+    requires first { IsPiece p }
+    requires second { IsPiece q }
+    requires first_small { IsSmall p }
+    requires second_small { IsSmall q }
+    requires first_from { p.lo ≤ lo }
+    requires second_from { q.lo ≤ lo }
+    requires first_upto { lo ≤ p.hi }
+    requires second_upto { lo ≤ q.hi }
+    ensures lo { result.piece.lo ≡ lo }
+    ensures filled { lo ≤ result.piece.hi }
+    ensures first_end { result.piece.hi ≤ p.hi }
+    ensures second_end { result.piece.hi ≤ q.hi }
+    ensures line { (t : ℕ) → lo ≤ t → t ≤ result.piece.hi
+        → line_at result.piece t ≡ min (line_at p t) (line_at q t) }
+    ensures better { (t : ℕ) → lo ≤ t → t ≤ result.piece.hi
+        → nat_lt (line_at q t) (line_at p t) ≡ result.improves }
+    ensures small { IsSmall result.piece }
+{
+    let most = p.hi.min(q.hi) - lo;
+    let first = p.value(lo);
+    let second = q.value(lo);
+    if second < first {
+        let held = held_for(first - second - 1, q.slope, p.slope, most);
+        part(q, lo, lo + held, true)
+    } else {
+        let held = held_for(second - first, p.slope, q.slope, most);
+        part(p, lo, lo + held, false)
+    }
+}
