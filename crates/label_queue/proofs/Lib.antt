@@ -1,0 +1,4 @@
+pub mod Climbing
+pub mod Rooting
+pub mod Viewing
+pub mod Places

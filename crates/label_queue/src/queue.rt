@@ -1,0 +1,98 @@
+// Nodes with keys.
+ghost use Rattle.std.specs.Prelude.{◌≡◌, ◌⊎◌, ◌<◌, ◌≤◌, ◌+◌, ◌^◌, ℕ, List, Option, Some, None, length, IfOk, IfSome, IsNone};
+ghost use Rattle.std.specs.Option.{IsSomeAnd, option_map};
+ghost use Rattle.label_queue.specs.Keys.{key_at, IsSet, IsTaken};
+
+use crate::winners::{Label, set_leaf};
+use route_base::{NodeId, OutOfMemory};
+use std::alloc::Global;
+use std::marker::Model;
+
+/// At most one key for each node from 1 to n, where n is fixed; contracts see the list of the n keys.
+#[derive(Drop)]
+pub struct LabelQueue {
+    nodes: usize,
+    tree: Vec<Option<Label>>,
+}
+
+impl Model for LabelQueue {
+    ghost use Rattle.std.specs.Prelude.{List, Option, ℕ, ◌<◌, ◌^◌};
+    ghost use Rattle.label_queue.specs.Inside.Winners.{IsTree, keys_in_leaves};
+
+    ghost Value = { List (Option ℕ) };
+
+    ghost view = { λ a. keys_in_leaves a.nodes a.tree.items };
+
+    ghost invariant = { λ a. IsTree a.nodes a.tree.items × (a.nodes < 2 ^ 32) };
+}
+
+impl LabelQueue {
+    /// An empty queue with the room for nodes 1 to n. Linear in n, in time and memory; no other call takes memory.
+    pub fn new(alloc: Global, n: u32) -> Result<LabelQueue, OutOfMemory>
+        ensures room { IfOk result (λ q. length q ≡ n) }
+        ensures empty { IfOk result (λ q. (v : ℕ) → key_at q v ≡ None) }
+    {
+        let nodes = n as usize;
+        Ok(LabelQueue {
+            nodes,
+            tree: vec![in alloc; None; 2 * nodes]?,
+        })
+    }
+
+    /// The key of a node; `None` exactly where it has none, so also for a node that isn't from 1 to n. In constant time.
+    pub fn key_of(&self, v: NodeId) -> Option<u64>
+        ensures { result ≡ key_at self.now v.0 }
+    {
+        if v.0 == 0 || v.0 as usize > self.nodes {
+            return None;
+        }
+        key_in(self.tree[self.nodes + v.0 as usize - 1])
+    }
+
+    /// Gives a node that has no key a key. Logarithmic in n.
+    pub fn put(&mut self, v: NodeId, key: u64)
+        requires low { 1 ≤ v.0 }
+        requires high { v.0 ≤ length self.old }
+        requires new { key_at self.old v.0 ≡ None }
+        ensures { IsSet self.old self.new v.0 (Some key) }
+    {
+        let label = Label { key, node: v.0 };
+        set_leaf(&mut self.tree, self.nodes, v.0, Some(label));
+    }
+
+    /// Gives a node that has a key one that is no larger. Logarithmic in n.
+    pub fn lower(&mut self, v: NodeId, key: u64)
+        requires low { 1 ≤ v.0 }
+        requires high { v.0 ≤ length self.old }
+        requires larger { IsSomeAnd (key_at self.old v.0) (λ before. key ≤ before) }
+        ensures { IsSet self.old self.new v.0 (Some key) }
+    {
+        let lowered = Label { key, node: v.0 };
+        set_leaf(&mut self.tree, self.nodes, v.0, Some(lowered));
+    }
+
+    /// Takes out the node with the least key, the smallest of them at equal keys, and answers it with its key; `None` exactly
+    /// where no node has a key. Logarithmic in n.
+    pub fn take_least(&mut self) -> Option<(NodeId, u64)>
+        ensures some { IfSome result (λ r. IsTaken self.old self.new r.0.0 r.1) }
+        ensures none { IsNone result → (v : ℕ) → key_at self.old v ≡ None }
+        ensures same { IsNone result → self.new ≡ self.old }
+    {
+        if self.nodes == 0 {
+            return None;
+        }
+        let label = self.tree[1]?;
+        set_leaf(&mut self.tree, self.nodes, label.node, None);
+        Some((NodeId(label.node), label.key))
+    }
+}
+
+// The key of a label, where there is one.
+fn key_in(label: Option<Label>) -> Option<u64>
+    ensures { result ≡ option_map (λ l. l.key) label }
+{
+    match label {
+        Some(own) => Some(own.key),
+        None => None,
+    }
+}

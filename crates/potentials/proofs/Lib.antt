@@ -1,0 +1,6 @@
+pub mod Summing
+pub mod Lists
+pub mod Reaching
+pub mod Ending
+pub mod LeastBounds
+pub mod Totals

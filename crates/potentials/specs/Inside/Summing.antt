@@ -1,0 +1,69 @@
+-- What a search for least sums keeps (source: own; no law).
+use Rattle.std.specs.Prelude.{◌≡◌, ◌⊎◌, ℕ, suc, ◌+◌, ◌*◌, ◌≤◌, Option, Some, None, List}
+use Rattle.route_base.specs.Setting.{Road}
+use Rattle.route_base.specs.Net.{Net, setting_of}
+use Rattle.route_base.specs.declared.limits.TheConstants.{HIGHEST_COST}
+use Rattle.route_base.specs.declared.types.Bound.{Bound}
+use Rattle.label_queue.specs.Keys.{key_at}
+use Rattle.potentials.specs.Sums.{Leads}
+use Rattle.potentials.specs.Inside.Totals.{total}
+use Rattle.potentials.specs.declared.sums.Counted.{Counted}
+use Rattle.potentials.specs.declared.sums.Counted.TheVariants.{Minutes, Cost}
+
+-- a sum that is known is no larger than this
+pub record HasSum (known : ℕ → Option ℕ) (v sum : ℕ) : Type 0 where
+  pub least : ℕ
+  pub is : known v ≡ Some least
+  pub within : least ≤ sum
+
+-- 0 for a node whose sum is settled: it is known, and the node isn't in the queue
+abbrev pub unsettled : Option ℕ → Option ℕ → ℕ
+unsettled None key = 1
+unsettled (Some x) None = 0
+unsettled (Some x) (Some key) = 1
+
+-- the number of nodes that aren't settled
+abbrev pub unsettled_count : ℕ → (ℕ → Option ℕ) → (ℕ → Option ℕ) → ℕ
+unsettled_count nodes known keys = total (suc nodes) (λ v. unsettled (known v) (keys v))
+
+-- what the search keeps with a node at work: sums are those of walks; what is settled is no larger than a key; arcs into settled nodes are relaxed
+pub record IsSumming (roads : ℕ → Option Road) (count : Road → ℕ) (goal nodes most at_work : ℕ) (known keys : ℕ → Option ℕ) : Type 0 where
+  pub at_goal : HasSum known goal 0
+  pub sound : (v x : ℕ) → known v ≡ Some x → (arcs : List ℕ) × Leads roads count goal arcs v x
+  pub waits : (v x : ℕ) → keys v ≡ Some x → known v ≡ Some x
+  pub before : (u v x y : ℕ) → known u ≡ Some x → keys u ≡ None → keys v ≡ Some y → x ≤ y
+  pub relaxed : (a x : ℕ) (road : Road) → roads a ≡ Some road → known road.head ≡ Some x → ((key : ℕ) × (keys road.head ≡ Some key)) ⊎ ((road.head ≡ at_work) ⊎ HasSum known road.tail (count road + x))
+  pub small : (v x : ℕ) → known v ≡ Some x → x + most * unsettled_count nodes known keys ≤ most * suc nodes
+
+-- node v is at work with its sum: what is settled is no larger
+pub record IsAtWork (nodes most v x : ℕ) (known keys : ℕ → Option ℕ) : Type 0 where
+  pub sum : known v ≡ Some x
+  pub gone : keys v ≡ None
+  pub room : x + most + most * unsettled_count nodes known keys ≤ most * suc nodes
+  pub low : (u y : ℕ) → known u ≡ Some y → keys u ≡ None → y ≤ x
+
+-- node u has this sum or a smaller one: its own, or the new one, which is its key then
+pub record GetsSum (u sum : ℕ) (old new old_keys new_keys : ℕ → Option ℕ) : Type 0 where
+  pub others : (w : ℕ) → (w ≡ u → ⊥) → (new w ≡ old w) × (new_keys w ≡ old_keys w)
+  pub here : (HasSum old u sum × (new u ≡ old u) × (new_keys u ≡ old_keys u)) ⊎ ((HasSum old u sum → ⊥) × (new u ≡ Some sum) × (new_keys u ≡ Some sum))
+
+-- what is counted of an arc
+abbrev pub count_of : Counted → Road → ℕ
+count_of Minutes road = road.minutes
+count_of Cost road = road.cost
+
+-- what is kept at the net, with node v at work
+abbrev pub IsSummed : Net → Counted → ℕ → ℕ → List (Option ℕ) → List (Option ℕ) → Type 0
+IsSummed net counted goal v known keys = IsSumming (setting_of net).road (count_of counted) goal net.nodes HIGHEST_COST v (key_at known) (key_at keys)
+
+abbrev pub WorksAt : Net → ℕ → ℕ → List (Option ℕ) → List (Option ℕ) → Type 0
+WorksAt net v x known keys = IsAtWork net.nodes HIGHEST_COST v x (key_at known) (key_at keys)
+
+abbrev pub unsettled_at : Net → List (Option ℕ) → List (Option ℕ) → ℕ
+unsettled_at net known keys = unsettled_count net.nodes (key_at known) (key_at keys)
+
+-- both bounds, where there are both
+abbrev pub bound_from : Option ℕ → Option ℕ → Option Bound
+bound_from None y = None
+bound_from (Some x) None = None
+bound_from (Some x) (Some y) = Some (record { minutes = x; cost = y })

@@ -1,0 +1,24 @@
+-- Least sums over walks of arcs to a goal (source: Dijkstra 1959; bounds of two criteria: SEA 2020).
+use Rattle.std.specs.Prelude.{◌≡◌, ℕ, ◌+◌, ◌≤◌, Option, Some, None, List, [], ◌∷◌}
+use Rattle.std.specs.Option.{option_map, option_flatten}
+use Rattle.route_base.specs.Setting.{Setting, Road}
+use Rattle.route_base.specs.Net.{at_number}
+use Rattle.route_base.specs.declared.types.Bound.{Bound}
+
+-- these arcs lead from node v to the goal, and what is counted of them sums up to this
+abbrev pub Leads : (ℕ → Option Road) → (Road → ℕ) → ℕ → List ℕ → ℕ → ℕ → Type 0
+Leads roads count goal [] v sum = (v ≡ goal) × (sum ≡ 0)
+Leads roads count goal (a ∷ arcs) v sum = (road : Road) × (rest : ℕ) × (roads a ≡ Some road) × (road.tail ≡ v) × Leads roads count goal arcs road.head rest × (sum ≡ count road + rest)
+
+-- the least such sum, or none where no arcs lead to the goal
+abbrev pub IsLeastSum : (ℕ → Option Road) → (Road → ℕ) → ℕ → ℕ → Option ℕ → Type 0
+IsLeastSum roads count goal v None = (arcs : List ℕ) (sum : ℕ) → Leads roads count goal arcs v sum → ⊥
+IsLeastSum roads count goal v (Some x) = ((arcs : List ℕ) × Leads roads count goal arcs v x) × ((arcs : List ℕ) (sum : ℕ) → Leads roads count goal arcs v sum → x ≤ sum)
+
+-- for each node the least minutes and, by itself, the least cost to the goal
+abbrev pub AreLeastBounds : Setting → ℕ → (ℕ → Option Bound) → Type 0
+AreLeastBounds s goal bounds = (v : ℕ) → IsLeastSum s.road (λ r. r.minutes) goal v (option_map (λ b. b.minutes) (bounds v)) × IsLeastSum s.road (λ r. r.cost) goal v (option_map (λ b. b.cost) (bounds v))
+
+-- the bound of a node in a list with a place for each node
+abbrev pub bound_at : List (Option Bound) → ℕ → Option Bound
+bound_at bounds v = option_flatten (at_number bounds v)

@@ -1,0 +1,58 @@
+// The least minutes and, by itself, the least cost from each node to a goal.
+ghost use Rattle.std.specs.Prelude.{◌≡◌, ◌≤◌, ◌<◌, ℕ, length, IfOk};
+ghost use Rattle.route_base.specs.Relaxing.{AreBounds};
+ghost use Rattle.route_base.specs.Net.{setting_of};
+ghost use Rattle.node_arcs.specs.Stars.{AreIncoming};
+ghost use Rattle.potentials.specs.Sums.{AreLeastBounds, bound_at};
+ghost use Rattle.potentials.specs.Inside.Summing.{bound_from};
+
+use crate::sums::{Counted, least_sums};
+use node_arcs::NodeArcs;
+use route_base::{Bound, Bounds, NodeId, OutOfMemory, TimedNet};
+use std::alloc::Global;
+
+/// For each node the least sum of minutes and, by itself, the least sum of costs over walks of arcs to the goal; `None` exactly
+/// where there is no walk. Takes (n + m) log n steps for n nodes and m arcs, and memory linear in both.
+pub fn to_goal(alloc: Global, net: &TimedNet, goal: NodeId) -> Result<Bounds, OutOfMemory>
+    requires low { 1 ≤ goal.0 }
+    requires high { goal.0 ≤ net.now.nodes }
+    ensures least { IfOk result (λ bounds. AreLeastBounds (setting_of net.now) goal.0 (bound_at bounds)) }
+    ensures bounds { IfOk result (λ bounds. AreBounds (setting_of net.now) goal.0 (bound_at bounds)) }
+    ensures nodes { IfOk result (λ bounds. length bounds ≡ net.now.nodes) }
+{
+    let incoming = NodeArcs::incoming(alloc, net)?;
+    to_goal_over(alloc, net, &incoming, goal)
+}
+
+/// The same for arcs that were put in order already.
+pub fn to_goal_over(
+    alloc: Global,
+    net: &TimedNet,
+    incoming: &NodeArcs,
+    goal: NodeId,
+) -> Result<Bounds, OutOfMemory>
+    requires incoming { AreIncoming net.now incoming.now }
+    requires low { 1 ≤ goal.0 }
+    requires high { goal.0 ≤ net.now.nodes }
+    ensures least { IfOk result (λ bounds. AreLeastBounds (setting_of net.now) goal.0 (bound_at bounds)) }
+    ensures bounds { IfOk result (λ bounds. AreBounds (setting_of net.now) goal.0 (bound_at bounds)) }
+    ensures nodes { IfOk result (λ bounds. length bounds ≡ net.now.nodes) }
+{
+    let minutes = least_sums(alloc, net, incoming, Counted::Minutes, goal)?;
+    let costs = least_sums(alloc, net, incoming, Counted::Cost, goal)?;
+    let mut bounds = Bounds::new(alloc);
+    for place in 0..net.node_count() as usize {
+        bounds.push(both(minutes[place], costs[place]))?;
+    }
+    Ok(bounds)
+}
+
+// Both bounds of a node, where it has them.
+fn both(minutes: Option<u64>, cost: Option<u64>) -> Option<Bound>
+    ensures { result ≡ bound_from minutes cost }
+{
+    Some(Bound {
+        minutes: minutes?,
+        cost: cost?,
+    })
+}

@@ -1,0 +1,14 @@
+//! The least minutes and, by itself, the least cost from each node of a net to a goal: the bounds of a search.
+//!
+//! The law is `AreLeastBounds` of `specs/Sums`: a node has bounds exactly where some walk of arcs leads from it to the goal, and
+//! then they are the least sum of minutes and the least sum of costs of such walks. It is proved at `to_goal`, which also says
+//! that such bounds are `AreBounds` of `route_base`, as a search needs them.
+//!
+//! Each of the two sums is found by one search from the goal over the arcs backwards, in the order of rising sums (`sums`; Dijkstra's
+//! algorithm); `bounds` puts them together. `specs/Inside` is no law: it says what the search keeps.
+#![tactic(auto)]
+
+mod bounds;
+mod sums;
+
+pub use bounds::{to_goal, to_goal_over};

@@ -1,0 +1,17 @@
+pub mod Keeping
+pub mod Parting
+pub mod Offering
+pub mod Measuring
+pub mod Shifting
+pub mod Taking
+pub mod Splitting
+pub mod Fitting
+pub mod Lowering
+pub mod Blanks
+pub mod Lists
+pub mod Pairing
+pub mod ByArrival
+pub mod Waited
+pub mod EntryLists
+pub mod PieceStarts
+pub mod AtEnd

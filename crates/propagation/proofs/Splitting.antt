@@ -1,0 +1,152 @@
+-- What is taken of the pending minutes of a node.
+use Rattle.std.proofs.Common.{◌≡◌, ◌⊎◌, inl, inr, ⊎_elim, ℕ, ◌-◌, ◌≤◌, ◌<◌, Bool, true, false, ◌&&◌, ◌||◌, not, Option, Some, None, List, length, get_or, set, refl, sym, ◌∙◌, ap, subst}
+use Rattle.cost_functions.specs.Building.{AreBuilt}
+use Rattle.std.specs.Prelude.{All, nat_lt, if◌then◌else◌, IfSome, IsNone}
+use Rattle.std.proofs.lemmas.Bool.{cases_eq, lt-ltb}
+use Rattle.route_base.specs.Relaxing.{IsDominatedOrLate}
+use Rattle.route_base.specs.declared.types.Bound.{Bound}
+use Rattle.label_queue.specs.Keys.{key_at, IsSet}
+use Rattle.propagation.specs.declared.state.State.{State}
+use Rattle.propagation.proofs.Lists.{number_read, number_set, number_set_other}
+use Rattle.route_base.specs.Runs.{any_has}
+use Rattle.function_merge.specs.Pruning.{IsPruned}
+use Rattle.propagation.specs.Inside.Invariants.{Progress, TakesPart, Task, point}
+use Rattle.propagation.specs.Inside.States.{IsAwaited, IsRequeued, IsShaped, IsSplit, is_pending, set_has}
+use Rattle.route_base.specs.declared.types.Run.{Run}
+
+and_left : (a b : Bool) → (a && b) ≡ true → a ≡ true
+and_left true b h = refl
+and_left false b h = cc
+
+part_or_rest : (a b : Bool) → a ≡ true → ((a && not b) ≡ true) ⊎ ((a && b) ≡ true)
+part_or_rest true true h = inr refl
+part_or_rest true false h = inl refl
+part_or_rest false b h = cc
+
+not_rest : (a b : Bool) → b ≡ true → (a && not b) ≡ false
+not_rest true true h = refl
+not_rest false true h = refl
+not_rest a false h = cc
+
+pub pending_is : (sets : List (List Run)) (v : ℕ) (own : List Run) → 1 ≤ v → v ≤ length sets → own ≡ get_or sets (v - 1) own → (t : ℕ) → is_pending sets v t ≡ any_has own t
+pending_is sets v own low high is t = ap (λ o. set_has o t) (number_read sets v own low high) ∙ ap (λ w. any_has w t) (sym is)
+
+pub split_is : (sets : List (List Run)) (v first last : ℕ) (own taken rest : List Run) (next : Option ℕ) → 1 ≤ v → v ≤ length sets → own ≡ get_or sets (v - 1) own
+    → is_pending sets v first ≡ true → first < last
+    → ((t : ℕ) → any_has taken t ≡ (any_has own t && nat_lt t last)) → ((t : ℕ) → any_has rest t ≡ (any_has own t && not (nat_lt t last)))
+    → IfSome next (λ t. any_has rest t ≡ true) → (IsNone next → (t : ℕ) → any_has rest t ≡ false)
+    → IsSplit v (any_has taken) next (is_pending sets) (is_pending (set sets (v - 1) rest))
+split_is sets v first last own taken rest next low high is begins le took left some none = record {
+  others = λ u t ne. ap (λ o. set_has o t) (number_set_other sets v u rest low high ne);
+  pending = λ t there. ⊎_elim
+      (λ (stays : (any_has own t && not (nat_lt t last)) ≡ true). inl (now t ∙ left t ∙ stays))
+      (λ (goes : (any_has own t && nat_lt t last) ≡ true). inr (took t ∙ goes))
+      (part_or_rest (any_has own t) (nat_lt t last) (sym (was t) ∙ there));
+  less = λ t there. was t ∙ and_left (any_has own t) (not (nat_lt t last)) (sym (left t) ∙ (sym (now t) ∙ there));
+  some = (first, begins, now first ∙ left first ∙ not_rest (any_has own first) (nat_lt first last) (lt-ltb first last le));
+  left = by_some next some;
+  none = λ empty t. now t ∙ none empty t;
+}
+  where
+    was : (t : ℕ) → is_pending sets v t ≡ any_has own t
+    was t = pending_is sets v own low high is t
+
+    now : (t : ℕ) → is_pending (set sets (v - 1) rest) v t ≡ any_has rest t
+    now t = ap (λ o. set_has o t) (number_set sets v rest low high)
+
+    by_some : (o : Option ℕ) → IfSome o (λ t. any_has rest t ≡ true) → IfSome o (λ t. is_pending (set sets (v - 1) rest) v t ≡ true)
+    by_some None h = h
+    by_some (Some t) h = now t ∙ h
+
+cut_some : (b : Bool) (o : Option ℕ) (x : ℕ) → (if b then o else None) ≡ Some x → o ≡ Some x
+cut_some true o x h = h
+cut_some false o x h = cc
+
+some_cut : (b : Bool) (o : Option ℕ) (x : ℕ) → b ≡ true → o ≡ Some x → (if b then o else None) ≡ Some x
+some_cut true o x b h = h
+some_cut false o x b h = cc
+
+pub parts_are : (k : Task) (v : ℕ) (b : Bound) (taken : ℕ → Bool) (next : Option ℕ) (whole part : ℕ → Option ℕ) (old new : Progress)
+    → k.bounds v ≡ Some b → ((u t : ℕ) → new.cost u t ≡ old.cost u t) → new.pairs ≡ old.pairs → IsSplit v taken next old.pending new.pending
+    → ((t : ℕ) → whole t ≡ (if taken t then old.cost v t else None)) → IsPruned k.request.until old.pairs b whole part → TakesPart k v part old new
+parts_are k v b taken next whole part old new bound same pairs split cuts prunes = record {
+  cost = same;
+  pairs = pairs;
+  within = λ t x is. cut_some (taken t) (old.cost v t) x (sym (cuts t) ∙ prunes.kept t x is);
+  pending = λ u t is. ⊎_elim
+      (λ (here : u ≡ v). ⊎_elim
+      (λ (stays : new.pending v t ≡ true). inl (subst (λ w. new.pending w t ≡ true) (sym here) stays))
+      (λ (goes : taken t ≡ true). inr (
+        here,
+        λ x there. ⊎_elim
+            (λ (i : part t ≡ Some x). inl i)
+            (λ (e : IsDominatedOrLate k.request.until old.pairs (Some b) (point v t x)). inr (subst (λ o. IsDominatedOrLate k.request.until old.pairs o (point v t x)) (sym bound) e))
+            (prunes.left (point v t x) (cuts t ∙ some_cut (taken t) (old.cost v t) x goes there)),
+      ))
+      (split.pending t (subst (λ w. old.pending w t ≡ true) here is)))
+      (λ (other : u ≡ v → ⊥). inl (split.others u t other ∙ is))
+      (cases_eq u v);
+  less = λ u t is. ⊎_elim
+      (λ (here : u ≡ v). subst (λ w. old.pending w t ≡ true) (sym here) (split.less t (subst (λ w. new.pending w t ≡ true) here is)))
+      (λ (other : u ≡ v → ⊥). sym (split.others u t other) ∙ is)
+      (cases_eq u v);
+  some = split.some;
+}
+
+pub shaped_again : (nodes v : ℕ) (taken : ℕ → Bool) (next : Option ℕ) (old new : State) → IsShaped nodes v old → key_at old.queue v ≡ None
+    → IsSplit v taken next (is_pending old.pending.items) (is_pending new.pending.items) → IsRequeued v next old.queue new.queue
+    → new.functions ≡ old.functions → length new.pending.items ≡ length old.pending.items → IsShaped nodes 0 new
+shaped_again nodes v taken next old new shape absent split requeued functions pending = by next split requeued
+  where
+    by : (o : Option ℕ) → IsSplit v taken o (is_pending old.pending.items) (is_pending new.pending.items) → IsRequeued v o old.queue new.queue → IsShaped nodes 0 new
+    by None cut same = record {
+      functions = ap (λ w. length w.items) functions ∙ shape.functions;
+      built = subst (λ w. All AreBuilt w.items) (sym functions) shape.built;
+      pending = pending ∙ shape.pending;
+      queue = ap (λ (w : List (Option ℕ)). length w) same ∙ shape.queue;
+      queued = λ u t is work. ⊎_elim
+          (λ (here : u ≡ v). let bad : false ≡ true = sym (cut.none refl t) ∙ subst (λ w. is_pending new.pending.items w t ≡ true) here is in cc)
+          (λ (other : u ≡ v → ⊥). let q = shape.queued u t (sym (cut.others u t other) ∙ is) other in (q.0, ap (λ w. key_at w u) same ∙ q.1))
+          (cases_eq u v);
+      waiting = λ u key is. ⊎_elim
+          (λ (here : u ≡ v). let bad : None ≡ Some key = sym absent ∙ (ap (key_at old.queue) (sym here) ∙ (ap (λ w. key_at w u) (sym same) ∙ is)) in cc)
+          (λ (other : u ≡ v → ⊥). let w = shape.waiting u key (ap (λ w. key_at w u) (sym same) ∙ is) in (w.0, cut.others u w.0 other ∙ w.1))
+          (cases_eq u v);
+    }
+    by (Some t) cut put = record {
+      functions = ap (λ w. length w.items) functions ∙ shape.functions;
+      built = subst (λ w. All AreBuilt w.items) (sym functions) shape.built;
+      pending = pending ∙ shape.pending;
+      queue = put.1.room ∙ shape.queue;
+      queued = λ u s is work. ⊎_elim
+          (λ (here : u ≡ v). (put.0, ap (key_at new.queue) here ∙ put.1.here))
+          (λ (other : u ≡ v → ⊥). let q = shape.queued u s (sym (cut.others u s other) ∙ is) other in (q.0, put.1.others u other ∙ q.1))
+          (cases_eq u v);
+      waiting = λ u key is. ⊎_elim
+          (λ (here : u ≡ v). (t, subst (λ w. is_pending new.pending.items w t ≡ true) (sym here) cut.left))
+          (λ (other : u ≡ v → ⊥). let w = shape.waiting u key (sym (put.1.others u other) ∙ is) in (w.0, cut.others u w.0 other ∙ w.1))
+          (cases_eq u v);
+    }
+
+or_right : (a b : Bool) → b ≡ true → (a || b) ≡ true
+or_right true b h = refl
+or_right false b h = h
+
+-- a node with more pending minutes is in the queue
+pub shaped_awaited : (nodes h : ℕ) (more : ℕ → Bool) (old new : State) → IsShaped nodes 0 old → length new.functions.items ≡ length old.functions.items → All AreBuilt new.functions.items
+    → length new.pending.items ≡ length old.pending.items → IsAwaited h more (is_pending old.pending.items) (is_pending new.pending.items)
+    → (key : ℕ) × IsSet old.queue new.queue h (Some key) → (t : ℕ) × (more t ≡ true) → IsShaped nodes 0 new
+shaped_awaited nodes h more old new shape functions built pending awaits queue some = record {
+  functions = functions ∙ shape.functions;
+  built = built;
+  pending = pending ∙ shape.pending;
+  queue = queue.1.room ∙ shape.queue;
+  queued = λ u t is work. ⊎_elim
+      (λ (here : u ≡ h). (queue.0, ap (key_at new.queue) here ∙ queue.1.here))
+      (λ (other : u ≡ h → ⊥). let q = shape.queued u t (sym (awaits.others u t other) ∙ is) work in (q.0, queue.1.others u other ∙ q.1))
+      (cases_eq u h);
+  waiting = λ u key is. ⊎_elim
+      (λ (here : u ≡ h). (some.0, subst (λ w. is_pending new.pending.items w some.0 ≡ true) (sym here) (awaits.here some.0 ∙ or_right (is_pending old.pending.items h some.0) (more some.0) some.1)))
+      (λ (other : u ≡ h → ⊥). let w = shape.waiting u key (sym (queue.1.others u other) ∙ is) in (w.0, awaits.others u w.0 other ∙ w.1))
+      (cases_eq u h);
+}

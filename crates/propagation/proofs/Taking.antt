@@ -1,0 +1,135 @@
+-- A write to the state is the taking of an offer.
+use Rattle.std.proofs.Common.{◌≡◌, ◌⊎◌, inl, inr, ⊎_elim, ℕ, ◌≤◌, ◌<◌, min, Bool, true, false, ◌||◌, Option, Some, None, refl, sym, ◌∙◌, ap, subst, arith}
+use Rattle.std.specs.Prelude.{Contains}
+use Rattle.std.proofs.lemmas.Bool.{cases_eq, cases_lt, lt-ltb, le-ltb}
+use Rattle.route_base.specs.Front.{RiseAndFall}
+use Rattle.route_base.specs.Relaxing.{HasPair, IsDominatedOrLate, AreBounds}
+use Rattle.function_merge.specs.Least.{least_of, is_better}
+use Rattle.propagation.specs.Inside.Invariants.{IsLower, IsMerged, IsPrunable, Progress, TakesOffer, Task, point}
+use Rattle.propagation.specs.Inside.States.{IsAwaited, IsLowered}
+use Rattle.propagation.specs.Inside.Pairs.{TakesPairs}
+
+kept_of : (a b : Option ℕ) (x : ℕ) → a ≡ Some x → (y : ℕ) × (least_of a b ≡ Some y) × (y ≤ x)
+kept_of None b x is = cc
+kept_of (Some a) None x is = (a, refl, let e : a ≡ x = cc in omega (arith, e))
+kept_of (Some a) (Some b) x is = (min a b, refl, let e : a ≡ x = cc in omega (arith, e))
+
+offered_of : (a b : Option ℕ) (x : ℕ) → b ≡ Some x → (y : ℕ) × (least_of a b ≡ Some y) × (y ≤ x)
+offered_of None b x is = (x, is, omega arith)
+offered_of (Some a) None x is = cc
+offered_of (Some a) (Some b) x is = (min a b, refl, let e : b ≡ x = cc in omega (arith, e))
+
+either_of : (a b : Option ℕ) (x : ℕ) → least_of a b ≡ Some x → (a ≡ Some x) ⊎ ((b ≡ Some x) × IsLower (Some x) a)
+either_of None b x is = inr (is, tt)
+either_of (Some a) None x is = inl is
+either_of (Some a) (Some b) x is = let e : min a b ≡ x = cc in ⊎_elim
+    (λ (low : b < a). let f : b ≡ x = omega (arith, e, low) in inr (ap (λ n. Some n) f, omega (arith, f, low)))
+    (λ (high : a ≤ b). let f : a ≡ x = omega (arith, e, high) in inl (ap (λ n. Some n) f))
+    (cases_lt b a)
+
+lower_true : (a b : Option ℕ) → IsLower b a → is_better a b ≡ true
+lower_true a None low = absurd low
+lower_true None (Some y) low = refl
+lower_true (Some x) (Some y) low = lt-ltb y x low
+
+true_lower : (a b : Option ℕ) → is_better a b ≡ true → IsLower (least_of a b) a
+true_lower a None low = cc
+true_lower None (Some y) low = tt
+true_lower (Some x) (Some y) low = ⊎_elim
+    (λ (lt : y < x). omega (arith, lt))
+    (λ (le : x ≤ y). let bad : true ≡ false = sym low ∙ le-ltb y x le in cc)
+    (cases_lt y x)
+
+or_cases : (a b : Bool) → (a || b) ≡ true → (a ≡ true) ⊎ (b ≡ true)
+or_cases true b h = inl refl
+or_cases false b h = inr h
+
+or_left : (a b : Bool) → a ≡ true → (a || b) ≡ true
+or_left true b h = refl
+or_left false b h = cc
+
+or_right : (a b : Bool) → b ≡ true → (a || b) ≡ true
+or_right true b h = refl
+or_right false b h = h
+
+pub merged_of : (h : ℕ) (offer : ℕ → Option ℕ) (better : ℕ → Bool) (old new : ℕ → ℕ → Option ℕ) → IsLowered h offer better old new → IsMerged h offer old new
+merged_of h offer better old new low = record {
+  others = low.others;
+  kept = λ t x is. let n = kept_of (old h t) (offer t) x is in record { least = n.0; is = low.here t ∙ n.1; within = n.2 };
+  offered = λ t x is. let n = offered_of (old h t) (offer t) x is in record { least = n.0; is = low.here t ∙ n.1; within = n.2 };
+  either = λ t x is. either_of (old h t) (offer t) x (sym (low.here t) ∙ is);
+}
+
+module _ (k : Task) (h : ℕ) (offer : ℕ → Option ℕ) (better : ℕ → Bool) (old new : Progress) where
+  -- a pair excuses what it is as good as, at the goal
+  goal_excused : AreBounds k.setting k.request.goal.0 k.bounds → h ≡ k.request.goal.0 → (t x : ℕ) → HasPair new.pairs t x → IsPrunable k new.pairs (point h t x)
+  goal_excused bound here t x had = subst (λ o. IsDominatedOrLate k.request.until new.pairs o (point h t x)) (sym (ap k.bounds here ∙ bound.goal))
+      (inr (record { pair = had.pair; is_one = had.is_one; arrival = omega (arith, had.arrival); cost = omega (arith, had.cost) }))
+
+  pub takes_goal : AreBounds k.setting k.request.goal.0 k.bounds → h ≡ k.request.goal.0 → IsLowered h offer better old.cost new.cost → TakesPairs offer old.pairs new.pairs
+      → ((v t : ℕ) → new.pending v t ≡ old.pending v t) → TakesOffer k h offer old new
+  takes_goal bound here low pairs same = record {
+    merged = merged_of h offer better old.cost new.cost low;
+    stays = λ v t is. same v t ∙ is;
+    awaits = λ t x is lower. inr (goal_excused bound here t x (pairs.here t x is));
+    cause = λ v t is. inl (sym (same v t) ∙ is);
+    pairs = pairs.kept;
+    trade = pairs.trade;
+    each = λ p one. ⊎_elim (λ (was : Contains old.pairs p). inl was) (λ (n : offer p.arrival ≡ Some p.cost). inr (here, n)) (pairs.each p one);
+    matched = λ t x goal is. pairs.here t x is;
+  }
+
+  pub takes_other : (h ≡ k.request.goal.0 → ⊥) → IsLowered h offer better old.cost new.cost → IsAwaited h better old.pending new.pending → new.pairs ≡ old.pairs → RiseAndFall old.pairs → TakesOffer k h offer old new
+  takes_other other low awaited same trade = record {
+    merged = merged_of h offer better old.cost new.cost low;
+    stays = λ v t is. ⊎_elim
+        (λ (here : v ≡ h). subst (λ w. new.pending w t ≡ true) (sym here) (awaited.here t ∙ or_left (old.pending h t) (better t) (subst (λ w. old.pending w t ≡ true) here is)))
+        (λ (ne : v ≡ h → ⊥). awaited.others v t ne ∙ is)
+        (cases_eq v h);
+    awaits = λ t x is lower. inl (awaited.here t ∙ or_right (old.pending h t) (better t) (low.improved t ∙ lower_true (old.cost h t) (offer t) (subst (λ o. IsLower o (old.cost h t)) (sym is) lower)));
+    cause = λ v t is. ⊎_elim
+        (λ (here : v ≡ h). ⊎_elim
+        (λ (was : old.pending h t ≡ true). inl (subst (λ w. old.pending w t ≡ true) (sym here) was))
+        (λ (b : better t ≡ true). inr (here, subst (λ o. IsLower o (old.cost h t)) (sym (low.here t)) (true_lower (old.cost h t) (offer t) (sym (low.improved t) ∙ b))))
+        (or_cases (old.pending h t) (better t) (sym (awaited.here t) ∙ subst (λ w. new.pending w t ≡ true) here is)))
+        (λ (ne : v ≡ h → ⊥). inl (sym (awaited.others v t ne) ∙ is))
+        (cases_eq v h);
+    pairs = λ t x had. subst (λ w. HasPair w t x) (sym same) had;
+    trade = subst RiseAndFall (sym same) trade;
+    each = λ p one. inl (subst (λ w. Contains w p) same one);
+    matched = λ t x goal is. absurd (other goal);
+  }
+
+lower_false : (a b : Option ℕ) (x : ℕ) → is_better a b ≡ false → b ≡ Some x → (y : ℕ) × (a ≡ Some y) × (y ≤ x)
+lower_false a None x low is = cc
+lower_false None (Some z) x low is = cc
+lower_false (Some y) (Some z) x low is = let e : z ≡ x = cc in ⊎_elim
+    (λ (lt : z < y). let bad : true ≡ false = sym (lt-ltb z y lt) ∙ low in cc)
+    (λ (le : y ≤ z). (y, refl, omega (arith, le, e)))
+    (cases_lt z y)
+
+-- an offer that is nowhere better changes no_part
+pub takes_none : (k : Task) (h : ℕ) (offer : ℕ → Option ℕ) (now : Progress) → (h ≡ k.request.goal.0 → ⊥) → ((t : ℕ) → is_better (now.cost h t) (offer t) ≡ false) → RiseAndFall now.pairs → TakesOffer k h offer now now
+takes_none k h offer now other none trade = record {
+  merged = record {
+    others = λ v t ne. refl;
+    kept = λ t x is. record { least = x; is = is; within = omega arith };
+    offered = λ t x is. let n = lower_false (now.cost h t) (offer t) x (none t) is in record { least = n.0; is = n.1; within = n.2 };
+    either = λ t x is. inl is;
+  };
+  stays = λ v t is. is;
+  awaits = λ t x is low. let bad : true ≡ false = sym (lower_true (now.cost h t) (offer t) (subst (λ o. IsLower o (now.cost h t)) (sym is) low)) ∙ none t in cc;
+  cause = λ v t is. inl is;
+  pairs = λ t x had. had;
+  trade = trade;
+  each = λ p one. inl one;
+  matched = λ t x goal is. absurd (other goal);
+}
+
+-- what is improved nowhere is better nowhere
+pub never : (b : Bool) (f : ℕ → Bool) → ((t : ℕ) × (f t ≡ true) → b ≡ true) → b ≡ false → (t : ℕ) → f t ≡ false
+never b f some none t = by (f t) refl
+  where
+    by : (o : Bool) → f t ≡ o → f t ≡ false
+    by false is = is
+    by true is = let bad : true ≡ false = sym (some (t, is)) ∙ none in cc

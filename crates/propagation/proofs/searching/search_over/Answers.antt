@@ -1,0 +1,22 @@
+use Rattle.std.proofs.Common.{sym, subst}
+use Rattle.propagation.specs.Found.{Finding, IsFoundFor}
+use Rattle.route_base.specs.Net.{setting_of}
+use Rattle.potentials.specs.Sums.{bound_at}
+use Rattle.propagation.specs.Inside.Invariants.{Task}
+use Rattle.propagation.specs.Inside.States.{progress_of}
+use Rattle.propagation.proofs.AtEnd.{optimal_at_end, justified_at_end}
+use Rattle.propagation.proofs.searching.search_over.Goals as goal
+
+pub returns : goal.returns
+returns c =
+    let k : Task = record { setting = setting_of c.args.net.now; request = c.args.request; bounds = bound_at c.in_ok-bounds.bounds } in
+    let now = progress_of c.in_ok-state.state in
+    let facts = c.in_ok-state.ensures.facts in
+    let done = c.in_ok-state.ensures.done in
+    subst (λ (found : Finding). IsFoundFor c.args.net.now c.args.request found) (sym c.new.ensures) (record {
+      nodes = c.in_ok-state.ensures.nodes;
+      bounded = c.in_ok-bounds.ensures.nodes;
+      reduced = c.in_ok-state.ensures.built;
+      optimal = optimal_at_end k now facts done c.requires.in_time c.in_ok-bounds.ensures.bounds c.in_ok-bounds.ensures.least;
+      justified = justified_at_end k now facts done;
+    })

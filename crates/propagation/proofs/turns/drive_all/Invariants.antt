@@ -1,0 +1,20 @@
+use Rattle.std.proofs.Common.{◌≡◌, ◌<◌, ℕ, Some}
+use Rattle.std.specs.Prelude.{slice_get}
+use Rattle.route_base.specs.Itinerary.{Position, Drives}
+use Rattle.route_base.specs.Net.{setting_of}
+use Rattle.route_base.specs.declared.types.ArcId.{ArcId}
+use Rattle.propagation.specs.Inside.EntrySets.{AreEntrySets}
+use Rattle.propagation.proofs.turns.drive_all.Given as goal
+use Rattle.cost_functions.specs.Pieces.{value_at}
+use Rattle.propagation.specs.Inside.Invariants.{Improves, IsRelaxedIn, IsSearching, point}
+use Rattle.propagation.specs.Inside.States.{IsShaped, progress_of, task_of}
+
+abbrev pub invariant-loop-a : goal.invariant-loop-a
+invariant-loop-a l = record {
+  entries : AreEntrySets l.plan.net.now l.plan.request.until l.sets;
+  shape : IsShaped l.plan.net.now.nodes 0 l.state;
+  facts : IsSearching (task_of l.plan) (progress_of l.state) l.fn.v.0 (value_at l.part);
+  better : Improves (task_of l.plan) (progress_of l.fn.state) (progress_of l.state);
+  relaxed : (i : ℕ) (a : ArcId) → i < l.a-index → slice_get l.a-items i ≡ Some a → (t x : ℕ) (q : Position) → value_at l.part t ≡ Some x
+      → Drives (setting_of l.plan.net.now) l.plan.request.until a.0 (point l.fn.v.0 t x) q → IsRelaxedIn (task_of l.plan) (progress_of l.state) q;
+}

@@ -1,0 +1,77 @@
+-- The state of the search as its progress, and what its parts keep of each other (source: own; no law).
+use Rattle.std.specs.Prelude.{◌≡◌, ◌⊎◌, ℕ, ◌≤◌, Bool, true, false, ◌||◌, Option, Some, None, List, length, All, IfSome, IsNone}
+use Rattle.route_base.specs.Net.{IsGoodRequest, at_number, setting_of}
+use Rattle.route_base.specs.Legs.{CostsFit}
+use Rattle.route_base.specs.Relaxing.{AreBounds}
+use Rattle.route_base.specs.Runs.{any_has}
+use Rattle.route_base.specs.declared.limits.TheConstants.{HIGHEST_COST}
+use Rattle.route_base.specs.declared.types.Run.{Run}
+use Rattle.cost_functions.specs.Building.{AreBuilt}
+use Rattle.function_merge.specs.Least.{least_of, is_better}
+use Rattle.label_queue.specs.Keys.{key_at, IsSet}
+use Rattle.node_arcs.specs.Stars.{AreOutgoing}
+use Rattle.potentials.specs.Sums.{bound_at}
+use Rattle.propagation.specs.Found.{cost_at}
+use Rattle.propagation.specs.Inside.Invariants.{Task, Progress}
+use Rattle.propagation.specs.declared.plan.Plan.{Plan}
+use Rattle.propagation.specs.declared.state.State.{State}
+
+abbrev pub set_has : Option (List Run) → ℕ → Bool
+set_has None t = false
+set_has (Some set) t = any_has set t
+
+-- whether a minute is pending at a node
+abbrev pub is_pending : List (List Run) → ℕ → ℕ → Bool
+is_pending sets v t = set_has (at_number sets v) t
+
+abbrev pub progress_of : State → Progress
+progress_of state = record { cost = cost_at state.functions.items; pending = is_pending state.pending.items; pairs = state.pairs.items }
+
+abbrev pub task_of : Plan → Task
+task_of plan = record { setting = setting_of plan.net.now; request = plan.request; bounds = bound_at plan.bounds.now }
+
+-- the request is one over the net, and the bounds and the arcs are those of the net
+pub record IsGoodPlan (plan : Plan) : Type 0 where
+  pub ends : IsGoodRequest plan.net.now plan.request
+  pub in_time : plan.request.depart ≤ plan.request.until
+  pub fit : CostsFit (setting_of plan.net.now) plan.request
+  pub bound : AreBounds (setting_of plan.net.now) plan.request.goal.0 (bound_at plan.bounds.now)
+  pub outgoing : AreOutgoing plan.net.now plan.outgoing.now
+
+-- a place for each node, and a key for each node with pending minutes but the one at work
+pub record IsShaped (nodes at_work : ℕ) (state : State) : Type 0 where
+  pub functions : length state.functions.items ≡ nodes
+  pub built : All AreBuilt state.functions.items
+  pub pending : length state.pending.items ≡ nodes
+  pub queue : length state.queue ≡ nodes
+  pub queued : (v t : ℕ) → is_pending state.pending.items v t ≡ true → (v ≡ at_work → ⊥) → (key : ℕ) × (key_at state.queue v ≡ Some key)
+  pub waiting : (v key : ℕ) → key_at state.queue v ≡ Some key → (t : ℕ) × (is_pending state.pending.items v t ≡ true)
+
+-- node h takes the lesser of its costs and the offered ones, which are better at some minutes
+pub record IsLowered (h : ℕ) (offer : ℕ → Option ℕ) (better : ℕ → Bool) (old new : ℕ → ℕ → Option ℕ) : Type 0 where
+  pub here : (t : ℕ) → new h t ≡ least_of (old h t) (offer t)
+  pub others : (v t : ℕ) → (v ≡ h → ⊥) → new v t ≡ old v t
+  pub improved : (t : ℕ) → better t ≡ is_better (old h t) (offer t)
+
+-- no cost is above the highest
+abbrev pub AreCostsSmall : (ℕ → ℕ → Option ℕ) → Type 0
+AreCostsSmall cost = (v t x : ℕ) → cost v t ≡ Some x → x ≤ HIGHEST_COST
+
+-- these minutes become pending at node h
+pub record IsAwaited (h : ℕ) (more : ℕ → Bool) (old new : ℕ → ℕ → Bool) : Type 0 where
+  pub here : (t : ℕ) → new h t ≡ (old h t || more t)
+  pub others : (v t : ℕ) → (v ≡ h → ⊥) → new v t ≡ old v t
+
+-- a part of what is pending at node v is taken from it, and next is the first minute of what is left
+pub record IsSplit (v : ℕ) (taken : ℕ → Bool) (next : Option ℕ) (old new : ℕ → ℕ → Bool) : Type 0 where
+  pub others : (u t : ℕ) → (u ≡ v → ⊥) → new u t ≡ old u t
+  pub pending : (t : ℕ) → old v t ≡ true → (new v t ≡ true) ⊎ (taken t ≡ true)
+  pub less : (t : ℕ) → new v t ≡ true → old v t ≡ true
+  pub some : (t : ℕ) × (old v t ≡ true) × (new v t ≡ false)
+  pub left : IfSome next (λ t. new v t ≡ true)
+  pub none : IsNone next → (t : ℕ) → new v t ≡ false
+
+-- the node is back in the queue, if minutes are left
+abbrev pub IsRequeued : ℕ → Option ℕ → List (Option ℕ) → List (Option ℕ) → Type 0
+IsRequeued v None old new = new ≡ old
+IsRequeued v (Some t) old new = (key : ℕ) × IsSet old new v (Some key)

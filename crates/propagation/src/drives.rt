@@ -1,0 +1,128 @@
+// What drives over an arc offer to its head.
+ghost use Rattle.std.specs.Prelude.{◌≡◌, ◌≤◌, ℕ, Some, length, IfOk, OnOk};
+ghost use Rattle.route_base.specs.Front.{RiseAndFall};
+ghost use Rattle.route_base.specs.Net.{at_number, IsGoodArc};
+ghost use Rattle.cost_functions.specs.Pieces.{value_at, AreSmall};
+ghost use Rattle.cost_functions.specs.Building.{AreBuilt};
+ghost use Rattle.potentials.specs.Sums.{bound_at};
+ghost use Rattle.propagation.specs.Inside.Invariants.{IsOffer, Reaches, point};
+ghost use Rattle.propagation.specs.Inside.Offers.{IsKnownPart, IsDriven, IsSource, IsCleared, Covers, CoversDrives};
+ghost use Rattle.propagation.specs.Inside.EntrySets.{AreEntrySets};
+ghost use Rattle.propagation.specs.Inside.States.{progress_of, task_of, IsGoodPlan};
+
+use crate::entry_sets::{EntrySets, make_room, place_of};
+use crate::plan::Plan;
+use crate::state::State;
+use cost_functions::CostFn;
+use function_merge::{prune, shift, wait};
+use route_base::{ArcId, Bound, NodeId, OutOfMemory, Pair, TimedArc};
+use std::alloc::Global;
+
+// The costs with which drives of the part over the arc end.
+fn driven(
+    alloc: Global,
+    plan: Plan<'_>,
+    sets: &mut EntrySets,
+    v: NodeId,
+    part: &CostFn,
+    a: ArcId,
+    arc: TimedArc,
+) -> Result<CostFn, OutOfMemory>
+    requires asked { IsGoodPlan plan }
+    requires is { at_number plan.net.now.arcs a.0 ≡ Some arc }
+    requires good { IsGoodArc plan.net.now arc }
+    requires begins { arc.tail.0 ≡ v.0 }
+    requires entries { AreEntrySets plan.net.now plan.request.until sets.old }
+    requires reached { (t x : ℕ) → value_at part.now t ≡ Some x → Reaches (task_of plan) (point v.0 t x) }
+    ensures driven { IfOk result (λ g. IsDriven (task_of plan.entry) a.0 v.0 (value_at part.now) arc.head.0 (value_at g)) }
+    ensures built { IfOk result AreBuilt }
+    ensures entries { OnOk result (AreEntrySets plan.entry.net.now plan.entry.request.until sets.new) }
+{
+    let until = plan.request.until;
+    let closed = plan.net.closed_runs(a);
+    let list = arc.closed as usize;
+    make_room(alloc, sets, list)?;
+    let place = place_of(alloc, &mut sets.lists[list], closed, until, arc.minutes)?;
+    let starts = &sets.lists[list][place].set;
+    let ends = shift(alloc, part, starts, arc.minutes, arc.cost)?;
+    Ok(ends)
+}
+
+// The costs at a node from which the goal is still worth reaching.
+fn cleared(
+    alloc: Global,
+    plan: Plan<'_>,
+    pairs: &[Pair],
+    h: NodeId,
+    bound: Bound,
+    costs: &CostFn,
+) -> Result<CostFn, OutOfMemory>
+    requires is { bound_at plan.bounds.now h.0 ≡ Some bound }
+    requires trade { RiseAndFall pairs.now }
+    requires small { AreSmall costs.now }
+    ensures cleared { IfOk result (λ g. IsCleared (task_of plan.entry) pairs.now h.0 (value_at costs.now) (value_at g)) }
+    ensures built { IfOk result AreBuilt }
+{
+    let clear = prune(alloc, costs, plan.request.until, pairs, bound)?;
+    Ok(clear)
+}
+
+// These costs, and where the node is rated those of waiting there.
+pub fn closed(
+    alloc: Global,
+    plan: Plan<'_>,
+    state: &State,
+    h: NodeId,
+    bound: Bound,
+    costs: &CostFn,
+) -> Result<CostFn, OutOfMemory>
+    requires asked { IsGoodPlan plan }
+    requires low { 1 ≤ h.0 }
+    requires high { h.0 ≤ plan.net.now.nodes }
+    requires bound { bound_at plan.bounds.now h.0 ≡ Some bound }
+    requires trade { RiseAndFall state.now.pairs.items }
+    requires small { AreSmall costs.now }
+    requires source { IsSource (task_of plan) (progress_of state.now) h.0 (value_at costs.now) }
+    ensures offer { IfOk result (λ g. IsOffer (task_of plan.entry) (progress_of state.now) h.0 (value_at g)) }
+    ensures covers { IfOk result (λ g. Covers (task_of plan.entry) state.now.pairs.items h.0 (value_at costs.now) (value_at g)) }
+    ensures built { IfOk result AreBuilt }
+{
+    let clear = cleared(alloc, plan, &state.pairs, h, bound, costs)?;
+    let Some(weight) = plan.net.weight(h) else {
+        return Ok(clear);
+    };
+    let last = plan.request.until.saturating_sub(bound.minutes);
+    let waited = wait(alloc, &clear, weight, last)?;
+    let offer = cleared(alloc, plan, &state.pairs, h, bound, &waited)?;
+    Ok(offer)
+}
+
+// What drives of the part over the arc offer to its head.
+pub fn offered(
+    alloc: Global,
+    plan: Plan<'_>,
+    sets: &mut EntrySets,
+    state: &State,
+    v: NodeId,
+    part: &CostFn,
+    a: ArcId,
+    arc: TimedArc,
+    bound: Bound,
+) -> Result<CostFn, OutOfMemory>
+    requires asked { IsGoodPlan plan }
+    requires is { at_number plan.net.now.arcs a.0 ≡ Some arc }
+    requires good { IsGoodArc plan.net.now arc }
+    requires begins { arc.tail.0 ≡ v.0 }
+    requires bound { bound_at plan.bounds.now arc.head.0 ≡ Some bound }
+    requires trade { RiseAndFall state.now.pairs.items }
+    requires entries { AreEntrySets plan.net.now plan.request.until sets.old }
+    requires part { IsKnownPart (task_of plan) (progress_of state.now) v.0 (value_at part.now) }
+    ensures offer { IfOk result (λ g. IsOffer (task_of plan.entry) (progress_of state.now) arc.head.0 (value_at g)) }
+    ensures covers { IfOk result (λ g. CoversDrives (task_of plan.entry) state.now.pairs.items a.0 v.0 (value_at part.now) arc.head.0 (value_at g)) }
+    ensures built { IfOk result AreBuilt }
+    ensures entries { OnOk result (AreEntrySets plan.entry.net.now plan.entry.request.until sets.new) }
+{
+    let ends = driven(alloc, plan, sets, v, part, a, arc)?;
+    let offer = closed(alloc, plan, state, arc.head, bound, &ends)?;
+    Ok(offer)
+}

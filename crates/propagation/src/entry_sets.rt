@@ -1,0 +1,90 @@
+// The minutes at which drives can begin, made when they are first needed.
+ghost use Rattle.std.specs.Prelude.{◌≡◌, ◌≤◌, ◌<◌, ◌↔◌, ℕ, IsTrue, List, [], All, length, IfOk, OnOk, slice_index_or};
+ghost use Rattle.route_base.specs.Runs.{any_has};
+ghost use Rattle.route_base.specs.Net.{Net};
+ghost use Rattle.propagation.specs.Inside.EntrySets.{AreEntries, IsEntrySet, AreEntrySets};
+
+use minute_sets::MinuteSet;
+use route_base::{Minute, OutOfMemory, Run};
+use std::alloc::Global;
+
+/// The minutes at which a drive of this length can begin.
+#[derive(Drop)]
+pub struct EntrySet {
+    pub minutes: u64,
+    pub set: MinuteSet,
+}
+
+/// For each list of closed runs of a net the sets that avoid it, by length.
+#[derive(Drop)]
+pub struct EntrySets {
+    pub lists: Vec<Vec<EntrySet>>,
+}
+
+// No sets.
+pub fn no_entry_sets(alloc: Global) -> EntrySets
+    ensures { result.lists.items ≡ [] }
+{
+    EntrySets {
+        lists: Vec::new(alloc),
+    }
+}
+
+// Makes room for the sets that avoid the list of closed runs at this place.
+pub fn make_room(alloc: Global, sets: &mut EntrySets, list: usize) -> Result<(), OutOfMemory>
+    ensures within { OnOk result (list < length sets.new.lists.items) }
+    ensures kept { OnOk result ((net : Net) (until : ℕ) → AreEntrySets net until sets.old → AreEntrySets net until sets.new) }
+{
+    'lists: while sets.lists.len() <= list {
+        sets.lists.push(Vec::new(alloc))?;
+    }
+    Ok(())
+}
+
+// The place of the set for drives of this length that avoid these runs, which is made if it isn't there.
+pub fn place_of(
+    alloc: Global,
+    list: &mut Vec<EntrySet>,
+    closed: &[Run],
+    until: Minute,
+    minutes: u64,
+) -> Result<usize, OutOfMemory>
+    requires some { 1 ≤ minutes }
+    requires made { All (IsEntrySet closed.now until) list.old.items }
+    ensures made { OnOk result (All (IsEntrySet closed.now until) list.new.items) }
+    ensures within { IfOk result (λ place. place < length list.new.items) }
+    ensures minutes { IfOk result (λ place. (d : EntrySet) → (slice_index_or list.new.items place d).minutes ≡ minutes) }
+{
+    let place = list.partition_point(|made| made.minutes < minutes);
+    if !is_for(list, place, minutes) {
+        let set = entries(alloc, closed, until, minutes)?;
+        list.insert(place, EntrySet { minutes, set })?;
+    }
+    Ok(place)
+}
+
+// Whether the set at a place is one for drives of this length.
+fn is_for(list: &[EntrySet], place: usize, minutes: u64) -> bool
+    ensures within { IsTrue result → place < length list.now }
+    ensures minutes { IsTrue result → (d : EntrySet) → (slice_index_or list.now place d).minutes ≡ minutes }
+{
+    match list.get(place) {
+        Some(made) => made.minutes == minutes,
+        None => false,
+    }
+}
+
+// The minutes at which a drive can begin that avoids these runs.
+fn entries(
+    alloc: Global,
+    closed: &[Run],
+    until: Minute,
+    minutes: u64,
+) -> Result<MinuteSet, OutOfMemory>
+    requires { 1 ≤ minutes }
+    ensures { IfOk result (AreEntries closed.now until minutes) }
+{
+    let runs = MinuteSet::from_runs(alloc, closed)?;
+    let window = Run { lo: 0, hi: until };
+    runs.entries(alloc, window, minutes)
+}

@@ -1,0 +1,34 @@
+//! The search over cost functions: the Pareto front of arrival and cost of a request, with bounds and functions that show that
+//! nothing is missing.
+//!
+//! It is a label-correcting search over cost profiles with A* bounds (after the SEA 2020 paper on lorry routes with driving bans).
+//! Each node has a cost function of the minute, which only falls, and the minutes at which it fell and from which the arcs are
+//! still to be relaxed. A turn takes the node whose first pending minute and least minutes to the goal sum up to the least; it
+//! takes the pieces that begin soon after that minute, whole, and relaxes each arc that leaves the node for all of them at once:
+//! the part is shifted to the minutes and costs at which the drives end, pruned by the bounds and by the pairs found so far,
+//! closed under waiting where the head is rated, pruned again, and merged into the head's function if it is better anywhere. What
+//! arrives at the goal enters the pairs. The search ends where nothing is pending.
+//!
+//! The law is `IsFoundFor` of `specs/Found`: the pairs are the front of all lawful itineraries, the bounds are the least to the
+//! goal, and with them the functions leave no lawful itinerary out (`IsComplete` of `route_base`); each cost is that of a lawful
+//! walk, comes by a step from another, and is at a minute from which the goal is in reach; the functions are reduced. It is proved
+//! at `search`.
+//!
+//! The proof speaks of functions of node and minute, never of pieces. `specs/Inside/Invariants` has what the search keeps, the part
+//! at work beside it: every wait is relaxed at once; a drive is relaxed, or its label is pending, prunable, or in the part.
+//! `Offers` has what a part becomes on its way over an arc, `States` how vectors are seen so, `Measures` why the search ends, and
+//! `EntrySets` the minutes at which drives can begin, which are made once for each list of closed runs and length.
+#![tactic(auto)]
+
+mod drives;
+mod entry_sets;
+mod found;
+mod pairs;
+mod parts;
+mod plan;
+mod searching;
+mod state;
+mod turns;
+
+pub use found::Found;
+pub use searching::{search, search_over};

@@ -1,0 +1,149 @@
+// What is taken of the pending minutes of a node to be driven on.
+ghost use Rattle.std.specs.Prelude.{◌≡◌, ◌≤◌, ◌<◌, ◌&&◌, not, nat_lt, ℕ, Option, Some, None, true, length, IfOk, OnOk};
+ghost use Rattle.route_base.specs.Front.{RiseAndFall};
+ghost use Rattle.route_base.specs.Runs.{any_has};
+ghost use Rattle.route_base.specs.declared.limits.TheConstants.{LAST_INSTANT};
+ghost use Rattle.cost_functions.specs.Pieces.{value_at};
+ghost use Rattle.cost_functions.specs.Building.{AreBuilt};
+ghost use Rattle.label_queue.specs.Keys.{key_at};
+ghost use Rattle.potentials.specs.Sums.{bound_at};
+ghost use Rattle.propagation.specs.Inside.Invariants.{TakesPart};
+ghost use Rattle.propagation.specs.Inside.States.{progress_of, task_of, is_pending, IsShaped, IsSplit, IsRequeued};
+
+use crate::plan::Plan;
+use crate::state::{State, first_of};
+use cost_functions::{CostFn, Piece};
+use function_merge::{cut, prune};
+use label_queue::LabelQueue;
+use minute_sets::MinuteSet;
+use route_base::{Bound, Minute, NodeId, OutOfMemory, Run};
+use std::alloc::Global;
+use std::mem;
+
+// A turn takes the pieces that begin within this many minutes of the first pending one.
+const SPAN: u64 = 20;
+
+// What is taken, and the first minute that is left.
+#[derive(Drop)]
+pub struct Split {
+    taken: MinuteSet,
+    next: Option<Minute>,
+}
+
+// A set before a minute, and from it on.
+#[derive(Drop)]
+pub struct Halves {
+    before: MinuteSet,
+    after: MinuteSet,
+}
+
+// Takes a part of what is pending at a node that has left the queue, which is back in it if minutes are left.
+pub fn part_of(
+    alloc: Global,
+    plan: Plan<'_>,
+    state: &mut State,
+    v: NodeId,
+    bound: Bound,
+    first: Minute,
+) -> Result<CostFn, OutOfMemory>
+    requires bound { bound_at plan.bounds.now v.0 ≡ Some bound }
+    requires low { 1 ≤ v.0 }
+    requires high { v.0 ≤ plan.net.now.nodes }
+    requires shape { IsShaped plan.net.now.nodes v.0 state.old }
+    requires absent { key_at state.old.queue v.0 ≡ None }
+    requires first { is_pending state.old.pending.items v.0 first ≡ true }
+    requires early { first ≤ LAST_INSTANT }
+    requires trade { RiseAndFall state.old.pairs.items }
+    ensures parts { IfOk result (λ part. TakesPart (task_of plan.entry) v.0 (value_at part) (progress_of state.old) (progress_of state.new)) }
+    ensures built { IfOk result AreBuilt }
+    ensures shape { OnOk result (IsShaped plan.entry.net.now.nodes 0 state.new) }
+{
+    let place = v.0 as usize - 1;
+    let end = end_of_turn(
+        state.functions[place].pieces(),
+        state.pending[place].runs(),
+        first,
+    );
+    let split = split_at(alloc, &mut state.pending, v, first, end)?;
+    let whole = cut(alloc, &state.functions[place], &split.taken)?;
+    let part = prune(alloc, &whole, plan.request.until, &state.pairs, bound)?;
+    requeue(&mut state.queue, v, split.next, bound);
+    Ok(part)
+}
+
+// The end of the last piece of what is pending that begins within the span, so that no piece is split.
+fn end_of_turn(pieces: &[Piece], pending: &[Run], first: Minute) -> Minute
+    requires { first ≤ LAST_INSTANT }
+    ensures { first < result }
+{
+    let limit = first + SPAN;
+    let Some(run) = last_run_by(pending, limit) else {
+        return first + 1;
+    };
+    let Some(piece) = last_piece_by(pieces, limit.min(run.hi.saturating_sub(1))) else {
+        return first + 1;
+    };
+    run.hi.min(piece.hi.saturating_add(1)).max(first + 1)
+}
+
+// The last run that begins by a minute.
+fn last_run_by(runs: &[Run], minute: Minute) -> Option<Run> {
+    let count = runs.partition_point(|run| run.lo <= minute);
+    runs[..count].last().copied()
+}
+
+// The last piece that begins by a minute.
+fn last_piece_by(pieces: &[Piece], minute: Minute) -> Option<Piece> {
+    let count = pieces.partition_point(|piece| piece.lo <= minute);
+    pieces[..count].last().copied()
+}
+
+// Takes the minutes before an end from what is pending at a node.
+fn split_at(
+    alloc: Global,
+    pending: &mut Vec<MinuteSet>,
+    v: NodeId,
+    first: Minute,
+    end: Minute,
+) -> Result<Split, OutOfMemory>
+    requires low { 1 ≤ v.0 }
+    requires high { v.0 ≤ length pending.old.items }
+    requires first { is_pending pending.old.items v.0 first ≡ true }
+    requires end { first < end }
+    ensures split { IfOk result (λ s. IsSplit v.0 (any_has s.taken) s.next (is_pending pending.old.items) (is_pending pending.new.items)) }
+    ensures nodes { OnOk result (length pending.new.items ≡ length pending.old.items) }
+{
+    let place = v.0 as usize - 1;
+    let halves = halves_at(alloc, &pending[place], end)?;
+    let next = first_of(&halves.after);
+    pending[place] = halves.after;
+    Ok(Split {
+        taken: halves.before,
+        next,
+    })
+}
+
+// The minutes of a set before an end, and the others.
+fn halves_at(alloc: Global, own: &MinuteSet, end: Minute) -> Result<Halves, OutOfMemory>
+    ensures before { IfOk result (λ halves. (t : ℕ) → any_has halves.before t ≡ (any_has own.now t && nat_lt t end)) }
+    ensures after { IfOk result (λ halves. (t : ℕ) → any_has halves.after t ≡ (any_has own.now t && not (nat_lt t end))) }
+{
+    let window = MinuteSet::whole(alloc, Run { lo: 0, hi: end })?;
+    Ok(Halves {
+        before: own.intersection(alloc, &window)?,
+        after: own.minus(alloc, &window)?,
+    })
+}
+
+// Puts the node back, if minutes are left.
+fn requeue(queue: &mut LabelQueue, v: NodeId, next: Option<Minute>, bound: Bound)
+    requires low { 1 ≤ v.0 }
+    requires high { v.0 ≤ length queue.old }
+    requires absent { key_at queue.old v.0 ≡ None }
+    ensures { IsRequeued v.0 next queue.old queue.new }
+{
+    let Some(first) = next else {
+        return;
+    };
+    queue.put(v, first.saturating_add(bound.minutes));
+}

@@ -1,0 +1,12 @@
+// What is searched.
+use node_arcs::NodeArcs;
+use route_base::{Bounds, Request, TimedNet};
+
+/// A net with the arcs that leave each node, a request, and bounds to its goal.
+#[derive(Clone, Copy)]
+pub struct Plan<'a> {
+    pub net: &'a TimedNet,
+    pub outgoing: &'a NodeArcs,
+    pub bounds: &'a Bounds,
+    pub request: Request,
+}
