@@ -8,8 +8,8 @@ use Rattle.certificate.specs.Writable.{IsCertificateText, IsNoCertificateText}
 use Rattle.certificate.specs.declared.Certificate.{Certificate}
 use Rattle.certificate_check.specs.Conditions.{pairs_of}
 use Rattle.certificate_check.specs.Verdicts.{IsVerdict}
-use Rattle.certificate_check.specs.declared.checking.Verdict.{Verdict}
-use Rattle.certificate_check.specs.declared.checking.Verdict.TheVariants.{Accepted, Rejected}
+use Rattle.certificate_check.specs.declared.checker.Verdict.{Verdict}
+use Rattle.certificate_check.specs.declared.checker.Verdict.TheVariants.{Accepted, Rejected}
 use Rattle.route_base.specs.FolderState.{FolderState}
 use Rattle.network_tables.specs.NetworkModel.{NetworkModel}
 use Rattle.front_desk.specs.Check.{no_certificate, condition_fails, check_fault, certificate_held, IsAccepted, IsRejected}

@@ -6,7 +6,7 @@ ghost use Rattle.route_base.specs.Front.{IsFront};
 ghost use Rattle.certificate.specs.Writable.{IsWritable};
 ghost use Rattle.certificate_check.specs.Conditions.{pairs_of};
 ghost use Rattle.certificate_check.specs.Verdicts.{IsVerdict};
-ghost use Rattle.certificate_check.specs.declared.checking.Verdict.TheVariants.{Accepted};
+ghost use Rattle.certificate_check.specs.declared.checker.Verdict.TheVariants.{Accepted};
 
 use crate::command_line::Check;
 use crate::networks::{load_to_check, net_of_trip};

@@ -3,8 +3,8 @@ use Rattle.std.specs.Prelude.{◌≡◌, ℕ, true, false, List, length}
 use Rattle.route_base.specs.Setting.{Setting}
 use Rattle.route_base.specs.declared.types.Request.{Request}
 use Rattle.certificate.specs.declared.Certificate.{Certificate}
-use Rattle.certificate_check.specs.declared.checking.Verdict.{Verdict}
-use Rattle.certificate_check.specs.declared.checking.Verdict.TheVariants.{Accepted, Rejected}
+use Rattle.certificate_check.specs.declared.checker.Verdict.{Verdict}
+use Rattle.certificate_check.specs.declared.checker.Verdict.TheVariants.{Accepted, Rejected}
 use Rattle.front_desk.specs.Check.{IsAccepted, IsRejected}
 use Rattle.front_desk.specs.Texts.{accepted_text_of, rejected_text_of}
 use Rattle.front_desk.specs.declared.outcome.Report.{Report}

@@ -5,7 +5,7 @@ use Rattle.route_base.specs.Matching.{IsInWindow}
 use Rattle.route_base.specs.Net.{setting_of}
 use Rattle.route_base.specs.declared.types.Request.{Request}
 use Rattle.certificate_check.specs.Verdicts.{IsGood}
-use Rattle.certificate_check.specs.declared.checking.Verdict.TheVariants.{Accepted}
+use Rattle.certificate_check.specs.declared.checker.Verdict.TheVariants.{Accepted}
 use Rattle.front_desk.specs.Inside.Planning.{trip_window}
 use Rattle.front_desk.specs.Plan.{trip_setting}
 use Rattle.front_desk.specs.Trips.{request_of, trip_in}
