@@ -130,7 +130,7 @@ module _ (p : Plan) (old mid new : FolderState) (kept : KeepsFiles old mid) (net
   unwritten_leaves (Some name) (Some file) WriteFault for why = inr (inr (
     failed_since old mid new kept why.1.0,
     subst (λ (n : List ℕ). LeavesOpen old.contents new.contents (path_of p.dir n)) for.0
-    (subst (λ (o : Option Contents). LeavesOpen o new.contents (path_of p.dir file.name.now)) kept.contents why.1.1),
+        (subst (λ (o : Option Contents). LeavesOpen o new.contents (path_of p.dir file.name.now)) kept.contents why.1.1),
   ))
   unwritten_leaves (Some name) (Some file) NoMemory for why = inl (why.1 ∙ kept.contents)
 

@@ -103,10 +103,10 @@ push_same : {X : Type 0} (xs zs : List X) (y w : X) → xs ++ y ∷ [] ≡ zs ++
 push_same {X} xs zs y w same =
     let n : length xs ≡ length zs = omega (arith, ap (λ (l : List X). length l) same, length-append xs (y ∷ []), length-append zs (w ∷ [])) in (
       sym (take-append_seam xs (y ∷ [])) ∙ ap (λ (l : List X). take (length xs) l) same ∙ ap (λ k. take k (zs ++ w ∷ [])) n
-      ∙ take-append_seam zs (w ∷ []),
+          ∙ take-append_seam zs (w ∷ []),
       ap (λ (l : List X). get_or l 0 y)
-      (sym (drop-append_seam xs (y ∷ [])) ∙ ap (λ (l : List X). drop (length xs) l) same ∙ ap (λ k. drop k (zs ++ w ∷ [])) n
-      ∙ drop-append_seam zs (w ∷ [])),
+          (sym (drop-append_seam xs (y ∷ [])) ∙ ap (λ (l : List X). drop (length xs) l) same ∙ ap (λ k. drop k (zs ++ w ∷ [])) n
+          ∙ drop-append_seam zs (w ∷ [])),
     )
 
 -- what was read of files and of one behind them

@@ -38,11 +38,7 @@ fn closed_report(
 
 /// The minutes of the command's window at which its arc is closed to its vehicle, over the files of its folder, as a text. It takes
 /// the time and memory of `closed_set` beside reading.
-pub fn report_bans<F: Folder>(
-    alloc: Global,
-    folder: &mut F,
-    bans: Bans<'_>,
-) -> Result<Report, Halt>
+pub fn report_bans<F: Folder>(alloc: Global, folder: &mut F, bans: Bans<'_>) -> Result<Report, Halt>
     requires depart { IsInstant bans.depart }
     requires until { IsInstant bans.until }
     ensures reports { IfOk result (ReportsOn (to_bans (bans_in bans.entry))

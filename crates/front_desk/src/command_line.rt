@@ -146,17 +146,7 @@ fn certified_plan(words: &[Text]) -> Option<Plan<'_>>
     ensures plan { option_map plan_in result ≡ certified_plan_of words.now }
     ensures supported { IfSome result (λ p. IsSupported (plan_in p)) }
 {
-    let [
-        dir,
-        vehicle,
-        origin,
-        goal,
-        depart,
-        until,
-        option,
-        name,
-    ] = words
-    else {
+    let [dir, vehicle, origin, goal, depart, until, option, name] = words else {
         return None;
     };
     if option.as_str() != "--certificate" || !is_certificate_word(name.as_str()) {

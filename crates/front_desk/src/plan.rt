@@ -17,9 +17,7 @@ use certificate_check::verdicts_agree;
 use network_tables::Network;
 use plain_search::TableEngine;
 use plan_certificate::certify;
-use route_base::{
-    Folder, FrontSearch, OutOfMemory, Routes, TimedNet, WriteError, settings_agree,
-};
+use route_base::{Folder, FrontSearch, OutOfMemory, Routes, TimedNet, WriteError, settings_agree};
 use std::alloc::Global;
 use vehicle_classes::Vehicle;
 
@@ -142,11 +140,7 @@ fn hand_over<F: Folder>(
 }
 
 /// The report of the plan's trip over the files of its folder, into which its certificate is written where one is asked for.
-pub fn report_plan<F: Folder>(
-    alloc: Global,
-    folder: &mut F,
-    plan: Plan<'_>,
-) -> Result<Report, Halt>
+pub fn report_plan<F: Folder>(alloc: Global, folder: &mut F, plan: Plan<'_>) -> Result<Report, Halt>
     requires supported { IsSupported (plan_in plan) }
     ensures reports { IfOk result (ReportsOn (to_plan (plan_in plan.entry))
         (F.state folder.old) (F.state folder.new)) }

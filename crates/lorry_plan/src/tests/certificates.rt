@@ -16,7 +16,8 @@ const PAIRS: &str =
 
 const BOUNDS: &str = "bounds 3\nbound 1 120 120000\nbound 2 60 60000\nbound 3 0 0\n";
 
-const PIECES: &str = "pieces 2\npiece 1 26563680 26563680 0 0\npiece 2 26563740 26563859 60000 2000\n";
+const PIECES: &str =
+    "pieces 2\npiece 1 26563680 26563680 0 0\npiece 2 26563740 26563859 60000 2000\n";
 
 const EXCHANGED: &str =
     "pairs 2\npair 26563980 300000 1\ndrive 3\npair 26563920 360000 3\ndrive 1\nwait 120\ndrive 2\n";
@@ -40,7 +41,13 @@ fn judges_certificates(rt: HostRuntime) -> Result<(), Fail> {
             "end\n",
             "rejected 0\n",
         ),
-        ("pairs 4398046511104\n", BOUNDS, PIECES, "end\n", "rejected 0\n"),
+        (
+            "pairs 4398046511104\n",
+            BOUNDS,
+            PIECES,
+            "end\n",
+            "rejected 0\n",
+        ),
         (PAIRS, BOUNDS, PIECES, "", "rejected 0\n"),
         (PAIRS, BOUNDS, PIECES, "end", "rejected 0\n"),
         (PAIRS, BOUNDS, PIECES, "end\nend\n", "rejected 0\n"),
@@ -99,8 +106,9 @@ fn judges_certificates(rt: HostRuntime) -> Result<(), Fail> {
         ),
     ];
     for (pairs, bounds, pieces, end, text) in cases {
-        let certificate =
-            format!(in rt.alloc(); "lorry-certificate 1\n{pairs}{bounds}{pieces}{end}")?;
+        let certificate = format!(in rt.alloc();
+            "lorry-certificate 1\n{pairs}{bounds}{pieces}{end}"
+        )?;
         let case = Case {
             more: &[("d/c.cert", certificate.as_str())],
             words: CHECK,

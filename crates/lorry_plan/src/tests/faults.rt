@@ -120,13 +120,7 @@ fn leaves_certificates_whole_or_not_at_all(rt: HostRuntime) -> Result<(), Fail> 
     for failing in 1..=15 {
         let mut folder = failing_folder(rt.alloc(), NETWORK, failing)?;
         let mut sink = MemSink::new(rt.alloc(), just(rt.alloc(), 0)?);
-        let ended = run(
-            &rt,
-            rt.alloc(),
-            words.as_slice(),
-            &mut folder,
-            &mut sink,
-        );
+        let ended = run(&rt, rt.alloc(), words.as_slice(), &mut folder, &mut sink);
         let due = if failing == 15 {
             Status::WriteFault
         } else {
@@ -138,13 +132,7 @@ fn leaves_certificates_whole_or_not_at_all(rt: HostRuntime) -> Result<(), Fail> 
     }
     let mut folder = failing_folder(rt.alloc(), NETWORK, 0)?;
     let mut sink = MemSink::new(rt.alloc(), just(rt.alloc(), 1)?);
-    let ended = run(
-        &rt,
-        rt.alloc(),
-        words.as_slice(),
-        &mut folder,
-        &mut sink,
-    );
+    let ended = run(&rt, rt.alloc(), words.as_slice(), &mut folder, &mut sink);
     assert_eq!(rt; ended, Status::WriteFault);
     assert_eq!(rt; sink.written().len(), 0);
     match folder.contents("d/c.cert") {

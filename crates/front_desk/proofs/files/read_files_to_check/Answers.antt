@@ -8,7 +8,7 @@ use Rattle.front_desk.proofs.files.read_files_to_check.Goals as goal
 pub returns-clause-files : goal.returns-clause-files
 returns-clause-files g c = λ held told.
     let all = last_read (bytes_at held c.args.dir.now) network_files (certificate_file c.args.name.now) c.pop.new.self.items c.in-Some.certificate
-        (sym c.in-Some.ensures.items ∙ c.in_ok-read.ensures.read.told held told) in
+    (sym c.in-Some.ensures.items ∙ c.in_ok-read.ensures.read.told held told) in
     c.named_files.ensures ∙ ap files_from all.0
 
 pub returns-clause-certificate : goal.returns-clause-certificate
