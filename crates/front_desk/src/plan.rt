@@ -14,8 +14,8 @@ use crate::requests::{Trip, request_of, vehicle_of_trip};
 use crate::texts::plain_text;
 use certificate::write;
 use certificate_check::verdicts_agree;
+use itinerary_unpack::FunctionEngine;
 use network_tables::Network;
-use plain_search::TableEngine;
 use plan_certificate::certify;
 use route_base::{Folder, FrontSearch, OutOfMemory, Routes, TimedNet, WriteError, settings_agree};
 use std::alloc::Global;
@@ -93,7 +93,7 @@ fn planned_trip<'a>(
 {
     let net = net_of_trip(alloc, network, vehicle, plan.trip)?;
     settings_agree();
-    let routes = TableEngine.front(alloc, &net, request_of(plan.trip))?;
+    let routes = FunctionEngine.front(alloc, &net, request_of(plan.trip))?;
     let text = plain_text(alloc, &routes)?;
     let certificate = file_for(alloc, network, &net, plan, routes)?;
     Ok(Planned { text, certificate })

@@ -1,7 +1,7 @@
 // The least minutes and, by itself, the least cost from each node to a goal.
-ghost use Rattle.std.specs.Prelude.{◌≡◌, ◌≤◌, ◌<◌, ℕ, length, IfOk};
+ghost use Rattle.std.specs.Prelude.{◌≡◌, ◌≤◌, ◌<◌, ℕ, length, IfOk, OnOk};
 ghost use Rattle.route_base.specs.Relaxing.{AreBounds};
-ghost use Rattle.route_base.specs.Net.{setting_of};
+ghost use Rattle.route_base.specs.Net.{IsGoodNet, setting_of};
 ghost use Rattle.node_arcs.specs.Stars.{AreIncoming};
 ghost use Rattle.potentials.specs.Sums.{AreLeastBounds, bound_at};
 ghost use Rattle.potentials.specs.Inside.Summing.{bound_from};
@@ -19,6 +19,7 @@ pub fn to_goal(alloc: Global, net: &TimedNet, goal: NodeId) -> Result<Bounds, Ou
     ensures least { IfOk result (λ bounds. AreLeastBounds (setting_of net.now) goal.0 (bound_at bounds)) }
     ensures bounds { IfOk result (λ bounds. AreBounds (setting_of net.now) goal.0 (bound_at bounds)) }
     ensures nodes { IfOk result (λ bounds. length bounds ≡ net.now.nodes) }
+    ensures good { OnOk result (IsGoodNet net.now) }
 {
     let incoming = NodeArcs::incoming(alloc, net)?;
     to_goal_over(alloc, net, &incoming, goal)
@@ -37,6 +38,7 @@ pub fn to_goal_over(
     ensures least { IfOk result (λ bounds. AreLeastBounds (setting_of net.now) goal.0 (bound_at bounds)) }
     ensures bounds { IfOk result (λ bounds. AreBounds (setting_of net.now) goal.0 (bound_at bounds)) }
     ensures nodes { IfOk result (λ bounds. length bounds ≡ net.now.nodes) }
+    ensures good { OnOk result (IsGoodNet net.now) }
 {
     let minutes = least_sums(alloc, net, incoming, Counted::Minutes, goal)?;
     let costs = least_sums(alloc, net, incoming, Counted::Cost, goal)?;

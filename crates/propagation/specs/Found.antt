@@ -4,7 +4,7 @@ use Rattle.route_base.specs.Setting.{Setting}
 use Rattle.route_base.specs.Itinerary.{Position, Step, Moves, Walks}
 use Rattle.route_base.specs.Front.{IsFront, RiseAndFall}
 use Rattle.route_base.specs.Legs.{start_of, end_of}
-use Rattle.route_base.specs.Net.{Net, at_number, setting_of}
+use Rattle.route_base.specs.Net.{Net, IsGoodNet, at_number, setting_of}
 use Rattle.route_base.specs.Relaxing.{HasWithin, IsComplete}
 use Rattle.route_base.specs.declared.types.Bound.{Bound}
 use Rattle.route_base.specs.declared.types.Pair.{Pair}
@@ -65,8 +65,9 @@ pub record IsJustified (s : Setting) (r : Request) (pairs : List Pair) (bounds :
       → (b : Bound) × (bounds p.node ≡ Some b) × (p.minute + b.minutes ≤ r.until)
   pub achieved : (p : Pair) → Contains pairs p → HasWithin cost (end_of r p)
 
--- the finding answers the request over the net
+-- the finding answers the request over the net, a well-formed one
 pub record IsFoundFor (net : Net) (r : Request) (found : Finding) : Type 0 where
+  pub good : IsGoodNet net
   pub nodes : length found.functions ≡ net.nodes
   pub bounded : length found.bounds ≡ net.nodes
   pub reduced : All AreBuilt found.functions

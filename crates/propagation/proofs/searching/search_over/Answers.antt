@@ -14,6 +14,7 @@ returns c =
     let facts = c.in_ok-state.ensures.facts in
     let done = c.in_ok-state.ensures.done in
     subst (λ (found : Finding). IsFoundFor c.args.net.now c.args.request found) (sym c.new.ensures) (record {
+      good = c.in_ok-bounds.ensures.good;
       nodes = c.in_ok-state.ensures.nodes;
       bounded = c.in_ok-bounds.ensures.nodes;
       reduced = c.in_ok-state.ensures.built;

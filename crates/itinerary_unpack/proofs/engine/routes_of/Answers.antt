@@ -1,0 +1,38 @@
+use Rattle.std.proofs.Common.{◌≡◌, ◌+◌, ◌<◌, ◌++◌, ◌∷◌, [], suc, List, map, take, length, get_or, refl, sym, ◌∙◌, ap, subst, arith, rules}
+use Rattle.std.specs.Prelude.{All}
+use Rattle.std.proofs.Math.Seq.{take-suc}
+use Rattle.std.proofs.lemmas.List.{map-append, take_all, get_or_default}
+use Rattle.std.proofs.lemmas.List.Elements.{All-push}
+use Rattle.route_base.specs.Front.{IsFront}
+use Rattle.route_base.specs.Legs.{Achieves, HasNoNeighbouringWaits}
+use Rattle.route_base.specs.Net.{setting_of}
+use Rattle.route_base.specs.declared.types.Pair.{Pair}
+use Rattle.route_base.specs.declared.types.Route.{Route}
+use Rattle.itinerary_unpack.proofs.engine.routes_of.Goals as goal
+
+pub loop-k-preserved : goal.loop-k-preserved
+loop-k-preserved c =
+    let s = setting_of c.args.net.now in
+    let r = c.args.request in
+    let none : Pair = record { arrival = 0; cost = 0 } in
+    let pairs = c.args.found.now.pairs in
+    let k = c.loop-k.k in
+    let pair : Pair = get_or pairs k none in
+    let within : k < length pairs = omega (arith, c.loop-k-test.true, ap (λ (w : List Pair). length w) c.pairs-pairs.ensures) in
+    let route : Route = record { pair = pair; legs = c.in_ok-legs.legs } in
+    let items : c.push.new.self.items ≡ c.loop-k.routes.items ++ route ∷ [] = c.in_ok-push.ensures.items ∙ ap (λ (w : List Pair). c.loop-k.routes.items ++ record { pair = get_or w k none; legs = c.in_ok-legs.legs } ∷ []) c.pairs-pairs.ensures in
+    let next : take (k + 1) pairs ≡ take k pairs ++ pair ∷ [] = (let e : k + 1 ≡ suc k = omega arith in ap (λ n. take n pairs) e) ∙ take-suc pairs k none within in
+    record {
+      pairs = ap (map (λ (x : Route). x.pair)) items ∙ (map-append (λ (x : Route). x.pair) c.loop-k.routes.items (route ∷ []) ∙ (ap (λ (w : List Pair). w ++ pair ∷ []) c.loop-k.invariant.pairs ∙ sym next));
+      legs = subst (All (λ (x : Route). Achieves s r x.legs x.pair × HasNoNeighbouringWaits x.legs)) (sym items)
+          (All-push (λ (x : Route). Achieves s r x.legs x.pair × HasNoNeighbouringWaits x.legs) c.loop-k.routes.items route c.loop-k.invariant.legs (c.in_ok-legs.ensures.achieves none, c.in_ok-legs.ensures.tidy));
+    }
+
+pub returns : goal.returns
+returns c =
+    let pairs = c.args.found.now.pairs in
+    let all : take c.loop-k.k pairs ≡ pairs = take_all c.loop-k.k pairs (omega (arith, c.loop-k-test.false, ap (λ (w : List Pair). length w) c.pairs-pairs.ensures)) in
+    record {
+      front = subst (IsFront (setting_of c.args.net.now) c.args.request) (sym (c.loop-k.invariant.pairs ∙ all)) c.requires.found.optimal.front;
+      legs = c.loop-k.invariant.legs;
+    }

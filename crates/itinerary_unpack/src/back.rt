@@ -1,0 +1,89 @@
+// Back from a pair to the start.
+ghost use Rattle.std.specs.Prelude.{◌≡◌, ◌≤◌, ◌<◌, length, reverse, slice_get, Some, Contains, IfOk, OnOk, slice_index_or};
+ghost use Rattle.route_base.specs.Net.{IsGoodRequest, setting_of};
+ghost use Rattle.route_base.specs.Itinerary.{Walks};
+ghost use Rattle.route_base.specs.Legs.{steps_of, start_of, end_of, Achieves, HasNoNeighbouringWaits, CostsFit};
+ghost use Rattle.route_base.specs.declared.types.Pair.{Pair};
+ghost use Rattle.node_arcs.specs.Stars.{AreIncoming};
+ghost use Rattle.propagation.specs.Found.{IsFoundFor};
+ghost use Rattle.itinerary_unpack.specs.Inside.Requests.{IsSolved, setting_in};
+ghost use Rattle.itinerary_unpack.specs.Inside.Ways.{IsTidyBack};
+
+use crate::legs::push_before;
+use crate::solved::Solved;
+use crate::sources::source_of;
+use node_arcs::NodeArcs;
+use propagation::Found;
+use route_base::{Leg, Legs, OutOfMemory, Pair, Request, TimedNet};
+use std::alloc::Global;
+
+/// The legs of pair k, counted from 0, in the order of travel: lawful ones without neighbouring waits. Takes two binary searches
+/// for each arc that comes into a node of the itinerary, and memory for the arcs by node.
+pub fn unpack(
+    alloc: Global,
+    net: &TimedNet,
+    request: Request,
+    found: &Found,
+    k: usize,
+) -> Result<Legs, OutOfMemory>
+    requires good { IsGoodRequest net.now request }
+    requires in_time { request.depart ≤ request.until }
+    requires fit { CostsFit (setting_of net.now) request }
+    requires found { IsFoundFor net.now request found.now }
+    requires one { k < length found.now.pairs }
+    ensures achieves { IfOk result (λ legs. (d : Pair) → Achieves (setting_of net.now) request legs (slice_index_or found.now.pairs k d)) }
+    ensures tidy { IfOk result HasNoNeighbouringWaits }
+{
+    let incoming = NodeArcs::incoming(alloc, net)?;
+    unpack_over(alloc, net, &incoming, request, found, k)
+}
+
+/// The same for arcs that were put in order already.
+pub fn unpack_over(
+    alloc: Global,
+    net: &TimedNet,
+    incoming: &NodeArcs,
+    request: Request,
+    found: &Found,
+    k: usize,
+) -> Result<Legs, OutOfMemory>
+    requires incoming { AreIncoming net.now incoming.now }
+    requires good { IsGoodRequest net.now request }
+    requires in_time { request.depart ≤ request.until }
+    requires fit { CostsFit (setting_of net.now) request }
+    requires found { IsFoundFor net.now request found.now }
+    requires one { k < length found.now.pairs }
+    ensures achieves { IfOk result (λ legs. (d : Pair) → Achieves (setting_of net.now) request legs (slice_index_or found.now.pairs k d)) }
+    ensures tidy { IfOk result HasNoNeighbouringWaits }
+{
+    let solved = Solved {
+        net,
+        incoming,
+        found,
+        request,
+    };
+    let mut legs = legs_back(alloc, solved, found.pairs()[k])?;
+    legs.reverse();
+    Ok(Legs::from_vec(legs))
+}
+
+// The legs of a pair, the last first.
+fn legs_back(alloc: Global, solved: Solved<'_>, pair: Pair) -> Result<Vec<Leg>, OutOfMemory>
+    requires solved { IsSolved solved }
+    requires one { Contains solved.found.now.pairs pair }
+    ensures tidy { IfOk result (λ legs. IsTidyBack legs.items) }
+    ensures walk { IfOk result (λ legs. Walks (setting_in solved.entry) solved.entry.request.until
+        (steps_of (reverse legs.items)) (start_of solved.entry.request) (end_of solved.entry.request pair)) }
+{
+    let mut legs = Vec::new(alloc);
+    let mut node = solved.request.goal;
+    let mut minute = pair.arrival;
+    'back: while node.0 != solved.request.origin.0 || minute != solved.request.depart {
+        let cost = solved.found.function(node).at(minute).unwrap_or(0);
+        let source = source_of(solved, node, minute, cost);
+        push_before(&mut legs, source.leg)?;
+        node = source.node;
+        minute = source.minute;
+    }
+    Ok(legs)
+}

@@ -1,0 +1,59 @@
+// The engine over cost functions.
+ghost use Rattle.std.specs.Prelude.{◌≡◌, ◌≤◌, IfOk};
+ghost use Rattle.node_arcs.specs.Stars.{AreIncoming};
+ghost use Rattle.propagation.specs.Found.{IsFoundFor};
+ghost use Rattle.route_base.specs.Front.{IsRight};
+ghost use Rattle.route_base.specs.Legs.{CostsFit};
+ghost use Rattle.route_base.specs.Net.{IsGoodRequest, setting_of};
+
+use crate::back::unpack_over;
+use node_arcs::NodeArcs;
+use propagation::{Found, search_over};
+use route_base::{FrontSearch, OutOfMemory, Request, Route, Routes, TimedNet};
+use std::alloc::Global;
+
+/// An engine that keeps a cost function of the minute for each node that it reaches, and follows only what may still lead to a new
+/// pair. Time and memory grow with the pieces of the functions, not with the minutes.
+#[derive(Clone, Copy, Debug)]
+pub struct FunctionEngine;
+
+impl FrontSearch for FunctionEngine {
+    fn front(
+        &self,
+        alloc: Global,
+        net: &TimedNet,
+        request: Request,
+    ) -> Result<Routes, OutOfMemory> {
+        let incoming = NodeArcs::incoming(alloc, net)?;
+        let found = search_over(alloc, net, &incoming, request)?;
+        let routes = routes_of(alloc, net, &incoming, request, &found)?;
+        Ok(Routes::from_vec(routes))
+    }
+}
+
+// The pairs that were found, each with its legs.
+fn routes_of(
+    alloc: Global,
+    net: &TimedNet,
+    incoming: &NodeArcs,
+    request: Request,
+    found: &Found,
+) -> Result<Vec<Route>, OutOfMemory>
+    requires incoming { AreIncoming net.now incoming.now }
+    requires good { IsGoodRequest net.now request }
+    requires in_time { request.depart ≤ request.until }
+    requires fit { CostsFit (setting_of net.now) request }
+    requires found { IsFoundFor net.now request found.now }
+    ensures { IfOk result (λ routes. IsRight (setting_of net.now) request routes.items) }
+{
+    let pairs = found.pairs();
+    let mut routes = Vec::with_capacity(alloc, pairs.len())?;
+    for k in 0..pairs.len() {
+        let legs = unpack_over(alloc, net, incoming, request, found, k)?;
+        routes.push(Route {
+            pair: pairs[k],
+            legs,
+        })?;
+    }
+    Ok(routes)
+}

@@ -1,0 +1,125 @@
+// Where the cost of a node at a minute comes from.
+ghost use Rattle.std.specs.Prelude.{◌≡◌, ◌≤◌, ◌<◌, ◌-◌, ℕ, Some, IfSome, IsNone};
+ghost use Rattle.node_arcs.specs.Stars.{EndsAt};
+ghost use Rattle.node_arcs.specs.declared.links.End.TheVariants.{Head};
+ghost use Rattle.route_base.specs.declared.types.Leg.TheVariants.{Wait};
+ghost use Rattle.itinerary_unpack.specs.Inside.Sources.{ComesFrom, HasNoDrive};
+ghost use Rattle.itinerary_unpack.specs.Inside.Requests.{IsSolved, setting_in, cost_in};
+
+use crate::solved::Solved;
+use cost_functions::Piece;
+use route_base::{ArcId, Cost, Leg, Minute, NodeId};
+
+/// The node and minute at which a leg begins, and the leg.
+#[derive(Clone, Copy)]
+pub struct Source {
+    pub leg: Leg,
+    pub node: NodeId,
+    pub minute: Minute,
+}
+
+// The leg by which the cost of the node at this minute comes.
+pub fn source_of(solved: Solved<'_>, v: NodeId, t: Minute, x: Cost) -> Source
+    requires solved { IsSolved solved }
+    requires low { 1 ≤ v.0 }
+    requires high { v.0 ≤ solved.net.now.nodes }
+    requires upto { t ≤ solved.request.until }
+    requires known { cost_in solved v.0 t ≡ Some x }
+    requires later { v.0 ≡ solved.request.origin.0 → t ≡ solved.request.depart → ⊥ }
+    ensures { ComesFrom (setting_in solved.entry) solved.entry.request.until (cost_in solved.entry) v.0 t x result }
+{
+    for a in solved.incoming.of(v) {
+        if let Some(source) = drive_into(solved, *a, v, t, x) {
+            return source;
+        }
+    }
+    wait_into(solved, v, t, x)
+}
+
+// The start of a drive over the arc that ends here at no higher cost.
+fn drive_into(solved: Solved<'_>, a: ArcId, v: NodeId, t: Minute, x: Cost) -> Option<Source>
+    requires solved { IsSolved solved }
+    requires ends { EndsAt solved.net.now Head v.0 a.0 }
+    requires upto { t ≤ solved.request.until }
+    ensures some { IfSome result (ComesFrom (setting_in solved.entry) solved.entry.request.until (cost_in solved.entry) v.0 t x) }
+    ensures none { IsNone result → HasNoDrive (setting_in solved.entry) solved.entry.request.until (cost_in solved.entry) a.0 v.0 t x }
+{
+    let arc = solved.net.arc(a)?;
+    if arc.minutes > t {
+        return None;
+    }
+    let minute = t - arc.minutes;
+    let before = solved.found.function(arc.tail).at(minute)?;
+    if before + arc.cost > x {
+        return None;
+    }
+    if !solved.net.is_open(a, minute, arc.minutes) {
+        return None;
+    }
+    Some(Source {
+        leg: Leg::Drive(a),
+        node: arc.tail,
+        minute,
+    })
+}
+
+// The wait by which the cost comes, from the first minute of the piece on if that costs no more.
+fn wait_into(solved: Solved<'_>, v: NodeId, t: Minute, x: Cost) -> Source
+    requires solved { IsSolved solved }
+    requires low { 1 ≤ v.0 }
+    requires high { v.0 ≤ solved.net.now.nodes }
+    requires upto { t ≤ solved.request.until }
+    requires later { 1 ≤ t }
+    requires waits { ComesFrom (setting_in solved) solved.request.until (cost_in solved) v.0 t x
+        (record { leg = Wait 1; node = v; minute = t - 1 }) }
+    ensures { ComesFrom (setting_in solved.entry) solved.entry.request.until (cost_in solved.entry) v.0 t x result }
+{
+    let since = begins_at(solved.found.function(v).pieces(), t);
+    match wait_since(solved, v, since, t, x) {
+        Some(source) => source,
+        None => Source {
+            leg: Leg::Wait(1),
+            node: v,
+            minute: t - 1,
+        },
+    }
+}
+
+// The first minute of the last piece that begins by a minute.
+fn begins_at(pieces: &[Piece], t: Minute) -> Minute {
+    let count = pieces.partition_point(|piece| piece.lo <= t);
+    match pieces[..count].last() {
+        Some(piece) => piece.lo,
+        None => t,
+    }
+}
+
+// A wait since an earlier minute, where it costs no more than what is known.
+fn wait_since(
+    solved: Solved<'_>,
+    v: NodeId,
+    since: Minute,
+    t: Minute,
+    x: Cost,
+) -> Option<Source>
+    requires solved { IsSolved solved }
+    requires low { 1 ≤ v.0 }
+    requires high { v.0 ≤ solved.net.now.nodes }
+    requires upto { t ≤ solved.request.until }
+    ensures { IfSome result (ComesFrom (setting_in solved.entry) solved.entry.request.until (cost_in solved.entry) v.0 t x) }
+{
+    if since >= t {
+        return None;
+    }
+    let weight = solved.net.weight(v)?;
+    let before = solved.found.function(v).at(since)?;
+    let minutes = t - since;
+    if before + weight * minutes > x {
+        return None;
+    }
+    Some(Source {
+        leg: Leg::Wait(minutes),
+        node: v,
+        minute: since,
+    })
+}
