@@ -1,4 +1,4 @@
--- What holds of all pieces at all their minutes holds of all values.
+-- All values have what all pieces have at all their minutes.
 use Rattle.std.proofs.Common.{◌≡◌, ⊎_elim, ℕ, ◌≤◌, ◌<◌, suc, Some, List, [], ◌∷◌, length, get_or, ◌∙◌, sym, subst, arith}
 use Rattle.std.proofs.lemmas.Bool.{cases_lt}
 use Rattle.cost_functions.specs.Lines.{line_at}

@@ -7,7 +7,7 @@ use Rattle.function_merge.proofs.FirstPieces.{first_of, first_is, first_value, f
 use Rattle.cost_functions.specs.declared.pieces.Piece.{Piece}
 use Rattle.route_base.specs.declared.limits.TheConstants.{LAST_INSTANT}
 use Rattle.function_merge.specs.Least.{least_of, is_better, least_at, better_at}
-use Rattle.function_merge.specs.Inside.Segments.{IsNext}
+use Rattle.function_merge.specs.Inside.Segments.{IsNextSegment}
 use Rattle.minute_sets.specs.Combination.{IsSwept}
 use Rattle.route_base.specs.declared.types.Run.{Run}
 use Rattle.std.proofs.lemmas.Bool.{cases_lt, le-leb, lt-leb}
@@ -41,7 +41,7 @@ module _ (f g : List Piece) (from : ℕ) (s : Segment) (starts : from ≤ s.piec
     (gap_f : (t : ℕ) → from ≤ t → t < s.piece.lo → value_at f t ≡ None) (gap_g : (t : ℕ) → from ≤ t → t < s.piece.lo → value_at g t ≡ None) where
   pub next_first : (p : Piece) → ((t : ℕ) → s.piece.lo ≤ t → line_at s.piece t ≡ line_at p t)
       → ((t : ℕ) → s.piece.lo ≤ t → t ≤ s.piece.hi → value_at f t ≡ Some (line_at p t)) → ((t : ℕ) → s.piece.lo ≤ t → t ≤ s.piece.hi → value_at g t ≡ None)
-      → s.improves ≡ false → IsNext f g from s
+      → s.improves ≡ false → IsNextSegment f g from s
   next_first p line first second improves = record {
     starts = starts;
     filled = filled;
@@ -55,7 +55,7 @@ module _ (f g : List Piece) (from : ℕ) (s : Segment) (starts : from ≤ s.piec
 
   pub next_second : (q : Piece) → ((t : ℕ) → s.piece.lo ≤ t → line_at s.piece t ≡ line_at q t)
       → ((t : ℕ) → s.piece.lo ≤ t → t ≤ s.piece.hi → value_at f t ≡ None) → ((t : ℕ) → s.piece.lo ≤ t → t ≤ s.piece.hi → value_at g t ≡ Some (line_at q t))
-      → s.improves ≡ true → IsNext f g from s
+      → s.improves ≡ true → IsNextSegment f g from s
   next_second q line first second improves = record {
     starts = starts;
     filled = filled;
@@ -70,7 +70,7 @@ module _ (f g : List Piece) (from : ℕ) (s : Segment) (starts : from ≤ s.piec
   pub next_both : (p q : Piece) → ((t : ℕ) → s.piece.lo ≤ t → t ≤ s.piece.hi → line_at s.piece t ≡ min (line_at p t) (line_at q t))
       → ((t : ℕ) → s.piece.lo ≤ t → t ≤ s.piece.hi → ltb (line_at q t) (line_at p t) ≡ s.improves)
       → ((t : ℕ) → s.piece.lo ≤ t → t ≤ s.piece.hi → value_at f t ≡ Some (line_at p t)) → ((t : ℕ) → s.piece.lo ≤ t → t ≤ s.piece.hi
-      → value_at g t ≡ Some (line_at q t)) → IsNext f g from s
+      → value_at g t ≡ Some (line_at q t)) → IsNextSegment f g from s
   next_both p q line lower first second = record {
     starts = starts;
     filled = filled;
@@ -86,7 +86,7 @@ module _ (f g : List Piece) (from : ℕ) (s : Segment) (filled : s.piece.lo ≤ 
   -- a part of the first piece of f, where g has nothing
   pub next_in_first : (some : 1 ≤ length f) → ArePieces f → s.piece.lo ≡ max from (first_of f).lo → s.piece.hi ≤ (first_of f).hi
       → ((t : ℕ) → s.piece.lo ≤ t → line_at s.piece t ≡ line_at (first_of f) t) → ((t : ℕ) → from ≤ t → t ≤ s.piece.hi → value_at g t ≡ None)
-      → s.improves ≡ false → IsNext f g from s
+      → s.improves ≡ false → IsNextSegment f g from s
   next_in_first some are lo hi line none improves =
       let is = first_is f some are in
       let last = is.minutes in
@@ -101,7 +101,7 @@ module _ (f g : List Piece) (from : ℕ) (s : Segment) (filled : s.piece.lo ≤ 
   -- a part of the first piece of g, where f has nothing
   pub next_in_second : (some : 1 ≤ length g) → ArePieces g → s.piece.lo ≡ max from (first_of g).lo → s.piece.hi ≤ (first_of g).hi
       → ((t : ℕ) → s.piece.lo ≤ t → line_at s.piece t ≡ line_at (first_of g) t) → ((t : ℕ) → from ≤ t → t ≤ s.piece.hi → value_at f t ≡ None)
-      → s.improves ≡ true → IsNext f g from s
+      → s.improves ≡ true → IsNextSegment f g from s
   next_in_second some are lo hi line none improves =
       let is = first_is g some are in
       let last = is.minutes in
@@ -117,7 +117,7 @@ module _ (f g : List Piece) (from : ℕ) (s : Segment) (filled : s.piece.lo ≤ 
   pub next_in_both : (some : 1 ≤ length f) → (one : 1 ≤ length g) → ArePieces f → ArePieces g → s.piece.lo ≡ max from (first_of f).lo
       → s.piece.lo ≡ max from (first_of g).lo → s.piece.hi ≤ (first_of f).hi → s.piece.hi ≤ (first_of g).hi
       → ((t : ℕ) → s.piece.lo ≤ t → t ≤ s.piece.hi → line_at s.piece t ≡ min (line_at (first_of f) t) (line_at (first_of g) t))
-      → ((t : ℕ) → s.piece.lo ≤ t → t ≤ s.piece.hi → ltb (line_at (first_of g) t) (line_at (first_of f) t) ≡ s.improves) → IsNext f g from s
+      → ((t : ℕ) → s.piece.lo ≤ t → t ≤ s.piece.hi → ltb (line_at (first_of g) t) (line_at (first_of f) t) ≡ s.improves) → IsNextSegment f g from s
   next_in_both some one are also lo low hi high line lower =
       let is = first_is f some are in
       let last = is.minutes in

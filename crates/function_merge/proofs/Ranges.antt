@@ -1,5 +1,5 @@
 -- Values that stay in range where the ends of the pieces do.
-use Rattle.std.proofs.Common.{◌≡◌, ℕ, ◌+◌, ◌*◌, ◌-◌, ◌≤◌, Option, Some, None, List, get_or, All, refl, ◌∙◌, sym, arith}
+use Rattle.std.proofs.Common.{ℕ, ◌+◌, ◌*◌, ◌-◌, ◌≤◌, List, get_or, All, arith}
 use Rattle.std.proofs.Math.Nat.{mul-le-mul_left}
 use Rattle.route_base.specs.Runs.{any_has}
 use Rattle.route_base.specs.declared.types.Run.{Run}

@@ -8,9 +8,8 @@ use Rattle.std.specs.List.Sorted.{IsNonDecreasingBy}
 use Rattle.cost_functions.proofs.Places.{ends_rise, value_onto, value_at_place, value_before_tail}
 use Rattle.function_merge.specs.Least.{least_at, better_at}
 use Rattle.function_merge.proofs.Nexts.{least_none, least_same, least_alone, better_none, better_same}
-use Rattle.cost_functions.specs.Lines.{is_on_piece, line_at, IsPiece, IsSmall, AreOneLine}
+use Rattle.cost_functions.specs.Lines.{is_on_piece, line_at, IsPiece}
 use Rattle.cost_functions.specs.Pieces.{value_at, ArePieces}
-use Rattle.cost_functions.specs.Building.{AreBuilt}
 use Rattle.cost_functions.specs.declared.pieces.Piece.{Piece}
 use Rattle.cost_functions.proofs.Values.{value_after, none_before, none_after}
 

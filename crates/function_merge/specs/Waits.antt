@@ -1,4 +1,4 @@
--- What waiting does to the values of a function (source: SEA 2020, waiting at rated nodes, in whole minutes).
+-- The values of a function with waits (source: SEA 2020, waiting at rated nodes, in whole minutes).
 use Rattle.std.specs.Prelude.{◌≡◌, ℕ, ◌+◌, ◌*◌, ◌-◌, ◌≤◌, zero, suc, Option, Some, None}
 use Rattle.std.specs.Option.{option_map}
 use Rattle.route_base.specs.declared.limits.TheConstants.{HIGHEST_COST}
@@ -10,7 +10,7 @@ pub record IsLeastWait (values : ℕ → Option ℕ) (weight t : ℕ) (o : Optio
   pub least : (x : ℕ) → o ≡ Some x → (s v : ℕ) → s ≤ t → values s ≡ Some v → x ≤ v + weight * (t - s)
   pub reached : (x : ℕ) → o ≡ Some x → (s : ℕ) × ((v : ℕ) × ((s ≤ t) × (values s ≡ Some v) × (x ≡ v + weight * (t - s))))
 
--- the same, minute by minute: the cost of waiting one minute more
+-- the same, minute by minute: the cost of one minute's wait more than the minute before
 abbrev pub carried_to : (ℕ → Option ℕ) → ℕ → ℕ → Option ℕ
 carried_to values weight zero = None
 carried_to values weight (suc t) = option_map (λ v. v + weight) (least_of (values t) (carried_to values weight t))

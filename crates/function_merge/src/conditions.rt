@@ -33,6 +33,7 @@ pub fn can_wait(f: &CostFn, weight: Cost, until: Minute) -> bool
     all_fit_wait(f.pieces(), weight, until)
 }
 
+// Whether the ends of all pieces stay in range, that many minutes later and at this cost.
 fn all_fit(pieces: &[Piece], minutes: u64, cost: Cost) -> bool
     requires { ArePieces pieces.now }
     ensures { IsTrue result ↔ All (EndsInRange minutes cost) pieces.now }
@@ -40,6 +41,7 @@ fn all_fit(pieces: &[Piece], minutes: u64, cost: Cost) -> bool
     pieces.iter().all(|piece| fits(*piece, minutes, cost))
 }
 
+// Whether the ends of all pieces stay in range with a wait from their beginning.
 fn all_fit_wait(pieces: &[Piece], weight: Cost, until: Minute) -> bool
     requires pieces { ArePieces pieces.now }
     requires weight { weight ≤ HIGHEST_COST }

@@ -1,9 +1,9 @@
-// Stretches of minutes on which one of two functions is the lesser.
+// The lower envelope of two functions, segment by segment.
 ghost use Rattle.std.specs.Prelude.{◌≡◌, ◌+◌, ◌*◌, ◌-◌, ◌<◌, ◌≤◌, ℕ, min, false, nat_lt, None, All, IfSome};
 ghost use Rattle.cost_functions.specs.Lines.{line_at, IsPiece, IsSmall};
 ghost use Rattle.cost_functions.specs.Pieces.{ArePieces, AreSmall};
 ghost use Rattle.function_merge.specs.Least.{least_at, better_at};
-ghost use Rattle.function_merge.specs.Inside.Segments.{IsNext};
+ghost use Rattle.function_merge.specs.Inside.Segments.{IsNextSegment};
 
 use cost_functions::{Piece, held_for};
 use route_base::Minute;
@@ -23,7 +23,7 @@ pub fn next_segment(f: &[Piece], g: &[Piece], from: Minute) -> Option<Segment>
     requires second_small { AreSmall g.now }
     requires first_from { All (λ p. from ≤ p.hi) f.now }
     requires second_from { All (λ p. from ≤ p.hi) g.now }
-    ensures some { IfSome result (IsNext f.now g.now from) }
+    ensures some { IfSome result (IsNextSegment f.now g.now from) }
     ensures none_least { result ≡ None → (t : ℕ) → from ≤ t → least_at f.now g.now t ≡ None }
     ensures none_better { result ≡ None → (t : ℕ) → from ≤ t → better_at f.now g.now t ≡ false }
 {

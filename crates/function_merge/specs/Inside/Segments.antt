@@ -7,7 +7,7 @@ use Rattle.function_merge.specs.Least.{least_at, better_at}
 use Rattle.function_merge.specs.declared.lower_envelope.Segment.{Segment}
 
 -- the next minutes from one on at which there is a value, all from one function
-pub record IsNext (f g : List Piece) (from : ℕ) (s : Segment) : Type 0 where
+pub record IsNextSegment (f g : List Piece) (from : ℕ) (s : Segment) : Type 0 where
   pub starts : from ≤ s.piece.lo
   pub filled : s.piece.lo ≤ s.piece.hi
   pub minutes : s.piece.hi ≤ LAST_INSTANT

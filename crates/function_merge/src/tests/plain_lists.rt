@@ -1,4 +1,4 @@
-// What the calls have to give, worked out minute by minute over lists of values.
+// The results of the calls, worked out minute by minute over lists of values.
 use route_base::{Bound, Minute, Pair};
 
 // Values are a list with a value, or none, for each minute from 0 on.

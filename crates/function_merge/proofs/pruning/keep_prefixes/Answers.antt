@@ -1,4 +1,4 @@
-use Rattle.std.proofs.Common.{◌<◌, ◌∙◌, [], length, take, get_or, refl, subst, arith}
+use Rattle.std.proofs.Common.{◌<◌, ◌∙◌, [], length, take, refl, subst, arith}
 use Rattle.cost_functions.specs.declared.pieces.Piece.{Piece}
 use Rattle.cost_functions.proofs.Values.{none_after}
 use Rattle.function_merge.specs.Inside.Prefixes.{IsClearUntil, HasPrefix}
