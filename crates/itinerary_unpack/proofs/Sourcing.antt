@@ -1,8 +1,8 @@
 -- Where a cost comes from: by a drive that is found, or else by a wait.
-use Rattle.std.proofs.Common.{◌≡◌, ◌≢◌, ⊎_elim, ℕ, zero, suc, ◌+◌, ◌-◌, ◌*◌, ◌≤◌, ◌<◌, Option, Some, None, List, [], ◌∷◌, length, replicate, refl, sym, ◌∙◌, ap, subst, arith}
+use Rattle.std.proofs.Common.{◌≡◌, ◌≢◌, ℕ, ◌+◌, ◌-◌, ◌*◌, ◌≤◌, ◌<◌, Option, Some, replicate, refl, sym, ◌∙◌, ap, subst, arith}
 use Rattle.std.specs.Option.{option_map}
 use Rattle.std.proofs.lemmas.List.{length-replicate}
-use Rattle.route_base.specs.Setting.{Setting, Road}
+use Rattle.route_base.specs.Setting.{Setting}
 use Rattle.route_base.specs.Itinerary.{Position, Step, drive, wait, Moves, Drives, Walks}
 use Rattle.route_base.specs.Net.{Net, road_of, setting_of, at_number}
 use Rattle.route_base.specs.Open.{IsOpen}
@@ -15,7 +15,6 @@ use Rattle.route_base.proofs.Waiting.{same_position, waits}
 use Rattle.propagation.specs.Found.{HasPredecessor}
 use Rattle.propagation.specs.Inside.Invariants.{point}
 use Rattle.itinerary_unpack.specs.Inside.Sources.{ComesFrom, HasNoDrive}
-use Rattle.itinerary_unpack.specs.declared.sources.Source.{Source}
 
 module _ (net : Net) (until a v t : ℕ) (arc : TimedArc) (is : at_number net.arcs a ≡ Some arc) where
   -- the drive from the tail, that many minutes earlier

@@ -1,5 +1,5 @@
 -- A request with what was found for it (source: own; no law).
-use Rattle.std.specs.Prelude.{◌≡◌, ℕ, ◌≤◌, Option, Some}
+use Rattle.std.specs.Prelude.{ℕ, ◌≤◌, Option}
 use Rattle.route_base.specs.Legs.{CostsFit}
 use Rattle.route_base.specs.Net.{IsGoodRequest, setting_of}
 use Rattle.route_base.specs.Setting.{Setting}

@@ -1,8 +1,8 @@
 -- The legs of an itinerary that are found so far, the last first (source: own; no law).
-use Rattle.std.specs.Prelude.{◌≡◌, ℕ, ◌+◌, ◌≤◌, Option, Some, List, length, reverse}
+use Rattle.std.specs.Prelude.{◌≡◌, ℕ, ◌≤◌, Option, Some, List, reverse}
 use Rattle.route_base.specs.Setting.{Setting}
 use Rattle.route_base.specs.Itinerary.{Step, Walks}
-use Rattle.route_base.specs.Legs.{steps_of, HasNoEmptyWait, HasNoNeighbouringWaits}
+use Rattle.route_base.specs.Legs.{HasNoEmptyWait, HasNoNeighbouringWaits}
 use Rattle.route_base.specs.declared.types.Leg.{Leg}
 use Rattle.route_base.specs.declared.types.Pair.{Pair}
 use Rattle.route_base.specs.declared.types.Request.{Request}

@@ -1,9 +1,8 @@
-use Rattle.std.proofs.Common.{◌≡◌, ◌+◌, ◌≤◌, ◌++◌, ◌∷◌, [], List, Some, length, refl, sym, ◌∙◌, ap, subst, arith, rules, length-append}
+use Rattle.std.proofs.Common.{◌≡◌, ◌+◌, ◌≤◌, [], List, Some, length, sym, ◌∙◌, ap, subst, arith, length-append}
 use Rattle.std.specs.Prelude.{reverse, unwrap_or}
 use Rattle.route_base.specs.Itinerary.{Step}
 use Rattle.route_base.specs.Legs.{steps_of, steps_of_leg}
 use Rattle.route_base.specs.declared.types.Leg.{Leg}
-use Rattle.propagation.specs.Found.{cost_at}
 use Rattle.propagation.specs.Inside.Invariants.{point}
 use Rattle.itinerary_unpack.specs.Inside.Requests.{setting_in, cost_in}
 use Rattle.itinerary_unpack.specs.Inside.Ways.{LeadsToPair, IsTidyBack}

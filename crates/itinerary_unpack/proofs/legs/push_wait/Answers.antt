@@ -1,5 +1,4 @@
-use Rattle.std.proofs.Common.{◌≡◌, ◌+◌, ◌++◌, ◌∷◌, [], List, rules}
-use Rattle.route_base.specs.declared.types.Leg.{Leg}
+use Rattle.std.proofs.Common.{◌≡◌, ◌+◌, ◌++◌, ◌∷◌, [], rules}
 use Rattle.route_base.specs.declared.types.Leg.TheVariants.{Wait}
 use Rattle.itinerary_unpack.proofs.Backwards.{steps_join}
 use Rattle.itinerary_unpack.proofs.legs.push_wait.Goals as goal

@@ -1,5 +1,4 @@
-use Rattle.std.proofs.Common.{◌≡◌, ◌+◌, ◌-◌, ◌≤◌, IsTrue, Some, refl, sym, ◌∙◌, arith, rules}
-use Rattle.std.specs.Option.{option_map}
+use Rattle.std.proofs.Common.{◌≡◌, ◌-◌, IsTrue, Some, refl, sym, ◌∙◌, arith, rules}
 use Rattle.route_base.specs.Net.{at_number}
 use Rattle.propagation.specs.Found.{cost_at}
 use Rattle.potentials.proofs.Ending.{head_of}
