@@ -1,5 +1,5 @@
 -- A plan that is ready is handed over.
-use Rattle.std.proofs.Common.{◌≡◌, inl, inr, ℕ, ◌≤◌, true, false, Some, None, Option, List, Result, Ok, Err, refl, ap, sym, subst, ◌∙◌, arith}
+use Rattle.std.proofs.Common.{◌≡◌, inl, inr, ℕ, false, Some, None, Option, List, Result, Ok, Err, ap, sym, subst, ◌∙◌, arith}
 use Rattle.std.specs.Prelude.{IfOk, IfErr, OnOk}
 use Rattle.std.proofs.lemmas.Bool.{both_ways}
 use Rattle.route_base.specs.Contents.{Contents, Holds, LeavesOpen}
@@ -8,14 +8,13 @@ use Rattle.route_base.specs.FolderState.{FolderState, CountsRise, KeepsFiles, Fa
 use Rattle.route_base.specs.Front.{IsRight}
 use Rattle.route_base.specs.Setting.{Setting}
 use Rattle.route_base.specs.declared.status.Status.TheVariants.{Done}
-use Rattle.route_base.specs.declared.types.Route.{Route}
 use Rattle.network_tables.specs.NetworkModel.{NetworkModel}
 use Rattle.front_desk.specs.CommandLine.{Plan, to_plan}
-use Rattle.front_desk.specs.Commands.{PlanWrites, PutsCertificate, LeavesPlan}
+use Rattle.front_desk.specs.Commands.{PlanWrites, LeavesPlan}
 use Rattle.front_desk.specs.Files.{IfTold, path_of}
 use Rattle.front_desk.specs.Inside.Halting.{ReportsOn, StopsCommand, status_of_halt}
 use Rattle.front_desk.specs.Inside.Planning.{IsFileFor, IsReady, IsWritten, IsUnwritten, HandsOver}
-use Rattle.front_desk.specs.Plan.{Certifies, HoldsCertificate, IsPlanned, plan_fault, plan_check, trip_setting}
+use Rattle.front_desk.specs.Plan.{Certifies, HoldsCertificate, IsPlanned, plan_fault, trip_setting}
 use Rattle.front_desk.specs.ReadingOrder.{network_held}
 use Rattle.front_desk.specs.Trips.{failed_check, request_of}
 use Rattle.front_desk.specs.declared.outcome.Halt.{Halt}

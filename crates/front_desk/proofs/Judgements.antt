@@ -1,5 +1,5 @@
 -- The report on a certificate's file judges it.
-use Rattle.std.proofs.Common.{◌≡◌, ℕ, true, false, None, List, refl, ap, sym, subst, ◌∙◌}
+use Rattle.std.proofs.Common.{◌≡◌, ℕ, true, None, List, refl, ap, sym, subst, ◌∙◌}
 use Rattle.std.proofs.lemmas.Bool.{both_ways}
 use Rattle.route_base.specs.Front.{IsFront}
 use Rattle.route_base.specs.Setting.{Setting}

@@ -1,6 +1,6 @@
 -- The text that is due with a report, and the files that a status leaves.
 use Rattle.std.proofs.Common.{◌≡◌, ◌⊎◌, inl, inr, ⊎_elim, ℕ, Bool, true, false, cond, Some, None, Option, List, refl, sym, subst}
-use Rattle.route_base.specs.FolderState.{FolderState, KeepsFiles}
+use Rattle.route_base.specs.FolderState.{FolderState}
 use Rattle.route_base.specs.declared.status.Status.{Status}
 use Rattle.route_base.specs.declared.status.Status.TheVariants.{Done, Rejected, Usage, BadInput, ReadFault, WriteFault, NoMemory, BadRequest}
 use Rattle.front_desk.specs.CommandLine.{Command, Plan, to_plan, to_check, to_bans, command_of}

@@ -5,7 +5,6 @@ use Rattle.route_base.specs.Front.{IsRight}
 use Rattle.route_base.specs.Setting.{Setting}
 use Rattle.route_base.specs.declared.faults.BadInput.{BadInput}
 use Rattle.route_base.specs.declared.faults.RequestFault.{RequestFault}
-use Rattle.route_base.specs.declared.types.Form.{Form}
 use Rattle.route_base.specs.declared.types.Request.{Request}
 use Rattle.route_base.specs.declared.types.Route.{Route}
 use Rattle.network_tables.specs.NetworkModel.{NetworkModel}

@@ -1,5 +1,5 @@
 -- How a command halts before its text is there, and how a text is handed to a sink (source: own).
-use Rattle.std.specs.Prelude.{◌≡◌, ◌≢◌, ◌⊎◌, ℕ, Bool, true, false, ⊤, Option, Some, None, List, if◌then◌else◌}
+use Rattle.std.specs.Prelude.{◌≡◌, ◌≢◌, ◌⊎◌, ℕ, true, false, ⊤, Option, Some, List, if◌then◌else◌}
 use Rattle.route_base.specs.Causes.{IsOfContents}
 use Rattle.route_base.specs.Contents.{Contents}
 use Rattle.route_base.specs.FolderState.{FolderState, FailedToRead, FailedToWrite}

@@ -1,6 +1,5 @@
-use Rattle.std.proofs.Common.{◌≡◌, inr, List, ℕ, ap, sym, subst, ◌∙◌}
+use Rattle.std.proofs.Common.{inr, List, ℕ, sym, subst, ◌∙◌}
 use Rattle.route_base.specs.SinkState.{AppendsPrefix}
-use Rattle.route_base.specs.declared.status.Status.TheVariants.{WriteFault}
 use Rattle.front_desk.specs.Inside.Halting.{status_of_report}
 use Rattle.front_desk.specs.Run.{status_of}
 use Rattle.front_desk.specs.Texts.{refusal_text_of}

@@ -1,4 +1,4 @@
-use Rattle.std.proofs.Common.{◌≡◌, sym, ap, ◌∙◌}
+use Rattle.std.proofs.Common.{sym, ap, ◌∙◌}
 use Rattle.front_desk.specs.Check.{certificate_file}
 use Rattle.front_desk.specs.Files.{bytes_at}
 use Rattle.front_desk.specs.ReadingOrder.{network_files, files_from}

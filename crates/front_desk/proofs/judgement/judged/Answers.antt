@@ -1,4 +1,4 @@
-use Rattle.std.proofs.Common.{◌≡◌, refl}
+use Rattle.std.proofs.Common.{refl}
 use Rattle.front_desk.specs.Plan.{trip_setting}
 use Rattle.front_desk.specs.Trips.{request_of, trip_in}
 use Rattle.front_desk.proofs.Judgements.{judged_by, judged_unread}

@@ -1,4 +1,4 @@
-use Rattle.std.proofs.Common.{◌≡◌, ◌∙◌}
+use Rattle.std.proofs.Common.{◌∙◌}
 use Rattle.front_desk.specs.CommandLine.{check_in}
 use Rattle.front_desk.proofs.Judgements.{reports_judged}
 use Rattle.front_desk.proofs.judgement.report_check.Goals as goal

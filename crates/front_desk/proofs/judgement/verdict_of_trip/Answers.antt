@@ -1,4 +1,4 @@
-use Rattle.std.proofs.Common.{◌≡◌, sym, subst, arith}
+use Rattle.std.proofs.Common.{subst, arith}
 use Rattle.route_base.specs.Front.{IsFront}
 use Rattle.route_base.specs.Matching.{IsInWindow}
 use Rattle.route_base.specs.Net.{setting_of}

@@ -1,5 +1,4 @@
-use Rattle.std.proofs.Common.{◌≡◌, sym, subst, arith}
-use Rattle.route_base.specs.Legs.{CostsFit}
+use Rattle.std.proofs.Common.{◌≡◌, subst, arith}
 use Rattle.route_base.specs.Matching.{StandsFor, IsInWindow}
 use Rattle.route_base.specs.Net.{setting_of}
 use Rattle.route_base.specs.declared.types.Run.{Run}

@@ -1,4 +1,4 @@
-use Rattle.std.proofs.Common.{◌≡◌, Some, ap, sym, subst, ◌∙◌, arith}
+use Rattle.std.proofs.Common.{Some, ap, sym, subst, ◌∙◌, arith}
 use Rattle.route_base.specs.declared.types.Form.{Form}
 use Rattle.front_desk.specs.Texts.{report_text}
 use Rattle.route_base.specs.Front.{IsRight}
