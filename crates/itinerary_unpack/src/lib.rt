@@ -18,4 +18,3 @@ mod sources;
 
 pub use back::{unpack, unpack_over};
 pub use engine::FunctionEngine;
-

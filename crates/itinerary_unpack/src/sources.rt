@@ -95,13 +95,7 @@ fn begins_at(pieces: &[Piece], t: Minute) -> Minute {
 }
 
 // A wait since an earlier minute, where it costs no more than what is known.
-fn wait_since(
-    solved: Solved<'_>,
-    v: NodeId,
-    since: Minute,
-    t: Minute,
-    x: Cost,
-) -> Option<Source>
+fn wait_since(solved: Solved<'_>, v: NodeId, since: Minute, t: Minute, x: Cost) -> Option<Source>
     requires solved { IsSolved solved }
     requires low { 1 ≤ v.0 }
     requires high { v.0 ≤ solved.net.now.nodes }

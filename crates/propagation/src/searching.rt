@@ -23,11 +23,7 @@ use route_base::{OutOfMemory, Request, TimedNet};
 use std::alloc::Global;
 
 /// The Pareto front of the net and the request, and the bounds and functions that show it.
-pub fn search(
-    alloc: Global,
-    net: &TimedNet,
-    request: Request,
-) -> Result<Found, OutOfMemory>
+pub fn search(alloc: Global, net: &TimedNet, request: Request) -> Result<Found, OutOfMemory>
     requires good { IsGoodRequest net.now request }
     requires in_time { request.depart ≤ request.until }
     requires fit { CostsFit (setting_of net.now) request }

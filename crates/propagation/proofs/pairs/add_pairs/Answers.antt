@@ -17,7 +17,7 @@ loop-piece-preserved c =
     let none : Piece = record { lo = 0; hi = 0; cost = 0; slope = 0 } in
     let q : Piece = get_or ps k none in
     let start : value_at c.args.offer.now q.lo ≡ Some q.cost = subst (λ w. value_at w q.lo ≡ Some q.cost) c.pieces-piece-items.ensures.items
-        (start_value ps k none c.pieces-piece-items.ensures.pieces c.loop-piece-test.true) in
+    (start_value ps k none c.pieces-piece-items.ensures.pieces c.loop-piece-test.true) in
     record {
       trade = step.trade;
       kept = λ t x had. step.kept t x (c.loop-piece.invariant.kept t x had);
