@@ -1,5 +1,5 @@
 -- The texts of routes over settings of which one stands for the other.
-use Rattle.std.proofs.Common.{◌≡◌, ℕ, suc, List, [], ◌∷◌, ◌++◌, flat_map, refl, sym, ◌∙◌, ap}
+use Rattle.std.proofs.Common.{◌≡◌, ℕ, suc, List, [], ◌∷◌, ◌++◌, flat_map, refl, ◌∙◌, ap}
 use Rattle.std.specs.Prelude.{◌+◌, ◌*◌, Option, unwrap_or, codes, decimal, length}
 use Rattle.calendar_days.specs.Texts.{instant_text_of}
 use Rattle.route_base.specs.Setting.{Setting, Road}

@@ -4,10 +4,12 @@ use Rattle.std.specs.Prelude.{◌^◌, Option, unwrap_or, IsSome}
 use Rattle.std.proofs.lemmas.List.{drop_more}
 use Rattle.route_base.specs.Setting.{Setting, Road}
 use Rattle.route_base.specs.Itinerary.{Position, Step, drive, wait, Walks}
-use Rattle.route_base.specs.Legs.{steps_of, steps_of_leg, HasNoEmptyWait}
+use Rattle.route_base.specs.Legs.{steps_of, steps_of_leg, start_of, end_of, Achieves}
 use Rattle.route_base.specs.Time.{IsInstant, first_instant, last_instant}
 use Rattle.route_base.specs.declared.types.Leg.{Leg}
 use Rattle.route_base.specs.declared.types.Leg.TheVariants.{Drive, Wait}
+use Rattle.route_base.specs.declared.types.Pair.{Pair}
+use Rattle.route_base.specs.declared.types.Request.{Request}
 use Rattle.plan_report.specs.Inside.{Lead, IsKnown, IsGood}
 use Rattle.plan_report.specs.Stages.{Stage, no_road, road_at, weight_at, position_after, stages_from, numbered_text}
 
@@ -20,7 +22,7 @@ same_position p q v t c = ap (λ (w : ℕ). make w p.minute p.cost) v ∙ ap (λ
     (λ (w : ℕ). make q.node q.minute w) c
 
 is_some : {A : Type 0} (o : Option A) (x : A) → o ≡ Some x → IsSome o
-is_some o x is = subst IsSome (sym is) tt
+is_some o x is = subst IsSome (sym is) refl
 
 module _ (s : Setting) (until : ℕ) where
   waited : (k : ℕ) (rest : List Step) (p q : Position) → Walks s until (replicate k wait ++ rest) p q
@@ -74,40 +76,47 @@ module _ (s : Setting) (until : ℕ) where
   in_time (drive a ∷ xs) p q early walk = in_time xs walk.0 q (omega (arith, walk.1.minute, walk.1.in_time)) walk.2
   in_time (wait ∷ xs) p q early walk = in_time xs walk.0 q (omega (arith, walk.1.minute, walk.1.in_time)) walk.2
 
-  minute_after : (leg : Leg) (p : Position) → first_instant ≤ p.minute → first_instant ≤ (position_after s p leg).minute
+  -- a leg ends no earlier than the first instant
+  pub minute_after : (leg : Leg) (p : Position) → first_instant ≤ p.minute → first_instant ≤ (position_after s p leg).minute
   minute_after (Drive a) p le = omega (arith, le)
   minute_after (Wait k) p le = omega (arith, le)
 
   -- the first of lawful legs can be gone
-  pub good_first : (leg : Leg) (legs : List Leg) (p q : Position) → Lead s until (leg ∷ legs) p q → IsInstant p.minute
-      → p.minute ≤ until → until ≤ last_instant → q.cost < 2 ^ 64 → IsGood s p leg
-  good_first leg legs p q lead start early until-is cheap =
-      let on = walk_after leg (steps_of legs) p q lead.walk in
-      let up = rises (steps_of legs) (position_after s p leg) q on in
-      let end = in_time (steps_of (leg ∷ legs)) p q early lead.walk in
+  pub good_first : (leg : Leg) (legs : List Leg) (p q : Position) → Lead s until (leg ∷ legs) p q → first_instant ≤ p.minute
+      → q.minute ≤ last_instant → q.cost < 2 ^ 64 → IsGood s p leg
+  good_first leg legs p q lead early late cheap =
+      let up = rises (steps_of legs) (position_after s p leg) q (walk_after leg (steps_of legs) p q lead.walk) in
+      let all = rises (steps_of (leg ∷ legs)) p q lead.walk in
       record {
         known = known leg (steps_of legs) p q lead.no_empty_wait.0 lead.walk;
-        start = start;
-        minute = (minute_after leg p start.0, omega (arith, up.0, end, until-is));
+        start = (early, omega (arith, all.0, late));
+        minute = (minute_after leg p early, omega (arith, up.0, late));
         cost = omega (arith, up.1, cheap);
       }
 
+-- lawful legs arrive at an instant
+pub arrives : (s : Setting) (r : Request) (legs : List Leg) (pair : Pair) → Achieves s r legs pair → IsInstant r.depart → IsInstant r.until
+    → IsInstant pair.arrival
+arrives s r legs pair lawful depart until = (
+  omega (arith, (rises s r.until (steps_of legs) (start_of r) (end_of r pair) lawful.walk).0, depart.0),
+  omega (arith, in_time s r.until (steps_of legs) (start_of r) (end_of r pair) lawful.in_time lawful.walk, until.1),
+)
+
 -- one leg more is written
 pub text_more : (f : Stage → List ℕ) (s : Setting) (legs : List Leg) (i : ℕ) (d : Leg) (p q : Position) (out next all : List ℕ) → i < length legs
-    → q ≡ position_after s p (get_or legs i d) → next ≡ out ++ f (record { number = suc i; from = p; leg = get_or legs i d })
-    → out ++ flat_map f (stages_from s (suc i) p (drop i legs)) ≡ all
-    → next ++ flat_map f (stages_from s (suc (i + 1)) q (drop (i + 1) legs)) ≡ all
+    → q ≡ position_after s p (get_or legs i d) → next ≡ out ++ f (record { number = i + 1; from = p; leg = get_or legs i d })
+    → out ++ flat_map f (stages_from s (i + 1) p (drop i legs)) ≡ all
+    → next ++ flat_map f (stages_from s (i + 1 + 1) q (drop (i + 1) legs)) ≡ all
 text_more f s legs i d p q out next all low q-is next-is so_far =
     let leg : Leg = get_or legs i d in
-    let here : Stage = record { number = suc i; from = p; leg = leg } in
-    let more = drop_more legs i d low in
-    let rest = flat_map f (stages_from s (suc (suc i)) (position_after s p leg) (drop (i + 1) legs)) in
-    let numbered : suc (i + 1) ≡ suc (suc i) = omega arith in
-    ap (λ (t : List ℕ). t ++ flat_map f (stages_from s (suc (i + 1)) q (drop (i + 1) legs))) next-is
-    ∙ ap (λ (x : Position). (out ++ f here) ++ flat_map f (stages_from s (suc (i + 1)) x (drop (i + 1) legs))) q-is
-    ∙ ap (λ (n : ℕ). (out ++ f here) ++ flat_map f (stages_from s n (position_after s p leg) (drop (i + 1) legs))) numbered
+    let here : Stage = record { number = i + 1; from = p; leg = leg } in
+    let rest = flat_map f (stages_from s (suc (i + 1)) (position_after s p leg) (drop (i + 1) legs)) in
+    let up : i + 1 + 1 ≡ suc (i + 1) = omega arith in
+    ap (λ (t : List ℕ). t ++ flat_map f (stages_from s (i + 1 + 1) q (drop (i + 1) legs))) next-is
+    ∙ ap (λ (x : Position). (out ++ f here) ++ flat_map f (stages_from s (i + 1 + 1) x (drop (i + 1) legs))) q-is
+    ∙ ap (λ (n : ℕ). (out ++ f here) ++ flat_map f (stages_from s n (position_after s p leg) (drop (i + 1) legs))) up
     ∙ append_assoc out (f here) rest
-    ∙ ap (λ (xs : List Leg). out ++ flat_map f (stages_from s (suc i) p xs)) (sym more)
+    ∙ ap (λ (xs : List Leg). out ++ flat_map f (stages_from s (i + 1) p xs)) (sym (drop_more legs i d low))
     ∙ so_far
 
 -- the legs behind one leg lead on
@@ -124,7 +133,7 @@ lead_more s until legs i d p q end low q-is lead =
 
 -- the next leg can be gone
 pub good_next : (s : Setting) (until : ℕ) (legs : List Leg) (i : ℕ) (d : Leg) (p end : Position) → i < length legs
-    → Lead s until (drop i legs) p end → IsInstant p.minute → p.minute ≤ until → until ≤ last_instant → end.cost < 2 ^ 64
+    → Lead s until (drop i legs) p end → first_instant ≤ p.minute → end.minute ≤ last_instant → end.cost < 2 ^ 64
     → IsGood s p (get_or legs i d)
 good_next s until legs i d p end low lead =
     good_first s until (get_or legs i d) (drop (i + 1) legs) p end (subst (λ (xs : List Leg). Lead s until xs p end) (drop_more legs i d low) lead)

@@ -1,5 +1,5 @@
 -- What a writer that goes over legs keeps; this is machinery of the proofs, and no law (source: own).
-use Rattle.std.specs.Prelude.{◌≡◌, ℕ, ◌≤◌, ◌<◌, ◌^◌, IsSome, List}
+use Rattle.std.specs.Prelude.{◌≡◌, ℕ, ◌<◌, ◌^◌, IsSome, List}
 use Rattle.route_base.specs.Setting.{Setting}
 use Rattle.route_base.specs.Itinerary.{Position, Walks}
 use Rattle.route_base.specs.Legs.{steps_of, HasNoEmptyWait, Achieves}

@@ -8,11 +8,7 @@ use route_base::OutOfMemory;
 use std::alloc::Global;
 
 /// The line of a verdict on a certificate of this number of pairs. In constant time.
-pub fn check_text(
-    alloc: Global,
-    verdict: Verdict3,
-    pairs: usize,
-) -> Result<Vec<u8>, OutOfMemory>
+pub fn check_text(alloc: Global, verdict: Verdict3, pairs: usize) -> Result<Vec<u8>, OutOfMemory>
     ensures { IfOk result (λ v. v.items ≡ check_text_of verdict pairs) }
 {
     let mut out = Vec::new(alloc);

@@ -3,12 +3,13 @@ ghost use Rattle.std.specs.Prelude.{◌≡◌, ◌≤◌, ◌<◌, ◌+◌, ◌+
 ghost use Rattle.plan_report.specs.Csv.{csv_place_text, csv_kind, csv_leg_row, csv_arrive_row, csv_route_text, csv_text_of};
 ghost use Rattle.plan_report.specs.Inside.{position_at, stage_at, IsGood, IsLawful, IsTimed};
 ghost use Rattle.plan_report.specs.Stages.{position_after, stages_of, numbered_text};
+ghost use Rattle.route_base.specs.Legs.{Achieves};
 ghost use Rattle.route_base.specs.Net.{setting_of};
 ghost use Rattle.route_base.specs.Time.{IsInstant};
 
 use crate::places::{Place, first_place, next_place};
 use crate::pushing::{push_instant, push_number, push_text, push_thousandths};
-use route_base::{Leg, OutOfMemory, Request, Route, Routes, TimedNet};
+use route_base::{Leg, OutOfMemory, Pair, Request, Route, Routes, TimedNet};
 use std::alloc::Global;
 
 // Appends the columns of a row behind its kind and arc.
@@ -65,20 +66,20 @@ fn push_leg(
     Ok(to)
 }
 
-// Appends the rows of a route's legs.
+// Appends the rows of the legs of a pair.
 fn push_legs(
     out: &mut Vec<u8>,
     net: &TimedNet,
     request: Request,
     route_number: u64,
-    route: &Route,
+    pair: Pair,
+    legs: &[Leg],
 ) -> Result<(), OutOfMemory>
     requires timed { IsTimed request }
-    requires lawful { IsLawful net.now request route.now }
+    requires lawful { Achieves (setting_of net.now) request legs.now pair }
     ensures { OnOk result (out.new.items ≡ out.old.items
-        ++ flat_map (csv_leg_row (setting_of net.now) route_number) (stages_of (setting_of net.now) request route.now.legs)) }
+        ++ flat_map (csv_leg_row (setting_of net.now) route_number) (stages_of (setting_of net.now) request legs.now)) }
 {
-    let legs = route.legs.as_slice();
     let mut at = first_place(request);
     for i in 0..legs.len() {
         at = push_leg(out, net, route_number, i as u64 + 1, at, legs[i])?;
@@ -123,7 +124,8 @@ fn push_route(
     ensures { OnOk result (out.new.items ≡ out.old.items
         ++ csv_route_text (setting_of net.now) request number route.now) }
 {
-    push_legs(out, net, request, number, route)?;
+    net.node_count();
+    push_legs(out, net, request, number, route.pair, route.legs.as_slice())?;
     push_arrival(out, request, number, route)
 }
 

@@ -1,15 +1,45 @@
 // Writes routes as a table.
 ghost use Rattle.std.specs.Prelude.{◌≡◌, ◌≤◌, ◌++◌, All, OnOk, IfOk, flat_map};
-ghost use Rattle.plan_report.specs.Inside.{position_at, stage_at, IsGood, IsLawful, IsTimed};
+ghost use Rattle.plan_report.specs.Inside.{position_at, stage_at, IsGood, IsKnown, IsLawful, IsTimed};
 ghost use Rattle.plan_report.specs.Stages.{position_after, stages_of, numbered_text};
-ghost use Rattle.plan_report.specs.Table.{table_leg_text, table_head_text, table_route_text, table_text_of};
+ghost use Rattle.plan_report.specs.Table.{table_move_text, table_leg_text, table_head_text, table_route_text, table_text_of};
+ghost use Rattle.route_base.specs.Legs.{Achieves};
 ghost use Rattle.route_base.specs.Net.{setting_of};
 ghost use Rattle.route_base.specs.Time.{IsInstant};
 
 use crate::places::{Place, first_place, next_place};
 use crate::pushing::{push_instant, push_number, push_text, push_thousandths};
-use route_base::{Leg, OutOfMemory, Request, Route, Routes, TimedNet};
+use route_base::{Leg, OutOfMemory, Pair, Request, Route, Routes, TimedNet};
 use std::alloc::Global;
+
+// Appends the word of a leg from one place to the next, with the arc and its ends, or with the node of a wait.
+fn push_move(
+    out: &mut Vec<u8>,
+    net: &TimedNet,
+    at: Place,
+    to: Place,
+    leg: Leg,
+) -> Result<(), OutOfMemory>
+    requires known { IsKnown (setting_of net.now) (position_at at) leg }
+    requires to { position_at to ≡ position_after (setting_of net.now) (position_at at) leg }
+    ensures { OnOk result (out.new.items ≡ out.old.items
+        ++ table_move_text (setting_of net.now) (position_at at) leg) }
+{
+    match leg {
+        Leg::Drive(a) => {
+            push_text(out, " drive ")?;
+            push_number(out, a.0 as u64)?;
+            push_text(out, " ")?;
+            push_number(out, at.node.0 as u64)?;
+            push_text(out, " ")?;
+            push_number(out, to.node.0 as u64)
+        }
+        Leg::Wait(_) => {
+            push_text(out, " wait ")?;
+            push_number(out, at.node.0 as u64)
+        }
+    }
+}
 
 // Appends the line of a leg, and gives the place after it.
 fn push_leg(out: &mut Vec<u8>, net: &TimedNet, at: Place, leg: Leg) -> Result<Place, OutOfMemory>
@@ -21,39 +51,26 @@ fn push_leg(out: &mut Vec<u8>, net: &TimedNet, at: Place, leg: Leg) -> Result<Pl
 {
     let to = next_place(net, at, leg);
     push_instant(out, at.minute)?;
-    match leg {
-        Leg::Drive(a) => {
-            push_text(out, " drive ")?;
-            push_number(out, a.0 as u64)?;
-            push_text(out, " ")?;
-            push_number(out, at.node.0 as u64)?;
-            push_text(out, " ")?;
-            push_number(out, to.node.0 as u64)?;
-        }
-        Leg::Wait(_) => {
-            push_text(out, " wait ")?;
-            push_number(out, at.node.0 as u64)?;
-        }
-    }
+    push_move(out, net, at, to, leg)?;
     push_text(out, " ")?;
     push_number(out, to.minute - at.minute)?;
     push_text(out, "\n")?;
     Ok(to)
 }
 
-// Appends the lines of a route's legs.
+// Appends the lines of the legs of a pair.
 fn push_legs(
     out: &mut Vec<u8>,
     net: &TimedNet,
     request: Request,
-    route: &Route,
+    pair: Pair,
+    legs: &[Leg],
 ) -> Result<(), OutOfMemory>
     requires timed { IsTimed request }
-    requires lawful { IsLawful net.now request route.now }
+    requires lawful { Achieves (setting_of net.now) request legs.now pair }
     ensures { OnOk result (out.new.items ≡ out.old.items
-        ++ flat_map (table_leg_text (setting_of net.now)) (stages_of (setting_of net.now) request route.now.legs)) }
+        ++ flat_map (table_leg_text (setting_of net.now)) (stages_of (setting_of net.now) request legs.now)) }
 {
-    let legs = route.legs.as_slice();
     let mut at = first_place(request);
     for i in 0..legs.len() {
         at = push_leg(out, net, at, legs[i])?;
@@ -89,7 +106,7 @@ fn push_route(
         ++ table_route_text (setting_of net.now) request number route.now) }
 {
     push_head(out, number, route)?;
-    push_legs(out, net, request, route)
+    push_legs(out, net, request, route.pair, route.legs.as_slice())
 }
 
 // Appends the lines of routes, numbered from 1.
