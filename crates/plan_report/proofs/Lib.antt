@@ -1,3 +1,4 @@
 pub mod Agreeing
 pub mod FewLegs
 pub mod Going
+pub mod Items

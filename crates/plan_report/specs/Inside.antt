@@ -1,5 +1,5 @@
 -- What a writer that goes over legs keeps; this is machinery of the proofs, and no law (source: own).
-use Rattle.std.specs.Prelude.{◌≡◌, ℕ, ◌<◌, ◌^◌, IsSome, List}
+use Rattle.std.specs.Prelude.{◌≡◌, ℕ, ◌<◌, ◌^◌, ◌++◌, IsSome, List, codes, decimal}
 use Rattle.route_base.specs.Setting.{Setting}
 use Rattle.route_base.specs.Itinerary.{Position, Walks}
 use Rattle.route_base.specs.Legs.{steps_of, HasNoEmptyWait, Achieves}
@@ -43,3 +43,8 @@ IsTimed r = IsInstant r.depart × IsInstant r.until
 -- the route's legs are lawful over the net, and have its pair
 abbrev pub IsLawful : Net → Request → Route → Type 0
 IsLawful net r x = Achieves (setting_of net) r x.legs x.pair
+
+-- the JSON text of a route up to its legs
+abbrev pub json_head_text : Route → List ℕ
+json_head_text route =
+    codes "{\"arrival\":" ++ (decimal route.pair.arrival ++ (codes ",\"cost\":" ++ (decimal route.pair.cost ++ codes ",\"legs\":")))
