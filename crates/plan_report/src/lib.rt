@@ -22,6 +22,8 @@ mod pushing;
 mod refusals;
 mod reports;
 mod table;
+#[cfg(test)]
+mod tests;
 
 pub use bans::bans_text;
 pub use check::check_text;
