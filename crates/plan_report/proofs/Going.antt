@@ -10,7 +10,7 @@ use Rattle.route_base.specs.declared.types.Leg.{Leg}
 use Rattle.route_base.specs.declared.types.Leg.TheVariants.{Drive, Wait}
 use Rattle.route_base.specs.declared.types.Pair.{Pair}
 use Rattle.route_base.specs.declared.types.Request.{Request}
-use Rattle.plan_report.specs.Inside.{Lead, IsKnown, IsGood}
+use Rattle.plan_report.specs.Inside.{Lead, IsKnown, IsPassable}
 use Rattle.plan_report.specs.Stages.{Stage, no_road, road_at, weight_at, position_after, stages_from, numbered_text}
 
 make : ℕ → ℕ → ℕ → Position
@@ -81,9 +81,9 @@ module _ (s : Setting) (until : ℕ) where
   minute_after (Drive a) p le = omega (arith, le)
   minute_after (Wait k) p le = omega (arith, le)
 
-  -- the first of lawful legs can be gone
+  -- the first of lawful legs can be travelled
   pub good_first : (leg : Leg) (legs : List Leg) (p q : Position) → Lead s until (leg ∷ legs) p q → first_instant ≤ p.minute
-      → q.minute ≤ last_instant → q.cost < 2 ^ 64 → IsGood s p leg
+      → q.minute ≤ last_instant → q.cost < 2 ^ 64 → IsPassable s p leg
   good_first leg legs p q lead early late cheap =
       let up = rises (steps_of legs) (position_after s p leg) q (walk_after leg (steps_of legs) p q lead.walk) in
       let all = rises (steps_of (leg ∷ legs)) p q lead.walk in
@@ -131,10 +131,10 @@ lead_more s until legs i d p q end low q-is lead =
           (walk_after s until leg (steps_of (drop (i + 1) legs)) p end here.walk);
     }
 
--- the next leg can be gone
+-- the next leg can be travelled
 pub good_next : (s : Setting) (until : ℕ) (legs : List Leg) (i : ℕ) (d : Leg) (p end : Position) → i < length legs
     → Lead s until (drop i legs) p end → first_instant ≤ p.minute → end.minute ≤ last_instant → end.cost < 2 ^ 64
-    → IsGood s p (get_or legs i d)
+    → IsPassable s p (get_or legs i d)
 good_next s until legs i d p end low lead =
     good_first s until (get_or legs i d) (drop (i + 1) legs) p end (subst (λ (xs : List Leg). Lead s until xs p end) (drop_more legs i d low) lead)
 

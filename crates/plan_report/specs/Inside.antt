@@ -25,8 +25,8 @@ abbrev pub IsKnown : Setting → Position → Leg → Type 0
 IsKnown s p (Drive a) = IsSome (s.road a.0) × ((road_at s a.0).tail ≡ p.node)
 IsKnown s p (Wait k) = IsSome (s.weight p.node)
 
--- the leg can be written and gone from p within the range of numbers
-pub record IsGood (s : Setting) (p : Position) (leg : Leg) : Type 0 where
+-- the leg can be travelled and written from p within the range of numbers
+pub record IsPassable (s : Setting) (p : Position) (leg : Leg) : Type 0 where
   pub known : IsKnown s p leg
   pub start : IsInstant p.minute
   pub minute : IsInstant (position_after s p leg).minute
@@ -37,8 +37,8 @@ abbrev pub stage_at : ℕ → Place → Leg → Stage
 stage_at number at leg = record { number = number; from = position_at at; leg = leg }
 
 -- depart and until are instants
-abbrev pub IsTimed : Request → Type 0
-IsTimed r = IsInstant r.depart × IsInstant r.until
+abbrev pub HasInstants : Request → Type 0
+HasInstants r = IsInstant r.depart × IsInstant r.until
 
 -- the route's legs are lawful over the net, and have its pair
 abbrev pub IsLawful : Net → Request → Route → Type 0

@@ -1,7 +1,7 @@
 // Writes routes as CSV.
 ghost use Rattle.std.specs.Prelude.{◌≡◌, ◌≤◌, ◌<◌, ◌+◌, ◌++◌, ◌^◌, All, OnOk, IfOk, flat_map, length};
 ghost use Rattle.plan_report.specs.Csv.{csv_place_text, csv_kind, csv_leg_row, csv_arrive_row, csv_route_text, csv_text_of};
-ghost use Rattle.plan_report.specs.Inside.{position_at, stage_at, IsGood, IsLawful, IsTimed};
+ghost use Rattle.plan_report.specs.Inside.{position_at, stage_at, IsPassable, IsLawful, HasInstants};
 ghost use Rattle.plan_report.specs.Stages.{position_after, stages_of, numbered_text};
 ghost use Rattle.route_base.specs.Legs.{Achieves};
 ghost use Rattle.route_base.specs.Net.{setting_of};
@@ -51,7 +51,7 @@ fn push_leg(
     at: Place,
     leg: Leg,
 ) -> Result<Place, OutOfMemory>
-    requires { IsGood (setting_of net.now) (position_at at) leg }
+    requires { IsPassable (setting_of net.now) (position_at at) leg }
     ensures text { OnOk result (out.new.items ≡ out.old.items
         ++ csv_leg_row (setting_of net.now) route_number (stage_at number at leg)) }
     ensures place { IfOk result
@@ -75,7 +75,7 @@ fn push_legs(
     pair: Pair,
     legs: &[Leg],
 ) -> Result<(), OutOfMemory>
-    requires timed { IsTimed request }
+    requires timed { HasInstants request }
     requires lawful { Achieves (setting_of net.now) request legs.now pair }
     ensures { OnOk result (out.new.items ≡ out.old.items
         ++ flat_map (csv_leg_row (setting_of net.now) route_number) (stages_of (setting_of net.now) request legs.now)) }
@@ -119,7 +119,7 @@ fn push_route(
     number: u64,
     route: &Route,
 ) -> Result<(), OutOfMemory>
-    requires timed { IsTimed request }
+    requires timed { HasInstants request }
     requires lawful { IsLawful net.now request route.now }
     ensures { OnOk result (out.new.items ≡ out.old.items
         ++ csv_route_text (setting_of net.now) request number route.now) }
@@ -136,7 +136,7 @@ fn push_routes(
     request: Request,
     routes: &[Route],
 ) -> Result<(), OutOfMemory>
-    requires timed { IsTimed request }
+    requires timed { HasInstants request }
     requires lawful { All (IsLawful net.now request) routes.now }
     ensures { OnOk result (out.new.items ≡ out.old.items
         ++ numbered_text (csv_route_text (setting_of net.now) request) 1 routes.now) }
@@ -154,7 +154,7 @@ pub fn csv_text(
     request: Request,
     routes: &Routes,
 ) -> Result<Vec<u8>, OutOfMemory>
-    requires timed { IsTimed request }
+    requires timed { HasInstants request }
     requires lawful { All (IsLawful net.now request) routes.now }
     ensures { IfOk result
         (λ v. v.items ≡ csv_text_of (setting_of net.now) request routes.now) }

@@ -1,6 +1,6 @@
 // Goes over legs, from one place to the next.
 ghost use Rattle.std.specs.Prelude.{◌≡◌, IsSome};
-ghost use Rattle.plan_report.specs.Inside.{position_at, IsGood};
+ghost use Rattle.plan_report.specs.Inside.{position_at, IsPassable};
 ghost use Rattle.plan_report.specs.Stages.{road_at, weight_at, position_after};
 ghost use Rattle.route_base.specs.Legs.{start_of};
 ghost use Rattle.route_base.specs.Net.{road_of, setting_of};
@@ -45,7 +45,7 @@ fn weight_of(net: &TimedNet, v: NodeId) -> Cost
 
 /// The place after a leg. In constant time.
 pub fn next_place(net: &TimedNet, at: Place, leg: Leg) -> Place
-    requires { IsGood (setting_of net.now) (position_at at) leg }
+    requires { IsPassable (setting_of net.now) (position_at at) leg }
     ensures { position_at result ≡ position_after (setting_of net.now) (position_at at) leg }
 {
     match leg {

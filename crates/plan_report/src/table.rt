@@ -1,6 +1,6 @@
 // Writes routes as a table.
 ghost use Rattle.std.specs.Prelude.{◌≡◌, ◌≤◌, ◌++◌, All, OnOk, IfOk, flat_map};
-ghost use Rattle.plan_report.specs.Inside.{position_at, stage_at, IsGood, IsKnown, IsLawful, IsTimed};
+ghost use Rattle.plan_report.specs.Inside.{position_at, stage_at, IsPassable, IsKnown, IsLawful, HasInstants};
 ghost use Rattle.plan_report.specs.Stages.{position_after, stages_of, numbered_text};
 ghost use Rattle.plan_report.specs.Table.{table_move_text, table_leg_text, table_head_text, table_route_text, table_text_of};
 ghost use Rattle.route_base.specs.Legs.{Achieves};
@@ -43,7 +43,7 @@ fn push_move(
 
 // Appends the line of a leg, and gives the place after it.
 fn push_leg(out: &mut Vec<u8>, net: &TimedNet, at: Place, leg: Leg) -> Result<Place, OutOfMemory>
-    requires { IsGood (setting_of net.now) (position_at at) leg }
+    requires { IsPassable (setting_of net.now) (position_at at) leg }
     ensures text { OnOk result
         (out.new.items ≡ out.old.items ++ table_leg_text (setting_of net.now) (stage_at 0 at leg)) }
     ensures place { IfOk result
@@ -66,7 +66,7 @@ fn push_legs(
     pair: Pair,
     legs: &[Leg],
 ) -> Result<(), OutOfMemory>
-    requires timed { IsTimed request }
+    requires timed { HasInstants request }
     requires lawful { Achieves (setting_of net.now) request legs.now pair }
     ensures { OnOk result (out.new.items ≡ out.old.items
         ++ flat_map (table_leg_text (setting_of net.now)) (stages_of (setting_of net.now) request legs.now)) }
@@ -100,7 +100,7 @@ fn push_route(
     number: u64,
     route: &Route,
 ) -> Result<(), OutOfMemory>
-    requires timed { IsTimed request }
+    requires timed { HasInstants request }
     requires lawful { IsLawful net.now request route.now }
     ensures { OnOk result (out.new.items ≡ out.old.items
         ++ table_route_text (setting_of net.now) request number route.now) }
@@ -116,7 +116,7 @@ fn push_routes(
     request: Request,
     routes: &[Route],
 ) -> Result<(), OutOfMemory>
-    requires timed { IsTimed request }
+    requires timed { HasInstants request }
     requires lawful { All (IsLawful net.now request) routes.now }
     ensures { OnOk result (out.new.items ≡ out.old.items
         ++ numbered_text (table_route_text (setting_of net.now) request) 1 routes.now) }
@@ -135,7 +135,7 @@ pub fn table_text(
     request: Request,
     routes: &Routes,
 ) -> Result<Vec<u8>, OutOfMemory>
-    requires timed { IsTimed request }
+    requires timed { HasInstants request }
     requires lawful { All (IsLawful net.now request) routes.now }
     ensures { IfOk result
         (λ v. v.items ≡ table_text_of (setting_of net.now) request routes.now) }
