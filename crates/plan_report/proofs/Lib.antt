@@ -1,0 +1,4 @@
+pub mod Agreeing
+pub mod FewLegs
+pub mod Going
+pub mod Items

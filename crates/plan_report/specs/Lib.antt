@@ -1,0 +1,11 @@
+pub mod Bans
+pub mod Check
+pub mod Costs
+pub mod Csv
+pub mod Inside
+pub mod Json
+pub mod Plain
+pub mod Refusals
+pub mod Reports
+pub mod Stages
+pub mod Table

@@ -1,0 +1,33 @@
+//! The texts that the planner prints: routes in four forms, closed minutes, verdicts on certificates, and refusals.
+//!
+//! The law is in `specs/`. `Reports` is the text of routes in each form, over `Plain`, `Table`, `Csv` and `Json`; `Stages` has
+//! what the table and the CSV text share, the position before each leg. `Bans`, `Check` and `Refusals` are the other texts.
+//!
+//! `plan_text`, `bans_text`, `check_text` and `refusal_text` give exactly these texts. `reports_agree` is the law that settings
+//! of which one stands for the other have the same texts.
+//!
+//! `Inside` is no law: it has what a writer keeps as it goes over the legs. `proofs/Going` shows that each position that it
+//! carries along is the one before the next leg, and within the range of numbers and instants.
+#![tactic(auto)]
+
+mod bans;
+mod check;
+mod csv;
+mod json;
+mod laws;
+mod outcomes;
+mod places;
+mod plain;
+mod pushing;
+mod refusals;
+mod reports;
+mod table;
+#[cfg(test)]
+mod tests;
+
+pub use bans::bans_text;
+pub use check::check_text;
+pub use laws::reports_agree;
+pub use outcomes::{Refusal, Verdict3};
+pub use refusals::refusal_text;
+pub use reports::plan_text;

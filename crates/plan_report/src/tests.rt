@@ -1,0 +1,144 @@
+// The texts of a worked trip in each form, and one of each other text.
+ghost use Rattle.std.specs.Prelude.{◌≡◌, ◌*◌, ◌<◌, All, IfOk};
+ghost use Rattle.plan_report.specs.Inside.{IsLawful};
+ghost use Rattle.route_base.specs.Net.{IsGoodRequest};
+
+use crate::{Refusal, Verdict3, bans_text, check_text, plan_text, refusal_text};
+use route_base::{
+    ArcId, BadInput, Cause, FileKind, Form, Leg, Legs, NodeId, OutOfMemory, Request, Route, Routes,
+    Run, TimedArc, TimedNet, replay,
+};
+use std::alloc::Global;
+use std::test::Fail;
+
+const PLAIN: &str = "\
+pairs 2\n\
+pair 26563920 360.000\n\
+drive 1\n\
+wait 120\n\
+drive 2\n\
+pair 26563980 300.000\n\
+drive 3\n";
+
+const TABLE: &str = "\
+routes 2\n\
+route 1 arrive 2020-07-04T04:00Z cost 360.000\n\
+2020-07-04T00:00Z drive 1 1 2 60\n\
+2020-07-04T01:00Z wait 2 120\n\
+2020-07-04T03:00Z drive 2 2 3 60\n\
+route 2 arrive 2020-07-04T05:00Z cost 300.000\n\
+2020-07-04T00:00Z drive 3 1 3 300\n";
+
+const CSV: &str = "\
+pair,leg,kind,arc,node,start,minutes,cost\n\
+1,1,drive,1,1,2020-07-04T00:00Z,60,0.000\n\
+1,2,wait,,2,2020-07-04T01:00Z,120,60.000\n\
+1,3,drive,2,2,2020-07-04T03:00Z,60,300.000\n\
+1,4,arrive,,3,2020-07-04T04:00Z,0,360.000\n\
+2,1,drive,3,1,2020-07-04T00:00Z,300,0.000\n\
+2,2,arrive,,3,2020-07-04T05:00Z,0,300.000\n";
+
+const JSON: &str = "{\"pairs\":[\
+{\"arrival\":26563920,\"cost\":360000,\"legs\":[\
+{\"arc\":1,\"kind\":\"drive\"},{\"kind\":\"wait\",\"minutes\":120},{\"arc\":2,\"kind\":\"drive\"}]},\
+{\"arrival\":26563980,\"cost\":300000,\"legs\":[{\"arc\":3,\"kind\":\"drive\"}]}]}\n";
+
+fn arc(tail: u32, head: u32, minutes: u64) -> TimedArc
+    requires { minutes < 1000 }
+    ensures { result ≡ record {
+      tail = record { 0 = tail };
+      head = record { 0 = head };
+      minutes = minutes;
+      cost = 1000 * minutes;
+      closed = 0;
+    } }
+{
+    TimedArc {
+        tail: NodeId(tail),
+        head: NodeId(head),
+        minutes,
+        cost: 1000 * minutes,
+        closed: 0,
+    }
+}
+
+// Three nodes with arcs that are never closed; waiting is allowed at 2.
+fn small_net(alloc: Global) -> Result<TimedNet, OutOfMemory>
+    ensures { IfOk result (λ net. net.nodes ≡ 3) }
+{
+    let arcs = vec![in alloc; arc(1, 2, 60), arc(2, 3, 60), arc(1, 3, 300)]?;
+    let mut closed = Vec::new(alloc);
+    closed.push(Vec::new(alloc))?;
+    let weights = vec![in alloc; None, Some(2000), None]?;
+    Ok(TimedNet::new(3, arcs, closed, weights))
+}
+
+// Adds the route of these legs, if they are lawful.
+fn add_route(
+    alloc: Global,
+    net: &TimedNet,
+    request: Request,
+    routes: &mut Routes,
+    legs: &[Leg],
+) -> Result<(), OutOfMemory>
+    requires good { IsGoodRequest net.now request }
+    requires lawful { All (IsLawful net.now request) routes.old }
+    ensures { All (IsLawful net.now request) routes.new }
+{
+    if let Ok(pair) = replay(net, request, legs) {
+        let legs = Legs::from_vec(Vec::from_slice(alloc, legs)?);
+        routes.push(Route { pair, legs })?;
+    }
+    Ok(())
+}
+
+#[test]
+fn writes_each_form(rt: HostRuntime) -> Result<(), Fail> {
+    let alloc = rt.alloc();
+    let net = small_net(alloc)?;
+    let request = Request {
+        origin: NodeId(1),
+        goal: NodeId(3),
+        depart: 26563680,
+        until: 26564080,
+    };
+    let mut routes = Routes::new(alloc);
+    let legs = [Leg::Drive(ArcId(1)), Leg::Wait(120), Leg::Drive(ArcId(2))];
+    add_route(alloc, &net, request, &mut routes, &legs)?;
+    add_route(alloc, &net, request, &mut routes, &[Leg::Drive(ArcId(3))])?;
+    let forms = [
+        (Form::Plain, PLAIN),
+        (Form::Table, TABLE),
+        (Form::Csv, CSV),
+        (Form::Json, JSON),
+    ];
+    for (form, text) in forms {
+        let written = plan_text(alloc, form, &net, request, &routes)?;
+        assert!(rt; written.as_slice() == text.as_bytes(), "at {text}");
+    }
+    Ok(())
+}
+
+#[test]
+fn writes_other_texts(rt: HostRuntime) -> Result<(), Fail> {
+    let alloc = rt.alloc();
+    let run = Run {
+        lo: 26563740,
+        hi: 26563860,
+    };
+    let fault = BadInput {
+        file: FileKind::Graph,
+        row: 3,
+        cause: Cause::BadForm,
+    };
+    let bans = bans_text(alloc, &[run], 2)?;
+    assert!(rt;
+        bans.as_slice()
+            == b"bans 1\nclosed 2020-07-04T01:00Z 2020-07-04T03:00Z\npassed 2\n".as_slice()
+    );
+    let rejected = check_text(alloc, Verdict3::Rejected(4), 2)?;
+    assert!(rt; rejected.as_slice() == b"rejected 4\n".as_slice());
+    let refused = refusal_text(alloc, Refusal::Input(fault))?;
+    assert!(rt; refused.as_slice() == b"refused input graph.gr 3 BadForm\n".as_slice());
+    Ok(())
+}
