@@ -1,5 +1,6 @@
 -- Lines whose tokens have no space and no line feed: their text has just these lines.
-use Rattle.std.proofs.Common.{◌≡◌, ◌==◌, ◌&&◌, ℕ, ◌+◌, ◌/◌, ◌%◌, ◌<◌, zero, suc, Bool, true, false, not, cond, List, [], ◌∷◌, ◌++◌, length, map, flat_map, All, append_assoc, refl, ◌∙◌, ap, arith}
+use Rattle.std.proofs.Common.{◌≡◌, ◌==◌, ◌&&◌, ℕ, ◌+◌, ◌/◌, ◌%◌, ◌<◌, zero, suc, Bool, true, false, not, cond, List, [], ◌∷◌, ◌++◌, length, map, flat_map}
+use Rattle.std.proofs.Common.{All, append_assoc, refl, ◌∙◌, ap, arith}
 use Rattle.std.specs.Prelude.{codes, decimal}
 use Rattle.std.specs.Fmt.{digits, digits_onto, digit_glyph}
 use Rattle.std.specs.List.{join_with_byte}
@@ -12,7 +13,8 @@ use Rattle.route_base.specs.declared.types.Leg.TheVariants.{Drive, Wait}
 use Rattle.route_base.specs.declared.types.NodeId.{NodeId}
 use Rattle.route_base.specs.declared.types.Route.{Route}
 use Rattle.cost_functions.specs.declared.pieces.Piece.{Piece}
-use Rattle.certificate.specs.CertificateText.{Tokens, line_text, count_line, leg_line, pair_line, route_lines, bound_line, piece_line, function_lines, all_pieces, certificate_lines}
+use Rattle.certificate.specs.CertificateText.{Tokens, line_text, count_line, leg_line, pair_line, route_lines, bound_line, piece_line, function_lines}
+use Rattle.certificate.specs.CertificateText.{all_pieces, certificate_lines}
 use Rattle.certificate.specs.declared.Certificate.{Certificate}
 use Rattle.certificate.specs.Inside.LineForms.{tokens_of}
 use Rattle.certificate.specs.Inside.Reading.{lines_of}

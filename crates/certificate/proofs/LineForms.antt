@@ -1,5 +1,6 @@
 -- Single lines, both ways: each line that can be written is read as what it writes, and a line that is read is written so.
-use Rattle.std.proofs.Common.{◌≡◌, ⊎_elim, ◌==◌, ◌&&◌, ◌||◌, ℕ, ◌^◌, ◌≤◌, ◌<◌, Bool, true, false, cond, Option, Some, None, List, [], ◌∷◌, refl, sym, ◌∙◌, ap, subst, arith, rules}
+use Rattle.std.proofs.Common.{◌≡◌, ⊎_elim, ◌==◌, ◌&&◌, ◌||◌, ℕ, ◌^◌, ◌≤◌, ◌<◌, Bool, true, false, cond, Option, Some, None, List, [], ◌∷◌, refl, sym, ◌∙◌, ap}
+use Rattle.std.proofs.Common.{subst, arith, rules}
 use Rattle.std.specs.Prelude.{codes, decimal, nat_le, nat_lt, unwrap_or, option_map, option_and_then}
 use Rattle.std.specs.Str.{bytes_eq}
 use Rattle.std.proofs.lemmas.Bool.{cases_lt, le-leb, lt-leb, lt-ltb, le-ltb, eq-eqb, ne_eqb, eqb-true}
@@ -16,7 +17,8 @@ use Rattle.cost_functions.specs.declared.pieces.Piece.{Piece}
 use Rattle.certificate.specs.CertificateText.{Tokens, leg_line, bound_line, piece_line}
 use Rattle.certificate.specs.Writable.{IsWritableLeg, IsWritableNode}
 use Rattle.certificate.specs.declared.limits.TheConstants.{LONGEST_BOUND}
-use Rattle.certificate.specs.Inside.LineForms.{number_within, node_of, leg_in, pair_from, pair_in, bound_from, bound_in, piece_from, piece_in, piece_at, count_in}
+use Rattle.certificate.specs.Inside.LineForms.{number_within, node_of, leg_in, pair_from, pair_in, bound_from, bound_in, piece_from, piece_in, piece_at}
+use Rattle.certificate.specs.Inside.LineForms.{count_in}
 use Rattle.certificate.proofs.PlainNumbers.{plain_again, plain_found}
 
 -- the parts of an answer

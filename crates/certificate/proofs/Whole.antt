@@ -1,5 +1,6 @@
 -- Whole texts, both ways.
-use Rattle.std.proofs.Common.{◌≡◌, ℕ, ◌<◌, true, cond, Some, None, List, [], ◌∷◌, ◌++◌, length, map, flat_map, All, get_or, append_assoc, length-append, refl, sym, ◌∙◌, ap, subst, arith}
+use Rattle.std.proofs.Common.{◌≡◌, ℕ, ◌<◌, true, cond, Some, None, List, [], ◌∷◌, ◌++◌, length, map, flat_map, All, get_or, append_assoc, length-append, refl}
+use Rattle.std.proofs.Common.{sym, ◌∙◌, ap, subst, arith}
 use Rattle.std.specs.Prelude.{codes, option_and_then}
 use Rattle.std.specs.Str.{bytes_eq}
 use Rattle.route_base.specs.declared.types.Bound.{Bound}
@@ -11,8 +12,10 @@ use Rattle.certificate.specs.ByNode.{AreRising}
 use Rattle.certificate.specs.Writable.{IsWritable, IsWritableNode, IsCertificateText}
 use Rattle.certificate.specs.declared.Certificate.{Certificate}
 use Rattle.certificate.specs.Inside.LineForms.{bound_in, count_in, leg_in, pair_in}
-use Rattle.certificate.specs.Inside.Reading.{lines_of, first_line, neighbours_pass, may_follow_entry, route_in, function_in, routes_in, bounds_in, functions_in, behind_title, is_end, certificate_in}
-use Rattle.certificate.proofs.Blocks.{none_first, IsWritableRoute, IsWritableFunction, routes_found, routes_read, functions_found, functions_read, counted_found, counted_again}
+use Rattle.certificate.specs.Inside.Reading.{lines_of, first_line, neighbours_pass, may_follow_entry, route_in, function_in, routes_in, bounds_in}
+use Rattle.certificate.specs.Inside.Reading.{functions_in, behind_title, is_end, certificate_in}
+use Rattle.certificate.proofs.Blocks.{none_first, IsWritableRoute, IsWritableFunction, routes_found, routes_read, functions_found, functions_read}
+use Rattle.certificate.proofs.Blocks.{counted_found, counted_again}
 use Rattle.certificate.proofs.CleanLines.{lines_of_text, certificate_clean}
 use Rattle.certificate.proofs.CutLines.{read_first, first_found}
 use Rattle.certificate.proofs.CutText.{bytes_again, text_again, end_lines}

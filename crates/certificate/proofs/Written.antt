@@ -4,7 +4,8 @@ use Rattle.std.specs.Prelude.{codes}
 use Rattle.std.proofs.lemmas.List.Folds.{flat_map-map}
 use Rattle.route_base.specs.declared.types.Route.{Route}
 use Rattle.certificate.specs.declared.Certificate.{Certificate}
-use Rattle.certificate.specs.CertificateText.{line_text, leg_line, pair_line, route_lines, bound_line, function_lines, count_line, all_pieces, certificate_text_of}
+use Rattle.certificate.specs.CertificateText.{line_text, leg_line, pair_line, route_lines, bound_line, function_lines, count_line, all_pieces}
+use Rattle.certificate.specs.CertificateText.{certificate_text_of}
 use Rattle.certificate.specs.Inside.Spelling.{leg_text, route_text, bound_text, function_text}
 use Rattle.certificate.proofs.Spelled.{spelled}
 

@@ -125,7 +125,8 @@ module _ (piece : Piece) (end : ℕ) (old : List Piece) (later : All (λ q. q.hi
       → ((t : ℕ) → value_at new t ≡ value_at (old ++ cut ∷ []) t) → All (λ q. q.hi ≤ piece.hi) new → HasPrefix piece end old new
   put_some new cut some lo hi line values ended = record {
     front = λ t before. values t ∙ value_front old cut t (has_not_before cut t (omega (arith, before, lo)));
-    part = λ t from before. values t ∙ value_last old cut t (ended_by t from) (omega (arith, from, lo)) (omega (arith, before, hi)) ∙ ap Some (line t from before);
+    part = λ t from before. values t ∙ value_last old cut t (ended_by t from) (omega (arith, from, lo)) (omega (arith, before, hi))
+        ∙ ap Some (line t from before);
     rest = λ t from late. values t ∙ value_front old cut t (has_not_after cut t (omega (arith, late, hi))) ∙ none_after old t (ended_by t from);
     ended = ended;
   }

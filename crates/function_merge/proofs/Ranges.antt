@@ -11,7 +11,7 @@ use Rattle.cost_functions.proofs.Places.{value_at_place}
 use Rattle.cost_functions.proofs.PieceValues.{values_of_pieces}
 use Rattle.cost_functions.proofs.Smallness.{line_rises}
 use Rattle.function_merge.specs.Moves.{kept_at, CanMove}
-use Rattle.function_merge.specs.Waits.{CanWait}
+use Rattle.function_merge.specs.Waits.{CanWait, CanWaitAnywhere}
 use Rattle.function_merge.specs.Inside.EndRanges.{EndsInRange, WaitsInRange}
 use Rattle.function_merge.proofs.KeptParts.{chosen}
 use Rattle.function_merge.proofs.LeastWaits.{waited_least}
@@ -51,3 +51,11 @@ can_wait weight until ps all t x upto is =
     s v (from.1.1.1) (omega (arith, from.1.1.0, upto)) in
     let less : weight * (t - s) ≤ weight * (until - s) = mul-le-mul_left weight (omega (arith, upto)) in
     omega (arith, fits, less, from.1.1.2)
+
+pub all_wait : (weight until : ℕ) (ps : List Piece) → ArePieces ps → CanWaitAnywhere (value_at ps) weight until → All (WaitsInRange weight until) ps
+all_wait weight until ps are can k d within =
+    let p = get_or ps k d in
+    let begun = (are.each k d within).filled in
+    let first = value_at_place ps k d p.lo are within (omega arith) begun in
+    let last = value_at_place ps k d p.hi are within begun (omega arith) in
+    can p.lo p.hi (line_at p p.lo) (line_at p p.hi) begun first last

@@ -22,3 +22,8 @@ waited_at values weight t = least_of (values t) (carried_to values weight t)
 -- every cost up to a minute stays in range
 abbrev pub CanWait : (ℕ → Option ℕ) → ℕ → ℕ → Type 0
 CanWait values weight until = (t v : ℕ) → t ≤ until → waited_at values weight t ≡ Some v → v ≤ HIGHEST_COST
+
+-- the value at each minute, and a wait until then from that minute or from an earlier one that has a value, are in range together
+abbrev pub CanWaitAnywhere : (ℕ → Option ℕ) → ℕ → ℕ → Type 0
+CanWaitAnywhere values weight until =
+    (s t v x : ℕ) → s ≤ t → values s ≡ Some v → values t ≡ Some x → x + weight * (until - s) ≤ HIGHEST_COST

@@ -5,7 +5,7 @@ ghost use Rattle.cost_functions.specs.Pieces.{value_at, ArePieces};
 ghost use Rattle.route_base.specs.declared.limits.TheConstants.{LAST_INSTANT, HIGHEST_COST};
 ghost use Rattle.route_base.specs.declared.types.Run.{Run};
 ghost use Rattle.function_merge.specs.Moves.{kept_at, CanMove};
-ghost use Rattle.function_merge.specs.Waits.{CanWait};
+ghost use Rattle.function_merge.specs.Waits.{CanWait, CanWaitAnywhere};
 ghost use Rattle.function_merge.specs.Inside.EndRanges.{EndsInRange, WaitsInRange};
 
 use cost_functions::{CostFn, Piece};
@@ -23,12 +23,13 @@ pub fn can_shift(f: &CostFn, minutes: u64, cost: Cost) -> bool
 }
 
 /// Whether waiting until `until` from all values of f stays in range, as `wait` requires; `false` also where it only might not:
-/// where the last value of a piece and a wait from the first minute of the piece are too much. Linear in the number of pieces; no
-/// memory.
+/// where the last value of a piece and a wait from the first minute of the piece are too much. It is `true` where the value at no
+/// minute of f and a wait from that minute or an earlier one are too much. Linear in the number of pieces; no memory.
 pub fn can_wait(f: &CostFn, weight: Cost, until: Minute) -> bool
     requires weight { weight ≤ HIGHEST_COST }
     requires until { until ≤ LAST_INSTANT }
-    ensures { IsTrue result → CanWait (value_at f.now) weight until }
+    ensures can { IsTrue result → CanWait (value_at f.now) weight until }
+    ensures enough { CanWaitAnywhere (value_at f.now) weight until → IsTrue result }
 {
     all_fit_wait(f.pieces(), weight, until)
 }

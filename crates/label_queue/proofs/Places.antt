@@ -1,5 +1,6 @@
 -- Keys by place: a write to a place sets the key of one node.
-use Rattle.std.proofs.Common.{◌≡◌, ⊎_elim, ℕ, zero, suc, ◌-◌, ◌≤◌, ◌<◌, Option, None, List, length, get_or, set, replicate, refl, sym, ◌∙◌, ap, arith, get_or-set_other, get_or-set_same, length-set}
+use Rattle.std.proofs.Common.{◌≡◌, ⊎_elim, ℕ, zero, suc, ◌-◌, ◌≤◌, ◌<◌, Option, None, List, length, get_or, set, replicate, refl, sym, ◌∙◌, ap, arith}
+use Rattle.std.proofs.Common.{get_or-set_other, get_or-set_same, length-set}
 use Rattle.std.proofs.lemmas.Bool.{cases_lt}
 use Rattle.std.proofs.lemmas.Option.{slice_get-get_or, slice_get_past}
 use Rattle.std.specs.Option.{option_flatten}
@@ -22,7 +23,8 @@ key_zero keys = refl
 pub is_set : (keys : List (Option ℕ)) (v : ℕ) (key : Option ℕ) → 1 ≤ v → v ≤ length keys → IsSet keys (set keys (v - 1) key) v key
 is_set keys v key low high = record {
   room = length-set keys (v - 1) key;
-  here = key_read (set keys (v - 1) key) v None low (omega (arith, high, length-set keys (v - 1) key)) ∙ get_or-set_same keys (v - 1) key None (omega (arith, low, high));
+  here = key_read (set keys (v - 1) key) v None low (omega (arith, high, length-set keys (v - 1) key))
+      ∙ get_or-set_same keys (v - 1) key None (omega (arith, low, high));
   others = λ w ne. ⊎_elim
       (λ (some : 0 < w). ⊎_elim
       (λ (past : length keys < w). key_past (set keys (v - 1) key) w (omega (arith, past, length-set keys (v - 1) key)) ∙ sym (key_past keys w past))

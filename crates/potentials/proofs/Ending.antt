@@ -51,7 +51,8 @@ no_zero net good (suc i) road is none =
     let fine' : IsGoodArc net arc.0 = subst (λ (w : TimedArc). IsGoodArc net w) (get_or_from_slice_get net.arcs i arc.0 arc.0 arc.1) fine in
     omega (arith, fine'.head, none, ap (λ (z : Road). z.head) arc.2)
 
-pub place_ends : (net : Net) (star : Star) (v : ℕ) (arcs : List ArcId) (i : ℕ) (a : ArcId) → AreIncoming net star → arcs ≡ arcs_of star v → slice_get arcs i ≡ Some a → EndsAt net Head v a.0
+pub place_ends : (net : Net) (star : Star) (v : ℕ) (arcs : List ArcId) (i : ℕ) (a : ArcId) → AreIncoming net star → arcs ≡ arcs_of star v
+    → slice_get arcs i ≡ Some a → EndsAt net Head v a.0
 place_ends net star v arcs i a all is there =
     (all v).each a (subst (λ o. Contains o a) is (i, slice_get_within arcs i a there, get_or_from_slice_get arcs i a a there))
 
@@ -68,7 +69,8 @@ few_by zero f le = omega arith
 few_by (suc n) f le = omega (arith, few_by n f le, le n)
 
 -- the goal alone is known, and waits
-pub begins : (roads : ℕ → Option Road) (count : Road → ℕ) (goal nodes most : ℕ) (known keys : ℕ → Option ℕ) → known goal ≡ Some 0 → ((v : ℕ) → (v ≡ goal → ⊥) → known v ≡ None) → keys goal ≡ Some 0 → ((v : ℕ) → (v ≡ goal → ⊥) → keys v ≡ None)
+pub begins : (roads : ℕ → Option Road) (count : Road → ℕ) (goal nodes most : ℕ) (known keys : ℕ → Option ℕ) → known goal ≡ Some 0
+    → ((v : ℕ) → (v ≡ goal → ⊥) → known v ≡ None) → keys goal ≡ Some 0 → ((v : ℕ) → (v ≡ goal → ⊥) → keys v ≡ None)
     → IsSumming roads count goal nodes most 0 known keys
 begins roads count goal nodes most known keys here others key no_keys = record {
   at_goal = record { least = 0; is = here; within = omega arith };
@@ -94,8 +96,11 @@ begins roads count goal nodes most known keys here others key no_keys = record {
     few n = few_by n (λ v. unsettled (known v) (keys v)) (λ v. one (known v) (keys v))
 
 -- the least node is taken out to work
-pub goes_to_work : (net : Net) (counted : Counted) (goal v x : ℕ) (known old_keys new_keys : List (Option ℕ)) → IsGoodNet net → length old_keys ≡ net.nodes → IsSummed net counted goal 0 known old_keys → IsTaken old_keys new_keys v x
+pub goes_to_work : (net : Net) (counted : Counted) (goal v x : ℕ) (known old_keys new_keys : List (Option ℕ)) → IsGoodNet net → length old_keys ≡ net.nodes
+    → IsSummed net counted goal 0 known old_keys → IsTaken old_keys new_keys v x
     → IsSummed net counted goal v known new_keys × WorksAt net v x known new_keys × (unsettled_at net known new_keys + 1 ≤ unsettled_at net known old_keys)
 goes_to_work net counted goal v x known old_keys new_keys good room facts taken =
-    takes_least (setting_of net).road (count_of counted) goal net.nodes HIGHEST_COST v x (key_at known) (key_at old_keys) (key_at new_keys) (no_zero net good) (omega (arith, taken.node, room)) facts taken.was
-    (λ w key is. ⊎_elim (λ (less : x < key). omega (arith, less)) (λ (same : (x ≡ key) × (v ≤ w)). omega (arith, same.0)) (taken.least w key is)) taken.now.here taken.now.others
+    takes_least (setting_of net).road (count_of counted) goal net.nodes HIGHEST_COST v x (key_at known) (key_at old_keys) (key_at new_keys) (no_zero net good)
+    (omega (arith, taken.node, room)) facts taken.was
+    (λ w key is. ⊎_elim (λ (less : x < key). omega (arith, less)) (λ (same : (x ≡ key) × (v ≤ w)). omega (arith, same.0)) (taken.least w key is))
+    taken.now.here taken.now.others

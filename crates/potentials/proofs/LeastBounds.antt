@@ -15,20 +15,24 @@ use Rattle.potentials.specs.Sums.{Leads, IsLeastSum, AreLeastBounds, bound_at}
 use Rattle.potentials.specs.Inside.Summing.{bound_from}
 
 -- the same arcs, with another count
-pub counted_too : (roads : ℕ → Option Road) (one two : Road → ℕ) (goal : ℕ) (arcs : List ℕ) (v sum : ℕ) → Leads roads one goal arcs v sum → (other : ℕ) × Leads roads two goal arcs v other
+pub counted_too : (roads : ℕ → Option Road) (one two : Road → ℕ) (goal : ℕ) (arcs : List ℕ) (v sum : ℕ) → Leads roads one goal arcs v sum → (other : ℕ)
+    × Leads roads two goal arcs v other
 counted_too roads one two goal [] v sum leads = (0, (leads.0, refl))
 counted_too roads one two goal (a ∷ arcs) v sum leads =
     let rest = counted_too roads one two goal arcs leads.0.head leads.1 leads.4 in
     (two leads.0 + rest.0, (leads.0, rest.0, leads.2, leads.3, rest.1, refl))
 
 -- a node has both bounds or none
-pub both_least : (roads : ℕ → Option Road) (one two : Road → ℕ) (goal v : ℕ) (x y : Option ℕ) → IsLeastSum roads one goal v x → IsLeastSum roads two goal v y → IsLeastSum roads one goal v (option_map (λ b. b.minutes) (bound_from x y)) × IsLeastSum roads two goal v (option_map (λ b. b.cost) (bound_from x y))
+pub both_least : (roads : ℕ → Option Road) (one two : Road → ℕ) (goal v : ℕ) (x y : Option ℕ) → IsLeastSum roads one goal v x → IsLeastSum roads two goal v y
+    → IsLeastSum roads one goal v (option_map (λ b. b.minutes) (bound_from x y)) × IsLeastSum roads two goal v (option_map (λ b. b.cost) (bound_from x y))
 both_least roads one two goal v None y p q = (p, λ arcs sum leads. let other = counted_too roads two one goal arcs v sum leads in p arcs other.0 other.1)
-both_least roads one two goal v (Some x) None p q = ((λ arcs sum leads. let other = counted_too roads one two goal arcs v sum leads in q arcs other.0 other.1), q)
+both_least roads one two goal v (Some x) None p q =
+    ((λ arcs sum leads. let other = counted_too roads one two goal arcs v sum leads in q arcs other.0 other.1), q)
 both_least roads one two goal v (Some x) (Some y) p q = (p, q)
 
 module _ (s : Setting) (goal : ℕ) (bounds : ℕ → Option Bound) (least : AreLeastBounds s goal bounds) where
-  at_goal : (o : Option Bound) → IsLeastSum s.road (λ r. r.minutes) goal goal (option_map (λ b. b.minutes) o) → IsLeastSum s.road (λ r. r.cost) goal goal (option_map (λ b. b.cost) o) → o ≡ Some (record { minutes = 0; cost = 0 })
+  at_goal : (o : Option Bound) → IsLeastSum s.road (λ r. r.minutes) goal goal (option_map (λ b. b.minutes) o)
+      → IsLeastSum s.road (λ r. r.cost) goal goal (option_map (λ b. b.cost) o) → o ≡ Some (record { minutes = 0; cost = 0 })
   at_goal None p q = absurd (p [] 0 (refl, refl))
   at_goal (Some b) p q = same b (omega (arith, p.1 [] 0 (refl, refl))) (omega (arith, q.1 [] 0 (refl, refl)))
     where
@@ -36,8 +40,10 @@ module _ (s : Setting) (goal : ℕ) (bounds : ℕ → Option Bound) (least : Are
       same w m c = ap (λ (n : ℕ). Some (record { minutes = n; cost = w.cost })) m ∙ ap (λ (n : ℕ). Some (record { minutes = 0; cost = n })) c
 
   through : (a : ℕ) (road : Road) (h : Bound) → s.road a ≡ Some road → (o o' : Option Bound) → o ≡ Some h
-      → IsLeastSum s.road (λ r. r.minutes) goal road.head (option_map (λ b. b.minutes) o) × IsLeastSum s.road (λ r. r.cost) goal road.head (option_map (λ b. b.cost) o)
-      → IsLeastSum s.road (λ r. r.minutes) goal road.tail (option_map (λ b. b.minutes) o') × IsLeastSum s.road (λ r. r.cost) goal road.tail (option_map (λ b. b.cost) o')
+      → IsLeastSum s.road (λ r. r.minutes) goal road.head (option_map (λ b. b.minutes) o)
+      × IsLeastSum s.road (λ r. r.cost) goal road.head (option_map (λ b. b.cost) o)
+      → IsLeastSum s.road (λ r. r.minutes) goal road.tail (option_map (λ b. b.minutes) o')
+      × IsLeastSum s.road (λ r. r.cost) goal road.tail (option_map (λ b. b.cost) o')
       → (b : Bound) × (o' ≡ Some b) × IsBoundThrough road h b
   through a road h is None o' there far near = cc
   through a road h is (Some g) None there far near = absurd (near.0 (a ∷ far.0.0.0) (road.minutes + g.minutes) (road, g.minutes, is, refl, far.0.0.1, refl))
@@ -46,7 +52,11 @@ module _ (s : Setting) (goal : ℕ) (bounds : ℕ → Option Bound) (least : Are
         b,
         refl,
         record {
-          minutes = omega (arith, near.0.1 (a ∷ far.0.0.0) (road.minutes + g.minutes) (road, g.minutes, is, refl, far.0.0.1, refl), ap (λ (w : Bound). w.minutes) e);
+          minutes = omega (
+            arith,
+            near.0.1 (a ∷ far.0.0.0) (road.minutes + g.minutes) (road, g.minutes, is, refl, far.0.0.1, refl),
+            ap (λ (w : Bound). w.minutes) e,
+          );
           cost = omega (arith, near.1.1 (a ∷ far.1.0.0) (road.cost + g.cost) (road, g.cost, is, refl, far.1.0.1, refl), ap (λ (w : Bound). w.cost) e);
         },
       )
@@ -70,24 +80,34 @@ push_end (x ∷ xs) y = push_end xs y
 at_next : {A : Type 0} (xs : List A) (k : ℕ) → at_number xs (k + 1) ≡ slice_get xs k
 at_next xs k = let e : k + 1 ≡ suc k = omega arith in ap (at_number xs) e
 
-pub bound_pushed : (bounds : List (Option Bound)) (b : Option Bound) (place : ℕ) (f : ℕ → Option Bound) → length bounds ≡ place → ((k : ℕ) → k < place → bound_at bounds (k + 1) ≡ f k) → b ≡ f place → (k : ℕ) → k < place + 1 → bound_at (bounds ++ b ∷ []) (k + 1) ≡ f k
+pub bound_pushed : (bounds : List (Option Bound)) (b : Option Bound) (place : ℕ) (f : ℕ → Option Bound) → length bounds ≡ place
+    → ((k : ℕ) → k < place → bound_at bounds (k + 1) ≡ f k) → b ≡ f place → (k : ℕ) → k < place + 1 → bound_at (bounds ++ b ∷ []) (k + 1) ≡ f k
 bound_pushed bounds b place f long each new k below = ⊎_elim
-    (λ (before : k < place). ap option_flatten (at_next (bounds ++ b ∷ []) k ∙ (push_below bounds b k (omega (arith, before, long)) ∙ sym (at_next bounds k))) ∙ each k before)
+    (λ (before : k < place). ap option_flatten (at_next (bounds ++ b ∷ []) k ∙ (push_below bounds b k (omega (arith, before, long)) ∙ sym (at_next bounds k)))
+    ∙ each k before)
     (λ (here : place ≤ k). let same : k ≡ length bounds = omega (arith, here, below, long) in
     ap option_flatten (at_next (bounds ++ b ∷ []) k ∙ (ap (slice_get (bounds ++ b ∷ [])) same ∙ push_end bounds b)) ∙ (new ∙ ap f (omega (arith, same, long))))
     (cases_lt k place)
 
-pub bound_all : (bounds : List (Option Bound)) (minutes costs : List (Option ℕ)) (n : ℕ) → length bounds ≡ n → length minutes ≡ n → ((k : ℕ) → k < n → bound_at bounds (k + 1) ≡ bound_from (key_at minutes (k + 1)) (key_at costs (k + 1))) → (v : ℕ) → bound_at bounds v ≡ bound_from (key_at minutes v) (key_at costs v)
+pub bound_all : (bounds : List (Option Bound)) (minutes costs : List (Option ℕ)) (n : ℕ) → length bounds ≡ n → length minutes ≡ n
+    → ((k : ℕ) → k < n → bound_at bounds (k + 1) ≡ bound_from (key_at minutes (k + 1)) (key_at costs (k + 1))) → (v : ℕ)
+    → bound_at bounds v ≡ bound_from (key_at minutes v) (key_at costs v)
 bound_all bounds minutes costs n long long' each v = ⊎_elim
     (λ (some : 0 < v). ⊎_elim
-    (λ (past : n < v). ap option_flatten (number_past bounds v (omega (arith, past, long))) ∙ sym (ap (λ o. bound_from o (key_at costs v)) (key_past minutes v (omega (arith, past, long')))))
-    (λ (within : v ≤ n). let e : v - 1 + 1 ≡ v = omega (arith, some) in subst (λ u. bound_at bounds u ≡ bound_from (key_at minutes u) (key_at costs u)) e (each (v - 1) (omega (arith, some, within))))
+    (λ (past : n < v). ap option_flatten (number_past bounds v (omega (arith, past, long)))
+    ∙ sym (ap (λ o. bound_from o (key_at costs v)) (key_past minutes v (omega (arith, past, long')))))
+    (λ (within : v ≤ n). let e : v - 1 + 1 ≡ v = omega (arith, some)
+    in subst (λ u. bound_at bounds u ≡ bound_from (key_at minutes u) (key_at costs u)) e (each (v - 1) (omega (arith, some, within))))
     (cases_lt n v))
-    (λ (none : v ≤ 0). let e : 0 ≡ v = omega (arith, none) in subst (λ u. bound_at bounds u ≡ bound_from (key_at minutes u) (key_at costs u)) e (sym (ap (λ o. bound_from o (key_at costs 0)) (key_zero minutes))))
+    (λ (none : v ≤ 0). let e : 0 ≡ v = omega (arith, none)
+    in subst (λ u. bound_at bounds u ≡ bound_from (key_at minutes u) (key_at costs u)) e (sym (ap (λ o. bound_from o (key_at costs 0)) (key_zero minutes))))
     (cases_lt 0 v)
 
-pub least_all : (s : Setting) (goal : ℕ) (bounds : List (Option Bound)) (minutes costs : List (Option ℕ)) → ((v : ℕ) → bound_at bounds v ≡ bound_from (key_at minutes v) (key_at costs v))
-    → ((v : ℕ) → IsLeastSum s.road (λ r. r.minutes) goal v (key_at minutes v)) → ((v : ℕ) → IsLeastSum s.road (λ r. r.cost) goal v (key_at costs v)) → AreLeastBounds s goal (bound_at bounds)
+pub least_all : (s : Setting) (goal : ℕ) (bounds : List (Option Bound)) (minutes costs : List (Option ℕ))
+    → ((v : ℕ) → bound_at bounds v ≡ bound_from (key_at minutes v) (key_at costs v))
+    → ((v : ℕ) → IsLeastSum s.road (λ r. r.minutes) goal v (key_at minutes v)) → ((v : ℕ) → IsLeastSum s.road (λ r. r.cost) goal v (key_at costs v))
+    → AreLeastBounds s goal (bound_at bounds)
 least_all s goal bounds minutes costs all p q v =
-    subst (λ o. IsLeastSum s.road (λ r. r.minutes) goal v (option_map (λ b. b.minutes) o) × IsLeastSum s.road (λ r. r.cost) goal v (option_map (λ b. b.cost) o)) (sym (all v))
+    subst (λ o. IsLeastSum s.road (λ r. r.minutes) goal v (option_map (λ b. b.minutes) o)
+    × IsLeastSum s.road (λ r. r.cost) goal v (option_map (λ b. b.cost) o)) (sym (all v))
     (both_least s.road (λ r. r.minutes) (λ r. r.cost) goal v (key_at minutes v) (key_at costs v) (p v) (q v))

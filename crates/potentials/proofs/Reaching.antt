@@ -13,10 +13,12 @@ pub some_at : (o : Option ℕ) (x sum : ℕ) → o ≡ Some x → sum ≤ x → 
 some_at None x sum is le = cc
 some_at (Some y) x sum is le = let e : y ≡ x = cc in omega (arith, e, le)
 
-pub reached_same : (known keys : List (Option ℕ)) (u sum : ℕ) (o : Option ℕ) → key_at known u ≡ o → IsSomeAnd o (λ least. least ≤ sum) → GetsSum u sum (key_at known) (key_at known) (key_at keys) (key_at keys)
+pub reached_same : (known keys : List (Option ℕ)) (u sum : ℕ) (o : Option ℕ) → key_at known u ≡ o → IsSomeAnd o (λ least. least ≤ sum)
+    → GetsSum u sum (key_at known) (key_at known) (key_at keys) (key_at keys)
 reached_same known keys u sum o is some = record { others = λ w ne. (refl, refl); here = inl (sum_of known u sum o is some, refl, refl) }
 
-pub reached_new : (known old_keys new_keys : List (Option ℕ)) (u sum : ℕ) (o : Option ℕ) → 1 ≤ u → u ≤ length known → key_at known u ≡ o → ((x : ℕ) → o ≡ Some x → sum < x) → IsSet old_keys new_keys u (Some sum)
+pub reached_new : (known old_keys new_keys : List (Option ℕ)) (u sum : ℕ) (o : Option ℕ) → 1 ≤ u → u ≤ length known → key_at known u ≡ o
+    → ((x : ℕ) → o ≡ Some x → sum < x) → IsSet old_keys new_keys u (Some sum)
     → GetsSum u sum (key_at known) (key_at (set known (u - 1) (Some sum))) (key_at old_keys) (key_at new_keys)
 reached_new known old_keys new_keys u sum o low high is none put =
     let s = is_set known u (Some sum) low high in

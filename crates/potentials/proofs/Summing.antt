@@ -11,7 +11,13 @@ module _ (roads : ℕ → Option Road) (count : Road → ℕ) (goal nodes most :
   sum_kept : (u sum : ℕ) (old new old_keys new_keys : ℕ → Option ℕ) (v x : ℕ) → GetsSum u sum old new old_keys new_keys → HasSum old v x → HasSum new v x
   sum_kept u sum old new old_keys new_keys v x reached h = ⊎_elim
       (λ (here : v ≡ u). ⊎_elim
-      (λ (same : HasSum old u sum × (new u ≡ old u) × (new_keys u ≡ old_keys u)). record { least = h.least; is = subst (λ w. new w ≡ Some h.least) (sym here) (same.1 ∙ subst (λ w. old w ≡ Some h.least) here h.is); within = h.within })
+      (λ (same : HasSum old u sum × (new u ≡ old u) × (new_keys u ≡ old_keys u)).
+      record {
+        least = h.least;
+        is = subst (λ w. new w ≡ Some h.least) (sym here) (same.1 ∙ subst (λ w. old w ≡ Some h.least) here h.is);
+        within =
+            h.within;
+      })
       (λ (low : (HasSum old u sum → ⊥) × (new u ≡ Some sum) × (new_keys u ≡ Some sum)).
       ⊎_elim
       (λ (small : h.least ≤ sum). absurd (low.0 (record { least = h.least; is = subst (λ w. old w ≡ Some h.least) here h.is; within = small })))
@@ -25,29 +31,37 @@ module _ (roads : ℕ → Option Road) (count : Road → ℕ) (goal nodes most :
       le_cases a b = ⊎_elim (λ (lt : b < a). inr lt) (λ (le : a ≤ b). inl le) (cases_lt b a)
 
   -- a node that takes a new sum is not settled, and stays so
-  settled_same : (v x u sum : ℕ) (old new old_keys new_keys : ℕ → Option ℕ) → IsAtWork nodes most v x old old_keys → x ≤ sum → GetsSum u sum old new old_keys new_keys
+  settled_same : (v x u sum : ℕ) (old new old_keys new_keys : ℕ → Option ℕ) → IsAtWork nodes most v x old old_keys → x ≤ sum
+      → GetsSum u sum old new old_keys new_keys
       → (w y : ℕ) → new w ≡ Some y → new_keys w ≡ None → (old w ≡ Some y) × (old_keys w ≡ None)
   settled_same v x u sum old new old_keys new_keys work le reached w y is gone = ⊎_elim
       (λ (here : w ≡ u). ⊎_elim
-      (λ (same : HasSum old u sum × (new u ≡ old u) × (new_keys u ≡ old_keys u)).
-      (subst (λ n. old n ≡ Some y) (sym here) (sym same.1 ∙ subst (λ n. new n ≡ Some y) here is), subst (λ n. old_keys n ≡ None) (sym here) (sym same.2 ∙ subst (λ n. new_keys n ≡ None) here gone)))
-      (λ (low : (HasSum old u sum → ⊥) × (new u ≡ Some sum) × (new_keys u ≡ Some sum)). let bad : Some sum ≡ None = sym low.2 ∙ subst (λ n. new_keys n ≡ None) here gone in cc)
+      (λ (same : HasSum old u sum × (new u ≡ old u) × (new_keys u ≡ old_keys u)). (
+        subst (λ n. old n ≡ Some y) (sym here) (sym same.1 ∙ subst (λ n. new n ≡ Some y) here is),
+        subst (λ n. old_keys n ≡ None) (sym here) (sym same.2 ∙ subst (λ n. new_keys n ≡ None) here gone),
+      ))
+      (λ (low : (HasSum old u sum → ⊥) × (new u ≡ Some sum) × (new_keys u ≡ Some sum)). let bad : Some sum ≡ None = sym low.2
+      ∙ subst (λ n. new_keys n ≡ None) here gone in cc)
       reached.here)
       (λ (other : w ≡ u → ⊥). (sym (reached.others w other).0 ∙ is, sym (reached.others w other).1 ∙ gone))
       (cases_eq w u)
 
   -- how many are unsettled stays
-  unsettled_same : (v x u sum : ℕ) (old new old_keys new_keys : ℕ → Option ℕ) → IsAtWork nodes most v x old old_keys → x ≤ sum → GetsSum u sum old new old_keys new_keys → (w : ℕ) → unsettled (new w) (new_keys w) ≤ unsettled (old w) (old_keys w)
+  unsettled_same : (v x u sum : ℕ) (old new old_keys new_keys : ℕ → Option ℕ) → IsAtWork nodes most v x old old_keys → x ≤ sum
+      → GetsSum u sum old new old_keys new_keys → (w : ℕ) → unsettled (new w) (new_keys w) ≤ unsettled (old w) (old_keys w)
   unsettled_same v x u sum old new old_keys new_keys work le reached w = ⊎_elim
       (λ (here : w ≡ u). ⊎_elim
-      (λ (same : HasSum old u sum × (new u ≡ old u) × (new_keys u ≡ old_keys u)). subst (λ n. unsettled (new n) (new_keys n) ≤ unsettled (old n) (old_keys n)) (sym here)
-      (let e : unsettled (new u) (new_keys u) ≡ unsettled (old u) (old_keys u) = ap (λ o. unsettled o (new_keys u)) same.1 ∙ ap (λ o. unsettled (old u) o) same.2 in omega (arith, e)))
+      (λ (same : HasSum old u sum × (new u ≡ old u) × (new_keys u ≡ old_keys u)).
+      subst (λ n. unsettled (new n) (new_keys n) ≤ unsettled (old n) (old_keys n)) (sym here)
+      (let e : unsettled (new u) (new_keys u) ≡ unsettled (old u) (old_keys u) = ap (λ o. unsettled o (new_keys u)) same.1
+      ∙ ap (λ o. unsettled (old u) o) same.2 in omega (arith, e)))
       (λ (low : (HasSum old u sum → ⊥) × (new u ≡ Some sum) × (new_keys u ≡ Some sum)).
       subst (λ n. unsettled (new n) (new_keys n) ≤ unsettled (old n) (old_keys n)) (sym here)
       (omega (arith, one (new u) (new_keys u), waiting (old u) refl (old_keys u) refl low.0)))
       reached.here)
       (λ (other : w ≡ u → ⊥).
-      (let e : unsettled (new w) (new_keys w) ≡ unsettled (old w) (old_keys w) = ap (λ o. unsettled o (new_keys w)) (reached.others w other).0 ∙ ap (λ o. unsettled (old w) o) (reached.others w other).1 in omega (arith, e)))
+      (let e : unsettled (new w) (new_keys w) ≡ unsettled (old w) (old_keys w) = ap (λ o. unsettled o (new_keys w)) (reached.others w other).0
+      ∙ ap (λ o. unsettled (old w) o) (reached.others w other).1 in omega (arith, e)))
       (cases_eq w u)
     where
       one : (a b : Option ℕ) → unsettled a b ≤ 1
@@ -63,10 +77,12 @@ module _ (roads : ℕ → Option Road) (count : Road → ℕ) (goal nodes most :
   less_left : (a b : ℕ) → a ≤ b → most * a ≤ most * b
   less_left a b le = mul-le-mul_left most le
 
-  pub reach_keeps : (v x a u : ℕ) (road : Road) (old new old_keys new_keys : ℕ → Option ℕ) → IsSumming roads count goal nodes most v old old_keys → IsAtWork nodes most v x old old_keys
+  pub reach_keeps : (v x a u : ℕ) (road : Road) (old new old_keys new_keys : ℕ → Option ℕ) → IsSumming roads count goal nodes most v old old_keys
+      → IsAtWork nodes most v x old old_keys
       → roads a ≡ Some road → road.head ≡ v → road.tail ≡ u → count road ≤ most
       → GetsSum u (count road + x) old new old_keys new_keys
-      → IsSumming roads count goal nodes most v new new_keys × IsAtWork nodes most v x new new_keys × HasSum new u (count road + x) × (unsettled_count nodes new new_keys ≤ unsettled_count nodes old old_keys)
+      → IsSumming roads count goal nodes most v new new_keys × IsAtWork nodes most v x new new_keys × HasSum new u (count road + x)
+      × (unsettled_count nodes new new_keys ≤ unsettled_count nodes old old_keys)
   reach_keeps v x a u road old new old_keys new_keys facts work is head tail cheap reached = (
     record {
       at_goal = kept goal 0 facts.at_goal;
@@ -112,23 +128,29 @@ module _ (roads : ℕ → Option Road) (count : Road → ℕ) (goal nodes most :
       sum = ⊎_elim
           (λ (here : v ≡ u). ⊎_elim
           (λ (same : HasSum old u (count road + x) × (new u ≡ old u) × (new_keys u ≡ old_keys u)). ap new here ∙ (same.1 ∙ (ap old (sym here) ∙ work.sum)))
-          (λ (low : (HasSum old u (count road + x) → ⊥) × (new u ≡ Some (count road + x)) × (new_keys u ≡ Some (count road + x))). absurd (low.0 (record { least = x; is = ap old (sym here) ∙ work.sum; within = le })))
+          (λ (low : (HasSum old u (count road + x) → ⊥) × (new u ≡ Some (count road + x)) × (new_keys u ≡ Some (count road + x))).
+          absurd (low.0 (record { least = x; is = ap old (sym here) ∙ work.sum; within = le })))
           reached.here)
           (λ (other : v ≡ u → ⊥). (reached.others v other).0 ∙ work.sum)
           (cases_eq v u);
       gone = ⊎_elim
           (λ (here : v ≡ u). ⊎_elim
-          (λ (same : HasSum old u (count road + x) × (new u ≡ old u) × (new_keys u ≡ old_keys u)). ap new_keys here ∙ (same.2 ∙ (ap old_keys (sym here) ∙ work.gone)))
-          (λ (low : (HasSum old u (count road + x) → ⊥) × (new u ≡ Some (count road + x)) × (new_keys u ≡ Some (count road + x))). absurd (low.0 (record { least = x; is = ap old (sym here) ∙ work.sum; within = le })))
+          (λ (same : HasSum old u (count road + x) × (new u ≡ old u) × (new_keys u ≡ old_keys u)). ap new_keys here
+          ∙ (same.2 ∙ (ap old_keys (sym here) ∙ work.gone)))
+          (λ (low : (HasSum old u (count road + x) → ⊥) × (new u ≡ Some (count road + x)) × (new_keys u ≡ Some (count road + x))).
+          absurd (low.0 (record { least = x; is = ap old (sym here) ∙ work.sum; within = le })))
           reached.here)
           (λ (other : v ≡ u → ⊥). (reached.others v other).1 ∙ work.gone)
           (cases_eq v u);
       room = omega (arith, work.room, fewer);
-      low = λ w y there gone. let was = settled_same v x u (count road + x) old new old_keys new_keys work le reached w y there gone in work.low w y was.0 was.1;
+      low = λ w y there gone. let was = settled_same v x u (count road + x) old new old_keys new_keys work le reached w y there gone
+          in work.low w y was.0 was.1;
     },
     ⊎_elim
-        (λ (same : HasSum old u (count road + x) × (new u ≡ old u) × (new_keys u ≡ old_keys u)). record { least = same.0.least; is = same.1 ∙ same.0.is; within = same.0.within })
-        (λ (low : (HasSum old u (count road + x) → ⊥) × (new u ≡ Some (count road + x)) × (new_keys u ≡ Some (count road + x))). record { least = (count road + x); is = low.1; within = omega arith })
+        (λ (same : HasSum old u (count road + x) × (new u ≡ old u) × (new_keys u ≡ old_keys u)).
+        record { least = same.0.least; is = same.1 ∙ same.0.is; within = same.0.within })
+        (λ (low : (HasSum old u (count road + x) → ⊥) × (new u ≡ Some (count road + x)) × (new_keys u ≡ Some (count road + x))).
+        record { least = (count road + x); is = low.1; within = omega arith })
         reached.here,
     less,
   )
@@ -142,7 +164,8 @@ module _ (roads : ℕ → Option Road) (count : Road → ℕ) (goal nodes most :
       sums : (w y : ℕ) → new w ≡ Some y → (old w ≡ Some y) ⊎ ((w ≡ u) × (y ≡ count road + x) × (new_keys w ≡ Some y))
       sums w y there = ⊎_elim
           (λ (here : w ≡ u). ⊎_elim
-          (λ (same : HasSum old u (count road + x) × (new u ≡ old u) × (new_keys u ≡ old_keys u)). inl (ap old here ∙ (sym same.1 ∙ (ap new (sym here) ∙ there))))
+          (λ (same : HasSum old u (count road + x) × (new u ≡ old u) × (new_keys u ≡ old_keys u)).
+          inl (ap old here ∙ (sym same.1 ∙ (ap new (sym here) ∙ there))))
           (λ (low : (HasSum old u (count road + x) → ⊥) × (new u ≡ Some (count road + x)) × (new_keys u ≡ Some (count road + x))).
           let e : Some y ≡ Some (count road + x) = sym there ∙ (ap new here ∙ low.1) in inr (here, cc, ap new_keys here ∙ (low.2 ∙ sym e)))
           reached.here)
@@ -152,7 +175,8 @@ module _ (roads : ℕ → Option Road) (count : Road → ℕ) (goal nodes most :
       keys : (w y : ℕ) → new_keys w ≡ Some y → (old_keys w ≡ Some y) ⊎ ((w ≡ u) × (y ≡ count road + x))
       keys w y there = ⊎_elim
           (λ (here : w ≡ u). ⊎_elim
-          (λ (same : HasSum old u (count road + x) × (new u ≡ old u) × (new_keys u ≡ old_keys u)). inl (ap old_keys here ∙ (sym same.2 ∙ (ap new_keys (sym here) ∙ there))))
+          (λ (same : HasSum old u (count road + x) × (new u ≡ old u) × (new_keys u ≡ old_keys u)).
+          inl (ap old_keys here ∙ (sym same.2 ∙ (ap new_keys (sym here) ∙ there))))
           (λ (low : (HasSum old u (count road + x) → ⊥) × (new u ≡ Some (count road + x)) × (new_keys u ≡ Some (count road + x))).
           let e : Some y ≡ Some (count road + x) = sym there ∙ (ap new_keys here ∙ low.2) in inr (here, cc))
           reached.here)
@@ -162,8 +186,10 @@ module _ (roads : ℕ → Option Road) (count : Road → ℕ) (goal nodes most :
       still : (w key : ℕ) → old_keys w ≡ Some key → (k : ℕ) × (new_keys w ≡ Some k)
       still w key there = ⊎_elim
           (λ (here : w ≡ u). ⊎_elim
-          (λ (same : HasSum old u (count road + x) × (new u ≡ old u) × (new_keys u ≡ old_keys u)). (key, ap new_keys here ∙ (same.2 ∙ (ap old_keys (sym here) ∙ there))))
-          (λ (low : (HasSum old u (count road + x) → ⊥) × (new u ≡ Some (count road + x)) × (new_keys u ≡ Some (count road + x))). (count road + x, ap new_keys here ∙ low.2))
+          (λ (same : HasSum old u (count road + x) × (new u ≡ old u) × (new_keys u ≡ old_keys u)).
+          (key, ap new_keys here ∙ (same.2 ∙ (ap old_keys (sym here) ∙ there))))
+          (λ (low : (HasSum old u (count road + x) → ⊥) × (new u ≡ Some (count road + x)) × (new_keys u ≡ Some (count road + x))).
+          (count road + x, ap new_keys here ∙ low.2))
           reached.here)
           (λ (other : w ≡ u → ⊥). (key, (reached.others w other).1 ∙ there))
           (cases_eq w u)
@@ -176,15 +202,18 @@ module _ (roads : ℕ → Option Road) (count : Road → ℕ) (goal nodes most :
 
   -- the node with the least key goes to work
   pub takes_least : (v x : ℕ) (known old_keys new_keys : ℕ → Option ℕ) → ((a : ℕ) (road : Road) → roads a ≡ Some road → road.head ≡ 0 → ⊥) → v ≤ nodes
-      → IsSumming roads count goal nodes most 0 known old_keys → old_keys v ≡ Some x → ((w key : ℕ) → old_keys w ≡ Some key → x ≤ key) → new_keys v ≡ None → ((w : ℕ) → (w ≡ v → ⊥) → new_keys w ≡ old_keys w)
-      → IsSumming roads count goal nodes most v known new_keys × IsAtWork nodes most v x known new_keys × (unsettled_count nodes known new_keys + 1 ≤ unsettled_count nodes known old_keys)
+      → IsSumming roads count goal nodes most 0 known old_keys → old_keys v ≡ Some x → ((w key : ℕ) → old_keys w ≡ Some key → x ≤ key) → new_keys v ≡ None
+      → ((w : ℕ) → (w ≡ v → ⊥) → new_keys w ≡ old_keys w)
+      → IsSumming roads count goal nodes most v known new_keys × IsAtWork nodes most v x known new_keys
+      × (unsettled_count nodes known new_keys + 1 ≤ unsettled_count nodes known old_keys)
   takes_least v x known old_keys new_keys heads within facts key least gone others = (
     record {
       at_goal = facts.at_goal;
       sound = facts.sound;
       waits = λ w k there. facts.waits w k (was w k there);
       before = λ u w y k is settled waiting. ⊎_elim
-          (λ (here : u ≡ v). let e : Some y ≡ Some x = sym is ∙ (ap known here ∙ facts.waits v x key) in let f : y ≡ x = cc in omega (arith, f, least w k (was w k waiting)))
+          (λ (here : u ≡ v). let e : Some y ≡ Some x = sym is
+          ∙ (ap known here ∙ facts.waits v x key) in let f : y ≡ x = cc in omega (arith, f, least w k (was w k waiting)))
           (λ (other : u ≡ v → ⊥). facts.before u w y k is (sym (others u other) ∙ settled) (was w k waiting))
           (cases_eq u v);
       relaxed = λ a y road is known_y. ⊎_elim
@@ -197,12 +226,22 @@ module _ (roads : ℕ → Option Road) (count : Road → ℕ) (goal nodes most :
           rest)
           (facts.relaxed a y road is known_y))
           (cases_eq road.head v);
-      small = λ w y is. omega (arith, facts.small w y is, less_left (unsettled_count nodes known new_keys) (unsettled_count nodes known old_keys) (omega (arith, fewer)));
+      small = λ w y is. omega (
+        arith,
+        facts.small w y is,
+        less_left (unsettled_count nodes known new_keys) (unsettled_count nodes known old_keys)
+            (omega (arith, fewer)),
+      );
     },
     record {
       sum = facts.waits v x key;
       gone = gone;
-      room = omega (arith, facts.small v x (facts.waits v x key), less_left (unsettled_count nodes known new_keys + 1) (unsettled_count nodes known old_keys) fewer, one_more (unsettled_count nodes known new_keys));
+      room = omega (
+        arith,
+        facts.small v x (facts.waits v x key),
+        less_left (unsettled_count nodes known new_keys + 1) (unsettled_count nodes known old_keys) fewer,
+        one_more (unsettled_count nodes known new_keys),
+      );
       low = λ u y is settled. ⊎_elim
           (λ (here : u ≡ v). let e : Some y ≡ Some x = sym is ∙ (ap known here ∙ facts.waits v x key) in let f : y ≡ x = cc in omega (arith, f))
           (λ (other : u ≡ v → ⊥). facts.before u v y x is (sym (others u other) ∙ settled) key)
@@ -229,13 +268,15 @@ module _ (roads : ℕ → Option Road) (count : Road → ℕ) (goal nodes most :
       fewer : unsettled_count nodes known new_keys + 1 ≤ unsettled_count nodes known old_keys
       fewer = total_one (suc nodes) v _ _ (λ w below. ⊎_elim
           (λ (here : w ≡ v). subst (λ n. unsettled (known n) (new_keys n) ≤ unsettled (known n) (old_keys n)) (sym here) (omega (arith, waited, done)))
-          (λ (other : w ≡ v → ⊥). let e : unsettled (known w) (new_keys w) ≡ unsettled (known w) (old_keys w) = ap (λ o. unsettled (known w) o) (others w other) in omega (arith, e))
+          (λ (other : w ≡ v → ⊥). let e : unsettled (known w) (new_keys w) ≡ unsettled (known w) (old_keys w) =
+          ap (λ o. unsettled (known w) o) (others w other) in omega (arith, e))
           (cases_eq w v))
           (omega (arith, within)) (omega (arith, waited, done))
 
   -- the node at work is settled, once each arc that ends there is relaxed
   pub settles : (v x : ℕ) (known keys : ℕ → Option ℕ) → IsSumming roads count goal nodes most v known keys → IsAtWork nodes most v x known keys
-      → ((a : ℕ) (road : Road) → roads a ≡ Some road → road.head ≡ v → HasSum known road.tail (count road + x)) → IsSumming roads count goal nodes most 0 known keys
+      → ((a : ℕ) (road : Road) → roads a ≡ Some road → road.head ≡ v → HasSum known road.tail (count road + x))
+      → IsSumming roads count goal nodes most 0 known keys
   settles v x known keys facts work all = record {
     at_goal = facts.at_goal;
     sound = facts.sound;
@@ -244,7 +285,8 @@ module _ (roads : ℕ → Option Road) (count : Road → ℕ) (goal nodes most :
     relaxed = λ a y road is known_y. ⊎_elim
         (λ (waiting : (k : ℕ) × (keys road.head ≡ Some k)). inl waiting)
         (λ (rest : (road.head ≡ v) ⊎ HasSum known road.tail (count road + y)). inr (inr (⊎_elim
-        (λ (here : road.head ≡ v). let e : Some y ≡ Some x = sym known_y ∙ (ap known here ∙ work.sum) in let f : y ≡ x = cc in subst (λ n. HasSum known road.tail (count road + n)) (sym f) (all a road is here))
+        (λ (here : road.head ≡ v). let e : Some y ≡ Some x = sym known_y
+        ∙ (ap known here ∙ work.sum) in let f : y ≡ x = cc in subst (λ n. HasSum known road.tail (count road + n)) (sym f) (all a road is here))
         (λ (h : HasSum known road.tail (count road + y)). h)
         rest)))
         (facts.relaxed a y road is known_y);
@@ -252,7 +294,8 @@ module _ (roads : ℕ → Option Road) (count : Road → ℕ) (goal nodes most :
   }
 
   -- where nothing waits, the sums are the least
-  module _ (known keys : ℕ → Option ℕ) (heads : (a : ℕ) (road : Road) → roads a ≡ Some road → road.head ≡ 0 → ⊥) (facts : IsSumming roads count goal nodes most 0 known keys) (none : (v : ℕ) → keys v ≡ None) where
+  module _ (known keys : ℕ → Option ℕ) (heads : (a : ℕ) (road : Road) → roads a ≡ Some road → road.head ≡ 0 → ⊥)
+      (facts : IsSumming roads count goal nodes most 0 known keys) (none : (v : ℕ) → keys v ≡ None) where
     covers : (arcs : List ℕ) (v sum : ℕ) → Leads roads count goal arcs v sum → HasSum known v sum
     covers [] v sum leads = record { least = facts.at_goal.least; is = ap known leads.0 ∙ facts.at_goal.is; within = omega (arith, facts.at_goal.within) }
     covers (a ∷ arcs) v sum leads =
@@ -262,7 +305,8 @@ module _ (roads : ℕ → Option Road) (count : Road → ℕ) (goal nodes most :
         (λ (waiting : (k : ℕ) × (keys road.head ≡ Some k)). let bad : None ≡ Some waiting.0 = sym (none road.head) ∙ waiting.1 in cc)
         (λ (rest : (road.head ≡ 0) ⊎ HasSum known road.tail (count road + h.least)). ⊎_elim
         (λ (zero_head : road.head ≡ 0). absurd (heads a road leads.2 zero_head))
-        (λ (s : HasSum known road.tail (count road + h.least)). record { least = s.least; is = ap known (sym leads.3) ∙ s.is; within = omega (arith, s.within, h.within, leads.5) })
+        (λ (s : HasSum known road.tail (count road + h.least)).
+        record { least = s.least; is = ap known (sym leads.3) ∙ s.is; within = omega (arith, s.within, h.within, leads.5) })
         rest)
         (facts.relaxed a h.least road leads.2 h.is)
 
@@ -271,7 +315,11 @@ module _ (roads : ℕ → Option Road) (count : Road → ℕ) (goal nodes most :
       where
         by : (o : Option ℕ) → known v ≡ o → IsLeastSum roads count goal v o
         by None is = λ arcs sum leads. let h = covers arcs v sum leads in let bad : None ≡ Some h.least = sym is ∙ h.is in cc
-        by (Some x) is = (facts.sound v x is, λ arcs sum leads. let h = covers arcs v sum leads in let e : Some x ≡ Some h.least = sym is ∙ h.is in let f : x ≡ h.least = cc in omega (arith, f, h.within))
+        by (Some x) is = (
+          facts.sound v x is,
+          λ arcs sum leads. let h = covers arcs v sum leads in let e : Some x ≡ Some h.least = sym is
+              ∙ h.is in let f : x ≡ h.least = cc in omega (arith, f, h.within),
+        )
 
   -- a sum that is kept while another node is reached
   pub sum_stays : (u sum : ℕ) (old new old_keys new_keys : ℕ → Option ℕ) (v x : ℕ) → GetsSum u sum old new old_keys new_keys → HasSum old v x → HasSum new v x

@@ -16,8 +16,10 @@ use std::alloc::Global;
 pub fn to_goal(alloc: Global, net: &TimedNet, goal: NodeId) -> Result<Bounds, OutOfMemory>
     requires low { 1 ≤ goal.0 }
     requires high { goal.0 ≤ net.now.nodes }
-    ensures least { IfOk result (λ bounds. AreLeastBounds (setting_of net.now) goal.0 (bound_at bounds)) }
-    ensures bounds { IfOk result (λ bounds. AreBounds (setting_of net.now) goal.0 (bound_at bounds)) }
+    ensures least { IfOk result
+        (λ bounds. AreLeastBounds (setting_of net.now) goal.0 (bound_at bounds)) }
+    ensures bounds { IfOk result
+        (λ bounds. AreBounds (setting_of net.now) goal.0 (bound_at bounds)) }
     ensures nodes { IfOk result (λ bounds. length bounds ≡ net.now.nodes) }
     ensures good { OnOk result (IsGoodNet net.now) }
 {
@@ -35,8 +37,10 @@ pub fn to_goal_over(
     requires incoming { AreIncoming net.now incoming.now }
     requires low { 1 ≤ goal.0 }
     requires high { goal.0 ≤ net.now.nodes }
-    ensures least { IfOk result (λ bounds. AreLeastBounds (setting_of net.now) goal.0 (bound_at bounds)) }
-    ensures bounds { IfOk result (λ bounds. AreBounds (setting_of net.now) goal.0 (bound_at bounds)) }
+    ensures least { IfOk result
+        (λ bounds. AreLeastBounds (setting_of net.now) goal.0 (bound_at bounds)) }
+    ensures bounds { IfOk result
+        (λ bounds. AreBounds (setting_of net.now) goal.0 (bound_at bounds)) }
     ensures nodes { IfOk result (λ bounds. length bounds ≡ net.now.nodes) }
     ensures good { OnOk result (IsGoodNet net.now) }
 {

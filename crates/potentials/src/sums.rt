@@ -53,7 +53,8 @@ pub fn least_sums(
     requires low { 1 ≤ goal.0 }
     requires high { goal.0 ≤ net.now.nodes }
     ensures nodes { IfOk result (λ sums. length sums.items ≡ net.now.nodes) }
-    ensures least { IfOk result (λ sums. (v : ℕ) → IsLeastSum (setting_of net.now).road (count_of counted) goal.0 v (key_at sums.items v)) }
+    ensures least { IfOk result
+        (λ sums. (v : ℕ) → IsLeastSum (setting_of net.now).road (count_of counted) goal.0 v (key_at sums.items v)) }
 {
     let nodes = net.node_count();
     let plan = Plan {
@@ -84,8 +85,10 @@ fn settle(plan: Plan<'_>, known: &mut Vec<Option<u64>>, queue: &mut LabelQueue, 
     requires work { WorksAt plan.net.now v.0 x known.old.items queue.old }
     ensures nodes { length known.new.items ≡ plan.entry.net.now.nodes }
     ensures room { length queue.new ≡ plan.entry.net.now.nodes }
-    ensures facts { IsSummed plan.entry.net.now plan.entry.counted plan.entry.goal.0 0 known.new.items queue.new }
-    ensures less { unsettled_at plan.entry.net.now known.new.items queue.new ≤ unsettled_at plan.entry.net.now known.old.items queue.old }
+    ensures facts { IsSummed plan.entry.net.now plan.entry.counted plan.entry.goal.0 0
+        known.new.items queue.new }
+    ensures less { unsettled_at plan.entry.net.now known.new.items queue.new
+        ≤ unsettled_at plan.entry.net.now known.old.items queue.old }
 {
     for a in plan.incoming.of(v) {
         relax(plan, known, queue, v, x, *a);
@@ -109,10 +112,13 @@ fn relax(
     requires work { WorksAt plan.net.now v.0 x known.old.items queue.old }
     ensures nodes { length known.new.items ≡ plan.entry.net.now.nodes }
     ensures room { length queue.new ≡ plan.entry.net.now.nodes }
-    ensures facts { IsSummed plan.entry.net.now plan.entry.counted plan.entry.goal.0 v.0 known.new.items queue.new }
+    ensures facts { IsSummed plan.entry.net.now plan.entry.counted plan.entry.goal.0 v.0
+        known.new.items queue.new }
     ensures work { WorksAt plan.entry.net.now v.0 x known.new.items queue.new }
-    ensures less { unsettled_at plan.entry.net.now known.new.items queue.new ≤ unsettled_at plan.entry.net.now known.old.items queue.old }
-    ensures kept { (u sum : ℕ) → HasSum (key_at known.old.items) u sum → HasSum (key_at known.new.items) u sum }
+    ensures less { unsettled_at plan.entry.net.now known.new.items queue.new
+        ≤ unsettled_at plan.entry.net.now known.old.items queue.old }
+    ensures kept { (u sum : ℕ) → HasSum (key_at known.old.items) u sum
+        → HasSum (key_at known.new.items) u sum }
     ensures relaxed { (road : Road) → (setting_of plan.entry.net.now).road a.0 ≡ Some road
         → HasSum (key_at known.new.items) road.tail (count_of plan.entry.counted road + x) }
 {
@@ -128,7 +134,8 @@ fn reach(known: &mut Vec<Option<u64>>, queue: &mut LabelQueue, u: NodeId, sum: u
     requires high { u.0 ≤ length known.old.items }
     requires same { length queue.old ≡ length known.old.items }
     requires waits { (v x : ℕ) → key_at queue.old v ≡ Some x → key_at known.old.items v ≡ Some x }
-    ensures reached { GetsSum u.0 sum (key_at known.old.items) (key_at known.new.items) (key_at queue.old) (key_at queue.new) }
+    ensures reached { GetsSum u.0 sum (key_at known.old.items) (key_at known.new.items)
+        (key_at queue.old) (key_at queue.new) }
     ensures nodes { length known.new.items ≡ length known.old.items }
     ensures room { length queue.new ≡ length queue.old }
 {

@@ -18,7 +18,8 @@ returns-clause-pieces c =
     let are = c.requires.pieces in
     subst ArePieces (sym (take_more_set c.args.pieces.now c.args.place cut.result c.requires.place)) (record {
       each = All-push IsPiece front cut.result are.each cut.ensures.piece;
-      apart = all_pairs_push (λ p q. p.hi < q.lo) front cut.result are.apart (λ k d within. (let far = c.requires.later k d within in omega (arith, far, cut.ensures.lo)));
+      apart = all_pairs_push (λ p q. p.hi < q.lo) front cut.result are.apart
+          (λ k d within. (let far = c.requires.later k d within in omega (arith, far, cut.ensures.lo)));
     })
 
 pub returns-clause-small : goal.returns-clause-small

@@ -8,5 +8,6 @@ loop-done-init c =
     let next : ◌≡◌ {A = List ℕ} c.in_ok-vec-2.field-0.items (replicate (length c.args.net.now.arcs) 0) = search rules in
     record {
       count = c.arc_count-count.ensures.value;
-      linked = no_chains c.args.net.now c.args.end c.in_ok-vec.field-0 c.in_ok-vec-2.field-0 (c.arc_count-count.result - 0 + 1) first next (omega (arith, c.arc_count-count.ensures.value));
+      linked = no_chains c.args.net.now c.args.end c.in_ok-vec.field-0 c.in_ok-vec-2.field-0 (c.arc_count-count.result - 0 + 1) first next
+          (omega (arith, c.arc_count-count.ensures.value));
     }

@@ -19,20 +19,31 @@ loop-place-preserved c =
     let place = c.loop-place.place in
     let below : place < c.args.net.now.nodes = omega (arith, c.loop-place-test.true, c.node_count-place-end.ensures.value) in
     let m = read_at c.in_ok-minutes.minutes.items place c.index.result.now (omega (arith, below, c.in_ok-minutes.ensures.nodes)) c.index.ensures in
-    let x = read_at c.in_ok-costs.costs.items place c.index-in-loop-place.result.now (omega (arith, below, c.in_ok-costs.ensures.nodes)) c.index-in-loop-place.ensures in
-    let new = c.both.ensures ∙ (ap (λ o. bound_from o c.index-in-loop-place.result.now) (sym m) ∙ ap (λ o. bound_from (key_at c.in_ok-minutes.minutes.items (place + 1)) o) (sym x)) in
+    let x = read_at c.in_ok-costs.costs.items place c.index-in-loop-place.result.now
+    (omega (arith, below, c.in_ok-costs.ensures.nodes)) c.index-in-loop-place.ensures in
+    let new = c.both.ensures ∙ (ap (λ o. bound_from o c.index-in-loop-place.result.now) (sym m)
+    ∙ ap (λ o. bound_from (key_at c.in_ok-minutes.minutes.items (place + 1)) o) (sym x)) in
     record {
-      long = ap (λ (w : List (Option Bound)). length w) c.in_ok-push.ensures.ok ∙ omega (arith, length-append c.loop-place.bounds (c.both.result ∷ []), c.loop-place.invariant.long);
-      each = λ k lt. subst (λ w. bound_at w (k + 1) ≡ bound_from (key_at c.in_ok-minutes.minutes.items (k + 1)) (key_at c.in_ok-costs.costs.items (k + 1))) (sym c.in_ok-push.ensures.ok)
-          (bound_pushed c.loop-place.bounds c.both.result place (λ n. bound_from (key_at c.in_ok-minutes.minutes.items (n + 1)) (key_at c.in_ok-costs.costs.items (n + 1))) c.loop-place.invariant.long c.loop-place.invariant.each new k lt);
+      long = ap (λ (w : List (Option Bound)). length w) c.in_ok-push.ensures.ok
+          ∙ omega (arith, length-append c.loop-place.bounds (c.both.result ∷ []), c.loop-place.invariant.long);
+      each = λ k lt. subst (λ w. bound_at w (k + 1) ≡ bound_from (key_at c.in_ok-minutes.minutes.items (k + 1)) (key_at c.in_ok-costs.costs.items (k + 1)))
+          (sym c.in_ok-push.ensures.ok)
+          (bound_pushed c.loop-place.bounds c.both.result place
+          (λ n. bound_from (key_at c.in_ok-minutes.minutes.items (n + 1)) (key_at c.in_ok-costs.costs.items (n + 1))) c.loop-place.invariant.long
+          c.loop-place.invariant.each new k lt);
     }
 
 pub returns-clause-least : goal.returns-clause-least
 returns-clause-least c = least_all (setting_of c.args.net.now) c.args.goal.0 c.loop-place.bounds c.in_ok-minutes.minutes.items c.in_ok-costs.costs.items
-    (bound_all c.loop-place.bounds c.in_ok-minutes.minutes.items c.in_ok-costs.costs.items c.loop-place.place c.loop-place.invariant.long (omega (arith, c.in_ok-minutes.ensures.nodes, c.node_count-place-end.ensures.value, c.loop-place-test.false, c.loop-place.auto.place-end)) c.loop-place.invariant.each)
+    (bound_all c.loop-place.bounds c.in_ok-minutes.minutes.items c.in_ok-costs.costs.items c.loop-place.place c.loop-place.invariant.long
+    (omega (arith, c.in_ok-minutes.ensures.nodes, c.node_count-place-end.ensures.value, c.loop-place-test.false, c.loop-place.auto.place-end))
+    c.loop-place.invariant.each)
     c.in_ok-minutes.ensures.least c.in_ok-costs.ensures.least
 
 pub returns-clause-bounds : goal.returns-clause-bounds
-returns-clause-bounds c = bounds_hold (setting_of c.args.net.now) c.args.goal.0 (bound_at c.loop-place.bounds) (least_all (setting_of c.args.net.now) c.args.goal.0 c.loop-place.bounds c.in_ok-minutes.minutes.items c.in_ok-costs.costs.items
-    (bound_all c.loop-place.bounds c.in_ok-minutes.minutes.items c.in_ok-costs.costs.items c.loop-place.place c.loop-place.invariant.long (omega (arith, c.in_ok-minutes.ensures.nodes, c.node_count-place-end.ensures.value, c.loop-place-test.false, c.loop-place.auto.place-end)) c.loop-place.invariant.each)
+returns-clause-bounds c = bounds_hold (setting_of c.args.net.now) c.args.goal.0 (bound_at c.loop-place.bounds)
+    (least_all (setting_of c.args.net.now) c.args.goal.0 c.loop-place.bounds c.in_ok-minutes.minutes.items c.in_ok-costs.costs.items
+    (bound_all c.loop-place.bounds c.in_ok-minutes.minutes.items c.in_ok-costs.costs.items c.loop-place.place c.loop-place.invariant.long
+    (omega (arith, c.in_ok-minutes.ensures.nodes, c.node_count-place-end.ensures.value, c.loop-place-test.false, c.loop-place.auto.place-end))
+    c.loop-place.invariant.each)
     c.in_ok-minutes.ensures.least c.in_ok-costs.ensures.least)

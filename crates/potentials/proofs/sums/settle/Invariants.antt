@@ -14,5 +14,6 @@ invariant-loop-a l = record {
   facts : IsSummed l.plan.net.now l.plan.counted l.plan.goal.0 l.v.0 l.known.items l.queue;
   work : WorksAt l.plan.net.now l.v.0 l.x l.known.items l.queue;
   less : unsettled_at l.plan.net.now l.known.items l.queue ≤ unsettled_at l.plan.net.now l.fn.known.items l.fn.queue;
-  relaxed : (i : ℕ) (a : ArcId) → i < l.a-index → slice_get l.a-items i ≡ Some a → (road : Road) → (setting_of l.plan.net.now).road a.0 ≡ Some road → HasSum (key_at l.known.items) road.tail (count_of l.plan.counted road + l.x);
+  relaxed : (i : ℕ) (a : ArcId) → i < l.a-index → slice_get l.a-items i ≡ Some a → (road : Road) → (setting_of l.plan.net.now).road a.0 ≡ Some road
+      → HasSum (key_at l.known.items) road.tail (count_of l.plan.counted road + l.x);
 }

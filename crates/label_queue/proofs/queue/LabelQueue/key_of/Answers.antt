@@ -13,7 +13,10 @@ returns c =
     let n = c.self.inside.nodes in
     let v = c.args.v.0 in
     subst (λ (w : List (Option ℕ)). c.key_in.result ≡ key_at w v) c.self.view_is
-    (c.key_in.ensures ∙ (ap (option_map (λ (l : Label). l.key)) (c.index.ensures ∙ get_or_default tree (n + v - 1) c.index.result.now None (omega (arith, c.if-v-eq0.false, c.if-v-self.false, c.self.invariant.0.long))) ∙ sym (key_is n tree c.self.invariant.0.long v (omega (arith, c.if-v-eq0.false)) (omega (arith, c.if-v-self.false)))))
+    (c.key_in.ensures ∙ (ap (option_map (λ (l : Label). l.key))
+    (c.index.ensures ∙ get_or_default tree (n + v - 1) c.index.result.now None
+    (omega (arith, c.if-v-eq0.false, c.if-v-self.false, c.self.invariant.0.long)))
+    ∙ sym (key_is n tree c.self.invariant.0.long v (omega (arith, c.if-v-eq0.false)) (omega (arith, c.if-v-self.false)))))
 
 pub returns-then-v-eq0 : goal.returns-then-v-eq0
 returns-then-v-eq0 c = sym (subst (λ (w : List (Option ℕ)). key_at w c.args.v.0 ≡ None) c.self.view_is

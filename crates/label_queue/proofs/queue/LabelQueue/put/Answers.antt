@@ -10,4 +10,9 @@ returns c =
     let label : Label = record { key = c.args.key; node = c.args.v.0 } in
     subst (λ (w : List (Option ℕ)). IsSet w (keys_in_leaves c.self.inside.nodes c.set_leaf.new.tree.items) c.args.v.0 (Some c.args.key)) c.self.view_is
     (set_is c.self.inside.nodes c.args.v.0 (Some label) c.self.inside.tree.items c.set_leaf.new.tree.items c.self.invariant.0 c.requires.low
-    (omega (arith, c.requires.high, ap (λ (w : List (Option ℕ)). length w) c.self.view_is, room_is c.self.inside.nodes c.self.inside.tree.items c.self.invariant.0.long)) c.set_leaf.ensures)
+    (omega (
+      arith,
+      c.requires.high,
+      ap (λ (w : List (Option ℕ)). length w) c.self.view_is,
+      room_is c.self.inside.nodes c.self.inside.tree.items c.self.invariant.0.long,
+    )) c.set_leaf.ensures)

@@ -21,7 +21,8 @@ returns c =
     let low : 1 ≤ u = omega (arith, good.0, c.of.ensures) in
     let high : u ≤ length first = omega (arith, good.1, c.of.ensures, was.nodes) in
     let room : a ≤ length next = omega (arith, c.requires.high, was.arcs) in
-    let value : get_or first (u - 1) 0 ≡ c.index.result.now = get_or_default first (u - 1) 0 c.index.result.now (omega (arith, low, high)) ∙ sym c.index.ensures in
+    let value : get_or first (u - 1) 0 ≡ c.index.result.now = get_or_default first (u - 1) 0 c.index.result.now (omega (arith, low, high))
+    ∙ sym c.index.ensures in
     record {
       nodes = length-set first (u - 1) a ∙ was.nodes;
       arcs = length-set next (a - 1) c.index.result.now ∙ was.arcs;
