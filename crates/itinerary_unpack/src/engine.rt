@@ -1,5 +1,5 @@
 // The engine over cost functions.
-ghost use Rattle.std.specs.Prelude.{◌≡◌, ◌≤◌, IfOk};
+ghost use Rattle.std.specs.Prelude.{◌≡◌, ◌≤◌, map, IfOk};
 ghost use Rattle.node_arcs.specs.Stars.{AreIncoming};
 ghost use Rattle.propagation.specs.Found.{IsFoundFor};
 ghost use Rattle.route_base.specs.Front.{IsRight};
@@ -26,25 +26,26 @@ impl FrontSearch for FunctionEngine {
     ) -> Result<Routes, OutOfMemory> {
         let incoming = NodeArcs::incoming(alloc, net)?;
         let found = search_over(alloc, net, &incoming, request)?;
-        let routes = routes_of(alloc, net, &incoming, request, &found)?;
-        Ok(Routes::from_vec(routes))
+        routes_of(alloc, net, &incoming, request, &found)
     }
 }
 
-// The pairs that were found, each with its legs.
-fn routes_of(
+/// The routes of all pairs that were found, in their order: each pair with its legs. Takes the time and memory of `unpack_over` for
+/// each pair.
+pub fn routes_of(
     alloc: Global,
     net: &TimedNet,
     incoming: &NodeArcs,
     request: Request,
     found: &Found,
-) -> Result<Vec<Route>, OutOfMemory>
+) -> Result<Routes, OutOfMemory>
     requires incoming { AreIncoming net.now incoming.now }
     requires good { IsGoodRequest net.now request }
     requires in_time { request.depart ≤ request.until }
     requires fit { CostsFit (setting_of net.now) request }
     requires found { IsFoundFor net.now request found.now }
-    ensures { IfOk result (λ routes. IsRight (setting_of net.now) request routes.items) }
+    ensures right { IfOk result (IsRight (setting_of net.now) request) }
+    ensures pairs { IfOk result (λ routes. map (λ x. x.pair) routes ≡ found.now.pairs) }
 {
     let pairs = found.pairs();
     let mut routes = Vec::with_capacity(alloc, pairs.len())?;
@@ -55,5 +56,5 @@ fn routes_of(
             legs,
         })?;
     }
-    Ok(routes)
+    Ok(Routes::from_vec(routes))
 }

@@ -1,7 +1,7 @@
-pub mod FrontPairs
+pub mod CheapNets
+pub mod Choosing
+pub mod FoundEntries
 pub mod GoodParts
-pub mod LeastCosts
-pub mod PointValues
+pub mod LeastSums
 pub mod WritableLegs
-pub mod ZeroBounds
-pub mod Zips
+pub mod WritableParts

@@ -1,2 +1,2 @@
--- Machinery, which is no law: the law is IsGood of the checker and IsWritable of the format (source: own).
-pub mod Parts
+-- Machinery, which is no law: the law is IsGood of the checker, IsTight, and IsWritable of the format (source: own).
+pub mod Entries

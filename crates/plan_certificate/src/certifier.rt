@@ -1,42 +1,44 @@
-// A certificate of known routes.
-ghost use Rattle.std.specs.Prelude.{◌≡◌, ◌-◌, ◌≤◌, length, IfOk};
+// A certificate of what the search finds.
+ghost use Rattle.std.specs.Prelude.{◌≤◌, length, IfOk};
 ghost use Rattle.route_base.specs.Front.{IsRight};
 ghost use Rattle.route_base.specs.Legs.{CostsFit};
 ghost use Rattle.route_base.specs.Net.{IsGoodRequest, setting_of};
-ghost use Rattle.route_base.specs.declared.limits.TheConstants.{LONGEST_HORIZON, MOST_ARCS, MOST_NODES};
+ghost use Rattle.route_base.specs.declared.limits.TheConstants.{MOST_ARCS, MOST_NODES};
 ghost use Rattle.certificate.specs.Writable.{IsWritable};
 ghost use Rattle.certificate_check.specs.Verdicts.{IsGood};
+ghost use Rattle.plan_certificate.specs.CheapRoads.{HasCheapRoads};
+ghost use Rattle.plan_certificate.specs.Tight.{IsTight};
 
-use crate::functions::functions_through;
-use crate::zero_bounds::zero_bounds;
+use crate::bounds::known_bounds;
+use crate::functions::known_functions;
 use certificate::Certificate;
-use plain_search::values;
-use route_base::{OutOfMemory, Request, Routes, TimedNet};
+use itinerary_unpack::routes_of;
+use node_arcs::NodeArcs;
+use propagation::search_over;
+use route_base::{OutOfMemory, Request, TimedNet};
 use std::alloc::Global;
 
-/// A certificate that the checker accepts and that can be written, with these routes, whose pairs are the front.
+/// A certificate whose routes answer the request, that the checker accepts and that is tight. It can be written if the roads are
+/// cheap, as those of a road graph are; where arcs cost more, least costs to the goal may be above the range of the format.
 ///
-/// Takes the time and the memory of `plain_search::values`, and what is linear in its points and in the nodes.
-pub fn certify(
-    alloc: Global,
-    net: &TimedNet,
-    request: Request,
-    routes: Routes,
-) -> Result<Certificate, OutOfMemory>
+/// Takes the time and the memory of `propagation::search_over`, and of `itinerary_unpack::unpack_over` for each pair, and what
+/// is linear in the nodes. The functions that were found are moved, the bounds are copied.
+pub fn certify(alloc: Global, net: &TimedNet, request: Request) -> Result<Certificate, OutOfMemory>
     requires good { IsGoodRequest net.now request }
     requires in_time { request.depart ≤ request.until }
-    requires horizon { request.until - request.depart ≤ LONGEST_HORIZON }
     requires fit { CostsFit (setting_of net.now) request }
     requires nodes { net.now.nodes ≤ MOST_NODES }
     requires arcs { length net.now.arcs ≤ MOST_ARCS }
-    requires right { IsRight (setting_of net.now) request routes }
-    ensures same { IfOk result (λ certificate. certificate.routes ≡ routes) }
+    ensures right { IfOk result (λ c. IsRight (setting_of net.now) request c.routes) }
     ensures good { IfOk result (IsGood (setting_of net.now) request) }
-    ensures writable { IfOk result IsWritable }
+    ensures tight { IfOk result (IsTight (setting_of net.now) request) }
+    ensures writable { IfOk result (λ c. HasCheapRoads (setting_of net.now) → IsWritable c) }
 {
-    let points = values(alloc, net, request)?;
-    let functions = functions_through(alloc, points.as_slice())?;
-    let bounds = zero_bounds(alloc, net.node_count())?;
+    let incoming = NodeArcs::incoming(alloc, net)?;
+    let found = search_over(alloc, net, &incoming, request)?;
+    let routes = routes_of(alloc, net, &incoming, request, &found)?;
+    let bounds = known_bounds(alloc, found.bounds(), net.node_count())?;
+    let functions = known_functions(alloc, found.into_functions())?;
     Ok(Certificate {
         routes,
         bounds,

@@ -1,27 +1,24 @@
-// The functions through the points of nodes.
-ghost use Rattle.std.specs.Prelude.{All, IfOk};
-ghost use Rattle.certificate.specs.ByNode.{AreRising};
-ghost use Rattle.plan_certificate.specs.Inside.Parts.{IsPointList, AreThrough};
+// The functions of nodes as entries of a certificate.
+ghost use Rattle.std.specs.Prelude.{◌≡◌, ◌<◌, ◌^◌, length, IfOk};
+ghost use Rattle.plan_certificate.specs.Inside.Entries.{AreEntriesOf, pieces_of};
 
 use certificate::NodeFunctions;
 use cost_functions::CostFn;
-use plain_search::Points;
 use route_base::{NodeId, OutOfMemory};
 use std::alloc::Global;
 
-/// The function of each entry, which has the values of its points and no others. Linear in the number of points.
-pub fn functions_through(
-    alloc: Global,
-    entries: &[(NodeId, Points)],
-) -> Result<NodeFunctions, OutOfMemory>
-    requires rising { AreRising entries.now }
-    requires points { All IsPointList entries.now }
-    ensures { IfOk result (λ functions. AreThrough entries.now functions) }
+/// The functions of the nodes 1, 2 and so on that have a value. The functions are moved: linear in their number.
+pub fn known_functions(alloc: Global, functions: Vec<CostFn>) -> Result<NodeFunctions, OutOfMemory>
+    requires { length functions.items < 2 ^ 32 }
+    ensures { IfOk result (AreEntriesOf (pieces_of functions.items)) }
 {
-    let mut functions = NodeFunctions::new(alloc);
-    for entry in entries {
-        let function = CostFn::from_points(alloc, entry.1.as_slice())?;
-        functions.push(entry.0, function)?;
+    let mut known = NodeFunctions::new(alloc);
+    let mut node = 0;
+    for function in functions {
+        node += 1;
+        if !function.pieces().is_empty() {
+            known.push(NodeId(node), function)?;
+        }
     }
-    Ok(functions)
+    Ok(known)
 }

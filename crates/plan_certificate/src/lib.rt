@@ -1,20 +1,24 @@
-//! Makes a certificate for a front that is known already: whoever distrusts the search hands it to the checker.
+//! Makes the certificate of a request: whoever distrusts the search hands it to the checker.
 //!
-//! `certify` keeps the routes, gives every node the bound 0, and makes the function of each node from the least costs at which
-//! it can be reached (`plain_search::values`). It promises `IsGood` of `certificate_check` and `IsWritable` of `certificate`:
-//! the checker accepts the certificate, and it has a text.
+//! `certify` searches once. The certificate's routes are those of the pairs that were found, each with the legs of its
+//! itinerary; its bounds are the least minutes and costs to the goal, and its functions are those of the search, moved and not
+//! copied. Nodes from which the goal can't be reached have no bounds, and nodes without a value have no function.
 //!
-//! Bounds of 0 are valid, and excuse only what a pair excuses there and then. So the functions have to carry the proof: the
-//! start can be reached at no cost; a lawful step prolongs the steps that lead to a value, and the least cost where it ends is
-//! no larger; and a value at the goal is the pair of some lawful itinerary, so a pair of the front is no worse.
+//! The law is in four clauses of `certify`. `right`: the pairs are the Pareto front, and the legs of each are lawful (`IsRight`
+//! of `route_base`). `good`: the checker accepts the certificate (`IsGood` of `certificate_check`). `tight`: nothing in it is
+//! larger than it has to be (`IsTight` of `specs/Tight`): the bounds are exactly the least, functions are reduced, and from each
+//! of their minutes the goal is in reach by the horizon. `writable`: it has a text (`IsWritable` of `certificate`) where no minute
+//! of a road costs more than one of driving (`HasCheapRoads` of `specs/CheapRoads`).
 //!
-//! `certifier` puts the parts together, `zero_bounds` and `functions` make them. `specs/Inside` is no law: it says what the
-//! parts have.
+//! The search promises the six conditions of the checker already (`IsFoundFor` of `propagation`), over lists with a place for each
+//! node. `bounds` and `functions` make entries by rising node of them that say the same (`AreEntriesOf` of `specs/Inside`, which
+//! is no law), and `proofs/FoundEntries` carries the conditions over. `proofs/LeastSums` shows that the bounds are within the
+//! ranges of the format: least minutes fall along a least walk, so no node comes twice.
 #![tactic(auto)]
 
+mod bounds;
 mod certifier;
 mod functions;
-mod zero_bounds;
 
 pub use certifier::certify;
 

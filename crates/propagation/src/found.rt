@@ -56,4 +56,12 @@ impl Found {
     {
         &self.bounds
     }
+
+    /// The cost functions of the nodes 1, 2 and so on, handed over at no cost.
+    pub fn into_functions(self) -> Vec<CostFn>
+        ensures { result.items ≡ self.functions }
+    {
+        let Found { functions, .. } = self;
+        functions
+    }
 }

@@ -30,9 +30,15 @@ loop-k-preserved c =
 
 pub returns : goal.returns
 returns c =
+    let s = setting_of c.args.net.now in
     let pairs = c.args.found.now.pairs in
     let all : take c.loop-k.k pairs ≡ pairs = take_all c.loop-k.k pairs (omega (arith, c.loop-k-test.false, ap (λ (w : List Pair). length w) c.pairs-pairs.ensures)) in
+    let items : c.from_vec.result ≡ c.loop-k.routes.items = c.from_vec.ensures in
+    let same : map (λ (x : Route). x.pair) c.from_vec.result ≡ pairs = ap (map (λ (x : Route). x.pair)) items ∙ c.loop-k.invariant.pairs ∙ all in
     record {
-      front = subst (IsFront (setting_of c.args.net.now) c.args.request) (sym (c.loop-k.invariant.pairs ∙ all)) c.requires.found.optimal.front;
-      legs = c.loop-k.invariant.legs;
+      right = record {
+        front = subst (IsFront s c.args.request) (sym same) c.requires.found.optimal.front;
+        legs = subst (All (λ (x : Route). Achieves s c.args.request x.legs x.pair × HasNoNeighbouringWaits x.legs)) (sym items) c.loop-k.invariant.legs;
+      };
+      pairs = same;
     }

@@ -1,0 +1,158 @@
+-- Least minutes and costs to a goal are no larger than the number of nodes allows, since no node comes twice along a least walk.
+use Rattle.std.proofs.Common.{◌≡◌, ◌⊎◌, inl, inr, ⊎_elim, ℕ, zero, suc, ◌+◌, ◌-◌, ◌*◌, ◌≤◌, ◌<◌, ltb, Bool, true, false, arith}
+use Rattle.std.proofs.Common.{Option, Some, None, List, [], ◌∷◌, refl, ◌∙◌, ap, subst}
+use Rattle.std.specs.Option.{option_map}
+use Rattle.std.proofs.lemmas.Bool.{cases_lt, lt-ltb, le-ltb}
+use Rattle.std.proofs.lemmas.Option.{same_Some}
+use Rattle.route_base.specs.Net.{Net, IsGoodNet, IsGoodArc, at_number, road_of, setting_of}
+use Rattle.route_base.specs.Setting.{Setting, Road}
+use Rattle.route_base.specs.declared.limits.TheConstants.{COST_OF_MINUTE, LONGEST_DRIVE}
+use Rattle.route_base.specs.declared.types.Bound.{Bound}
+use Rattle.route_base.specs.declared.types.TimedArc.{TimedArc}
+use Rattle.route_base.proofs.Numbered.{at_number-all}
+use Rattle.potentials.specs.Inside.Totals.{total}
+use Rattle.potentials.specs.Sums.{Leads, IsLeastSum, AreLeastBounds}
+use Rattle.potentials.proofs.Totals.{total_one}
+use Rattle.plan_certificate.specs.CheapRoads.{HasCheapRoads}
+
+-- the minutes of a road and its head
+module _ (net : Net) (good : IsGoodNet net) where
+  abbrev IsShort : Road → Type 0
+  IsShort road = (1 ≤ road.minutes) × (road.minutes ≤ LONGEST_DRIVE) × (1 ≤ road.head) × (road.head ≤ net.nodes)
+
+  short : (a : ℕ) (road : Road) → (o : Option TimedArc) → at_number net.arcs a ≡ o → option_map road_of o ≡ Some road → IsShort road
+  short a road None at is = absurd (cc)
+  short a road (Some arc) at is =
+      let fine = at_number-all (IsGoodArc net) net.arcs a arc good.each_arc at in
+      subst IsShort (same_Some (road_of arc) road is) (fine.minutes.0, fine.minutes.1, fine.head.0, fine.head.1)
+
+abbrev one_if : Bool → ℕ
+one_if true = 1
+one_if false = 0
+
+-- one, if there is a number and it is lower
+lower : ℕ → Option ℕ → ℕ
+lower x None = 0
+lower x (Some y) = one_if (ltb y x)
+
+lower_at_most : (x : ℕ) (o : Option ℕ) → lower x o ≤ 1
+unfolding lower
+lower_at_most x None = omega arith
+lower_at_most x (Some y) = ⊎_elim
+    (λ (less : y < x). let e : one_if (ltb y x) ≡ 1 = ap one_if (lt-ltb y x less) in omega (arith, e))
+    (λ (more : x ≤ y). let e : one_if (ltb y x) ≡ 0 = ap one_if (le-ltb y x more) in omega (arith, e))
+    (cases_lt y x)
+
+lower_more : (x z : ℕ) (o : Option ℕ) → x ≤ z → lower x o ≤ lower z o
+unfolding lower
+lower_more x z None le = omega arith
+lower_more x z (Some y) le = ⊎_elim
+    (λ (less : y < x).
+    let e : one_if (ltb y x) ≡ 1 = ap one_if (lt-ltb y x less) in
+    let f : one_if (ltb y z) ≡ 1 = ap one_if (lt-ltb y z (omega (arith, less, le))) in omega (arith, e, f))
+    (λ (more : x ≤ y). let e : one_if (ltb y x) ≡ 0 = ap one_if (le-ltb y x more) in omega (arith, e))
+    (cases_lt y x)
+
+lower_here : (x z : ℕ) (o : Option ℕ) → o ≡ Some x → x < z → lower x o + 1 ≤ lower z o
+unfolding lower
+lower_here x z None is less = absurd (cc)
+lower_here x z (Some y) is less =
+    let same : y ≡ x = same_Some y x is in
+    let e : one_if (ltb y x) ≡ 0 = ap one_if (le-ltb y x (omega (arith, same))) in
+    let f : one_if (ltb y z) ≡ 1 = ap one_if (lt-ltb y z (omega (arith, less, same))) in
+    omega (arith, e, f)
+
+total_at_most : (n : ℕ) (f : ℕ → ℕ) → ((i : ℕ) → f i ≤ 1) → total n f ≤ n
+unfolding total
+total_at_most zero f le = omega arith
+total_at_most (suc n) f le = omega (arith, total_at_most n f le, le n)
+
+module _ (net : Net) (good : IsGoodNet net) (goal : ℕ) (bounds : ℕ → Option Bound) (least : AreLeastBounds (setting_of net) goal bounds) where
+  abbrev s : Setting
+  s = setting_of net
+
+  abbrev minutes_at : ℕ → Option ℕ
+  minutes_at v = option_map (λ b. b.minutes) (bounds v)
+
+  -- these arcs lead to the goal in so many minutes
+  abbrev LeadsIn : List ℕ → ℕ → ℕ → Type 0
+  LeadsIn arcs v x = Leads s.road (λ w. w.minutes) goal arcs v x
+
+  abbrev IsLeast : ℕ → Option ℕ → Type 0
+  IsLeast v o = IsLeastSum s.road (λ w. w.minutes) goal v o
+
+  -- whether the node behind a number has fewer minutes to the goal, and how many nodes have
+  abbrev has_fewer : ℕ → ℕ → ℕ
+  has_fewer x i = lower x (minutes_at (suc i))
+
+  abbrev before : ℕ → ℕ
+  before x = total net.nodes (has_fewer x)
+
+  -- the head of the first road of a least walk has fewer minutes
+  record IsNext (v x : ℕ) : Type 0 where
+    road : Road
+    arc : ℕ
+    is : s.road arc ≡ Some road
+    rest : ℕ
+    known : minutes_at road.head ≡ Some rest
+    sum : x ≡ road.minutes + rest
+
+  next_of : (v x a rest : ℕ) (arcs : List ℕ) (road : Road) → s.road a ≡ Some road → road.tail ≡ v → LeadsIn arcs road.head rest
+      → x ≡ road.minutes + rest → ((arcs : List ℕ) (sum : ℕ) → LeadsIn arcs v sum → x ≤ sum)
+      → (o : Option ℕ) → minutes_at road.head ≡ o → IsLeast road.head o → IsNext v x
+  next_of v x a rest arcs road is tail leads sum best None at far = absurd (far arcs rest leads)
+  next_of v x a rest arcs road is tail leads sum best (Some y) at far =
+      let no_more : y ≤ rest = far.1 arcs rest leads in
+      let no_less : x ≤ road.minutes + y = best (a ∷ far.0.0) (road.minutes + y) (road, y, is, tail, far.0.1, refl) in
+      record { road = road; arc = a; is = is; rest = y; known = at; sum = omega (arith, no_more, no_less, sum) }
+
+  next : (v x : ℕ) → IsLeast v (Some x) → (arcs : List ℕ) → LeadsIn arcs v x → (x ≡ 0) ⊎ IsNext v x
+  next v x far [] leads = inl leads.1
+  next v x far (a ∷ arcs) leads =
+      inr (next_of v x a leads.1 arcs leads.0 leads.2 leads.3 leads.4 leads.5 far.1 (minutes_at leads.0.head) refl (least leads.0.head).0)
+
+  -- by induction on the minutes, each node with fewer minutes stands for one road at most
+  few : (n v x : ℕ) → minutes_at v ≡ Some x → x < n → x ≤ LONGEST_DRIVE * before x
+  few zero v x at less = absurd (omega (arith, less))
+  few (suc n) v x at less =
+      let far : IsLeast v (Some x) = subst (IsLeast v) at (least v).0 in
+      ⊎_elim
+      (λ (none : x ≡ 0). omega (arith, none))
+      (λ (one : IsNext v x).
+      let road = one.road in
+      let fine = short net good one.arc road (at_number net.arcs one.arc) refl one.is in
+      let fewer : one.rest < x = omega (arith, one.sum, fine.0) in
+      let behind : one.rest ≤ LONGEST_DRIVE * before one.rest = few n road.head one.rest one.known (omega (arith, fewer, less)) in
+      let head : suc (road.head - 1) ≡ road.head = omega (arith, fine.2) in
+      let more : before one.rest + 1 ≤ before x = total_one net.nodes (road.head - 1) (has_fewer one.rest) (has_fewer x)
+      (λ i within. lower_more one.rest x (minutes_at (suc i)) (omega (arith, fewer)))
+      (omega (arith, fine.2, fine.3))
+      (lower_here one.rest x (minutes_at (suc (road.head - 1))) (ap minutes_at head ∙ one.known) fewer) in
+      omega (arith, one.sum, fine.1, behind, more))
+      (next v x far far.0.0 far.0.1)
+
+  -- a least walk has at most one road for each node
+  pub least_minutes : (v : ℕ) (b : Bound) → bounds v ≡ Some b → b.minutes ≤ LONGEST_DRIVE * net.nodes
+  least_minutes v b is =
+      let x = b.minutes in
+      let long = few (suc x) v x (ap (option_map (λ (w : Bound). w.minutes)) is) (omega arith) in
+      let count = total_at_most net.nodes (has_fewer x) (λ i. lower_at_most x (minutes_at (suc i))) in
+      omega (arith, long, count)
+
+  -- the walk of the least minutes costs no more than these
+  module _ (cheap : HasCheapRoads s) where
+    cheap_walk : (arcs : List ℕ) (v x : ℕ) → LeadsIn arcs v x
+        → (y : ℕ) × Leads s.road (λ w. w.cost) goal arcs v y × (y ≤ COST_OF_MINUTE * x)
+    cheap_walk [] v x leads = (0, (leads.0, refl), omega arith)
+    cheap_walk (a ∷ arcs) v x leads =
+        let road = leads.0 in
+        let rest = cheap_walk arcs road.head leads.1 leads.4 in
+        (road.cost + rest.0, (road, rest.0, leads.2, leads.3, rest.1, refl), omega (arith, cheap a road leads.2, rest.2, leads.5))
+
+    pub least_cost : (v : ℕ) (b : Bound) → bounds v ≡ Some b → b.cost ≤ COST_OF_MINUTE * b.minutes
+    least_cost v b is =
+        let minutes : IsLeast v (Some b.minutes) = subst (λ o. IsLeast v (option_map (λ (w : Bound). w.minutes) o)) is (least v).0 in
+        let costs : IsLeastSum s.road (λ w. w.cost) goal v (Some b.cost) =
+        subst (λ o. IsLeastSum s.road (λ w. w.cost) goal v (option_map (λ (w : Bound). w.cost) o)) is (least v).1 in
+        let walk = cheap_walk minutes.0.0 v b.minutes minutes.0.1 in
+        omega (arith, costs.1 minutes.0.0 walk.0 walk.1, walk.2)
