@@ -1,5 +1,5 @@
 -- Steps found backwards make a walk.
-use Rattle.std.proofs.Common.{◌≡◌, ℕ, zero, suc, ◌-◌, ◌≤◌, ◌<◌, List, [], ◌∷◌, ◌++◌, reverse, sym, subst, arith}
+use Rattle.std.proofs.Common.{◌≡◌, ℕ, ◌-◌, ◌≤◌, ◌<◌, List, [], ◌∷◌, ◌++◌, reverse, sym, subst, arith}
 use Rattle.std.proofs.lemmas.List.{reverse-append}
 use Rattle.route_base.specs.Setting.{Setting}
 use Rattle.route_base.specs.Itinerary.{Position, Step, drive, wait, Drives, Waits, Moves, Walks}
@@ -18,12 +18,11 @@ pub record WaitsHere (s : Setting) (until : ℕ) (cost : ℕ → ℕ → ℕ) (v
 module _ (net : Net) (until : ℕ) (cost : ℕ → ℕ → ℕ) (v t : ℕ) where
   -- no drive from a known cost ends here at this cost
   abbrev pub NoDrive : Type 0
-  NoDrive = (a u k : ℕ) → 1 ≤ a → cost u k < none → Drives (setting_of net) until a (at cost u k) (at cost v t) → ⊥
+  NoDrive = (a u k : ℕ) → cost u k < none → Drives (setting_of net) until a (at cost u k) (at cost v t) → ⊥
 
   no_step : NoDrive → (x : Step) (u k : ℕ) → cost u k < none → Moves (setting_of net) until x (at cost u k) (at cost v t)
       → WaitsHere (setting_of net) until cost v t
-  no_step free (drive zero) u k known move = let bad = move.is in cc
-  no_step free (drive (suc a)) u k known move = absurd (free (suc a) u k (omega arith) known move)
+  no_step free (drive a) u k known move = absurd (free a u k known move)
   no_step free wait u k known move =
       let before : k ≡ t - 1 = omega (arith, move.minute) in
       let place : u ≡ v = sym move.node in

@@ -65,14 +65,14 @@ module _ (net : Net) (r : Request) (in_time : r.depart ≤ r.until) (table : Cos
   final_inside v t known =
       let cell = known_inside table.width table.depart table.cells.items v t known in
       record {
-        node = (cell.low, omega (arith, cell.high, final.shape.columns));
+        node = (cell.low, omega (arith, cell.high, final.sound.shape.columns));
         minute = (
-          omega (arith, cell.row, final.shape.first),
+          omega (arith, cell.row, final.sound.shape.first),
           ⊎_elim
               (λ (first : (v ≡ r.origin.0) × (t ≡ r.depart)). omega (arith, first.1, in_time))
               (λ (from : ComesByStep (setting_of net) r.until (cost_of table) (r.until + 1) v t).
               move_in_time (setting_of net) r.until from.step (at (cost_of table) from.node from.minute) (at (cost_of table) v t) from.move)
-              (final.founded.each v t known),
+              (final.sound.founded.each v t known),
         );
       }
 

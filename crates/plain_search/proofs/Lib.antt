@@ -1,5 +1,5 @@
+pub mod ArcPlaces
 pub mod Backward
-pub mod Chaining
 pub mod Cheapness
 pub mod Columns
 pub mod Founding

@@ -1,13 +1,9 @@
 -- Landed points stay landed while only later costs change.
 use Rattle.std.proofs.Common.{◌≡◌, inl, inr, ⊎_elim, ℕ, ◌≤◌, ◌∙◌, subst, arith}
 use Rattle.route_base.specs.Setting.{Setting}
-use Rattle.route_base.specs.Itinerary.{Step, drive, Moves}
-use Rattle.route_base.specs.Net.{Net, setting_of}
+use Rattle.route_base.specs.Itinerary.{Step, Moves}
 use Rattle.route_base.specs.declared.types.Request.{Request}
-use Rattle.plain_search.specs.Inside.Incidence.{EndsAt}
-use Rattle.plain_search.specs.declared.incidence.End.TheVariants.{Tail}
-use Rattle.plain_search.proofs.Chaining.{drives_tail}
-use Rattle.plain_search.specs.Inside.Costs.{ChangesLater, at, ComesByStep, ComesBySteps, IsRelaxedFrom}
+use Rattle.plain_search.specs.Inside.Costs.{ChangesLater, ComesByStep, ComesBySteps, IsRelaxedFrom}
 
 pub changes-append : (a b c : ℕ → ℕ → ℕ) (t : ℕ) → ChangesLater a b t → ChangesLater b c t → ChangesLater a c t
 changes-append a b c t one two = record {
@@ -39,8 +35,3 @@ founded_later s r cost now later le founded = record {
       }))
       (founded.each v t known);
 }
-
--- no drive over an arc that begins elsewhere
-pub lands_elsewhere : (net : Net) (until a : ℕ) (cost : ℕ → ℕ → ℕ) (v t : ℕ) → (EndsAt net Tail v a → ⊥)
-    → IsRelaxedFrom (setting_of net) until cost (drive a) v t
-lands_elsewhere net until a cost v t elsewhere known q move = absurd (elsewhere (drives_tail net until a (at cost v t) q move))

@@ -1,7 +1,6 @@
 -- Machinery of the search, which is no law: the law is on the trait FrontSearch (source: own).
 pub mod CostTable
 pub mod Costs
-pub mod Incidence
 pub mod Predecessors
 pub mod Routes
 pub mod SmallNet

@@ -19,9 +19,9 @@ pub struct CostTable {
 }
 
 impl CostTable {
-    ghost use Rattle.std.specs.Prelude.{◌≡◌, ◌<◌, ◌≤◌, ◌+◌, ◌-◌, ◌*◌, ◌^◌, ℕ, IfOk};
+    ghost use Rattle.std.specs.Prelude.{◌≡◌, ◌+◌, ◌-◌, ◌*◌, ℕ, IfOk};
     ghost use Rattle.plain_search.specs.Inside.Costs.{none, Lowers};
-    ghost use Rattle.plain_search.specs.Inside.CostTable.{cost_of, HasShape, IsCell};
+    ghost use Rattle.plain_search.specs.Inside.CostTable.{cost_of, HasShape, IsCell, IsTableSize};
 
     /// A table in which nothing is reached.
     pub fn new(
@@ -30,9 +30,7 @@ impl CostTable {
         depart: Minute,
         until: Minute,
     ) -> Result<CostTable, AllocError>
-        requires ordered { depart ≤ until }
-        requires long { until < 2 ^ 28 }
-        requires wide { nodes < 2 ^ 28 }
+        requires { IsTableSize nodes depart until }
         ensures shape { IfOk result (HasShape nodes depart until) }
         ensures costs { IfOk result (λ table. (v t : ℕ) → cost_of table v t ≡ none) }
     {

@@ -1,7 +1,6 @@
 // The engine: the Pareto front is read from the goal's column of the cost table.
-ghost use Rattle.std.specs.Prelude.{◌≤◌, ◌+◌, IfOk};
-ghost use Rattle.plain_search.specs.Words.{setting_of, IsRight, cost_of, IsRelaxedBefore, IsRouteAt};
-ghost use Rattle.plain_search.specs.Words.{IsFinalTable, IsReached};
+ghost use Rattle.std.specs.Prelude.{◌+◌, IfOk};
+ghost use Rattle.plain_search.specs.Words.{setting_of, IsRight, cost_of, IsRouteAt, IsFinalTable, HasSoundLabel};
 
 use crate::cost_table::{CostTable, NONE};
 use crate::legs::tidied;
@@ -17,9 +16,8 @@ impl Search<'_> {
         table: &CostTable,
         arrival: Minute,
     ) -> Result<Route, OutOfMemory>
-        requires sound { IsFinalTable self.now.net.now self.now.request table.now }
-        requires reached { IsReached self.now.net.now self.now.request table.now
-            self.now.request.goal.0 arrival }
+        requires { HasSoundLabel self.now.net.now self.now.request
+            (self.now.request.until + 1) table.now self.now.request.goal.0 arrival }
         ensures { IfOk result
             (IsRouteAt (setting_of self.now.net.now) self.now.request (cost_of table.now) arrival) }
     {
@@ -36,9 +34,7 @@ impl Search<'_> {
 
     // The routes to the goal, each cheaper than those that arrive before it.
     fn read_routes(&self, alloc: Global, table: &CostTable) -> Result<Vec<Route>, OutOfMemory>
-        requires sound { IsFinalTable self.now.net.now self.now.request table.now }
-        requires done { IsRelaxedBefore (setting_of self.now.net.now) self.now.request.until
-            (cost_of table.now) (self.now.request.until + 1) }
+        requires { IsFinalTable self.now.net.now self.now.request table.now }
         ensures { IfOk result (λ routes.
             IsRight (setting_of self.now.net.now) self.now.request routes.items) }
     {
@@ -60,8 +56,8 @@ impl Search<'_> {
 /// It looks once at each node at each minute, and where an itinerary can be then, it relaxes each arc that leaves the node, with
 /// a binary search in the arc's closed runs. So it takes time O((horizon + 1) · nodes + arcs), and for each node and minute that
 /// some itinerary reaches, O(1 + log runs) for each arc that leaves the node. A route is found backwards, by a look at the
-/// arcs that enter each of its nodes. It takes 8 bytes for each node and minute, and for each of two indexes 4 bytes for
-/// each node and each arc.
+/// arcs that enter each of its nodes. It takes 8 bytes for each node and minute, and for each of the two lists of arcs
+/// 8 bytes for each node and 4 bytes for each arc.
 #[derive(Clone, Copy, Debug)]
 pub struct TableEngine;
 

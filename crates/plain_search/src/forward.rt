@@ -2,9 +2,9 @@
 ghost use Rattle.std.specs.Prelude.{◌≡◌, ◌+◌, ◌≤◌, ℕ, IfOk};
 ghost use Rattle.std.specs.Option.{option_flatten};
 ghost use Rattle.route_base.specs.Net.{at_number};
-ghost use Rattle.plain_search.specs.Words.{Step, drive, wait, setting_of, cost_of, EndsAt, ChangesLater, IsRelaxedFrom};
-ghost use Rattle.plain_search.specs.Words.{IsRelaxedBefore, IsSoundTable, IsNode, IsMinute, IsReached};
-ghost use Rattle.plain_search.specs.declared.incidence.End.TheVariants.{Tail};
+ghost use Rattle.node_arcs.specs.declared.links.End.TheVariants.{Tail};
+ghost use Rattle.plain_search.specs.Words.{Step, drive, wait, setting_of, cost_of, EndsAt, ChangesLater};
+ghost use Rattle.plain_search.specs.Words.{IsRelaxedFrom, IsSoundTable, IsFinalTable, HasSoundLabel, IsNode, IsMinute};
 
 use crate::cost_table::{CostTable, NONE};
 use crate::search::Search;
@@ -22,8 +22,8 @@ fn weight_to_wait(net: &TimedNet, node: NodeId) -> Option<Cost>
 impl Search<'_> {
     // Relaxes one arc from its tail at a minute.
     fn relax_arc(&self, table: &mut CostTable, node: NodeId, id: ArcId, minute: Minute)
-        requires reached { IsReached self.now.net.now self.now.request table.old node.0 minute }
-        requires sound { IsSoundTable self.now.net.now self.now.request (minute + 1) table.old }
+        requires label { HasSoundLabel self.now.net.now self.now.request (minute + 1)
+            table.old node.0 minute }
         requires tail { EndsAt self.now.net.now Tail node.0 id.0 }
         ensures sound { IsSoundTable self.now.net.now self.now.request (minute + 1) table.new }
         ensures later { ChangesLater (cost_of table.old) (cost_of table.new) minute }
@@ -45,24 +45,22 @@ impl Search<'_> {
 
     // Relaxes the arcs that leave the node at a minute.
     fn relax_arcs(&self, table: &mut CostTable, node: NodeId, minute: Minute)
-        requires reached { IsReached self.now.net.now self.now.request table.old node.0 minute }
-        requires sound { IsSoundTable self.now.net.now self.now.request (minute + 1) table.old }
+        requires label { HasSoundLabel self.now.net.now self.now.request (minute + 1)
+            table.old node.0 minute }
         ensures sound { IsSoundTable self.now.net.now self.now.request (minute + 1) table.new }
         ensures later { ChangesLater (cost_of table.old) (cost_of table.new) minute }
         ensures lands { (a : ℕ) → IsRelaxedFrom (setting_of self.now.net.now)
             self.now.request.until (cost_of table.new) (drive a) node.0 minute }
     {
-        let mut next = self.tails.last_at(node);
-        'arcs: while let Some(a) = next {
-            self.relax_arc(table, node, a, minute);
-            next = self.tails.before(a);
+        for a in self.outgoing.of(node) {
+            self.relax_arc(table, node, *a, minute);
         }
     }
 
     // Relaxes a wait at the node at a minute.
     fn relax_wait(&self, table: &mut CostTable, node: NodeId, minute: Minute)
-        requires reached { IsReached self.now.net.now self.now.request table.old node.0 minute }
-        requires sound { IsSoundTable self.now.net.now self.now.request (minute + 1) table.old }
+        requires label { HasSoundLabel self.now.net.now self.now.request (minute + 1)
+            table.old node.0 minute }
         ensures sound { IsSoundTable self.now.net.now self.now.request (minute + 1) table.new }
         ensures later { ChangesLater (cost_of table.old) (cost_of table.new) minute }
         ensures lands { IsRelaxedFrom (setting_of self.now.net.now) self.now.request.until
@@ -111,10 +109,7 @@ impl Search<'_> {
 
     /// The least cost for each node and minute, by label setting in the order of minutes.
     pub fn least_costs(&self, alloc: Global) -> Result<CostTable, AllocError>
-        ensures sound { IfOk result (IsSoundTable self.now.net.now self.now.request
-            (self.now.request.until + 1)) }
-        ensures done { IfOk result (λ table. IsRelaxedBefore (setting_of self.now.net.now)
-            self.now.request.until (cost_of table) (self.now.request.until + 1)) }
+        ensures { IfOk result (IsFinalTable self.now.net.now self.now.request) }
     {
         let request = self.request;
         let nodes = self.net.node_count();

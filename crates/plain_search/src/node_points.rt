@@ -4,7 +4,7 @@ ghost use Rattle.route_base.specs.Legs.{CostsFit};
 ghost use Rattle.route_base.specs.Net.{IsGoodRequest, setting_of};
 ghost use Rattle.route_base.specs.declared.limits.TheConstants.{LONGEST_HORIZON};
 ghost use Rattle.plain_search.specs.Values.{AreValues};
-ghost use Rattle.plain_search.specs.Words.{cost_of, IsRelaxedBefore, IsFinalTable, IsNode, IsLabel};
+ghost use Rattle.plain_search.specs.Words.{cost_of, IsFinalTable, IsNode, IsLabel};
 
 use crate::cost_table::{CostTable, NONE};
 use crate::search::Search;
@@ -26,7 +26,7 @@ impl Search<'_> {
         node: NodeId,
     ) -> Result<Vec<(Minute, Cost)>, AllocError>
         requires node { IsNode self.now.net.now node.0 }
-        requires sound { IsFinalTable self.now.net.now self.now.request table.now }
+        requires table { IsFinalTable self.now.net.now self.now.request table.now }
         ensures rising { IfOk result (λ points. AllPairs (λ p q. p.0 < q.0) points.items) }
         ensures labels { IfOk result (λ points.
             All (λ p. IsLabel (cost_of table.now) node.0 p.0 p.1) points.items) }
@@ -49,9 +49,7 @@ impl Search<'_> {
         alloc: Global,
         table: &CostTable,
     ) -> Result<Vec<(NodeId, Points)>, OutOfMemory>
-        requires sound { IsFinalTable self.now.net.now self.now.request table.now }
-        requires done { IsRelaxedBefore (setting_of self.now.net.now) self.now.request.until
-            (cost_of table.now) (self.now.request.until + 1) }
+        requires { IsFinalTable self.now.net.now self.now.request table.now }
         ensures { IfOk result (λ entries.
             AreValues (setting_of self.now.net.now) self.now.request entries.items) }
     {

@@ -1,8 +1,8 @@
 // Path reconstruction: from a label back to the origin, without parent pointers; predecessors are found by equal cost.
 ghost use Rattle.std.specs.Prelude.{◌≡◌, ◌+◌, ◌<◌, ◌≤◌, ℕ, length, None, IfOk, IfSome, reverse, All};
+ghost use Rattle.node_arcs.specs.declared.links.End.TheVariants.{Head};
 ghost use Rattle.plain_search.specs.Words.{Drives, Walks, setting_of, steps_of, start_of, EndsAt, none, at, cost_of};
-ghost use Rattle.plain_search.specs.Words.{LeadsTo, IsSingle, IsFinalTable, IsMinute, IsReached};
-ghost use Rattle.plain_search.specs.declared.incidence.End.TheVariants.{Head};
+ghost use Rattle.plain_search.specs.Words.{LeadsTo, IsSingle, IsSoundTable, HasSoundLabel, IsMinute};
 
 use crate::cost_table::{CostTable, NONE};
 use crate::search::Search;
@@ -26,11 +26,12 @@ impl Search<'_> {
         node: NodeId,
         minute: Minute,
     ) -> Option<Source>
-        requires sound { IsFinalTable self.now.net.now self.now.request table.now }
+        requires sound { IsSoundTable self.now.net.now self.now.request
+            (self.now.request.until + 1) table.now }
         requires head { EndsAt self.now.net.now Head node.0 id.0 }
         requires minute { IsMinute self.now.request minute }
-        ensures some { IfSome result
-            (LeadsTo (setting_of self.now.net.now) self.now.request.until (cost_of table.now) node.0 minute) }
+        ensures some { IfSome result (LeadsTo (setting_of self.now.net.now)
+            self.now.request.until (cost_of table.now) node.0 minute) }
         ensures none { result ≡ None → (u k : ℕ) → cost_of table.now u k < none
             → Drives (setting_of self.now.net.now) self.now.request.until id.0
             (at (cost_of table.now) u k) (at (cost_of table.now) node.0 minute) → ⊥ }
@@ -59,19 +60,17 @@ impl Search<'_> {
 
     // The predecessor: the step that ends here, at exactly this label.
     fn predecessor(&self, table: &CostTable, node: NodeId, minute: Minute) -> Source
-        requires sound { IsFinalTable self.now.net.now self.now.request table.now }
-        requires reached { IsReached self.now.net.now self.now.request table.now node.0 minute }
+        requires label { HasSoundLabel self.now.net.now self.now.request
+            (self.now.request.until + 1) table.now node.0 minute }
         requires later { node.0 ≡ self.now.request.origin.0
             → minute ≡ self.now.request.depart → ⊥ }
         ensures { LeadsTo (setting_of self.now.net.now) self.now.request.until
             (cost_of table.now) node.0 minute result }
     {
-        let mut next = self.heads.last_at(node);
-        'arcs: while let Some(a) = next {
-            if let Some(found) = self.drive_into(table, a, node, minute) {
+        for a in self.incoming.of(node) {
+            if let Some(found) = self.drive_into(table, *a, node, minute) {
                 return found;
             }
-            next = self.heads.before(a);
         }
         Source {
             leg: Leg::Wait(1),
@@ -87,9 +86,8 @@ impl Search<'_> {
         table: &CostTable,
         arrival: Minute,
     ) -> Result<Vec<Leg>, AllocError>
-        requires sound { IsFinalTable self.now.net.now self.now.request table.now }
-        requires reached { IsReached self.now.net.now self.now.request table.now
-            self.now.request.goal.0 arrival }
+        requires { HasSoundLabel self.now.net.now self.now.request
+            (self.now.request.until + 1) table.now self.now.request.goal.0 arrival }
         ensures single { IfOk result (λ legs. All IsSingle legs.items) }
         ensures short { IfOk result (λ legs. length legs.items ≤ arrival) }
         ensures walk { IfOk result (λ legs. Walks (setting_of self.now.net.now)

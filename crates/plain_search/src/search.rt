@@ -1,41 +1,46 @@
 // A search: the net, the request, and the arcs at each node.
 ghost use Rattle.std.specs.Prelude.{◌≡◌, IfOk};
 ghost use Rattle.route_base.specs.Net.{IsGoodNet};
-ghost use Rattle.plain_search.specs.Inside.Incidence.{AreListed};
+ghost use Rattle.node_arcs.specs.Stars.{AreOutgoing, AreIncoming};
 ghost use Rattle.plain_search.specs.Inside.Soundness.{IsAsked};
-ghost use Rattle.plain_search.specs.declared.incidence.End.TheVariants.{Tail, Head};
 
-use crate::incidence::{End, Incidence, incidence_of};
-use route_base::{Request, TimedNet};
-use std::alloc::{AllocError, Global};
+use node_arcs::NodeArcs;
+use route_base::{OutOfMemory, Request, TimedNet};
+use std::alloc::Global;
 
 /// A request over a net, with the forward and the backward star of the net.
 #[derive(Drop)]
 pub struct Search<'a> {
     pub net: &'a TimedNet,
     pub request: Request,
-    pub tails: Incidence,
-    pub heads: Incidence,
+    pub outgoing: NodeArcs,
+    pub incoming: NodeArcs,
     ghost good: { IsGoodNet net.now },
     ghost asked: { IsAsked net.now request },
-    ghost forward: { AreListed net.now Tail tails },
-    ghost backward: { AreListed net.now Head heads },
+    ghost forward: { ∥ AreOutgoing net.now outgoing ∥₁ },
+    ghost backward: { ∥ AreIncoming net.now incoming ∥₁ },
 }
 
 impl<'a> Search<'a> {
     /// The search of a request over a net, in time linear in its nodes and arcs.
-    pub fn new(alloc: Global, net: &'a TimedNet, request: Request) -> Result<Search<'a>, AllocError>
+    pub fn new(
+        alloc: Global,
+        net: &'a TimedNet,
+        request: Request,
+    ) -> Result<Search<'a>, OutOfMemory>
         requires { IsAsked net.now request }
         ensures net { IfOk result (λ search. search.net.now ≡ net.now) }
         ensures request { IfOk result (λ search. search.request ≡ request) }
     {
-        let tails = incidence_of(alloc, net, End::Tail)?;
-        let heads = incidence_of(alloc, net, End::Head)?;
+        let outgoing = NodeArcs::outgoing(alloc, net)?;
+        let incoming = NodeArcs::incoming(alloc, net)?;
+        // A net that is read is known to be well-formed.
+        let _nodes = net.node_count();
         Ok(Search {
             net,
             request,
-            tails,
-            heads,
+            outgoing,
+            incoming,
         })
     }
 }

@@ -1,5 +1,5 @@
 -- Cost tables as functions of node and minute (source: own; no law).
-use Rattle.std.specs.Prelude.{◌≡◌, ℕ, ◌+◌, ◌-◌, ◌*◌, ◌≤◌, ◌&&◌, if◌then◌else◌, nat_lt, nat_le, List, slice_index_or}
+use Rattle.std.specs.Prelude.{◌≡◌, ℕ, ◌+◌, ◌-◌, ◌*◌, ◌^◌, ◌≤◌, ◌<◌, ◌&&◌, if◌then◌else◌, nat_lt, nat_le, List, slice_index_or}
 use Rattle.plain_search.specs.Inside.Costs.{none}
 use Rattle.plain_search.specs.declared.cost_table.CostTable.{CostTable}
 
@@ -28,3 +28,9 @@ pub record IsCell (table : CostTable) (v t : ℕ) : Type 0 where
   pub high : v ≤ table.width
   pub from : table.depart ≤ t
   pub upto : t ≤ table.until
+
+-- minutes in order, and so few nodes and minutes that the number of cells fits in 64 bits
+pub record IsTableSize (nodes depart until : ℕ) : Type 0 where
+  pub ordered : depart ≤ until
+  pub long : until < 2 ^ 28
+  pub wide : nodes < 2 ^ 28

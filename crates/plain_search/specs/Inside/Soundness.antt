@@ -3,7 +3,7 @@ use Rattle.std.specs.Prelude.{ℕ, ◌+◌, ◌≤◌, ◌<◌}
 use Rattle.route_base.specs.Legs.{CostsFit}
 use Rattle.route_base.specs.Net.{Net, IsGoodRequest, setting_of}
 use Rattle.route_base.specs.declared.types.Request.{Request}
-use Rattle.plain_search.specs.Inside.Costs.{none, ComesBySteps}
+use Rattle.plain_search.specs.Inside.Costs.{none, ComesBySteps, IsRelaxedBefore}
 use Rattle.plain_search.specs.Inside.CostTable.{cost_of, HasShape}
 use Rattle.plain_search.specs.declared.cost_table.CostTable.{CostTable}
 
@@ -18,9 +18,10 @@ pub record IsSoundTable (net : Net) (r : Request) (now : ℕ) (table : CostTable
   pub shape : HasShape net.nodes r.depart r.until table
   pub founded : ComesBySteps (setting_of net) r (cost_of table) now
 
--- the table is sound, and every minute of the request is processed
-abbrev pub IsFinalTable : Net → Request → CostTable → Type 0
-IsFinalTable net r table = IsSoundTable net r (r.until + 1) table
+-- the table is sound, and each step from each minute of the request is relaxed
+pub record IsFinalTable (net : Net) (r : Request) (table : CostTable) : Type 0 where
+  pub sound : IsSoundTable net r (r.until + 1) table
+  pub relaxed : IsRelaxedBefore (setting_of net) r.until (cost_of table) (r.until + 1)
 
 -- the node is one of the net
 pub record IsNode (net : Net) (v : ℕ) : Type 0 where
@@ -39,3 +40,8 @@ pub record IsReached (net : Net) (r : Request) (table : CostTable) (v t : ℕ) :
   pub from : r.depart ≤ t
   pub upto : t ≤ r.until
   pub known : cost_of table v t < none
+
+-- the table is sound, and it has a label for the node at this minute
+pub record HasSoundLabel (net : Net) (r : Request) (now : ℕ) (table : CostTable) (v t : ℕ) : Type 0 where
+  pub sound : IsSoundTable net r now table
+  pub reached : IsReached net r table v t

@@ -1,8 +1,8 @@
 use Rattle.std.proofs.Common.{◌≡◌, ◌+◌, ◌-◌, ◌≤◌, ◌<◌, Some, IsTrue, refl, sym, ◌∙◌, ap, rules, arith}
 use Rattle.std.specs.Option.{option_map}
 use Rattle.route_base.specs.Net.{setting_of, road_of, at_number}
-use Rattle.plain_search.specs.Inside.Incidence.{node_at}
-use Rattle.plain_search.specs.declared.incidence.End.TheVariants.{Head}
+use Rattle.node_arcs.specs.Stars.{node_at}
+use Rattle.node_arcs.specs.declared.links.End.TheVariants.{Head}
 use Rattle.plain_search.specs.Inside.Costs.{none, at}
 use Rattle.plain_search.specs.Inside.CostTable.{cost_of}
 use Rattle.plain_search.proofs.Founding.{cost_fits}

@@ -25,6 +25,11 @@ loop-t-preserved c =
           (cases_lt k c.loop-t.t);
     }
 
-pub returns-clause-sound : goal.returns-clause-sound
-returns-clause-sound c = sound_later c.args.self.now.net.now c.args.self.now.request c.loop-t.table c.loop-t.t
-    (c.args.self.now.request.until + 1) (omega (arith, c.loop-t.auto.t-end)) c.loop-t.invariant.sound
+pub returns : goal.returns
+returns c =
+    let net = c.args.self.now.net.now in
+    let r = c.args.self.now.request in
+    record {
+      sound = sound_later net r c.loop-t.table c.loop-t.t (r.until + 1) (omega (arith, c.loop-t.auto.t-end)) c.loop-t.invariant.sound;
+      relaxed = λ x v k below. c.loop-t.invariant.done x v k (omega (arith, below, c.loop-t-test.false));
+    }

@@ -24,6 +24,6 @@ loop-t-preserved c =
 
 pub returns-clause-all : goal.returns-clause-all
 returns-clause-all c = λ t x label.
-    let inside = (final_inside c.args.self.now.net.now c.args.self.now.request c.args.self.now.asked.in_time c.args.table.now c.requires.sound
+    let inside = (final_inside c.args.self.now.net.now c.args.self.now.request c.args.self.now.asked.in_time c.args.table.now c.requires.table
     c.args.node.0 t (omega (arith, label.is, label.reached))).minute in
     c.loop-t.invariant.all t x inside.0 (omega (arith, inside.1, c.loop-t-test.false)) label

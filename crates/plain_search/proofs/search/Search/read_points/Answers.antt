@@ -2,7 +2,6 @@ use Rattle.std.proofs.Common.{◌≡◌, ◌+◌, ◌∷◌, ◌++◌, [], ℕ, 
 use Rattle.route_base.specs.Net.{Net, IsGoodNet, setting_of}
 use Rattle.route_base.specs.declared.types.NodeId.{NodeId}
 use Rattle.route_base.specs.declared.types.Request.{Request}
-use Rattle.plain_search.specs.Inside.Costs.{IsRelaxedBefore}
 use Rattle.plain_search.specs.Inside.CostTable.{cost_of}
 use Rattle.plain_search.specs.Inside.Soundness.{IsAsked, IsFinalTable}
 use Rattle.plain_search.specs.declared.cost_table.CostTable.{CostTable}
@@ -12,12 +11,12 @@ use Rattle.plain_search.proofs.search.Search.read_points.Goals as goal
 use Rattle.plain_search.proofs.search.Search.read_points.Goals.{then-len-gt0+in_ok-push, else-len-gt0}
 
 is_done : (net : Net) (r : Request) (table : CostTable) → IsGoodNet net → IsAsked net r → IsFinalTable net r table
-    → IsRelaxedBefore (setting_of net) r.until (cost_of table) (r.until + 1) → IsDone (setting_of net) r (cost_of table) (r.until + 1)
-is_done net r table good asked final relaxed = record {
+    → IsDone (setting_of net) r (cost_of table) (r.until + 1)
+is_done net r table good asked final = record {
   takes = takes_time net good;
   fit = asked.fit;
-  founded = final.founded;
-  relaxed = relaxed;
+  founded = final.sound.founded;
+  relaxed = final.relaxed;
   inside = final_inside net r asked.in_time table final;
 }
 
@@ -29,7 +28,7 @@ loop-v-preserved c =
     let cost = cost_of c.args.table.now in
     let v = c.loop-v.v in
     let points = c.in_ok-points.points.items in
-    let done = is_done net r c.args.table.now c.args.self.now.good c.args.self.now.asked c.requires.sound c.requires.done in
+    let done = is_done net r c.args.table.now c.args.self.now.good c.args.self.now.asked c.requires in
     elim c.if-len-gt0.branch [
       | then-len-gt0+in_ok-push w ↦
           (let entry : NodeId × List (ℕ × ℕ) = (record { 0 = v + 1 }, points) in
@@ -52,6 +51,6 @@ pub returns : goal.returns
 returns c =
     let net = c.args.self.now.net.now in
     let r = c.args.self.now.request in
-    let done = is_done net r c.args.table.now c.args.self.now.good c.args.self.now.asked c.requires.sound c.requires.done in
+    let done = is_done net r c.args.table.now c.args.self.now.good c.args.self.now.asked c.requires in
     values_at_end (setting_of net) r (cost_of c.args.table.now) (r.until + 1) done c.loop-v.v c.loop-v.entries.items
     (omega (arith, c.loop-v-test.false, c.node_count-v-end.ensures.value)) c.loop-v.invariant

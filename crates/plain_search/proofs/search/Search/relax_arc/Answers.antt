@@ -2,9 +2,9 @@ use Rattle.std.proofs.Common.{◌≡◌, ◌+◌, ◌≤◌, Some, IsTrue, refl,
 use Rattle.std.specs.Option.{option_map}
 use Rattle.route_base.specs.Itinerary.{drive}
 use Rattle.route_base.specs.Net.{setting_of, road_of, at_number}
-use Rattle.plain_search.specs.Inside.Incidence.{node_at}
+use Rattle.node_arcs.specs.Stars.{node_at}
 use Rattle.plain_search.specs.Inside.CostTable.{cost_of}
-use Rattle.plain_search.specs.declared.incidence.End.TheVariants.{Tail}
+use Rattle.node_arcs.specs.declared.links.End.TheVariants.{Tail}
 use Rattle.plain_search.proofs.Founding.{cost_fits, later_of}
 use Rattle.plain_search.proofs.NetFacts.{takes_time}
 use Rattle.plain_search.proofs.Sounding.{sound_lower}
@@ -15,7 +15,7 @@ overflow_add-cost c =
     let small : cost_of c.args.table.now c.args.node.0 c.args.minute ≤ 10000000000 =
     cost_fits (setting_of c.args.self.now.net.now) c.args.self.now.request
     (takes_time c.args.self.now.net.now c.args.self.now.good) c.args.self.now.asked.fit (cost_of c.args.table.now)
-    (c.args.minute + 1) c.requires.sound.founded c.args.node.0 c.args.minute c.requires.reached.known in
+    (c.args.minute + 1) c.requires.label.sound.founded c.args.node.0 c.args.minute c.requires.label.reached.known in
     let cheap = c.in-Some.ensures.good.cost in
     omega (arith, c.cost-cost.ensures, small, cheap)
 
@@ -30,12 +30,12 @@ returns-clause-sound c =
     let here : at_number c.args.self.now.net.now.arcs c.args.id.0 ≡ Some c.in-Some.arc = sym c.arc.ensures.value ∙ c.in-Some.is in
     let tail : Some c.in-Some.arc.tail.0 ≡ Some c.args.node.0 = sym (ap (option_map (node_at Tail)) here) ∙ c.requires.tail in
     let takes : 1 ≤ c.in-Some.arc.minutes = c.in-Some.ensures.good.minutes.0 in
-    let in_time : c.args.minute + c.in-Some.arc.minutes ≤ c.args.self.now.request.until = omega (arith, c.requires.reached.upto) in
+    let in_time : c.args.minute + c.in-Some.arc.minutes ≤ c.args.self.now.request.until = omega (arith, c.requires.label.reached.upto) in
     let open_then : IsTrue c.is_open.result = search rules in
     sound_lower c.args.self.now.net.now c.args.self.now.request c.args.table.now c.lower.new.self (c.args.minute + 1) c.in-Some.arc.head.0
     (c.args.minute + c.in-Some.arc.minutes)
-    (c.cost-cost.result + c.in-Some.arc.cost) c.requires.sound c.lower.ensures.shape c.lower.ensures.lowers (omega arith) (omega arith)
-    (drive c.args.id.0) c.args.node.0 c.args.minute (omega arith) c.requires.reached.known (record {
+    (c.cost-cost.result + c.in-Some.arc.cost) c.requires.label.sound c.lower.ensures.shape c.lower.ensures.lowers (omega arith) (omega arith)
+    (drive c.args.id.0) c.args.node.0 c.args.minute (omega arith) c.requires.label.reached.known (record {
       road = road_of c.in-Some.arc;
       is = ap (option_map road_of) here;
       tail = cc;

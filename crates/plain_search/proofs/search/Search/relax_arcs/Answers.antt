@@ -1,79 +1,44 @@
-use Rattle.std.proofs.Common.{◌≡◌, ◌⊎◌, ⊎_elim, ◌≤◌, ◌<◌, ℕ, refl, subst, ap, arith}
-use Rattle.std.specs.Prelude.{IfSome}
-use Rattle.std.proofs.lemmas.Bool.{cases_order, cases_lt}
+use Rattle.std.proofs.Common.{◌≡◌, ⊎_elim, ◌≤◌, ◌<◌, ℕ, subst, arith}
+use Rattle.std.proofs.Math.Bridge.{le_prop}
+use Rattle.std.proofs.lemmas.Bool.{cases_lt}
 use Rattle.route_base.specs.Itinerary.{drive}
 use Rattle.route_base.specs.Net.{setting_of}
-use Rattle.plain_search.specs.Inside.Incidence.{EndsAt, number_or_zero}
-use Rattle.plain_search.specs.Inside.Costs.{IsRelaxedFrom}
+use Rattle.node_arcs.specs.declared.links.End.TheVariants.{Tail}
+use Rattle.plain_search.specs.Inside.Costs.{at, IsRelaxedFrom}
 use Rattle.plain_search.specs.Inside.CostTable.{cost_of}
-use Rattle.plain_search.specs.declared.incidence.End.TheVariants.{Tail}
-use Rattle.plain_search.proofs.Chaining.{ends_there, ends_within, none_past}
-use Rattle.plain_search.proofs.Staying.{changes-append, lands_kept, lands_elsewhere}
+use Rattle.plain_search.proofs.ArcPlaces.{arc_at, place_ends, at_each_arc, drives_tail}
+use Rattle.plain_search.proofs.Staying.{changes-append, lands_kept}
 use Rattle.plain_search.proofs.search.Search.relax_arcs.Goals as goal
 
-pub arcs-init : goal.arcs-init
-arcs-init c =
-    let net = c.args.self.now.net.now in
-    let v = c.args.node.0 in
-    let last = c.args.self.now.forward.by_node v c.requires.reached.low in
-    record {
-      sound = c.requires.sound;
-      later = record { less = λ w k. omega arith; same = λ w k le. refl };
-      tail = ends_there net Tail v _ c.last_at-next.result _ last c.last_at-next.ensures.number c.last_at-next.ensures.some;
-      driven = λ a late. lands_elsewhere net c.args.self.now.request.until a (cost_of c.args.table.now) v c.args.minute
-          (none_past net Tail v _ a last (omega (arith, late, c.last_at-next.ensures.number)));
-    }
+pub relax_arc-requires-clause-tail : goal.relax_arc-requires-clause-tail
+relax_arc-requires-clause-tail c = place_ends c.args.self.now.net.now Tail c.args.self.now.outgoing c.args.self.now.forward c.args.node.0
+    c.of-a-items.result.now c.of-a-items.ensures c.loop-a.a-index c.loop-a-test.true
 
-pub before-next-requires : goal.before-next-requires
-before-next-requires c =
-    let net = c.args.self.now.net.now in
-    let v = c.args.node.0 in
-    let here : EndsAt net Tail v c.in-Some.a.0 = subst (λ o. IfSome o (λ b. EndsAt net Tail v b.0)) c.in-Some.is c.arcs.invariant.tail in
-    let within = ends_within net Tail v c.in-Some.a.0 here in
-    record { low = within.0; high = omega (arith, within.1, c.args.self.now.forward.arcs) }
-
-pub arcs-preserved : goal.arcs-preserved
-arcs-preserved c =
-    let net = c.args.self.now.net.now in
-    let s = setting_of net in
+pub loop-a-preserved : goal.loop-a-preserved
+loop-a-preserved c =
+    let s = setting_of c.args.self.now.net.now in
     let until = c.args.self.now.request.until in
     let v = c.args.node.0 in
-    let a = c.in-Some.a.0 in
-    let here : EndsAt net Tail v a = subst (λ o. IfSome o (λ b. EndsAt net Tail v b.0)) c.in-Some.is c.arcs.invariant.tail in
-    let within = ends_within net Tail v a here in
-    let before = c.args.self.now.forward.by_arc a v (omega (arith, within.1)) here in
+    let t = c.args.minute in
+    let arcs = c.of-a-items.result.now in
     record {
       sound = c.relax_arc.ensures.sound;
-      later = changes-append _ _ _ c.args.minute c.arcs.invariant.later c.relax_arc.ensures.later;
-      tail = ends_there net Tail v a c.before-next.result _ before c.before-next.ensures.number c.before-next.ensures.some;
-      driven = λ b late. ⊎_elim
-          (λ (same : a ≡ b). subst (λ (n : ℕ). IsRelaxedFrom s until (cost_of c.relax_arc.new.table) (drive n) v c.args.minute) same
-          c.relax_arc.ensures.lands)
-          (λ (other : (a < b) ⊎ (b < a)). ⊎_elim
-          (λ (after : a < b). lands_kept s until (cost_of c.arcs.table) (cost_of c.relax_arc.new.table) c.args.minute
-          (drive b) v c.args.minute c.relax_arc.ensures.later (omega arith)
-          (c.arcs.invariant.driven b (omega (arith, after, ap number_or_zero c.in-Some.is))))
-          (λ (passed : b < a). lands_elsewhere net until b (cost_of c.relax_arc.new.table) v c.args.minute
-          (before.no_later b (omega (arith, late, c.before-next.ensures.number)) passed))
-          other)
-          (cases_order a b);
+      later = changes-append _ _ _ t c.loop-a.invariant.later c.relax_arc.ensures.later;
+      driven = λ i below. ⊎_elim
+          (λ (before : i < c.loop-a.a-index). lands_kept s until (cost_of c.loop-a.table) (cost_of c.relax_arc.new.table) t
+          (drive (arc_at arcs i)) v t c.relax_arc.ensures.later (omega arith) (c.loop-a.invariant.driven i before))
+          (λ (here : c.loop-a.a-index ≤ i). let same : c.loop-a.a-index ≡ i = omega (arith, here, below) in
+          subst (λ (n : ℕ). IsRelaxedFrom s until (cost_of c.relax_arc.new.table) (drive (arc_at arcs n)) v t) same c.relax_arc.ensures.lands)
+          (cases_lt i c.loop-a.a-index);
     }
 
-pub arcs-smaller : goal.arcs-smaller
-arcs-smaller c =
+pub returns-clause-lands : goal.returns-clause-lands
+returns-clause-lands c a known q move =
     let net = c.args.self.now.net.now in
     let v = c.args.node.0 in
-    let a = c.in-Some.a.0 in
-    let here : EndsAt net Tail v a = subst (λ o. IfSome o (λ b. EndsAt net Tail v b.0)) c.in-Some.is c.arcs.invariant.tail in
-    let before = c.args.self.now.forward.by_arc a v (omega (arith, (ends_within net Tail v a here).1)) here in
-    let falls : number_or_zero c.before-next.result < number_or_zero c.arcs.next =
-    omega (arith, before.below, c.before-next.ensures.number, ap number_or_zero c.in-Some.is) in
-    falls
-
-pub returns-clause-lands : goal.returns-clause-lands
-returns-clause-lands c a =
-    ⊎_elim
-    (λ (some : 0 < a). c.arcs.invariant.driven a (omega (arith, some, ap number_or_zero c.in_default.is)))
-    (λ (zero : a ≤ 0). lands_elsewhere c.args.self.now.net.now c.args.self.now.request.until a (cost_of c.arcs.table) c.args.node.0 c.args.minute
-    (λ here. omega (arith, zero, (ends_within c.args.self.now.net.now Tail c.args.node.0 a here).0)))
-    (cases_lt 0 a)
+    let arcs = c.of-a-items.result.now in
+    let cost = cost_of c.loop-a.table in
+    at_each_arc net Tail c.args.self.now.outgoing c.args.self.now.forward v arcs c.of-a-items.ensures
+    (λ n. IsRelaxedFrom (setting_of net) c.args.self.now.request.until cost (drive n) v c.args.minute) (λ n. Prim.hlevel le_prop)
+    (λ i within. c.loop-a.invariant.driven i (omega (arith, within, c.loop-a-test.false))) a
+    (drives_tail net c.args.self.now.request.until a (at cost v c.args.minute) q move) known q move

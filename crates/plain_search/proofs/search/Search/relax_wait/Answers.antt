@@ -13,7 +13,7 @@ overflow_add-cost c =
     let small : cost_of c.args.table.now c.args.node.0 c.args.minute ≤ 10000000000 =
     cost_fits (setting_of c.args.self.now.net.now) c.args.self.now.request
     (takes_time c.args.self.now.net.now c.args.self.now.good) c.args.self.now.asked.fit (cost_of c.args.table.now)
-    (c.args.minute + 1) c.requires.sound.founded c.args.node.0 c.args.minute c.requires.reached.known in
+    (c.args.minute + 1) c.requires.label.sound.founded c.args.node.0 c.args.minute c.requires.label.reached.known in
     let here : option_flatten (at_number c.args.self.now.net.now.weights c.args.node.0) ≡ Some c.in-Some.weight = sym
     c.weight_to_wait.ensures.value ∙ c.in-Some.is in
     let cheap = c.args.self.now.good.each_weight c.args.node.0 c.in-Some.weight here in
@@ -29,8 +29,8 @@ returns-clause-sound c =
     c.weight_to_wait.ensures.value ∙ c.in-Some.is in
     let in_time : c.args.minute + 1 ≤ c.args.self.now.request.until = omega arith in
     sound_lower c.args.self.now.net.now c.args.self.now.request c.args.table.now c.lower.new.self (c.args.minute + 1) c.args.node.0 (c.args.minute + 1)
-    (c.cost-cost.result + c.in-Some.weight) c.requires.sound c.lower.ensures.shape c.lower.ensures.lowers (omega arith) (omega arith)
-    wait c.args.node.0 c.args.minute (omega arith) c.requires.reached.known (record {
+    (c.cost-cost.result + c.in-Some.weight) c.requires.label.sound c.lower.ensures.shape c.lower.ensures.lowers (omega arith) (omega arith)
+    wait c.args.node.0 c.args.minute (omega arith) c.requires.label.reached.known (record {
       weight = c.in-Some.weight;
       rated = here;
       in_time = in_time;
