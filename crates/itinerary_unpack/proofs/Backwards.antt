@@ -1,5 +1,6 @@
 -- Back from a pair to the start, over falling minutes.
-use Rattle.std.proofs.Common.{◌≡◌, ⊎_elim, ℕ, zero, suc, ◌+◌, ◌≤◌, ◌<◌, Option, Some, None, List, [], ◌∷◌, ◌++◌, length, replicate, refl, sym, ◌∙◌, ap, subst, arith, append_assoc}
+use Rattle.std.proofs.Common.{◌≡◌, ⊎_elim, ℕ, zero, suc, ◌+◌, ◌≤◌, ◌<◌, Option, Some, None, List, [], ◌∷◌, ◌++◌, length, replicate, refl, sym, ◌∙◌, ap, subst}
+use Rattle.std.proofs.Common.{arith, append_assoc}
 use Rattle.std.specs.Prelude.{Contains, reverse}
 use Rattle.std.specs.Option.{option_map}
 use Rattle.std.proofs.lemmas.Bool.{cases_lt, cases_eq}
@@ -27,8 +28,13 @@ use Rattle.itinerary_unpack.specs.declared.sources.Source.{Source}
 
 module _ (s : Setting) (until : ℕ) where
   -- the same walk from a lower cost ends at a lower cost
-  cheaper_walk : (xs : List Step) (p q : Position) (least : ℕ) → least ≤ p.cost → Walks s until xs p q → (c : ℕ) × (c ≤ q.cost) × Walks s until xs (point p.node p.minute least) (point q.node q.minute c)
-  cheaper_walk [] p q least le walk = (least, omega (arith, le, ap (λ (w : Position). w.cost) walk), subst (λ (w : Position). point p.node p.minute least ≡ point w.node w.minute least) walk refl)
+  cheaper_walk : (xs : List Step) (p q : Position) (least : ℕ) → least ≤ p.cost → Walks s until xs p q → (c : ℕ) × (c ≤ q.cost)
+      × Walks s until xs (point p.node p.minute least) (point q.node q.minute c)
+  cheaper_walk [] p q least le walk = (
+    least,
+    omega (arith, le, ap (λ (w : Position). w.cost) walk),
+    subst (λ (w : Position). point p.node p.minute least ≡ point w.node w.minute least) walk refl,
+  )
   cheaper_walk (x ∷ xs) p q least le walk =
       let step = cheaper s until x p walk.0 least le walk.1 in
       let rest = cheaper_walk xs walk.0 q step.0 step.1 walk.2 in
@@ -47,7 +53,8 @@ start_free : (s : Setting) (r : Request) (y : ℕ) → TakeTime s → IsReachabl
 start_free s r y takes ([], walk) = ap (λ (w : Position). w.cost) (sym walk)
 start_free s r y takes (x ∷ xs, walk) =
     let first = later s r.until x (start_of r) walk.0 takes walk.1 in
-    let last = along s r.until (λ w. walk.0.minute ≤ w.minute) (λ z p q le move. omega (arith, le, later s r.until z p q takes move)) xs walk.0 (point r.origin.0 r.depart y) (omega arith) walk.2 in
+    let last = along s r.until (λ w. walk.0.minute ≤ w.minute) (λ z p q le move. omega (arith, le, later s r.until z p q takes move)) xs walk.0
+    (point r.origin.0 r.depart y) (omega arith) walk.2 in
     absurd (omega (arith, first, last))
 
 some_arc : (o : Option TimedArc) (road : Road) → option_map road_of o ≡ Some road → (w : TimedArc) × (o ≡ Some w) × (road_of w ≡ road)
@@ -58,7 +65,8 @@ take_time : (net : Net) → IsGoodNet net → TakeTime (setting_of net)
 take_time net good zero road is = cc
 take_time net good (suc i) road is =
     let arc = some_arc (at_number net.arcs (suc i)) road is in
-    let fine : IsGoodArc net arc.0 = subst (λ (w : TimedArc). IsGoodArc net w) (get_or_from_slice_get net.arcs i arc.0 arc.0 arc.1) (good.each_arc i arc.0 (slice_get_within net.arcs i arc.0 arc.1)) in
+    let fine : IsGoodArc net arc.0 = subst (λ (w : TimedArc). IsGoodArc net w) (get_or_from_slice_get net.arcs i arc.0 arc.0 arc.1)
+    (good.each_arc i arc.0 (slice_get_within net.arcs i arc.0 arc.1)) in
     omega (arith, fine.minutes, ap (λ (w : Road). w.minutes) arc.2)
 
 -- a node at which a cost is known is one of the nodes
@@ -76,26 +84,31 @@ pub cost_is : (functions : List (List Piece)) (v t : ℕ) (own : List Piece) →
 cost_is functions v t own is = ap (λ o. cost_by o t) is
 
 -- costs that are found are small
-pub small_cost : (net : Net) (r : Request) (found : Finding) → CostsFit (setting_of net) r → IsFoundFor net r found → (v t x : ℕ) → cost_at found.functions v t ≡ Some x → x ≤ HIGHEST_COST
+pub small_cost : (net : Net) (r : Request) (found : Finding) → CostsFit (setting_of net) r → IsFoundFor net r found → (v t x : ℕ)
+    → cost_at found.functions v t ≡ Some x → x ≤ HIGHEST_COST
 small_cost net r found fit good v t x is = let steps = good.justified.reachable (point v t x) is in fit steps.0 (point v t x) steps.1
 
 -- one leg more, before the others
-pub leads_before : (s : Setting) (r : Request) (cost : ℕ → ℕ → Option ℕ) (pair : Pair) (v t x : ℕ) (steps : List Step) (from : Source) → LeadsToPair s r cost pair v t steps → cost v t ≡ Some x → ComesFrom s r.until cost v t x from
+pub leads_before : (s : Setting) (r : Request) (cost : ℕ → ℕ → Option ℕ) (pair : Pair) (v t x : ℕ) (steps : List Step) (from : Source)
+    → LeadsToPair s r cost pair v t steps → cost v t ≡ Some x → ComesFrom s r.until cost v t x from
     → LeadsToPair s r cost pair from.node.0 from.minute (steps_of_leg from.leg ++ steps)
 leads_before s r cost pair v t x steps from leads at comes =
     let same : Some leads.here ≡ Some x = sym leads.known ∙ at in
     let e : leads.here ≡ x = cc in
-    let low = cheaper_walk s r.until steps (point v t leads.here) (point r.goal.0 pair.arrival leads.end) comes.end (omega (arith, e, comes.within)) leads.walk in
+    let low = cheaper_walk s r.until steps (point v t leads.here) (point r.goal.0 pair.arrival leads.end) comes.end
+    (omega (arith, e, comes.within)) leads.walk in
     record {
       here = comes.before;
       known = comes.known;
       end = low.0;
       within = omega (arith, low.1, leads.within);
-      walk = walk-append s r.until (steps_of_leg from.leg) steps (point from.node.0 from.minute comes.before) (point v t comes.end) (point r.goal.0 pair.arrival low.0) comes.walk low.2;
+      walk = walk-append s r.until (steps_of_leg from.leg) steps (point from.node.0 from.minute comes.before) (point v t comes.end)
+          (point r.goal.0 pair.arrival low.0) comes.walk low.2;
     }
 
 -- steps that lead from the start to a pair of the front have its cost
-exact : (s : Setting) (r : Request) (pairs : List Pair) (pair : Pair) (cost : ℕ) (steps : List Step) → r.depart ≤ r.until → IsFront s r pairs → Contains pairs pair → cost ≤ pair.cost
+exact : (s : Setting) (r : Request) (pairs : List Pair) (pair : Pair) (cost : ℕ) (steps : List Step) → r.depart ≤ r.until → IsFront s r pairs
+    → Contains pairs pair → cost ≤ pair.cost
     → Walks s r.until steps (start_of r) (point r.goal.0 pair.arrival cost) → Walks s r.until steps (start_of r) (end_of r pair)
 exact s r pairs pair cost steps in_time front one le walk = ⊎_elim
     (λ (same : cost ≡ pair.cost). subst (λ n. Walks s r.until steps (start_of r) (point r.goal.0 pair.arrival n)) same walk)
@@ -114,12 +127,14 @@ module _ (net : Net) (r : Request) (found : Finding) (good : IsFoundFor net r fo
   pub whole_walk : r.depart ≤ r.until → (steps : List Step) → LeadsToPair (setting_of net) r (cost_at found.functions) pair r.origin.0 r.depart steps
       → Walks (setting_of net) r.until steps (start_of r) (end_of r pair)
   whole_walk in_time steps leads =
-      let free = start_free (setting_of net) r leads.here (take_time net good.good) (good.justified.reachable (point r.origin.0 r.depart leads.here) leads.known) in
+      let free = start_free (setting_of net) r leads.here (take_time net good.good)
+      (good.justified.reachable (point r.origin.0 r.depart leads.here) leads.known) in
       exact (setting_of net) r found.pairs pair leads.end steps in_time good.optimal.front one leads.within
       (subst (λ n. Walks (setting_of net) r.until steps (point r.origin.0 r.depart n) (point r.goal.0 pair.arrival leads.end)) free leads.walk)
 
 -- a wait that joins the one behind it
-pub steps_join : (old new front : List Leg) (k m : ℕ) → old ≡ front ++ Wait k ∷ [] → new ≡ front ++ Wait (k + m) ∷ [] → steps_of (reverse new) ≡ steps_of_leg (Wait m) ++ steps_of (reverse old)
+pub steps_join : (old new front : List Leg) (k m : ℕ) → old ≡ front ++ Wait k ∷ [] → new ≡ front ++ Wait (k + m) ∷ []
+    → steps_of (reverse new) ≡ steps_of_leg (Wait m) ++ steps_of (reverse old)
 steps_join old new front k m was now =
     let rest : List Step = steps_of (reverse front) in
     let sum : k + m ≡ m + k = omega arith in

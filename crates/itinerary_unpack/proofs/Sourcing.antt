@@ -31,26 +31,29 @@ module _ (net : Net) (until a v t : ℕ) (arc : TimedArc) (is : at_number net.ar
     cost = refl;
   }
 
-  pub comes_by_drive : (number : Leg) → number ≡ Drive (record { 0 = a }) → arc.head.0 ≡ v → 1 ≤ arc.minutes → arc.minutes ≤ t → t ≤ until → (cost : ℕ → ℕ → Option ℕ) (x before : ℕ)
+  pub comes_by_drive : (number : Leg) → number ≡ Drive (record { 0 = a }) → arc.head.0 ≡ v → 1 ≤ arc.minutes → arc.minutes ≤ t → t ≤ until
+      → (cost : ℕ → ℕ → Option ℕ) (x before : ℕ)
       → cost arc.tail.0 (t - arc.minutes) ≡ Some before → before + arc.cost ≤ x → IsOpen (setting_of net) a (t - arc.minutes) arc.minutes
       → ComesFrom (setting_of net) until cost v t x (record { leg = number; node = arc.tail; minute = t - arc.minutes })
-  comes_by_drive number leg head some early late cost x before known cheap free = subst (λ w. ComesFrom (setting_of net) until cost v t x (record { leg = w; node = arc.tail; minute = t - arc.minutes })) (sym leg) (record {
-    before = before;
-    known = known;
-    earlier = omega (arith, some, early);
-    some = λ same. cc;
-    short = omega (arith, some, early);
-    end = before + arc.cost;
-    within = cheap;
-    walk = (point v t (before + arc.cost), drives_in head early late before free, refl);
-  })
+  comes_by_drive number leg head some early late cost x before known cheap free =
+      subst (λ w. ComesFrom (setting_of net) until cost v t x (record { leg = w; node = arc.tail; minute = t - arc.minutes })) (sym leg) (record {
+        before = before;
+        known = known;
+        earlier = omega (arith, some, early);
+        some = λ same. cc;
+        short = omega (arith, some, early);
+        end = before + arc.cost;
+        within = cheap;
+        walk = (point v t (before + arc.cost), drives_in head early late before free, refl);
+      })
 
 module _ (s : Setting) (until : ℕ) (cost : ℕ → ℕ → Option ℕ) (v : NodeId) (t x : ℕ) where
   wait_some : (k : ℕ) → 1 ≤ k → Wait k ≢ Wait 0
   wait_some k some same = let e : k ≡ 0 = cc in omega (arith, e, some)
 
   -- a wait since an earlier minute
-  pub comes_by_wait : (since before weight : ℕ) → since < t → t ≤ until → s.weight v.0 ≡ Some weight → cost v.0 since ≡ Some before → before + weight * (t - since) ≤ x
+  pub comes_by_wait : (since before weight : ℕ) → since < t → t ≤ until → s.weight v.0 ≡ Some weight → cost v.0 since ≡ Some before
+      → before + weight * (t - since) ≤ x
       → ComesFrom s until cost v.0 t x (record { leg = Wait (t - since); node = v; minute = since })
   comes_by_wait since before weight earlier late rated known cheap = record {
     before = before;
@@ -66,17 +69,20 @@ module _ (s : Setting) (until : ℕ) (cost : ℕ → ℕ → Option ℕ) (v : No
   }
 
   -- where no drive leads here, the cost comes by a wait
-  pub waits_in : ((a : ℕ) → HasNoDrive s until cost a v.0 t x) → HasPredecessor s until cost (point v.0 t x) → (1 ≤ t) × ComesFrom s until cost v.0 t x (record { leg = Wait 1; node = v; minute = t - 1 })
+  pub waits_in : ((a : ℕ) → HasNoDrive s until cost a v.0 t x) → HasPredecessor s until cost (point v.0 t x) → (1 ≤ t)
+      × ComesFrom s until cost v.0 t x (record { leg = Wait 1; node = v; minute = t - 1 })
   waits_in none comes = by comes.step comes.move
     where
       there : (y : Step) (c : ℕ) → Moves s until y (point comes.source.node comes.source.minute comes.known.least) (point comes.end.node comes.end.minute c)
           → Moves s until y (point comes.source.node comes.source.minute comes.known.least) (point v.0 t c)
-      there y c = subst (λ (p : Position). Moves s until y (point comes.source.node comes.source.minute comes.known.least) p) (same_position (point comes.end.node comes.end.minute c) (point v.0 t c) comes.node comes.minute refl)
+      there y c = subst (λ (p : Position). Moves s until y (point comes.source.node comes.source.minute comes.known.least) p)
+          (same_position (point comes.end.node comes.end.minute c) (point v.0 t c) comes.node comes.minute refl)
 
       by : (y : Step) → Moves s until y comes.source comes.end → (1 ≤ t) × ComesFrom s until cost v.0 t x (record { leg = Wait 1; node = v; minute = t - 1 })
       by (drive a) move =
           let low = cheaper s until (drive a) comes.source comes.end comes.known.least comes.known.within move in
-          absurd (none a comes.source.node comes.source.minute comes.known.least low.0 comes.known.is (omega (arith, low.1, comes.within)) (there (drive a) low.0 low.2))
+          absurd (none a comes.source.node comes.source.minute comes.known.least low.0 comes.known.is (omega (arith, low.1, comes.within))
+          (there (drive a) low.0 low.2))
       by wait move =
           let low = cheaper s until wait comes.source comes.end comes.known.least comes.known.within move in
           let step = there wait low.0 low.2 in
@@ -91,6 +97,12 @@ module _ (s : Setting) (until : ℕ) (cost : ℕ → ℕ → Option ℕ) (v : No
               short = omega (arith, step.minute);
               end = low.0;
               within = omega (arith, low.1, comes.within);
-              walk = (point v.0 t low.0, subst (λ (p : Position). Moves s until wait p (point v.0 t low.0)) (same_position (point comes.source.node comes.source.minute comes.known.least) (point v.0 (t - 1) comes.known.least) node (sym minute) refl) step, refl);
+              walk = (
+                point v.0 t low.0,
+                subst (λ (p : Position). Moves s until wait p (point v.0 t low.0))
+                    (same_position (point comes.source.node comes.source.minute comes.known.least) (point v.0 (t - 1) comes.known.least) node (sym minute) refl)
+                    step,
+                refl,
+              );
             },
           )

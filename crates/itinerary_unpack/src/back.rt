@@ -31,7 +31,8 @@ pub fn unpack(
     requires fit { CostsFit (setting_of net.now) request }
     requires found { IsFoundFor net.now request found.now }
     requires one { k < length found.now.pairs }
-    ensures achieves { IfOk result (λ legs. (d : Pair) → Achieves (setting_of net.now) request legs (slice_index_or found.now.pairs k d)) }
+    ensures achieves { IfOk result (λ legs. (d : Pair)
+        → Achieves (setting_of net.now) request legs (slice_index_or found.now.pairs k d)) }
     ensures tidy { IfOk result HasNoNeighbouringWaits }
 {
     let incoming = NodeArcs::incoming(alloc, net)?;
@@ -53,7 +54,8 @@ pub fn unpack_over(
     requires fit { CostsFit (setting_of net.now) request }
     requires found { IsFoundFor net.now request found.now }
     requires one { k < length found.now.pairs }
-    ensures achieves { IfOk result (λ legs. (d : Pair) → Achieves (setting_of net.now) request legs (slice_index_or found.now.pairs k d)) }
+    ensures achieves { IfOk result (λ legs. (d : Pair)
+        → Achieves (setting_of net.now) request legs (slice_index_or found.now.pairs k d)) }
     ensures tidy { IfOk result HasNoNeighbouringWaits }
 {
     let solved = Solved {

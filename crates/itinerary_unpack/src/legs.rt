@@ -10,9 +10,11 @@ use route_base::{Leg, OutOfMemory};
 pub fn push_before(legs: &mut Vec<Leg>, leg: Leg) -> Result<(), OutOfMemory>
     requires some { leg ≢ Wait 0 }
     requires tidy { IsTidyBack legs.old.items }
-    requires room { length (steps_of (reverse legs.old.items)) + length (steps_of_leg leg) < 2 ^ 62 }
+    requires room { length (steps_of (reverse legs.old.items)) + length (steps_of_leg leg)
+        < 2 ^ 62 }
     ensures tidy { OnOk result (IsTidyBack legs.new.items) }
-    ensures steps { OnOk result (steps_of (reverse legs.new.items) ≡ steps_of_leg leg ++ steps_of (reverse legs.old.items)) }
+    ensures steps { OnOk result (steps_of (reverse legs.new.items) ≡ steps_of_leg leg
+        ++ steps_of (reverse legs.old.items)) }
 {
     match leg {
         Leg::Drive(a) => {
@@ -29,7 +31,8 @@ fn push_wait(legs: &mut Vec<Leg>, more: u64) -> Result<(), OutOfMemory>
     requires tidy { IsTidyBack legs.old.items }
     requires room { length (steps_of (reverse legs.old.items)) + more < 2 ^ 62 }
     ensures tidy { OnOk result (IsTidyBack legs.new.items) }
-    ensures steps { OnOk result (steps_of (reverse legs.new.items) ≡ steps_of_leg (Wait more) ++ steps_of (reverse legs.old.items)) }
+    ensures steps { OnOk result (steps_of (reverse legs.new.items) ≡ steps_of_leg (Wait more)
+        ++ steps_of (reverse legs.old.items)) }
 {
     match legs.pop() {
         None => {

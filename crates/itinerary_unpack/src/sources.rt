@@ -26,7 +26,8 @@ pub fn source_of(solved: Solved<'_>, v: NodeId, t: Minute, x: Cost) -> Source
     requires upto { t ≤ solved.request.until }
     requires known { cost_in solved v.0 t ≡ Some x }
     requires later { v.0 ≡ solved.request.origin.0 → t ≡ solved.request.depart → ⊥ }
-    ensures { ComesFrom (setting_in solved.entry) solved.entry.request.until (cost_in solved.entry) v.0 t x result }
+    ensures { ComesFrom (setting_in solved.entry) solved.entry.request.until
+        (cost_in solved.entry) v.0 t x result }
 {
     for a in solved.incoming.of(v) {
         if let Some(source) = drive_into(solved, *a, v, t, x) {
@@ -41,8 +42,12 @@ fn drive_into(solved: Solved<'_>, a: ArcId, v: NodeId, t: Minute, x: Cost) -> Op
     requires solved { IsSolved solved }
     requires ends { EndsAt solved.net.now Head v.0 a.0 }
     requires upto { t ≤ solved.request.until }
-    ensures some { IfSome result (ComesFrom (setting_in solved.entry) solved.entry.request.until (cost_in solved.entry) v.0 t x) }
-    ensures none { IsNone result → HasNoDrive (setting_in solved.entry) solved.entry.request.until (cost_in solved.entry) a.0 v.0 t x }
+    ensures some { IfSome result
+        (ComesFrom (setting_in solved.entry) solved.entry.request.until
+        (cost_in solved.entry) v.0 t x) }
+    ensures none { IsNone result
+        → HasNoDrive (setting_in solved.entry) solved.entry.request.until
+        (cost_in solved.entry) a.0 v.0 t x }
 {
     let arc = solved.net.arc(a)?;
     if arc.minutes > t {
@@ -72,7 +77,8 @@ fn wait_into(solved: Solved<'_>, v: NodeId, t: Minute, x: Cost) -> Source
     requires later { 1 ≤ t }
     requires waits { ComesFrom (setting_in solved) solved.request.until (cost_in solved) v.0 t x
         (record { leg = Wait 1; node = v; minute = t - 1 }) }
-    ensures { ComesFrom (setting_in solved.entry) solved.entry.request.until (cost_in solved.entry) v.0 t x result }
+    ensures { ComesFrom (setting_in solved.entry) solved.entry.request.until
+        (cost_in solved.entry) v.0 t x result }
 {
     let since = begins_at(solved.found.function(v).pieces(), t);
     match wait_since(solved, v, since, t, x) {
@@ -100,7 +106,8 @@ fn wait_since(solved: Solved<'_>, v: NodeId, since: Minute, t: Minute, x: Cost) 
     requires low { 1 ≤ v.0 }
     requires high { v.0 ≤ solved.net.now.nodes }
     requires upto { t ≤ solved.request.until }
-    ensures { IfSome result (ComesFrom (setting_in solved.entry) solved.entry.request.until (cost_in solved.entry) v.0 t x) }
+    ensures { IfSome result (ComesFrom (setting_in solved.entry) solved.entry.request.until
+        (cost_in solved.entry) v.0 t x) }
 {
     if since >= t {
         return None;

@@ -49,7 +49,8 @@ empty_built functions all k d within = subst AreBuilt (sym (all k d within)) (re
 
 module _ (k : Task) where
   -- the cost of the start, alone, is a source
-  pub start_source : (now : Progress) (costs : ℕ → Option ℕ) → costs k.request.depart ≡ Some 0 → ((t : ℕ) → (t ≡ k.request.depart → ⊥) → costs t ≡ None) → IsSource k now k.request.origin.0 costs
+  pub start_source : (now : Progress) (costs : ℕ → Option ℕ) → costs k.request.depart ≡ Some 0 → ((t : ℕ) → (t ≡ k.request.depart → ⊥) → costs t ≡ None)
+      → IsSource k now k.request.origin.0 costs
   start_source now costs here others = record {
     reached = λ t x is.
         let at = only t x is in
@@ -68,7 +69,8 @@ module _ (k : Task) where
       zero_of t x is at = let e : Some x ≡ Some 0 = sym is ∙ (ap costs at ∙ here) in cc
 
 -- the node that is taken out of the queue is at work
-pub shaped_taken : (nodes v key : ℕ) (old new : State) → IsShaped nodes 0 old → new.functions ≡ old.functions → new.pending ≡ old.pending → IsTaken old.queue new.queue v key → IsShaped nodes v new
+pub shaped_taken : (nodes v key : ℕ) (old new : State) → IsShaped nodes 0 old → new.functions ≡ old.functions → new.pending ≡ old.pending
+    → IsTaken old.queue new.queue v key → IsShaped nodes v new
 shaped_taken nodes v key old new shape functions pending taken = record {
   functions = ap (λ w. length w.items) functions ∙ shape.functions;
   built = subst (λ w. All AreBuilt w.items) (sym functions) shape.built;
@@ -88,7 +90,8 @@ shaped_taken nodes v key old new shape functions pending taken = record {
     none (suc i) t e is = omega (arith, e)
 
 -- where the queue is empty, no_part is pending
-pub idle_at_end : (nodes : ℕ) (state : State) → IsShaped nodes 0 state → ((v : ℕ) → key_at state.queue v ≡ None) → (v t : ℕ) → is_pending state.pending.items v t ≡ false
+pub idle_at_end : (nodes : ℕ) (state : State) → IsShaped nodes 0 state → ((v : ℕ) → key_at state.queue v ≡ None) → (v t : ℕ)
+    → is_pending state.pending.items v t ≡ false
 idle_at_end nodes state shape empty v t = by v (is_pending state.pending.items v t) refl
   where
     by : (u : ℕ) (b : Bool) → is_pending state.pending.items u t ≡ b → is_pending state.pending.items u t ≡ false

@@ -16,7 +16,8 @@ module _ (pairs : List Pair) (trade : RiseAndFall pairs) where
       (λ (other : i ≡ j → ⊥). (let far = trade i j d (omega (arith, le, other)) within in omega (arith, far.0)))
       (cases_eq i j)
 
-  module _ (t i : ℕ) (before : AllWithin (λ p. leb p.arrival t ≡ true) pairs 0 i) (after : AllWithin (λ p. leb p.arrival t ≡ false) pairs i (length pairs)) where
+  module _ (t i : ℕ) (before : AllWithin (λ p. leb p.arrival t ≡ true) pairs 0 i)
+      (after : AllWithin (λ p. leb p.arrival t ≡ false) pairs i (length pairs)) where
     -- a pair that arrives by t stands before the place
     pub is_before : (x : ℕ) → (h : HasPair pairs t x) → h.is_one.0 < i
     is_before x h =
@@ -43,5 +44,6 @@ module _ (pairs : List Pair) (trade : RiseAndFall pairs) where
         let cost = ap (λ (p : Pair). p.cost) at in
         ⊎_elim
         (λ (same : h.is_one.0 ≡ i - 1). omega (arith, ap (λ n. (get_or pairs n d).cost) same, cost, h.cost))
-        (λ (other : h.is_one.0 ≡ i - 1 → ⊥). (let far = trade h.is_one.0 (i - 1) d (omega (arith, early, other)) (omega (arith, some, within)) in omega (arith, far.1, cost, h.cost)))
+        (λ (other : h.is_one.0 ≡ i - 1 → ⊥). (let far = trade h.is_one.0 (i - 1) d (omega (arith, early, other)) (omega (arith, some, within))
+        in omega (arith, far.1, cost, h.cost)))
         (cases_eq h.is_one.0 (i - 1))

@@ -1,5 +1,6 @@
 -- Lists of entry sets: room for more, and one more set in a list.
-use Rattle.std.proofs.Common.{◌≡◌, ◌⊎◌, inl, inr, ⊎_elim, ℕ, ◌-◌, ◌≤◌, ◌<◌, Some, List, [], ◌∷◌, ◌++◌, length, get_or, set, refl, sym, ◌∙◌, ap, subst, arith, length-append, length-set, get_or-set_other, get_or-set_same}
+use Rattle.std.proofs.Common.{◌≡◌, ◌⊎◌, inl, inr, ⊎_elim, ℕ, ◌-◌, ◌≤◌, ◌<◌, Some, List, [], ◌∷◌, ◌++◌, length, get_or, set, refl, sym, ◌∙◌, ap, subst, arith}
+use Rattle.std.proofs.Common.{length-append, length-set, get_or-set_other, get_or-set_same}
 use Rattle.std.specs.Prelude.{All, slice_get, unwrap_or, Vec}
 use Rattle.std.specs.declared.alloc.Global.{Global}
 use Rattle.std.proofs.lemmas.Bool.{cases_lt, cases_eq}
@@ -20,11 +21,13 @@ pushed xs y x i is =
     (λ (before : i < length xs). inl (slice_get-get_or xs i x before ∙ ap (λ w. Some w) (sym (get_or_append_left xs (y ∷ []) x i before) ∙ at)))
     (λ (last : length xs ≤ i).
     let e : i ≡ length xs = omega (arith, last, within, length-append xs (y ∷ [])) in
-    inr (sym (get_or-append_right xs (y ∷ []) (length xs) i x refl last ∙ (let f : i - length xs ≡ 0 = omega (arith, e) in ap (λ n. get_or (y ∷ []) n x) f)) ∙ at))
+    inr (sym (get_or-append_right xs (y ∷ []) (length xs) i x refl last ∙ (let f : i - length xs ≡ 0 = omega (arith, e) in ap (λ n. get_or (y ∷ []) n x) f))
+    ∙ at))
     (cases_lt i (length xs))
 
 -- an empty list more
-pub room_more : (net : Net) (until : ℕ) (old new : EntrySets) (list : Vec EntrySet Global) → list.items ≡ [] → new.lists.items ≡ old.lists.items ++ list ∷ [] → AreEntrySets net until old → AreEntrySets net until new
+pub room_more : (net : Net) (until : ℕ) (old new : EntrySets) (list : Vec EntrySet Global) → list.items ≡ [] → new.lists.items ≡ old.lists.items ++ list ∷ []
+    → AreEntrySets net until old → AreEntrySets net until new
 room_more net until old new list none more was = record {
   each = λ i own is. ⊎_elim
       (λ (before : slice_get old.lists.items i ≡ Some own). was.each i own before)
@@ -35,18 +38,24 @@ room_more net until old new list none more was = record {
 }
 
 -- the sets of one list are those that avoid its closed runs
-pub sets_at : (net : Net) (until : ℕ) (sets : EntrySets) (i : ℕ) (closed : List Run) (own : Vec EntrySet Global) → AreEntrySets net until sets → unwrap_or (slice_get net.closed i) [] ≡ closed
+pub sets_at : (net : Net) (until : ℕ) (sets : EntrySets) (i : ℕ) (closed : List Run) (own : Vec EntrySet Global) → AreEntrySets net until sets
+    → unwrap_or (slice_get net.closed i) [] ≡ closed
     → i < length sets.lists.items → own ≡ get_or sets.lists.items i own → All (IsEntrySet closed until) own.items
 sets_at net until sets i closed own are is within at =
     subst (λ runs. All (IsEntrySet runs until) own.items) is (are.each i own (slice_get-get_or sets.lists.items i own within ∙ ap (λ w. Some w) (sym at)))
 
 -- a write to one list
-pub sets_kept : (net : Net) (until : ℕ) (old new : EntrySets) (i : ℕ) (closed : List Run) (own : Vec EntrySet Global) → AreEntrySets net until old → unwrap_or (slice_get net.closed i) [] ≡ closed
+pub sets_kept : (net : Net) (until : ℕ) (old new : EntrySets) (i : ℕ) (closed : List Run) (own : Vec EntrySet Global) → AreEntrySets net until old
+    → unwrap_or (slice_get net.closed i) [] ≡ closed
     → i < length old.lists.items → new.lists.items ≡ set old.lists.items i own → All (IsEntrySet closed until) own.items → AreEntrySets net until new
 sets_kept net until old new i closed own are is within wrote made = record {
   each = λ j list there. ⊎_elim
       (λ (here : j ≡ i).
-      let at : Some list ≡ Some own = sym there ∙ (ap (λ (w : List (Vec EntrySet Global)). slice_get w j) wrote ∙ (ap (λ n. slice_get (set old.lists.items i own) n) here ∙ (slice_get-get_or (set old.lists.items i own) i own (omega (arith, within, length-set old.lists.items i own)) ∙ ap (λ w. Some w) (get_or-set_same old.lists.items i own own within)))) in
+      let at : Some list ≡ Some own = sym there
+      ∙ (ap (λ (w : List (Vec EntrySet Global)). slice_get w j) wrote
+      ∙ (ap (λ n. slice_get (set old.lists.items i own) n) here
+      ∙ (slice_get-get_or (set old.lists.items i own) i own (omega (arith, within, length-set old.lists.items i own))
+      ∙ ap (λ w. Some w) (get_or-set_same old.lists.items i own own within)))) in
       let e : list ≡ own = cc in
       subst (λ (w : Vec EntrySet Global). All (IsEntrySet (unwrap_or (slice_get net.closed j) []) until) w.items) (sym e)
       (subst (λ runs. All (IsEntrySet runs until) own.items) (sym (ap (λ n. unwrap_or (slice_get net.closed n) []) here ∙ is)) made))
@@ -54,13 +63,17 @@ sets_kept net until old new i closed own are is within wrote made = record {
       let short = slice_get_within new.lists.items j list there in
       let there' : slice_get (set old.lists.items i own) j ≡ Some list = sym (ap (λ (w : List (Vec EntrySet Global)). slice_get w j) wrote) ∙ there in
       let inside = slice_get_within (set old.lists.items i own) j list there' in
-      are.each j list (slice_get-get_or old.lists.items j list (omega (arith, inside, length-set old.lists.items i own)) ∙ ap (λ w. Some w) (sym (get_or-set_other old.lists.items i j own list other) ∙ get_or_from_slice_get (set old.lists.items i own) j list list there')))
+      are.each j list (slice_get-get_or old.lists.items j list (omega (arith, inside, length-set old.lists.items i own))
+      ∙ ap (λ w. Some w) (sym (get_or-set_other old.lists.items i j own list other)
+      ∙ get_or_from_slice_get (set old.lists.items i own) j list list there')))
       (cases_eq j i);
 }
 
 -- the set at a place of a list
-pub set_at : (closed : List Run) (until place minutes : ℕ) (list own : Vec EntrySet Global) (made : EntrySet) → All (IsEntrySet closed until) list.items → place < length list.items
-    → ((d : EntrySet) → (get_or list.items place d).minutes ≡ minutes) → own ≡ list → made ≡ get_or own.items place made → AreEntries closed until minutes made.set
+pub set_at : (closed : List Run) (until place minutes : ℕ) (list own : Vec EntrySet Global) (made : EntrySet) → All (IsEntrySet closed until) list.items
+    → place < length list.items
+    → ((d : EntrySet) → (get_or list.items place d).minutes ≡ minutes) → own ≡ list → made ≡ get_or own.items place made
+    → AreEntries closed until minutes made.set
 set_at closed until place minutes list own made all within length_is same at =
     let here : made ≡ get_or list.items place made = at ∙ ap (λ (w : Vec EntrySet Global). get_or w.items place made) same in
     let fine : IsEntrySet closed until made = subst (IsEntrySet closed until) (sym here) (all place made within) in

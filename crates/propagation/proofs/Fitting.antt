@@ -34,7 +34,8 @@ pub drive_begins : (net : Net) (until a : ℕ) (p q : Position) → Drives (sett
 drive_begins net until a p q step = tail_of (at_number net.arcs a) step.road p.node step.is step.tail
 
 -- the arc at each place of the list begins at the node
-pub place_begins : (net : Net) (star : Star) (v : ℕ) (arcs : List ArcId) (i : ℕ) (a : ArcId) → AreOutgoing net star → arcs ≡ arcs_of star v → slice_get arcs i ≡ Some a → EndsAt net Tail v a.0
+pub place_begins : (net : Net) (star : Star) (v : ℕ) (arcs : List ArcId) (i : ℕ) (a : ArcId) → AreOutgoing net star → arcs ≡ arcs_of star v
+    → slice_get arcs i ≡ Some a → EndsAt net Tail v a.0
 place_begins net star v arcs i a all is there =
     (all v).each a (subst (λ o. Contains o a) is (i, slice_get_within arcs i a there, get_or_from_slice_get arcs i a a there))
 

@@ -8,7 +8,8 @@ use Rattle.route_base.specs.Legs.{start_of, end_of}
 use Rattle.route_base.specs.Relaxing.{HasWithin, HasPair, IsDominatedOrLate}
 use Rattle.route_base.specs.declared.types.Pair.{Pair}
 use Rattle.route_base.specs.declared.types.Bound.{Bound}
-use Rattle.propagation.specs.Inside.Invariants.{AreStepsRelaxed, ComesBy, DrivesRelaxed, HasIn, Improves, InPart, IsLabel, IsLower, IsOffer, IsPaired, IsPrunable, IsRelaxedIn, IsSearching, IsSound, IsTight, Progress, Reaches, TakesOffer, Task, no_part, point}
+use Rattle.propagation.specs.Inside.Invariants.{AreStepsRelaxed, ComesBy, DrivesRelaxed, HasIn, Improves, InPart, IsLabel, IsLower, IsOffer, IsPaired}
+use Rattle.propagation.specs.Inside.Invariants.{IsPrunable, IsRelaxedIn, IsSearching, IsSound, IsTight, Progress, Reaches, TakesOffer, Task, no_part, point}
 use Rattle.propagation.specs.Found.{IsStart}
 
 option_cases : {A : Type 0} (o : Option A) → (o ≡ None) ⊎ ((x : A) × (o ≡ Some x))
@@ -99,7 +100,8 @@ module _ (k : Task) where
 
   module _ (h : ℕ) (offer : ℕ → Option ℕ) (old new : Progress) where
     -- what is is old, or was offered and is lower
-    pub from_offer : TakesOffer k h offer old new → (p : Position) → IsLabel new p → IsLabel old p ⊎ ((p.node ≡ h) × (offer p.minute ≡ Some p.cost) × IsLower (Some p.cost) (old.cost h p.minute))
+    pub from_offer : TakesOffer k h offer old new → (p : Position) → IsLabel new p → IsLabel old p
+        ⊎ ((p.node ≡ h) × (offer p.minute ≡ Some p.cost) × IsLower (Some p.cost) (old.cost h p.minute))
     from_offer takes p is = ⊎_elim
         (λ (here : p.node ≡ h). ⊎_elim
         (λ (same : old.cost h p.minute ≡ Some p.cost). inl (subst (λ v. old.cost v p.minute ≡ Some p.cost) (sym here) same))
@@ -119,12 +121,14 @@ module _ (k : Task) where
     pub takes_improves : TakesOffer k h offer old new → Improves k old new
     takes_improves takes = record {
       less = λ p is. ⊎_elim
-          (λ (here : p.node ≡ h). within_of p.node p.minute p.cost here (takes.merged.kept p.minute p.cost (subst (λ v. old.cost v p.minute ≡ Some p.cost) here is)))
+          (λ (here : p.node ≡ h). within_of p.node p.minute p.cost here
+          (takes.merged.kept p.minute p.cost (subst (λ v. old.cost v p.minute ≡ Some p.cost) here is)))
           (λ (other : p.node ≡ h → ⊥). record { least = p.cost; is = takes.merged.others p.node p.minute other ∙ is; within = omega arith })
           (cases_eq p.node h);
       fresh = λ p is. ⊎_elim
           (λ (same : IsLabel old p). inl same)
-          (λ (low : (p.node ≡ h) × (offer p.minute ≡ Some p.cost) × IsLower (Some p.cost) (old.cost h p.minute)). inr (at_node p low.0 (takes.awaits p.minute p.cost low.1 low.2)))
+          (λ (low : (p.node ≡ h) × (offer p.minute ≡ Some p.cost) × IsLower (Some p.cost) (old.cost h p.minute)).
+          inr (at_node p low.0 (takes.awaits p.minute p.cost low.1 low.2)))
           (from_offer takes p is);
       stays = takes.stays;
       cause = λ v t is. ⊎_elim
@@ -134,14 +138,16 @@ module _ (k : Task) where
       pairs = takes.pairs;
     }
       where
-        at_node : (p : Position) → p.node ≡ h → (new.pending h p.minute ≡ true) ⊎ IsPrunable k new.pairs (point h p.minute p.cost) → (new.pending p.node p.minute ≡ true) ⊎ IsPrunable k new.pairs p
+        at_node : (p : Position) → p.node ≡ h → (new.pending h p.minute ≡ true) ⊎ IsPrunable k new.pairs (point h p.minute p.cost)
+            → (new.pending p.node p.minute ≡ true) ⊎ IsPrunable k new.pairs p
         at_node p here = subst (λ w. (new.pending w p.minute ≡ true) ⊎ IsPrunable k new.pairs (point w p.minute p.cost)) (sym here)
 
     -- what is not excused has bounds, and is in time
     open_bound : IsOffer k old h offer → (t x : ℕ) → offer t ≡ Some x → (b : Bound) × (k.bounds h ≡ Some b) × (t + b.minutes ≤ k.request.until)
     open_bound offers t x is = by (k.bounds h) (offers.clear t x is)
       where
-        by : (o : Option Bound) → (IsDominatedOrLate k.request.until old.pairs o (point h t x) → ⊥) → (b : Bound) × (o ≡ Some b) × (t + b.minutes ≤ k.request.until)
+        by : (o : Option Bound) → (IsDominatedOrLate k.request.until old.pairs o (point h t x) → ⊥) → (b : Bound) × (o ≡ Some b)
+            × (t + b.minutes ≤ k.request.until)
         by None clear = absurd (clear tt)
         by (Some b) clear = (
           b,
@@ -159,7 +165,8 @@ module _ (k : Task) where
     sound_kept sound offers takes = record {
       reached = λ p is. ⊎_elim
           (λ (same : IsLabel old p). sound.reached p same)
-          (λ (low : (p.node ≡ h) × (offer p.minute ≡ Some p.cost) × IsLower (Some p.cost) (old.cost h p.minute)). offered_at p low.0 (Reaches k) (offers.reached p.minute p.cost low.1))
+          (λ (low : (p.node ≡ h) × (offer p.minute ≡ Some p.cost) × IsLower (Some p.cost) (old.cost h p.minute)).
+          offered_at p low.0 (Reaches k) (offers.reached p.minute p.cost low.1))
           (from_offer takes p is);
       comes = λ p is. ⊎_elim
           (λ (same : IsLabel old p). ⊎_elim
@@ -172,7 +179,8 @@ module _ (k : Task) where
           (λ (start : IsStart k.request (point h p.minute p.cost)). inl start)
           (λ (from : ComesBy k old.cost (point h p.minute p.cost)). inr (comes_kept old new (point h p.minute p.cost) (takes_improves takes) from))
           first)
-          (λ (w : (e : Position) × (u y : ℕ) × (offer u ≡ Some y) × Waits k.setting k.request.until (point h u y) e × (e.minute ≡ p.minute) × (e.cost ≤ p.cost)). inr (record {
+          (λ (w : (e : Position) × (u y : ℕ) × (offer u ≡ Some y) × Waits k.setting k.request.until (point h u y) e × (e.minute ≡ p.minute)
+          × (e.cost ≤ p.cost)). inr (record {
             step = wait;
             source = point h w.1 w.2;
             end = w.0;
@@ -186,7 +194,8 @@ module _ (k : Task) where
           (from_offer takes p is);
     }
 
-    landing_kept : (v : ℕ) (part : ℕ → Option ℕ) → AreStepsRelaxed k old v part → IsOffer k old h offer → TakesOffer k h offer old new → AreStepsRelaxed k new v part
+    landing_kept : (v : ℕ) (part : ℕ → Option ℕ) → AreStepsRelaxed k old v part → IsOffer k old h offer → TakesOffer k h offer old new
+        → AreStepsRelaxed k new v part
     landing_kept v part landing offers takes =
         let better = takes_improves takes in
         record {
@@ -220,8 +229,10 @@ module _ (k : Task) where
       trade = takes.trade;
       achieved = λ p one. ⊎_elim
           (λ (was : Contains old.pairs p). let a = paired.achieved p was in (a.0, within_kept old new (end_of k.request p) (takes_improves takes) a.1))
-          (λ (n : (h ≡ k.request.goal.0) × (offer p.arrival ≡ Some p.cost)).
-          (subst (λ w. Reaches k (point w p.arrival p.cost)) n.0 (offers.reached p.arrival p.cost n.1), offered_within takes (end_of k.request p) (sym n.0) (record { least = p.cost; is = n.1; within = omega arith })))
+          (λ (n : (h ≡ k.request.goal.0) × (offer p.arrival ≡ Some p.cost)). (
+            subst (λ w. Reaches k (point w p.arrival p.cost)) n.0 (offers.reached p.arrival p.cost n.1),
+            offered_within takes (end_of k.request p) (sym n.0) (record { least = p.cost; is = n.1; within = omega arith }),
+          ))
           (takes.each p one);
       matched = λ t x is. ⊎_elim
           (λ (same : old.cost k.request.goal.0 t ≡ Some x). takes.pairs t x (paired.matched t x same))
@@ -245,7 +256,8 @@ module _ (k : Task) where
       tight = tight_kept facts.tight offers takes;
       known = λ u t is. ⊎_elim
           (λ (was : old.pending u t ≡ true). let h = facts.known u t was in let n = (takes_improves takes).less (point u t h.0) h.1 in (n.least, n.is))
-          (λ (low : (u ≡ h) × IsLower (new.cost h t) (old.cost h t)). let n = there (new.cost h t) (old.cost h t) low.1 in (n.0, ap (λ w. new.cost w t) low.0 ∙ n.1))
+          (λ (low : (u ≡ h) × IsLower (new.cost h t) (old.cost h t)). let n = there (new.cost h t) (old.cost h t) low.1
+          in (n.0, ap (λ w. new.cost w t) low.0 ∙ n.1))
           (takes.cause u t is);
     }
       where
@@ -261,7 +273,8 @@ module _ (k : Task) where
         covered
 
     -- with the first offer the search begins
-    pub takes_first : ((u t : ℕ) → old.cost u t ≡ None) → ((u t : ℕ) → old.pending u t ≡ false) → old.pairs ≡ [] → IsRelaxedIn k new (start_of k.request) → IsOffer k old h offer → TakesOffer k h offer old new → IsSearching k new 0 no_part
+    pub takes_first : ((u t : ℕ) → old.cost u t ≡ None) → ((u t : ℕ) → old.pending u t ≡ false) → old.pairs ≡ [] → IsRelaxedIn k new (start_of k.request)
+        → IsOffer k old h offer → TakesOffer k h offer old new → IsSearching k new 0 no_part
     takes_first none idle empty start offers takes = record {
       start = start;
       sound = sound_kept (record { reached = λ p is. nowhere p is; comes = λ p is. nowhere p is }) offers takes;
@@ -274,7 +287,8 @@ module _ (k : Task) where
       tight = tight_kept (λ p is. nowhere p is) offers takes;
       known = λ u t is. ⊎_elim
           (λ (was : old.pending u t ≡ true). let bad : false ≡ true = sym (idle u t) ∙ was in cc)
-          (λ (low : (u ≡ h) × IsLower (new.cost h t) (old.cost h t)). let n = there (new.cost h t) (old.cost h t) low.1 in (n.0, ap (λ w. new.cost w t) low.0 ∙ n.1))
+          (λ (low : (u ≡ h) × IsLower (new.cost h t) (old.cost h t)). let n = there (new.cost h t) (old.cost h t) low.1
+          in (n.0, ap (λ w. new.cost w t) low.0 ∙ n.1))
           (takes.cause u t is);
     }
       where

@@ -1,5 +1,6 @@
 -- Lists with a place for each node from 1 on.
-use Rattle.std.proofs.Common.{◌≡◌, ⊎_elim, ℕ, zero, suc, ◌-◌, ◌≤◌, ◌<◌, Some, None, List, length, get_or, set, refl, sym, ◌∙◌, ap, arith, get_or-set_other, get_or-set_same, length-set}
+use Rattle.std.proofs.Common.{◌≡◌, ⊎_elim, ℕ, zero, suc, ◌-◌, ◌≤◌, ◌<◌, Some, None, List, length, get_or, set, refl, sym, ◌∙◌, ap, arith, get_or-set_other}
+use Rattle.std.proofs.Common.{get_or-set_same, length-set}
 use Rattle.std.proofs.lemmas.Bool.{cases_lt}
 use Rattle.std.proofs.lemmas.Option.{slice_get-get_or, slice_get_past}
 use Rattle.route_base.specs.Net.{at_number}
@@ -14,7 +15,8 @@ module _ {A : Type 0} where
   number_past xs (suc i) past = slice_get_past xs i (omega (arith, past))
 
   pub number_set : (xs : List A) (v : ℕ) (x : A) → 1 ≤ v → v ≤ length xs → at_number (set xs (v - 1) x) v ≡ Some x
-  number_set xs v x low high = number_read (set xs (v - 1) x) v x low (omega (arith, high, length-set xs (v - 1) x)) ∙ ap (λ y. Some y) (get_or-set_same xs (v - 1) x x (omega (arith, low, high)))
+  number_set xs v x low high = number_read (set xs (v - 1) x) v x low (omega (arith, high, length-set xs (v - 1) x))
+      ∙ ap (λ y. Some y) (get_or-set_same xs (v - 1) x x (omega (arith, low, high)))
 
   pub number_set_other : (xs : List A) (v w : ℕ) (x : A) → 1 ≤ v → v ≤ length xs → (w ≡ v → ⊥) → at_number (set xs (v - 1) x) w ≡ at_number xs w
   number_set_other xs v w x low high ne = ⊎_elim

@@ -7,7 +7,8 @@ use Rattle.propagation.specs.Found.{cost_at, cost_by}
 use Rattle.propagation.specs.Inside.States.{IsLowered}
 use Rattle.cost_functions.specs.declared.pieces.Piece.{Piece}
 
-pub lowered : (functions : List (List Piece)) (h : ℕ) (f : List Piece) (offer : ℕ → Option ℕ) (better : ℕ → Bool) (own : List Piece) → 1 ≤ h → h ≤ length functions
+pub lowered : (functions : List (List Piece)) (h : ℕ) (f : List Piece) (offer : ℕ → Option ℕ) (better : ℕ → Bool) (own : List Piece) → 1 ≤ h
+    → h ≤ length functions
     → own ≡ get_or functions (h - 1) own
     → ((t : ℕ) → value_at f t ≡ least_of (value_at own t) (offer t)) → ((t : ℕ) → better t ≡ is_better (value_at own t) (offer t))
     → IsLowered h offer better (cost_at functions) (cost_at (set functions (h - 1) f))
@@ -20,5 +21,6 @@ lowered functions h f offer better own low high is value improved = record {
     was : (t : ℕ) → cost_at functions h t ≡ value_at own t
     was t = ap (λ o. cost_by o t) (number_read functions h own low high) ∙ ap (λ w. value_at w t) (sym is)
 
-pub value_is : (functions : List (List Piece)) (h : ℕ) (own : List Piece) → 1 ≤ h → h ≤ length functions → own ≡ get_or functions (h - 1) own → (t : ℕ) → cost_at functions h t ≡ value_at own t
+pub value_is : (functions : List (List Piece)) (h : ℕ) (own : List Piece) → 1 ≤ h → h ≤ length functions → own ≡ get_or functions (h - 1) own → (t : ℕ)
+    → cost_at functions h t ≡ value_at own t
 value_is functions h own low high is t = ap (λ o. cost_by o t) (number_read functions h own low high) ∙ ap (λ w. value_at w t) (sym is)

@@ -9,7 +9,8 @@ use Rattle.route_base.specs.declared.limits.TheConstants.{HIGHEST_COST}
 total_lt : (n j : ℕ) (f g : ℕ → ℕ) → ((i : ℕ) → i < n → f i ≤ g i) → j < n → f j < g j → total n f < total n g
 total_lt n j f g le below lt = omega (arith, total_one n j f g le below (omega (arith, lt)))
 
-rank_falls : (was now : Option ℕ) (pended pends : Bool) → ((x : ℕ) → was ≡ Some x → (y : ℕ) × (now ≡ Some y) × (y ≤ x)) → ((x : ℕ) → now ≡ Some x → x ≤ HIGHEST_COST)
+rank_falls : (was now : Option ℕ) (pended pends : Bool) → ((x : ℕ) → was ≡ Some x → (y : ℕ) × (now ≡ Some y) × (y ≤ x))
+    → ((x : ℕ) → now ≡ Some x → x ≤ HIGHEST_COST)
     → (pends ≡ true → (pended ≡ true) ⊎ IsLower now was) → 2 * height now + bit pends ≤ 2 * height was + bit pended
 rank_falls None None true true less fits cause = omega arith
 rank_falls None None false true less fits cause = ⊎_elim (λ (bad : false ≡ true). cc) (λ (bad : ⊥). absurd bad) (cause refl)
@@ -35,7 +36,8 @@ module _ (k : Task) (nodes until : ℕ) (old new : Progress) where
   bit_le true false h = let bad : false ≡ true = h refl in cc
 
   -- a part that is taken leaves less to do
-  pub parts_fall : (v : ℕ) (part : ℕ → Option ℕ) → TakesPart k v part old new → v ≤ nodes → ((t : ℕ) → old.pending v t ≡ true → t ≤ until) → work nodes until new < work nodes until old
+  pub parts_fall : (v : ℕ) (part : ℕ → Option ℕ) → TakesPart k v part old new → v ≤ nodes → ((t : ℕ) → old.pending v t ≡ true → t ≤ until)
+      → work nodes until new < work nodes until old
   parts_fall v part parts within early = total_lt (suc nodes) v _ _
       (λ u below. total_le (suc until) _ _ (λ t before. same u t))
       (omega (arith, within))

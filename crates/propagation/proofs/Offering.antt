@@ -1,5 +1,6 @@
 -- A part that is driven, cleared, waited and cleared is an offer.
-use Rattle.std.proofs.Common.{◌≡◌, ◌⊎◌, inl, inr, ⊎_elim, ℕ, suc, ◌+◌, ◌-◌, ◌*◌, ◌≤◌, ◌<◌, Option, Some, None, List, ◌∷◌, [], ◌++◌, replicate, refl, sym, ◌∙◌, ap, subst, arith}
+use Rattle.std.proofs.Common.{◌≡◌, ◌⊎◌, inl, inr, ⊎_elim, ℕ, suc, ◌+◌, ◌-◌, ◌*◌, ◌≤◌, ◌<◌, Option, Some, None, List, ◌∷◌, [], ◌++◌, replicate, refl, sym, ◌∙◌}
+use Rattle.std.proofs.Common.{ap, subst, arith}
 use Rattle.std.proofs.lemmas.Bool.{cases_lt}
 use Rattle.route_base.specs.Itinerary.{Position, drive, wait, Waits, Walks}
 use Rattle.route_base.specs.Legs.{start_of}
@@ -21,13 +22,15 @@ one_less : (w s t : ℕ) → s < t → w * (t - s) ≡ w * (t - 1 - s) + w
 one_less w s t le = let e : t - s ≡ suc (t - 1 - s) = omega arith in ap (λ n. w * n) e ∙ omega arith
 
 -- what is pruned is cleared at a node with the bound
-pub cleared_of : (k : Task) (pairs : List Pair) (h : ℕ) (b : Bound) (f g : ℕ → Option ℕ) → k.bounds h ≡ Some b → IsPruned k.request.until pairs b f g → IsCleared k pairs h f g
+pub cleared_of : (k : Task) (pairs : List Pair) (h : ℕ) (b : Bound) (f g : ℕ → Option ℕ) → k.bounds h ≡ Some b → IsPruned k.request.until pairs b f g
+    → IsCleared k pairs h f g
 cleared_of k pairs h b f g is pruned = record {
   kept = pruned.kept;
   clear = λ t x there e. pruned.clear (point h t x) there (subst (λ o. IsDominatedOrLate k.request.until pairs o (point h t x)) is e);
   left = λ t x there. ⊎_elim
       (λ (stays : g t ≡ Some x). inl stays)
-      (λ (e : IsDominatedOrLate k.request.until pairs (Some b) (point h t x)). inr (subst (λ o. IsDominatedOrLate k.request.until pairs o (point h t x)) (sym is) e))
+      (λ (e : IsDominatedOrLate k.request.until pairs (Some b) (point h t x)).
+      inr (subst (λ o. IsDominatedOrLate k.request.until pairs o (point h t x)) (sym is) e))
       (pruned.left (point h t x) there);
 }
 
@@ -40,7 +43,8 @@ module _ (k : Task) (now : Progress) where
       by None e = tt
       by (Some b) e = ⊎_elim
           (λ (late : k.request.until < t + b.minutes). inl late)
-          (λ (had : HasPair now.pairs (t + b.minutes) (x + b.cost)). inr (record { pair = had.pair; is_one = had.is_one; arrival = had.arrival; cost = omega (arith, had.cost) }))
+          (λ (had : HasPair now.pairs (t + b.minutes) (x + b.cost)).
+          inr (record { pair = had.pair; is_one = had.is_one; arrival = had.arrival; cost = omega (arith, had.cost) }))
           e
 
   -- what is late by the bound is excused
@@ -64,7 +68,17 @@ module _ (k : Task) (now : Progress) where
           (r.0 ++ drive a ∷ [], walk-push k.setting k.request.until r.0 (drive a) (start_of k.request) (point v d.0 d.1) (point h t x) r.1 d.3);
       comes = λ t x y is le.
           let d = drove.from t y is in
-          inr (record { step = drive a; source = point v d.0 d.1; end = point h t y; move = d.3; node = refl; minute = refl; within = le; known = holds.known d.0 d.1 d.2 });
+          inr (record {
+            step = drive a;
+            source = point v d.0 d.1;
+            end = point h t y;
+            move = d.3;
+            node = refl;
+            minute = refl;
+            within = le;
+            known =
+                holds.known d.0 d.1 d.2;
+          });
     }
 
     pub covers_drives : (offer : ℕ → Option ℕ) → IsDriven k a v part h driven → Covers k now.pairs h driven offer → CoversDrives k now.pairs a v part h offer
@@ -96,7 +110,8 @@ module _ (k : Task) (now : Progress) where
     module _ (waited offer : ℕ → Option ℕ) (weight : ℕ) (b : Bound) where
       -- at a rated node
       pub offer_waited : AreBounds k.setting k.request.goal.0 k.bounds → k.setting.weight h ≡ Some weight → k.bounds h ≡ Some b → IsSource k now h costs
-          → IsCleared k now.pairs h costs clear → IsWaited clear waited weight (k.request.until - b.minutes) → IsCleared k now.pairs h waited offer → IsOffer k now h offer
+          → IsCleared k now.pairs h costs clear → IsWaited clear waited weight (k.request.until - b.minutes) → IsCleared k now.pairs h waited offer
+          → IsOffer k now h offer
       offer_waited bound rated is_bound source first waiting second = record {
         reached = λ t x is. reached t x (second.kept t x is);
         comes = λ t x is. comes t x is;
@@ -114,7 +129,8 @@ module _ (k : Task) (now : Progress) where
               let walk = waits k.setting k.request.until (t - s) h s y weight rated late in (
                 r.0 ++ replicate (t - s) wait,
                 walk-append k.setting k.request.until r.0 (replicate (t - s) wait) (start_of k.request) (point h s y) (point h t x) r.1
-                    (subst (λ p. Walks k.setting k.request.until (replicate (t - s) wait) (point h s y) p) (same_position _ _ refl (omega (arith, w.3)) (omega (arith, w.5))) walk),
+                    (subst (λ p. Walks k.setting k.request.until (replicate (t - s) wait) (point h s y) p)
+                    (same_position _ _ refl (omega (arith, w.3)) (omega (arith, w.5))) walk),
               )
 
           step_of : (t x : ℕ) → t + 1 ≤ k.request.until → Waits k.setting k.request.until (point h t x) (point h (t + 1) (x + weight))
@@ -137,7 +153,8 @@ module _ (k : Task) (now : Progress) where
               (λ (e : IsPrunable k now.pairs (point h (t - 1) before.0)).
               absurd (second.clear t x is (prunable_dearer h t (before.0 + weight) x le
               (subst (λ n. IsPrunable k now.pairs (point h n (before.0 + weight))) same
-              (excuse_moves k.setting k.request now.pairs k.bounds now.cost bound wait (point h (t - 1) before.0) (point h (t - 1 + 1) (before.0 + weight)) move e)))))
+              (excuse_moves k.setting k.request now.pairs k.bounds now.cost bound wait (point h (t - 1) before.0)
+              (point h (t - 1 + 1) (before.0 + weight)) move e)))))
               (second.left (t - 1) before.0 before.1))
               (λ (now_ : t ≤ s).
               let same : s ≡ t = omega (arith, w.3) in
@@ -160,11 +177,13 @@ module _ (k : Task) (now : Progress) where
               ⊎_elim
               (λ (there : offer (t + 1) ≡ Some after.0). inl (record { least = after.0; is = ap offer minute ∙ there; within = le }))
               (λ (e : IsPrunable k now.pairs (point h (t + 1) after.0)).
-              inr (subst (λ p. IsPrunable k now.pairs p) (same_position (point h (t + 1) q.cost) q (sym step.node) (sym minute) refl) (prunable_dearer h (t + 1) after.0 q.cost le e)))
+              inr (subst (λ p. IsPrunable k now.pairs p) (same_position (point h (t + 1) q.cost) q (sym step.node) (sym minute) refl)
+              (prunable_dearer h (t + 1) after.0 q.cost le e)))
               (second.left (t + 1) after.0 after.1))
               (cases_lt (k.request.until - b.minutes) (t + 1))
 
-      pub covers_waited : k.bounds h ≡ Some b → IsCleared k now.pairs h costs clear → IsWaited clear waited weight (k.request.until - b.minutes) → IsCleared k now.pairs h waited offer → Covers k now.pairs h costs offer
+      pub covers_waited : k.bounds h ≡ Some b → IsCleared k now.pairs h costs clear → IsWaited clear waited weight (k.request.until - b.minutes)
+          → IsCleared k now.pairs h waited offer → Covers k now.pairs h costs offer
       covers_waited is_bound first waiting second t x is = ⊎_elim
           (λ (there : clear t ≡ Some x).
           let early = in_time h b t x is_bound (first.clear t x there) in

@@ -9,7 +9,8 @@ use Rattle.route_base.specs.declared.types.Bound.{Bound}
 use Rattle.route_base.proofs.Covering.{covered}
 use Rattle.route_base.proofs.Fronts.{is_front}
 use Rattle.propagation.specs.Inside.Offers.{IsKnownPart}
-use Rattle.propagation.specs.Inside.Invariants.{ComesBy, DrivesRelaxed, InPart, IsLabel, IsPrunable, IsRelaxedIn, IsResting, IsSearching, Progress, TakesPart, Task, no_part, point}
+use Rattle.propagation.specs.Inside.Invariants.{ComesBy, DrivesRelaxed, InPart, IsLabel, IsPrunable, IsRelaxedIn, IsResting, IsSearching, Progress, TakesPart}
+use Rattle.propagation.specs.Inside.Invariants.{Task, no_part, point}
 use Rattle.propagation.specs.Found.{IsStart}
 
 module _ (k : Task) where
@@ -42,7 +43,8 @@ module _ (k : Task) where
           (λ (still : new.pending p.node p.minute ≡ true). inr (inl still))
           (λ (here : (p.node ≡ v) × ((x : ℕ) → old.cost v p.minute ≡ Some x → (part p.minute ≡ Some x) ⊎ IsPrunable k old.pairs (point v p.minute x))). ⊎_elim
           (λ (i : part p.minute ≡ Some p.cost). inr (inr (inl (here.0, i))))
-          (λ (e : IsPrunable k old.pairs (point v p.minute p.cost)). inl (excused p (subst (λ w. IsPrunable k old.pairs (point w p.minute p.cost)) (sym here.0) e)))
+          (λ (e : IsPrunable k old.pairs (point v p.minute p.cost)).
+          inl (excused p (subst (λ w. IsPrunable k old.pairs (point w p.minute p.cost)) (sym here.0) e)))
           (here.1 p.cost (subst (λ w. old.cost w p.minute ≡ Some p.cost) here.0 (was p is))))
           (parts.pending p.node p.minute w))
           (λ (more : InPart 0 no_part p ⊎ DrivesRelaxed k old p). ⊎_elim
@@ -74,7 +76,8 @@ module _ (k : Task) where
       same_lands p landed = ⊎_elim (λ (h : HasWithin old.cost p). inl (same_within p h)) (λ (e : IsPrunable k old.pairs p). inr (excused p e)) landed
 
   -- a part whose drives all land is at work no more
-  pub settle : (now : Progress) (v : ℕ) (part : ℕ → Option ℕ) → IsSearching k now v part → ((t x : ℕ) → part t ≡ Some x → DrivesRelaxed k now (point v t x)) → IsResting k now
+  pub settle : (now : Progress) (v : ℕ) (part : ℕ → Option ℕ) → IsSearching k now v part → ((t x : ℕ) → part t ≡ Some x → DrivesRelaxed k now (point v t x))
+      → IsResting k now
   settle now v part facts all = record {
     sound = facts.sound;
     start = facts.start;
@@ -97,7 +100,8 @@ module _ (k : Task) where
   }
 
   -- where no_part is pending, no_part is left out
-  pub finished : (now : Progress) → AreBounds k.setting k.request.goal.0 k.bounds → IsResting k now → ((v t : ℕ) → now.pending v t ≡ false) → IsComplete k.setting k.request now.pairs k.bounds now.cost
+  pub finished : (now : Progress) → AreBounds k.setting k.request.goal.0 k.bounds → IsResting k now → ((v t : ℕ) → now.pending v t ≡ false)
+      → IsComplete k.setting k.request now.pairs k.bounds now.cost
   finished now bound facts none = record {
     bound = bound;
     start = facts.start;
@@ -118,7 +122,8 @@ module _ (k : Task) where
       each p is all (drive a) q step = all a q step
       each p is all wait q step = facts.steps.waits p q is step
 
-  pub front : (now : Progress) → k.request.depart ≤ k.request.until → AreBounds k.setting k.request.goal.0 k.bounds → IsResting k now → ((v t : ℕ) → now.pending v t ≡ false) → IsFront k.setting k.request now.pairs
+  pub front : (now : Progress) → k.request.depart ≤ k.request.until → AreBounds k.setting k.request.goal.0 k.bounds → IsResting k now
+      → ((v t : ℕ) → now.pending v t ≡ false) → IsFront k.setting k.request now.pairs
   front now in_time bound facts none = is_front k.setting k.request now.pairs facts.paired.trade
       (λ p one. let a = (facts.paired.achieved p one).0 in record { in_time = in_time; steps = a.0; walk = a.1 })
       (covered k.setting k.request now.pairs k.bounds now.cost (finished now bound facts none))

@@ -20,12 +20,14 @@ and_first true b h = refl
 and_first false b h = cc
 
 -- a value is that of a piece which begins no later and costs no more there
-pub piece_of : (ps : List Piece) (t x : ℕ) → value_at ps t ≡ Some x → (i : ℕ) × (i < length ps) × ((d : Piece) → ((get_or ps i d).lo ≤ t) × ((get_or ps i d).cost ≤ x))
+pub piece_of : (ps : List Piece) (t x : ℕ) → value_at ps t ≡ Some x → (i : ℕ) × (i < length ps)
+    × ((d : Piece) → ((get_or ps i d).lo ≤ t) × ((get_or ps i d).cost ≤ x))
 unfolding value_at
 piece_of [] t x is = absurd (cc)
 piece_of (p ∷ ps) t x is = by (λ rest. piece_of ps t x rest) (is_on_piece t p) refl is
   where
-    by : (value_at ps t ≡ Some x → (i : ℕ) × (i < length ps) × ((d : Piece) → ((get_or ps i d).lo ≤ t) × ((get_or ps i d).cost ≤ x))) → (b : Bool) → is_on_piece t p ≡ b → (if b then Some (line_at p t) else value_at ps t) ≡ Some x
+    by : (value_at ps t ≡ Some x → (i : ℕ) × (i < length ps) × ((d : Piece) → ((get_or ps i d).lo ≤ t) × ((get_or ps i d).cost ≤ x))) → (b : Bool)
+        → is_on_piece t p ≡ b → (if b then Some (line_at p t) else value_at ps t) ≡ Some x
         → (i : ℕ) × (i < length (p ∷ ps)) × ((d : Piece) → ((get_or (p ∷ ps) i d).lo ≤ t) × ((get_or (p ∷ ps) i d).cost ≤ x))
     by later true on here =
         let e : line_at p t ≡ x = cc in

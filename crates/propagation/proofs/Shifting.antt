@@ -1,5 +1,6 @@
 -- Shifted costs are those of drives, and what drives and waits cost fits.
-use Rattle.std.proofs.Common.{◌≡◌, ⊎_elim, ℕ, ◌+◌, ◌-◌, ◌*◌, ◌≤◌, ◌<◌, Bool, true, false, Option, Some, None, List, ◌∷◌, [], ◌++◌, replicate, refl, sym, ◌∙◌, ap, arith}
+use Rattle.std.proofs.Common.{◌≡◌, ⊎_elim, ℕ, ◌+◌, ◌-◌, ◌*◌, ◌≤◌, ◌<◌, Bool, true, false, Option, Some, None, List, ◌∷◌, [], ◌++◌, replicate, refl, sym, ◌∙◌}
+use Rattle.std.proofs.Common.{ap, arith}
 use Rattle.std.specs.Prelude.{if◌then◌else◌, nat_le}
 use Rattle.function_merge.specs.Moves.{moved_at, CanMove}
 use Rattle.route_base.specs.Runs.{any_has}
@@ -22,7 +23,8 @@ use Rattle.propagation.specs.Inside.Offers.{IsDriven}
 use Rattle.route_base.specs.declared.limits.TheConstants.{HIGHEST_COST, LAST_INSTANT}
 
 -- what a shift of kept costs has at a minute comes from a cost that is kept
-shifted_some : (b : Bool) (o : Option ℕ) (c x : ℕ) → option_map (λ n. n + c) (if b then o else None) ≡ Some x → (b ≡ true) × (y : ℕ) × (o ≡ Some y) × (x ≡ y + c)
+shifted_some : (b : Bool) (o : Option ℕ) (c x : ℕ) → option_map (λ n. n + c) (if b then o else None) ≡ Some x → (b ≡ true) × (y : ℕ) × (o ≡ Some y)
+    × (x ≡ y + c)
 shifted_some false o c x is = cc
 shifted_some true None c x is = cc
 shifted_some true (Some y) c x is = (refl, y, refl, let e : y + c ≡ x = cc in sym e)
@@ -61,13 +63,15 @@ module _ (net : Net) (r : Request) (bounds : ℕ → Option Bound) where
       cost = cost;
     }
 
-    pub driven_is : (part g : ℕ → Option ℕ) (free : ℕ → Bool) → ((t : ℕ) → free t ≡ true → IsOpen (setting_of net) a t arc.minutes) → ((t : ℕ) → free t ≡ true → t + arc.minutes ≤ r.until)
+    pub driven_is : (part g : ℕ → Option ℕ) (free : ℕ → Bool) → ((t : ℕ) → free t ≡ true → IsOpen (setting_of net) a t arc.minutes)
+        → ((t : ℕ) → free t ≡ true → t + arc.minutes ≤ r.until)
         → ((t : ℕ) → IsOpen (setting_of net) a t arc.minutes → t + arc.minutes ≤ r.until → free t ≡ true)
         → ((t : ℕ) → g t ≡ moved_at arc.minutes arc.cost (λ u. if free u then part u else None) t)
         → IsDriven (record { setting = setting_of net; request = r; bounds = bounds }) a v part arc.head.0 g
     driven_is part g free opens in_time all values = record {
       from = λ t x there. ⊎_elim
-          (λ (before : t < arc.minutes). let bad : None ≡ Some x = sym (moved_early arc.minutes arc.cost (λ w. if free w then part w else None) t before) ∙ (sym (values t) ∙ there) in cc)
+          (λ (before : t < arc.minutes). let bad : None ≡ Some x = sym (moved_early arc.minutes arc.cost (λ w. if free w then part w else None) t before)
+          ∙ (sym (values t) ∙ there) in cc)
           (λ (after : arc.minutes ≤ t).
           let u : ℕ = t - arc.minutes in
           let e : t ≡ u + arc.minutes = omega (arith, after) in
@@ -91,15 +95,19 @@ module _ (net : Net) (r : Request) (bounds : ℕ → Option Bound) where
         later u = values (u + arc.minutes) ∙ moved_late arc.minutes arc.cost (λ w. if free w then part w else None) u
 
     -- what a drive costs fits
-    pub drive_fits : CostsFit (setting_of net) r → (t x : ℕ) → Reaches (record { setting = setting_of net; request = r; bounds = bounds }) (point v t x) → IsOpen (setting_of net) a t arc.minutes → t + arc.minutes ≤ r.until → x + arc.cost ≤ HIGHEST_COST
+    pub drive_fits : CostsFit (setting_of net) r → (t x : ℕ) → Reaches (record { setting = setting_of net; request = r; bounds = bounds }) (point v t x)
+        → IsOpen (setting_of net) a t arc.minutes → t + arc.minutes ≤ r.until → x + arc.cost ≤ HIGHEST_COST
     drive_fits fit t x reached free in_time = fit (reached.0 ++ drive a ∷ []) (point arc.head.0 (t + arc.minutes) (x + arc.cost))
-        (walk-push (setting_of net) r.until reached.0 (drive a) (start_of r) (point v t x) (point arc.head.0 (t + arc.minutes) (x + arc.cost)) reached.1 (drive_of t x free in_time _ _ refl refl))
+        (walk-push (setting_of net) r.until reached.0 (drive a) (start_of r) (point v t x) (point arc.head.0 (t + arc.minutes) (x + arc.cost)) reached.1
+        (drive_of t x free in_time _ _ refl refl))
 
   -- what waiting costs fits
-  pub wait_fits : CostsFit (setting_of net) r → (h weight s y t : ℕ) → (setting_of net).weight h ≡ Some weight → Reaches (record { setting = setting_of net; request = r; bounds = bounds }) (point h s y) → s ≤ t → t ≤ r.until → y + weight * (t - s) ≤ HIGHEST_COST
+  pub wait_fits : CostsFit (setting_of net) r → (h weight s y t : ℕ) → (setting_of net).weight h ≡ Some weight
+      → Reaches (record { setting = setting_of net; request = r; bounds = bounds }) (point h s y) → s ≤ t → t ≤ r.until → y + weight * (t - s) ≤ HIGHEST_COST
   wait_fits fit h weight s y t rated reached le late =
       let small = fit (reached.0 ++ replicate (t - s) wait) (point h (s + (t - s)) (y + (t - s) * weight))
-      (walk-append (setting_of net) r.until reached.0 (replicate (t - s) wait) (start_of r) (point h s y) (point h (s + (t - s)) (y + (t - s) * weight)) reached.1
+      (walk-append (setting_of net) r.until reached.0 (replicate (t - s) wait) (start_of r) (point h s y)
+      (point h (s + (t - s)) (y + (t - s) * weight)) reached.1
       (waits (setting_of net) r.until (t - s) h s y weight rated (omega (arith, le, late)))) in
       let e : weight * (t - s) ≡ (t - s) * weight = omega arith in
       omega (arith, small, e)

@@ -1,5 +1,6 @@
 -- What is taken of the pending minutes of a node.
-use Rattle.std.proofs.Common.{◌≡◌, ◌⊎◌, inl, inr, ⊎_elim, ℕ, ◌-◌, ◌≤◌, ◌<◌, Bool, true, false, ◌&&◌, ◌||◌, not, Option, Some, None, List, length, get_or, set, refl, sym, ◌∙◌, ap, subst}
+use Rattle.std.proofs.Common.{◌≡◌, ◌⊎◌, inl, inr, ⊎_elim, ℕ, ◌-◌, ◌≤◌, ◌<◌, Bool, true, false, ◌&&◌, ◌||◌, not, Option, Some, None, List, length, get_or, set}
+use Rattle.std.proofs.Common.{refl, sym, ◌∙◌, ap, subst}
 use Rattle.cost_functions.specs.Building.{AreBuilt}
 use Rattle.std.specs.Prelude.{All, nat_lt, if◌then◌else◌, IfSome, IsNone}
 use Rattle.std.proofs.lemmas.Bool.{cases_eq, lt-ltb}
@@ -28,10 +29,12 @@ not_rest true true h = refl
 not_rest false true h = refl
 not_rest a false h = cc
 
-pub pending_is : (sets : List (List Run)) (v : ℕ) (own : List Run) → 1 ≤ v → v ≤ length sets → own ≡ get_or sets (v - 1) own → (t : ℕ) → is_pending sets v t ≡ any_has own t
+pub pending_is : (sets : List (List Run)) (v : ℕ) (own : List Run) → 1 ≤ v → v ≤ length sets → own ≡ get_or sets (v - 1) own → (t : ℕ)
+    → is_pending sets v t ≡ any_has own t
 pending_is sets v own low high is t = ap (λ o. set_has o t) (number_read sets v own low high) ∙ ap (λ w. any_has w t) (sym is)
 
-pub split_is : (sets : List (List Run)) (v first last : ℕ) (own taken rest : List Run) (next : Option ℕ) → 1 ≤ v → v ≤ length sets → own ≡ get_or sets (v - 1) own
+pub split_is : (sets : List (List Run)) (v first last : ℕ) (own taken rest : List Run) (next : Option ℕ) → 1 ≤ v → v ≤ length sets
+    → own ≡ get_or sets (v - 1) own
     → is_pending sets v first ≡ true → first < last
     → ((t : ℕ) → any_has taken t ≡ (any_has own t && nat_lt t last)) → ((t : ℕ) → any_has rest t ≡ (any_has own t && not (nat_lt t last)))
     → IfSome next (λ t. any_has rest t ≡ true) → (IsNone next → (t : ℕ) → any_has rest t ≡ false)
@@ -80,7 +83,8 @@ parts_are k v b taken next whole part old new bound same pairs split cuts prunes
         here,
         λ x there. ⊎_elim
             (λ (i : part t ≡ Some x). inl i)
-            (λ (e : IsDominatedOrLate k.request.until old.pairs (Some b) (point v t x)). inr (subst (λ o. IsDominatedOrLate k.request.until old.pairs o (point v t x)) (sym bound) e))
+            (λ (e : IsDominatedOrLate k.request.until old.pairs (Some b) (point v t x)).
+            inr (subst (λ o. IsDominatedOrLate k.request.until old.pairs o (point v t x)) (sym bound) e))
             (prunes.left (point v t x) (cuts t ∙ some_cut (taken t) (old.cost v t) x goes there)),
       ))
       (split.pending t (subst (λ w. old.pending w t ≡ true) here is)))
@@ -98,7 +102,8 @@ pub shaped_again : (nodes v : ℕ) (taken : ℕ → Bool) (next : Option ℕ) (o
     → new.functions ≡ old.functions → length new.pending.items ≡ length old.pending.items → IsShaped nodes 0 new
 shaped_again nodes v taken next old new shape absent split requeued functions pending = by next split requeued
   where
-    by : (o : Option ℕ) → IsSplit v taken o (is_pending old.pending.items) (is_pending new.pending.items) → IsRequeued v o old.queue new.queue → IsShaped nodes 0 new
+    by : (o : Option ℕ) → IsSplit v taken o (is_pending old.pending.items) (is_pending new.pending.items) → IsRequeued v o old.queue new.queue
+        → IsShaped nodes 0 new
     by None cut same = record {
       functions = ap (λ w. length w.items) functions ∙ shape.functions;
       built = subst (λ w. All AreBuilt w.items) (sym functions) shape.built;
@@ -133,7 +138,8 @@ or_right true b h = refl
 or_right false b h = h
 
 -- a node with more pending minutes is in the queue
-pub shaped_awaited : (nodes h : ℕ) (more : ℕ → Bool) (old new : State) → IsShaped nodes 0 old → length new.functions.items ≡ length old.functions.items → All AreBuilt new.functions.items
+pub shaped_awaited : (nodes h : ℕ) (more : ℕ → Bool) (old new : State) → IsShaped nodes 0 old → length new.functions.items ≡ length old.functions.items
+    → All AreBuilt new.functions.items
     → length new.pending.items ≡ length old.pending.items → IsAwaited h more (is_pending old.pending.items) (is_pending new.pending.items)
     → (key : ℕ) × IsSet old.queue new.queue h (Some key) → (t : ℕ) × (more t ≡ true) → IsShaped nodes 0 new
 shaped_awaited nodes h more old new shape functions built pending awaits queue some = record {
@@ -146,7 +152,11 @@ shaped_awaited nodes h more old new shape functions built pending awaits queue s
       (λ (other : u ≡ h → ⊥). let q = shape.queued u t (sym (awaits.others u t other) ∙ is) work in (q.0, queue.1.others u other ∙ q.1))
       (cases_eq u h);
   waiting = λ u key is. ⊎_elim
-      (λ (here : u ≡ h). (some.0, subst (λ w. is_pending new.pending.items w some.0 ≡ true) (sym here) (awaits.here some.0 ∙ or_right (is_pending old.pending.items h some.0) (more some.0) some.1)))
+      (λ (here : u ≡ h). (
+        some.0,
+        subst (λ w. is_pending new.pending.items w some.0 ≡ true) (sym here)
+            (awaits.here some.0 ∙ or_right (is_pending old.pending.items h some.0) (more some.0) some.1),
+      ))
       (λ (other : u ≡ h → ⊥). let w = shape.waiting u key (sym (queue.1.others u other) ∙ is) in (w.0, awaits.others u w.0 other ∙ w.1))
       (cases_eq u h);
 }

@@ -66,7 +66,8 @@ module _ (k : Task) (h : ℕ) (offer : ℕ → Option ℕ) (better : ℕ → Boo
   goal_excused bound here t x had = subst (λ o. IsDominatedOrLate k.request.until new.pairs o (point h t x)) (sym (ap k.bounds here ∙ bound.goal))
       (inr (record { pair = had.pair; is_one = had.is_one; arrival = omega (arith, had.arrival); cost = omega (arith, had.cost) }))
 
-  pub takes_goal : AreBounds k.setting k.request.goal.0 k.bounds → h ≡ k.request.goal.0 → IsLowered h offer better old.cost new.cost → TakesPairs offer old.pairs new.pairs
+  pub takes_goal : AreBounds k.setting k.request.goal.0 k.bounds → h ≡ k.request.goal.0 → IsLowered h offer better old.cost new.cost
+      → TakesPairs offer old.pairs new.pairs
       → ((v t : ℕ) → new.pending v t ≡ old.pending v t) → TakesOffer k h offer old new
   takes_goal bound here low pairs same = record {
     merged = merged_of h offer better old.cost new.cost low;
@@ -79,18 +80,25 @@ module _ (k : Task) (h : ℕ) (offer : ℕ → Option ℕ) (better : ℕ → Boo
     matched = λ t x goal is. pairs.here t x is;
   }
 
-  pub takes_other : (h ≡ k.request.goal.0 → ⊥) → IsLowered h offer better old.cost new.cost → IsAwaited h better old.pending new.pending → new.pairs ≡ old.pairs → RiseAndFall old.pairs → TakesOffer k h offer old new
+  pub takes_other : (h ≡ k.request.goal.0 → ⊥) → IsLowered h offer better old.cost new.cost → IsAwaited h better old.pending new.pending
+      → new.pairs ≡ old.pairs → RiseAndFall old.pairs → TakesOffer k h offer old new
   takes_other other low awaited same trade = record {
     merged = merged_of h offer better old.cost new.cost low;
     stays = λ v t is. ⊎_elim
-        (λ (here : v ≡ h). subst (λ w. new.pending w t ≡ true) (sym here) (awaited.here t ∙ or_left (old.pending h t) (better t) (subst (λ w. old.pending w t ≡ true) here is)))
+        (λ (here : v ≡ h). subst (λ w. new.pending w t ≡ true) (sym here)
+        (awaited.here t ∙ or_left (old.pending h t) (better t) (subst (λ w. old.pending w t ≡ true) here is)))
         (λ (ne : v ≡ h → ⊥). awaited.others v t ne ∙ is)
         (cases_eq v h);
-    awaits = λ t x is lower. inl (awaited.here t ∙ or_right (old.pending h t) (better t) (low.improved t ∙ lower_true (old.cost h t) (offer t) (subst (λ o. IsLower o (old.cost h t)) (sym is) lower)));
+    awaits = λ t x is lower. inl (awaited.here t
+        ∙ or_right (old.pending h t) (better t) (low.improved t ∙ lower_true (old.cost h t) (offer t) (subst (λ o. IsLower o (old.cost h t)) (sym is) lower)));
     cause = λ v t is. ⊎_elim
         (λ (here : v ≡ h). ⊎_elim
         (λ (was : old.pending h t ≡ true). inl (subst (λ w. old.pending w t ≡ true) (sym here) was))
-        (λ (b : better t ≡ true). inr (here, subst (λ o. IsLower o (old.cost h t)) (sym (low.here t)) (true_lower (old.cost h t) (offer t) (sym (low.improved t) ∙ b))))
+        (λ (b : better t ≡ true). inr (
+          here,
+          subst (λ o. IsLower o (old.cost h t)) (sym (low.here t))
+              (true_lower (old.cost h t) (offer t) (sym (low.improved t) ∙ b)),
+        ))
         (or_cases (old.pending h t) (better t) (sym (awaited.here t) ∙ subst (λ w. new.pending w t ≡ true) here is)))
         (λ (ne : v ≡ h → ⊥). inl (sym (awaited.others v t ne) ∙ is))
         (cases_eq v h);
@@ -109,7 +117,8 @@ lower_false (Some y) (Some z) x low is = let e : z ≡ x = cc in ⊎_elim
     (cases_lt z y)
 
 -- an offer that is nowhere better changes no_part
-pub takes_none : (k : Task) (h : ℕ) (offer : ℕ → Option ℕ) (now : Progress) → (h ≡ k.request.goal.0 → ⊥) → ((t : ℕ) → is_better (now.cost h t) (offer t) ≡ false) → RiseAndFall now.pairs → TakesOffer k h offer now now
+pub takes_none : (k : Task) (h : ℕ) (offer : ℕ → Option ℕ) (now : Progress) → (h ≡ k.request.goal.0 → ⊥)
+    → ((t : ℕ) → is_better (now.cost h t) (offer t) ≡ false) → RiseAndFall now.pairs → TakesOffer k h offer now now
 takes_none k h offer now other none trade = record {
   merged = record {
     others = λ v t ne. refl;

@@ -33,10 +33,13 @@ fn driven(
     requires good { IsGoodArc plan.net.now arc }
     requires begins { arc.tail.0 ≡ v.0 }
     requires entries { AreEntrySets plan.net.now plan.request.until sets.old }
-    requires reached { (t x : ℕ) → value_at part.now t ≡ Some x → Reaches (task_of plan) (point v.0 t x) }
-    ensures driven { IfOk result (λ g. IsDriven (task_of plan.entry) a.0 v.0 (value_at part.now) arc.head.0 (value_at g)) }
+    requires reached { (t x : ℕ) → value_at part.now t ≡ Some x
+        → Reaches (task_of plan) (point v.0 t x) }
+    ensures driven { IfOk result
+        (λ g. IsDriven (task_of plan.entry) a.0 v.0 (value_at part.now) arc.head.0 (value_at g)) }
     ensures built { IfOk result AreBuilt }
-    ensures entries { OnOk result (AreEntrySets plan.entry.net.now plan.entry.request.until sets.new) }
+    ensures entries { OnOk result
+        (AreEntrySets plan.entry.net.now plan.entry.request.until sets.new) }
 {
     let until = plan.request.until;
     let closed = plan.net.closed_runs(a);
@@ -60,7 +63,8 @@ fn cleared(
     requires is { bound_at plan.bounds.now h.0 ≡ Some bound }
     requires trade { RiseAndFall pairs.now }
     requires small { AreSmall costs.now }
-    ensures cleared { IfOk result (λ g. IsCleared (task_of plan.entry) pairs.now h.0 (value_at costs.now) (value_at g)) }
+    ensures cleared { IfOk result
+        (λ g. IsCleared (task_of plan.entry) pairs.now h.0 (value_at costs.now) (value_at g)) }
     ensures built { IfOk result AreBuilt }
 {
     let clear = prune(alloc, costs, plan.request.until, pairs, bound)?;
@@ -83,8 +87,11 @@ pub fn closed(
     requires trade { RiseAndFall state.now.pairs.items }
     requires small { AreSmall costs.now }
     requires source { IsSource (task_of plan) (progress_of state.now) h.0 (value_at costs.now) }
-    ensures offer { IfOk result (λ g. IsOffer (task_of plan.entry) (progress_of state.now) h.0 (value_at g)) }
-    ensures covers { IfOk result (λ g. Covers (task_of plan.entry) state.now.pairs.items h.0 (value_at costs.now) (value_at g)) }
+    ensures offer { IfOk result
+        (λ g. IsOffer (task_of plan.entry) (progress_of state.now) h.0 (value_at g)) }
+    ensures covers { IfOk result
+        (λ g. Covers (task_of plan.entry) state.now.pairs.items h.0 (value_at costs.now)
+        (value_at g)) }
     ensures built { IfOk result AreBuilt }
 {
     let clear = cleared(alloc, plan, &state.pairs, h, bound, costs)?;
@@ -117,10 +124,14 @@ pub fn offered(
     requires trade { RiseAndFall state.now.pairs.items }
     requires entries { AreEntrySets plan.net.now plan.request.until sets.old }
     requires part { IsKnownPart (task_of plan) (progress_of state.now) v.0 (value_at part.now) }
-    ensures offer { IfOk result (λ g. IsOffer (task_of plan.entry) (progress_of state.now) arc.head.0 (value_at g)) }
-    ensures covers { IfOk result (λ g. CoversDrives (task_of plan.entry) state.now.pairs.items a.0 v.0 (value_at part.now) arc.head.0 (value_at g)) }
+    ensures offer { IfOk result
+        (λ g. IsOffer (task_of plan.entry) (progress_of state.now) arc.head.0 (value_at g)) }
+    ensures covers { IfOk result
+        (λ g. CoversDrives (task_of plan.entry) state.now.pairs.items a.0 v.0
+        (value_at part.now) arc.head.0 (value_at g)) }
     ensures built { IfOk result AreBuilt }
-    ensures entries { OnOk result (AreEntrySets plan.entry.net.now plan.entry.request.until sets.new) }
+    ensures entries { OnOk result
+        (AreEntrySets plan.entry.net.now plan.entry.request.until sets.new) }
 {
     let ends = driven(alloc, plan, sets, v, part, a, arc)?;
     let offer = closed(alloc, plan, state, arc.head, bound, &ends)?;

@@ -33,7 +33,8 @@ pub fn no_entry_sets(alloc: Global) -> EntrySets
 // Makes room for the sets that avoid the list of closed runs at this place.
 pub fn make_room(alloc: Global, sets: &mut EntrySets, list: usize) -> Result<(), OutOfMemory>
     ensures within { OnOk result (list < length sets.new.lists.items) }
-    ensures kept { OnOk result ((net : Net) (until : ℕ) → AreEntrySets net until sets.old → AreEntrySets net until sets.new) }
+    ensures kept { OnOk result ((net : Net) (until : ℕ) → AreEntrySets net until sets.old
+        → AreEntrySets net until sets.new) }
 {
     'lists: while sets.lists.len() <= list {
         sets.lists.push(Vec::new(alloc))?;
@@ -53,7 +54,8 @@ pub fn place_of(
     requires made { All (IsEntrySet closed.now until) list.old.items }
     ensures made { OnOk result (All (IsEntrySet closed.now until) list.new.items) }
     ensures within { IfOk result (λ place. place < length list.new.items) }
-    ensures minutes { IfOk result (λ place. (d : EntrySet) → (slice_index_or list.new.items place d).minutes ≡ minutes) }
+    ensures minutes { IfOk result (λ place. (d : EntrySet)
+        → (slice_index_or list.new.items place d).minutes ≡ minutes) }
 {
     let place = list.partition_point(|made| made.minutes < minutes);
     if !is_for(list, place, minutes) {
@@ -66,7 +68,8 @@ pub fn place_of(
 // Whether the set at a place is one for drives of this length.
 fn is_for(list: &[EntrySet], place: usize, minutes: u64) -> bool
     ensures within { IsTrue result → place < length list.now }
-    ensures minutes { IsTrue result → (d : EntrySet) → (slice_index_or list.now place d).minutes ≡ minutes }
+    ensures minutes { IsTrue result → (d : EntrySet) → (slice_index_or list.now place d).minutes
+        ≡ minutes }
 {
     match list.get(place) {
         Some(made) => made.minutes == minutes,

@@ -25,7 +25,12 @@ impl Model for Found {
 impl Found {
     // These parts, at no cost.
     pub fn new(pairs: Vec<Pair>, functions: Vec<CostFn>, bounds: Bounds) -> Found
-        ensures { result ≡ record { pairs = pairs.items; functions = functions.items; bounds = bounds } }
+        ensures { result ≡ record {
+          pairs = pairs.items;
+          functions = functions.items;
+          bounds =
+              bounds;
+        } }
     {
         Found {
             pairs,

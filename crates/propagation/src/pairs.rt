@@ -71,8 +71,10 @@ fn put_in(pairs: &mut Vec<Pair>, pair: Pair) -> Result<(), OutOfMemory>
 fn first_from(pairs: &[Pair], arrival: Minute) -> usize
     requires trade { RiseAndFall pairs.now }
     ensures within { result ≤ length pairs.now }
-    ensures before { (k : ℕ) (d : Pair) → k < result → (slice_index_or pairs.now k d).arrival < arrival }
-    ensures after { (k : ℕ) (d : Pair) → result ≤ k → k < length pairs.now → arrival ≤ (slice_index_or pairs.now k d).arrival }
+    ensures before { (k : ℕ) (d : Pair) → k < result → (slice_index_or pairs.now k d).arrival
+        < arrival }
+    ensures after { (k : ℕ) (d : Pair) → result ≤ k → k < length pairs.now → arrival
+        ≤ (slice_index_or pairs.now k d).arrival }
 {
     pairs.partition_point(|p| p.arrival < arrival)
 }

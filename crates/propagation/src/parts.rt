@@ -54,7 +54,9 @@ pub fn part_of(
     requires first { is_pending state.old.pending.items v.0 first ≡ true }
     requires early { first ≤ LAST_INSTANT }
     requires trade { RiseAndFall state.old.pairs.items }
-    ensures parts { IfOk result (λ part. TakesPart (task_of plan.entry) v.0 (value_at part) (progress_of state.old) (progress_of state.new)) }
+    ensures parts { IfOk result
+        (λ part. TakesPart (task_of plan.entry) v.0 (value_at part) (progress_of state.old)
+        (progress_of state.new)) }
     ensures built { IfOk result AreBuilt }
     ensures shape { OnOk result (IsShaped plan.entry.net.now.nodes 0 state.new) }
 {
@@ -110,7 +112,9 @@ fn split_at(
     requires high { v.0 ≤ length pending.old.items }
     requires first { is_pending pending.old.items v.0 first ≡ true }
     requires end { first < end }
-    ensures split { IfOk result (λ s. IsSplit v.0 (any_has s.taken) s.next (is_pending pending.old.items) (is_pending pending.new.items)) }
+    ensures split { IfOk result
+        (λ s. IsSplit v.0 (any_has s.taken) s.next (is_pending pending.old.items)
+        (is_pending pending.new.items)) }
     ensures nodes { OnOk result (length pending.new.items ≡ length pending.old.items) }
 {
     let place = v.0 as usize - 1;
@@ -125,8 +129,10 @@ fn split_at(
 
 // The minutes of a set before an end, and the others.
 fn halves_at(alloc: Global, own: &MinuteSet, end: Minute) -> Result<Halves, OutOfMemory>
-    ensures before { IfOk result (λ halves. (t : ℕ) → any_has halves.before t ≡ (any_has own.now t && nat_lt t end)) }
-    ensures after { IfOk result (λ halves. (t : ℕ) → any_has halves.after t ≡ (any_has own.now t && not (nat_lt t end))) }
+    ensures before { IfOk result (λ halves. (t : ℕ) → any_has halves.before t
+        ≡ (any_has own.now t && nat_lt t end)) }
+    ensures after { IfOk result (λ halves. (t : ℕ) → any_has halves.after t
+        ≡ (any_has own.now t && not (nat_lt t end))) }
 {
     let window = MinuteSet::whole(alloc, Run { lo: 0, hi: end })?;
     Ok(Halves {

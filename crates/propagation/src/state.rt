@@ -55,7 +55,9 @@ pub fn await_at(
     requires low { 1 ≤ h.0 }
     requires high { h.0 ≤ length pending.old.items }
     requires same { length queue.old ≡ length pending.old.items }
-    ensures awaits { OnOk result (IsAwaited h.0 (any_has improved) (is_pending pending.old.items) (is_pending pending.new.items)) }
+    ensures awaits { OnOk result
+        (IsAwaited h.0 (any_has improved) (is_pending pending.old.items)
+        (is_pending pending.new.items)) }
     ensures queue { OnOk result ((k : ℕ) × IsSet queue.old queue.new h.0 (Some k)) }
     ensures nodes { OnOk result (length pending.new.items ≡ length pending.old.items) }
 {

@@ -41,10 +41,12 @@ pub fn turn(
     requires absent { key_at state.old.queue v.0 ≡ None }
     requires some { (t : ℕ) × (is_pending state.old.pending.items v.0 t ≡ true) }
     requires facts { IsResting (task_of plan) (progress_of state.old) }
-    ensures entries { OnOk result (AreEntrySets plan.entry.net.now plan.entry.request.until sets.new) }
+    ensures entries { OnOk result
+        (AreEntrySets plan.entry.net.now plan.entry.request.until sets.new) }
     ensures shape { OnOk result (IsShaped plan.entry.net.now.nodes 0 state.new) }
     ensures facts { OnOk result (IsResting (task_of plan.entry) (progress_of state.new)) }
-    ensures less { OnOk result (work plan.entry.net.now.nodes plan.entry.request.until (progress_of state.new)
+    ensures less { OnOk result
+        (work plan.entry.net.now.nodes plan.entry.request.until (progress_of state.new)
         < work plan.entry.net.now.nodes plan.entry.request.until (progress_of state.old)) }
 {
     let Some(bound) = plan.bounds.get(v) else {
@@ -74,10 +76,12 @@ fn drive_all(
     requires shape { IsShaped plan.net.now.nodes 0 state.old }
     requires facts { IsSearching (task_of plan) (progress_of state.old) v.0 (value_at part.now) }
     requires part { IsKnownPart (task_of plan) (progress_of state.old) v.0 (value_at part.now) }
-    ensures entries { OnOk result (AreEntrySets plan.entry.net.now plan.entry.request.until sets.new) }
+    ensures entries { OnOk result
+        (AreEntrySets plan.entry.net.now plan.entry.request.until sets.new) }
     ensures shape { OnOk result (IsShaped plan.entry.net.now.nodes 0 state.new) }
     ensures facts { OnOk result (IsResting (task_of plan.entry) (progress_of state.new)) }
-    ensures better { OnOk result (Improves (task_of plan.entry) (progress_of state.old) (progress_of state.new)) }
+    ensures better { OnOk result
+        (Improves (task_of plan.entry) (progress_of state.old) (progress_of state.new)) }
 {
     for a in plan.outgoing.of(v) {
         drive_one(alloc, plan, sets, state, v, part, *a)?;
@@ -101,10 +105,13 @@ fn drive_one(
     requires shape { IsShaped plan.net.now.nodes 0 state.old }
     requires facts { IsSearching (task_of plan) (progress_of state.old) v.0 (value_at part.now) }
     requires part { IsKnownPart (task_of plan) (progress_of state.old) v.0 (value_at part.now) }
-    ensures entries { OnOk result (AreEntrySets plan.entry.net.now plan.entry.request.until sets.new) }
+    ensures entries { OnOk result
+        (AreEntrySets plan.entry.net.now plan.entry.request.until sets.new) }
     ensures shape { OnOk result (IsShaped plan.entry.net.now.nodes 0 state.new) }
-    ensures facts { OnOk result (IsSearching (task_of plan.entry) (progress_of state.new) v.0 (value_at part.now)) }
-    ensures better { OnOk result (Improves (task_of plan.entry) (progress_of state.old) (progress_of state.new)) }
+    ensures facts { OnOk result
+        (IsSearching (task_of plan.entry) (progress_of state.new) v.0 (value_at part.now)) }
+    ensures better { OnOk result
+        (Improves (task_of plan.entry) (progress_of state.old) (progress_of state.new)) }
     ensures relaxed { OnOk result ((t x : ℕ) (q : Position) → value_at part.now t ≡ Some x
         → Drives (setting_of plan.entry.net.now) plan.entry.request.until a.0 (point v.0 t x) q
         → IsRelaxedIn (task_of plan.entry) (progress_of state.new) q) }
@@ -135,7 +142,9 @@ pub fn take_at(
     requires shape { IsShaped plan.net.now.nodes 0 state.old }
     requires trade { RiseAndFall state.old.pairs.items }
     requires offer { AreBuilt offer.now }
-    ensures takes { OnOk result (TakesOffer (task_of plan.entry) h.0 (value_at offer.now) (progress_of state.old) (progress_of state.new)) }
+    ensures takes { OnOk result
+        (TakesOffer (task_of plan.entry) h.0 (value_at offer.now) (progress_of state.old)
+        (progress_of state.new)) }
     ensures shape { OnOk result (IsShaped plan.entry.net.now.nodes 0 state.new) }
 {
     if h.0 == plan.request.goal.0 {

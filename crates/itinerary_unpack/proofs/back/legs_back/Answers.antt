@@ -52,10 +52,17 @@ back-preserved c =
     record {
       low = within.0;
       high = omega (arith, within.1, c.requires.solved.found.nodes);
-      size = omega (arith, ap (λ (w : List Step). length w) steps, length-append (steps_of_leg from.leg) (steps_of (reverse c.back.legs.items)), comes.short, c.back.invariant.size);
+      size = omega (
+        arith,
+        ap (λ (w : List Step). length w) steps,
+        length-append (steps_of_leg from.leg) (steps_of (reverse c.back.legs.items)),
+        comes.short,
+        c.back.invariant.size,
+      );
       tidy = c.in_ok-push_before.ensures.tidy;
       leads = subst (λ (w : List Step). LeadsToPair s r cost c.args.pair from.node.0 from.minute w) (sym steps)
-          (leads_before s r cost c.args.pair c.back.node.0 c.back.minute c.unwrap_or-cost.result (steps_of (reverse c.back.legs.items)) from c.back.invariant.leads known comes);
+          (leads_before s r cost c.args.pair c.back.node.0 c.back.minute c.unwrap_or-cost.result
+          (steps_of (reverse c.back.legs.items)) from c.back.invariant.leads known comes);
     }
 
 pub returns-clause-walk : goal.returns-clause-walk
@@ -65,4 +72,5 @@ returns-clause-walk c =
     let cost = cost_in c.args.solved in
     let steps = steps_of (reverse c.back.legs.items) in
     whole_walk c.args.solved.net.now r c.args.solved.found.now c.requires.solved.found c.args.pair c.requires.one c.requires.solved.in_time steps
-    (subst (λ n. LeadsToPair s r cost c.args.pair n r.depart steps) c.if-node-solved.false (subst (λ n. LeadsToPair s r cost c.args.pair c.back.node.0 n steps) c.if-minute-solved.false c.back.invariant.leads))
+    (subst (λ n. LeadsToPair s r cost c.args.pair n r.depart steps) c.if-node-solved.false
+    (subst (λ n. LeadsToPair s r cost c.args.pair c.back.node.0 n steps) c.if-minute-solved.false c.back.invariant.leads))

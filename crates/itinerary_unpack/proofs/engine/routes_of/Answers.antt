@@ -20,19 +20,25 @@ loop-k-preserved c =
     let pair : Pair = get_or pairs k none in
     let within : k < length pairs = omega (arith, c.loop-k-test.true, ap (λ (w : List Pair). length w) c.pairs-pairs.ensures) in
     let route : Route = record { pair = pair; legs = c.in_ok-legs.legs } in
-    let items : c.push.new.self.items ≡ c.loop-k.routes.items ++ route ∷ [] = c.in_ok-push.ensures.items ∙ ap (λ (w : List Pair). c.loop-k.routes.items ++ record { pair = get_or w k none; legs = c.in_ok-legs.legs } ∷ []) c.pairs-pairs.ensures in
-    let next : take (k + 1) pairs ≡ take k pairs ++ pair ∷ [] = (let e : k + 1 ≡ suc k = omega arith in ap (λ n. take n pairs) e) ∙ take-suc pairs k none within in
+    let items : c.push.new.self.items ≡ c.loop-k.routes.items ++ route ∷ [] = c.in_ok-push.ensures.items
+    ∙ ap (λ (w : List Pair). c.loop-k.routes.items ++ record { pair = get_or w k none; legs = c.in_ok-legs.legs } ∷ []) c.pairs-pairs.ensures in
+    let next : take (k + 1) pairs ≡ take k pairs ++ pair ∷ [] = (let e : k + 1 ≡ suc k = omega arith in ap (λ n. take n pairs) e)
+    ∙ take-suc pairs k none within in
     record {
-      pairs = ap (map (λ (x : Route). x.pair)) items ∙ (map-append (λ (x : Route). x.pair) c.loop-k.routes.items (route ∷ []) ∙ (ap (λ (w : List Pair). w ++ pair ∷ []) c.loop-k.invariant.pairs ∙ sym next));
+      pairs = ap (map (λ (x : Route). x.pair)) items
+          ∙ (map-append (λ (x : Route). x.pair) c.loop-k.routes.items (route ∷ [])
+          ∙ (ap (λ (w : List Pair). w ++ pair ∷ []) c.loop-k.invariant.pairs ∙ sym next));
       legs = subst (All (λ (x : Route). Achieves s r x.legs x.pair × HasNoNeighbouringWaits x.legs)) (sym items)
-          (All-push (λ (x : Route). Achieves s r x.legs x.pair × HasNoNeighbouringWaits x.legs) c.loop-k.routes.items route c.loop-k.invariant.legs (c.in_ok-legs.ensures.achieves none, c.in_ok-legs.ensures.tidy));
+          (All-push (λ (x : Route). Achieves s r x.legs x.pair × HasNoNeighbouringWaits x.legs) c.loop-k.routes.items route c.loop-k.invariant.legs
+          (c.in_ok-legs.ensures.achieves none, c.in_ok-legs.ensures.tidy));
     }
 
 pub returns : goal.returns
 returns c =
     let s = setting_of c.args.net.now in
     let pairs = c.args.found.now.pairs in
-    let all : take c.loop-k.k pairs ≡ pairs = take_all c.loop-k.k pairs (omega (arith, c.loop-k-test.false, ap (λ (w : List Pair). length w) c.pairs-pairs.ensures)) in
+    let all : take c.loop-k.k pairs ≡ pairs =
+    take_all c.loop-k.k pairs (omega (arith, c.loop-k-test.false, ap (λ (w : List Pair). length w) c.pairs-pairs.ensures)) in
     let items : c.from_vec.result ≡ c.loop-k.routes.items = c.from_vec.ensures in
     let same : map (λ (x : Route). x.pair) c.from_vec.result ≡ pairs = ap (map (λ (x : Route). x.pair)) items ∙ c.loop-k.invariant.pairs ∙ all in
     record {

@@ -12,8 +12,10 @@ overflow_add-before c =
     let found = c.args.solved.found.now in
     let minutes = c.args.t - c.args.since in
     let weight = c.in_ok-weight.weight in
-    let known : cost_at found.functions c.args.v.0 c.args.since ≡ Some c.in_ok-before.before = cost_is found.functions c.args.v.0 c.args.since c.function.result.now c.function.ensures ∙ (sym c.at.ensures ∙ c.in_ok-before.was) in
-    let small = small_cost c.args.solved.net.now c.args.solved.request found c.requires.solved.fit c.requires.solved.found c.args.v.0 c.args.since c.in_ok-before.before known in
+    let known : cost_at found.functions c.args.v.0 c.args.since ≡ Some c.in_ok-before.before =
+    cost_is found.functions c.args.v.0 c.args.since c.function.result.now c.function.ensures ∙ (sym c.at.ensures ∙ c.in_ok-before.was) in
+    let small = small_cost c.args.solved.net.now c.args.solved.request found c.requires.solved.fit c.requires.solved.found c.args.v.0 c.args.since
+    c.in_ok-before.before known in
     let rated : ◌≡◌ {A = Option ℕ} ((setting_of c.args.solved.net.now).weight c.args.v.0) (Some weight) = sym c.weight.ensures.value ∙ c.in_ok-weight.was in
     let cheap : weight ≤ HEAVIEST_WEIGHT = c.weight.ensures.good.each_weight c.args.v.0 weight rated in
     let most : minutes * weight ≤ minutes * HEAVIEST_WEIGHT = mul-le-mul_left minutes cheap in
@@ -22,7 +24,10 @@ overflow_add-before c =
 pub returns : goal.returns
 returns c =
     let found = c.args.solved.found.now in
-    let known : cost_at found.functions c.args.v.0 c.args.since ≡ Some c.in_ok-before.before = cost_is found.functions c.args.v.0 c.args.since c.function.result.now c.function.ensures ∙ (sym c.at.ensures ∙ c.in_ok-before.was) in
-    let rated : ◌≡◌ {A = Option ℕ} ((setting_of c.args.solved.net.now).weight c.args.v.0) (Some c.in_ok-weight.weight) = sym c.weight.ensures.value ∙ c.in_ok-weight.was in
-    comes_by_wait (setting_of c.args.solved.net.now) c.args.solved.request.until (cost_at found.functions) c.args.v c.args.t c.args.x c.args.since c.in_ok-before.before c.in_ok-weight.weight
+    let known : cost_at found.functions c.args.v.0 c.args.since ≡ Some c.in_ok-before.before =
+    cost_is found.functions c.args.v.0 c.args.since c.function.result.now c.function.ensures ∙ (sym c.at.ensures ∙ c.in_ok-before.was) in
+    let rated : ◌≡◌ {A = Option ℕ} ((setting_of c.args.solved.net.now).weight c.args.v.0) (Some c.in_ok-weight.weight) = sym c.weight.ensures.value
+    ∙ c.in_ok-weight.was in
+    comes_by_wait (setting_of c.args.solved.net.now) c.args.solved.request.until
+    (cost_at found.functions) c.args.v c.args.t c.args.x c.args.since c.in_ok-before.before c.in_ok-weight.weight
     (omega (arith, c.if-since-t.false)) c.requires.upto rated known (omega (arith, c.if-before-weight.false))

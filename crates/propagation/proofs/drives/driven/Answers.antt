@@ -13,25 +13,32 @@ pub place_of-requires-clause-made : goal.place_of-requires-clause-made
 place_of-requires-clause-made c =
     let net = c.args.plan.net.now in
     let until = c.args.plan.request.until in
-    let own_runs : unwrap_or (slice_get net.closed c.args.arc.closed) [] ≡ c.closed_runs-closed.result.now = sym (c.closed_runs-closed.ensures.value ∙ ap (runs_by net) c.requires.is) in
-    sets_at net until c.make_room.new.sets c.args.arc.closed c.closed_runs-closed.result.now c.index_mut.result.now (c.in_ok-make_room.ensures.kept net until c.requires.entries) own_runs
+    let own_runs : unwrap_or (slice_get net.closed c.args.arc.closed) [] ≡ c.closed_runs-closed.result.now =
+    sym (c.closed_runs-closed.ensures.value ∙ ap (runs_by net) c.requires.is) in
+    sets_at net until c.make_room.new.sets c.args.arc.closed c.closed_runs-closed.result.now c.index_mut.result.now
+    (c.in_ok-make_room.ensures.kept net until c.requires.entries) own_runs
     c.in_ok-make_room.ensures.within c.index_mut.ensures.value
 
 pub returns-clause-entries : goal.returns-clause-entries
 returns-clause-entries c =
     let net = c.args.plan.net.now in
     let until = c.args.plan.request.until in
-    let own_runs : unwrap_or (slice_get net.closed c.args.arc.closed) [] ≡ c.closed_runs-closed.result.now = sym (c.closed_runs-closed.ensures.value ∙ ap (runs_by net) c.requires.is) in
-    sets_kept net until c.make_room.new.sets _ c.args.arc.closed c.closed_runs-closed.result.now c.place_of.new.list (c.in_ok-make_room.ensures.kept net until c.requires.entries) own_runs
+    let own_runs : unwrap_or (slice_get net.closed c.args.arc.closed) [] ≡ c.closed_runs-closed.result.now =
+    sym (c.closed_runs-closed.ensures.value ∙ ap (runs_by net) c.requires.is) in
+    sets_kept net until c.make_room.new.sets _ c.args.arc.closed c.closed_runs-closed.result.now c.place_of.new.list
+    (c.in_ok-make_room.ensures.kept net until c.requires.entries) own_runs
     c.in_ok-make_room.ensures.within refl c.in_ok-place.ensures.made
 
 pub shift-requires : goal.shift-requires
 shift-requires c =
     let net = c.args.plan.net.now in
     let until = c.args.plan.request.until in
-    let same : c.index.result.now ≡ c.place_of.new.list = c.index.ensures ∙ get_or-set_same c.make_room.new.sets.lists.items c.args.arc.closed c.place_of.new.list c.index.result.now c.in_ok-make_room.ensures.within in
-    let entries = set_at c.closed_runs-closed.result.now until c.in_ok-place.place c.args.arc.minutes c.place_of.new.list c.index.result.now c.index-2.result.now c.in_ok-place.ensures.made c.in_ok-place.ensures.within c.in_ok-place.ensures.minutes same c.index-2.ensures in
-    entries_fit net c.args.plan.request (bound_at c.args.plan.bounds.now) c.args.a.0 c.args.v.0 c.args.arc c.requires.is c.requires.begins c.index-2.result.now.set
+    let same : c.index.result.now ≡ c.place_of.new.list = c.index.ensures
+    ∙ get_or-set_same c.make_room.new.sets.lists.items c.args.arc.closed c.place_of.new.list c.index.result.now c.in_ok-make_room.ensures.within in
+    let entries = set_at c.closed_runs-closed.result.now until c.in_ok-place.place c.args.arc.minutes c.place_of.new.list c.index.result.now
+    c.index-2.result.now c.in_ok-place.ensures.made c.in_ok-place.ensures.within c.in_ok-place.ensures.minutes same c.index-2.ensures in
+    entries_fit net c.args.plan.request (bound_at c.args.plan.bounds.now) c.args.a.0 c.args.v.0 c.args.arc c.requires.is c.requires.begins
+    c.index-2.result.now.set
     (subst (λ (w : List Run). AreEntries w until c.args.arc.minutes c.index-2.result.now.set) c.closed_runs-closed.ensures.value entries)
     c.requires.asked.fit c.requires.asked.ends.until (value_at c.args.part.now) c.requires.reached
 
@@ -39,8 +46,11 @@ pub returns-clause-driven : goal.returns-clause-driven
 returns-clause-driven c =
     let net = c.args.plan.net.now in
     let until = c.args.plan.request.until in
-    let same : c.index.result.now ≡ c.place_of.new.list = c.index.ensures ∙ get_or-set_same c.make_room.new.sets.lists.items c.args.arc.closed c.place_of.new.list c.index.result.now c.in_ok-make_room.ensures.within in
-    let entries = set_at c.closed_runs-closed.result.now until c.in_ok-place.place c.args.arc.minutes c.place_of.new.list c.index.result.now c.index-2.result.now c.in_ok-place.ensures.made c.in_ok-place.ensures.within c.in_ok-place.ensures.minutes same c.index-2.ensures in
-    entries_drive net c.args.plan.request (bound_at c.args.plan.bounds.now) c.args.a.0 c.args.v.0 c.args.arc c.requires.is c.requires.begins c.index-2.result.now.set
+    let same : c.index.result.now ≡ c.place_of.new.list = c.index.ensures
+    ∙ get_or-set_same c.make_room.new.sets.lists.items c.args.arc.closed c.place_of.new.list c.index.result.now c.in_ok-make_room.ensures.within in
+    let entries = set_at c.closed_runs-closed.result.now until c.in_ok-place.place c.args.arc.minutes c.place_of.new.list c.index.result.now
+    c.index-2.result.now c.in_ok-place.ensures.made c.in_ok-place.ensures.within c.in_ok-place.ensures.minutes same c.index-2.ensures in
+    entries_drive net c.args.plan.request (bound_at c.args.plan.bounds.now) c.args.a.0 c.args.v.0 c.args.arc c.requires.is c.requires.begins
+    c.index-2.result.now.set
     (subst (λ (w : List Run). AreEntries w until c.args.arc.minutes c.index-2.result.now.set) c.closed_runs-closed.ensures.value entries)
     (value_at c.args.part.now) (value_at c.in_ok-ends.ends) c.in_ok-ends.ensures.values

@@ -23,7 +23,8 @@ loop-piece-preserved c =
       kept = λ t x had. step.kept t x (c.loop-piece.invariant.kept t x had);
       each = λ p one. ⊎_elim
           (λ (was : Contains c.loop-piece.pairs.items p). c.loop-piece.invariant.each p was)
-          (λ (same : p ≡ record { arrival = q.lo; cost = q.cost }). inr (ap (λ (w : Pair). value_at c.args.offer.now w.arrival) same ∙ start ∙ ap (λ (w : Pair). Some w.cost) (sym same)))
+          (λ (same : p ≡ record { arrival = q.lo; cost = q.cost }).
+          inr (ap (λ (w : Pair). value_at c.args.offer.now w.arrival) same ∙ start ∙ ap (λ (w : Pair). Some w.cost) (sym same)))
           (step.each p one);
       here = λ i d below. ⊎_elim
           (λ (before : i < k). step.kept (get_or ps i d).lo (get_or ps i d).cost (c.loop-piece.invariant.here i d before))

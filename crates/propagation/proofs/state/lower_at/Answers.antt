@@ -11,7 +11,8 @@ improve_in_place-requires-clause-first c = subst AreBuilt (sym c.index_mut.ensur
     (c.requires.built (c.args.h.0 - 1) c.index_mut.result.now (omega (arith, c.requires.low, c.requires.high)))
 
 pub returns-clause-lowered : goal.returns-clause-lowered
-returns-clause-lowered c = lowered c.args.functions.now.items c.args.h.0 c.improve_in_place.new.f (value_at c.args.offer.now) (any_has c.in_ok-improved.improved) c.index_mut.result.now
+returns-clause-lowered c = lowered c.args.functions.now.items c.args.h.0 c.improve_in_place.new.f (value_at c.args.offer.now)
+    (any_has c.in_ok-improved.improved) c.index_mut.result.now
     c.requires.low c.requires.high c.index_mut.ensures.value c.in_ok-improved.ensures.values c.in_ok-improved.ensures.improved
 
 pub returns-clause-built : goal.returns-clause-built

@@ -11,19 +11,30 @@ use Rattle.propagation.proofs.Taking.{takes_other, takes_none, never}
 use Rattle.propagation.proofs.turns.take_at.Goals as goal
 
 pub is_improved-requires-clause-first : goal.is_improved-requires-clause-first
-is_improved-requires-clause-first c = (subst AreBuilt (sym c.index.ensures) (c.requires.shape.built (c.args.h.0 - 1) c.index.result.now (omega (arith, c.requires.low, c.requires.high, c.requires.shape.functions)))).small
+is_improved-requires-clause-first c = (subst AreBuilt (sym c.index.ensures)
+    (c.requires.shape.built (c.args.h.0 - 1) c.index.result.now (omega (arith, c.requires.low, c.requires.high, c.requires.shape.functions)))).small
 
 pub returns-then-not-is_improved-clause-takes : goal.returns-then-not-is_improved-clause-takes
 returns-then-not-is_improved-clause-takes c =
     let worse : c.is_improved.result ≡ false = search rules in
-    let own = value_is c.args.state.now.functions.items c.args.h.0 c.index.result.now c.requires.low (omega (arith, c.requires.high, c.requires.shape.functions)) c.index.ensures in
+    let own = value_is c.args.state.now.functions.items c.args.h.0 c.index.result.now c.requires.low
+    (omega (arith, c.requires.high, c.requires.shape.functions)) c.index.ensures in
     takes_none (task_of c.args.plan) c.args.h.0 (value_at c.args.offer.now) (progress_of c.args.state.now)
     (λ e. c.if-h-plan.false e)
-    (λ t. ap (λ o. is_better o (value_at c.args.offer.now t)) (own t) ∙ never c.is_improved.result (λ u. is_better (value_at c.index.result.now u) (value_at c.args.offer.now u)) c.is_improved.ensures.1 worse t) c.requires.trade
+    (λ t. ap (λ o. is_better o (value_at c.args.offer.now t)) (own t)
+    ∙ never c.is_improved.result (λ u. is_better (value_at c.index.result.now u) (value_at c.args.offer.now u)) c.is_improved.ensures.1 worse t)
+    c.requires.trade
 
 pub returns-clause-takes : goal.returns-clause-takes
-returns-clause-takes c = takes_other (task_of c.args.plan) c.args.h.0 (value_at c.args.offer.now) (any_has c.in_ok-improved.improved) (progress_of c.args.state.now)
-    (progress_of (record { functions = c.lower_at-2.new.functions; pending = c.await_at.new.pending; pairs = c.args.state.now.pairs; queue = c.await_at.new.queue }))
+returns-clause-takes c = takes_other (task_of c.args.plan) c.args.h.0 (value_at c.args.offer.now) (any_has c.in_ok-improved.improved)
+    (progress_of c.args.state.now)
+    (progress_of (record {
+      functions = c.lower_at-2.new.functions;
+      pending = c.await_at.new.pending;
+      pairs = c.args.state.now.pairs;
+      queue =
+          c.await_at.new.queue;
+    }))
     (λ e. c.if-h-plan.false e) c.in_ok-improved.ensures.lowered c.in_ok-await_at.ensures.awaits refl c.requires.trade
 
 pub returns-clause-shape : goal.returns-clause-shape
@@ -31,4 +42,5 @@ returns-clause-shape c =
     let some = subst (λ o. IfSome o (λ t. any_has c.in_ok-improved.improved t ≡ true)) c.in-Some.is c.first_of.ensures.some in
     shaped_awaited c.args.plan.net.now.nodes c.args.h.0 (any_has c.in_ok-improved.improved) c.args.state.now
     (record { functions = c.lower_at-2.new.functions; pending = c.await_at.new.pending; pairs = c.args.state.now.pairs; queue = c.await_at.new.queue })
-    c.requires.shape c.in_ok-improved.ensures.nodes c.in_ok-improved.ensures.built c.in_ok-await_at.ensures.nodes c.in_ok-await_at.ensures.awaits c.in_ok-await_at.ensures.queue (c.in-Some.first, some)
+    c.requires.shape c.in_ok-improved.ensures.nodes c.in_ok-improved.ensures.built c.in_ok-await_at.ensures.nodes c.in_ok-await_at.ensures.awaits
+    c.in_ok-await_at.ensures.queue (c.in-Some.first, some)
