@@ -1,3 +1,4 @@
+pub mod Agreeing
 pub mod CheapNets
 pub mod Choosing
 pub mod FoundEntries
