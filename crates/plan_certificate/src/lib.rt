@@ -6,9 +6,9 @@
 //!
 //! The law is in four clauses of `certify`. `right`: the pairs are the Pareto front, and the legs of each are lawful (`IsRight`
 //! of `route_base`). `good`: the checker accepts the certificate (`IsGood` of `certificate_check`). `tight`: nothing in it is
-//! larger than it has to be (`IsTight` of `specs/Tight`): the bounds are exactly the least, functions are reduced, and from each
-//! of their minutes the goal is in reach by the horizon. `writable`: it has a text (`IsWritable` of `certificate`) where no minute
-//! of a road costs more than one of driving (`HasCheapRoads` of `specs/CheapRoads`).
+//! larger than it has to be (`IsTight` of `specs/Tight`): the bounds are exactly the least, functions are reduced, and from
+//! each of their minutes the goal is in reach by the horizon. `writable`: it has a text (`IsWritable` of `certificate`) where no
+//! minute of a road costs more than one of driving (`HasCheapRoads` of `specs/CheapRoads`).
 //!
 //! `tightness_agrees` is the law that settings of which one stands for the other have the same tight certificates.
 //!

@@ -17,26 +17,21 @@ returns-clause-right c = c.in_ok-routes.ensures.right
 pub returns-clause-good : goal.returns-clause-good
 returns-clause-good c =
     let found = c.in_ok-found.found in
-    is_good c.args.net.now c.args.request found c.in_ok-found.ensures
-    (record { routes = c.in_ok-routes.routes; bounds = c.in_ok-bounds.bounds; functions = c.in_ok-functions.functions })
-    c.in_ok-routes.ensures.right c.in_ok-routes.ensures.pairs
+    is_good c.args.net.now c.args.request found c.in_ok-found.ensures _ c.in_ok-routes.ensures.right c.in_ok-routes.ensures.pairs
     (same_list bound_at c.in_ok-bounds.bounds c.bounds.result.now found.bounds c.bounds.ensures c.in_ok-bounds.ensures)
     (same_list pieces_of c.in_ok-functions.functions c.into_functions.result.items found.functions c.into_functions.ensures c.in_ok-functions.ensures)
 
 pub returns-clause-tight : goal.returns-clause-tight
 returns-clause-tight c =
     let found = c.in_ok-found.found in
-    is_tight c.args.net.now c.args.request found c.in_ok-found.ensures
-    (record { routes = c.in_ok-routes.routes; bounds = c.in_ok-bounds.bounds; functions = c.in_ok-functions.functions })
-    c.in_ok-routes.ensures.right c.in_ok-routes.ensures.pairs
+    is_tight c.args.net.now c.args.request found c.in_ok-found.ensures _ c.in_ok-routes.ensures.right c.in_ok-routes.ensures.pairs
     (same_list bound_at c.in_ok-bounds.bounds c.bounds.result.now found.bounds c.bounds.ensures c.in_ok-bounds.ensures)
     (same_list pieces_of c.in_ok-functions.functions c.into_functions.result.items found.functions c.into_functions.ensures c.in_ok-functions.ensures)
 
 pub returns-clause-writable : goal.returns-clause-writable
 returns-clause-writable c =
     let found = c.in_ok-found.found in
-    is_writable c.args.net.now c.args.request found c.in_ok-found.ensures
-    (record { routes = c.in_ok-routes.routes; bounds = c.in_ok-bounds.bounds; functions = c.in_ok-functions.functions })
+    is_writable c.args.net.now c.args.request found c.in_ok-found.ensures _
     (same_list bound_at c.in_ok-bounds.bounds c.bounds.result.now found.bounds c.bounds.ensures c.in_ok-bounds.ensures)
     (same_list pieces_of c.in_ok-functions.functions c.into_functions.result.items found.functions c.into_functions.ensures c.in_ok-functions.ensures)
     c.requires.nodes c.requires.arcs c.requires.good c.requires.in_time c.requires.fit c.in_ok-routes.ensures.right

@@ -7,16 +7,21 @@ use Rattle.plan_certificate.specs.Inside.Entries.{pieces_of, some_pieces}
 use Rattle.plan_certificate.proofs.Choosing.{AreChosen, choose, choose_none, all_chosen, next_item, number_past, pieces_there, pieces_missing}
 use Rattle.plan_certificate.proofs.functions.known_functions.Goals as goal
 
-module _ (items done rest : List (List Piece)) (f : List Piece) (n : ℕ) (count : length done ≡ n) where
-  one_more : length (done ++ f ∷ []) ≡ n + 1
-  one_more = omega (arith, length-append done (f ∷ []), count)
+-- one function more was taken: the count, what is whole, and what the next node has
+record IsTurn (items done rest : List (List Piece)) (f : List Piece) (n : ℕ) : Type 0 where
+  count : length (done ++ f ∷ []) ≡ n + 1
+  whole : done ++ f ∷ [] ++ rest ≡ items
+  pieces : pieces_of items (n + 1) ≡ some_pieces (Some f)
 
-  still_whole : (old : List (List Piece)) → old ≡ f ∷ rest → done ++ old ≡ items → done ++ f ∷ [] ++ rest ≡ items
-  still_whole old step whole = append_assoc done (f ∷ []) rest ∙ sym (ap (λ (w : List (List Piece)). done ++ w) step) ∙ whole
-
-  next_pieces : (old : List (List Piece)) → old ≡ f ∷ rest → done ++ old ≡ items → pieces_of items (n + 1) ≡ some_pieces (Some f)
-  next_pieces old step whole = ap (λ k. pieces_of items (k + 1)) (sym count)
-      ∙ ap some_pieces (next_item done rest items f (sym (ap (λ (w : List (List Piece)). done ++ w) step) ∙ whole))
+turn : (items done rest old : List (List Piece)) (f : List Piece) (n : ℕ) → length done ≡ n → done ++ old ≡ items → old ≡ f ∷ rest
+    → IsTurn items done rest f n
+turn items done rest old f n count whole step =
+    let next : done ++ f ∷ rest ≡ items = ap (λ (w : List (List Piece)). done ++ w) (sym step) ∙ whole in
+    record {
+      count = omega (arith, length-append done (f ∷ []), count);
+      whole = append_assoc done (f ∷ []) rest ∙ next;
+      pieces = ap (λ k. pieces_of items (k + 1)) (sym count) ∙ ap some_pieces (next_item done rest items f next);
+    }
 
 filled : (ps f : List Piece) → ps ≡ f → (b : Bool) → b ≡ (length ps == 0) → b ≡ false → 1 ≤ length f
 filled ps f same b is not = filled' ps same (sym is ∙ not)
@@ -30,19 +35,18 @@ loop-function-preserved-in-Continue-1 c =
     let l = c.loop-function in
     let items = c.args.functions.items in
     let f = c.in-Some.function in
-    let rest = into_iter_items c.next.new.self in
     let step = c.in-Some.ensures.steps in
+    let t = turn items l.yielded (into_iter_items c.next.new.self) (into_iter_items l.function-iterator) f l.node l.invariant.count l.invariant.whole step.0 in
     let node : NodeId = record { 0 = l.node + 1 } in
     let some : 1 ≤ length f = filled c.pieces.result.now f c.pieces.ensures.items c.is_empty.result c.is_empty.ensures c.if-not-is_empty.true in
     record {
       can = tt;
       finite = tt;
-      count = one_more items l.yielded rest f l.node l.invariant.count;
+      count = t.count;
       left = omega (arith, l.invariant.left, step.1);
-      whole = still_whole items l.yielded rest f l.node l.invariant.count (into_iter_items l.function-iterator) step.0 l.invariant.whole;
+      whole = t.whole;
       chosen = subst (λ (es : List (NodeId × List Piece)). AreChosen (pieces_of items) (l.node + 1) es) (sym c.in_ok-push.ensures.ok)
-          (choose (pieces_of items) l.node l.known l.invariant.chosen (node, f) refl
-          (next_pieces items l.yielded rest f l.node l.invariant.count (into_iter_items l.function-iterator) step.0 l.invariant.whole ∙ pieces_there f some));
+          (choose (pieces_of items) l.node l.known l.invariant.chosen (node, f) refl (t.pieces ∙ pieces_there f some));
     }
 
 pub loop-function-preserved : goal.loop-function-preserved
@@ -50,18 +54,17 @@ loop-function-preserved c =
     let l = c.loop-function in
     let items = c.args.functions.items in
     let f = c.in-Some.function in
-    let rest = into_iter_items c.next.new.self in
     let step = c.in-Some.ensures.steps in
+    let t = turn items l.yielded (into_iter_items c.next.new.self) (into_iter_items l.function-iterator) f l.node l.invariant.count l.invariant.whole step.0 in
     let none : length f ≡ 0 = ap (λ (w : List Piece). length w) (sym c.pieces.ensures.items)
     ∙ eqb-true (length c.pieces.result.now) 0 (sym c.is_empty.ensures ∙ c.if-not-is_empty.false) in
     record {
       can = tt;
       finite = tt;
-      count = one_more items l.yielded rest f l.node l.invariant.count;
+      count = t.count;
       left = omega (arith, l.invariant.left, step.1);
-      whole = still_whole items l.yielded rest f l.node l.invariant.count (into_iter_items l.function-iterator) step.0 l.invariant.whole;
-      chosen = choose_none (pieces_of items) l.node l.known l.invariant.chosen
-          (next_pieces items l.yielded rest f l.node l.invariant.count (into_iter_items l.function-iterator) step.0 l.invariant.whole ∙ pieces_missing f none);
+      whole = t.whole;
+      chosen = choose_none (pieces_of items) l.node l.known l.invariant.chosen (t.pieces ∙ pieces_missing f none);
     }
 
 pub returns : goal.returns
