@@ -1,0 +1,14 @@
+use Rattle.std.proofs.Common.{rules}
+use Rattle.both_engines.specs.SmallNets.{IsRequestOver}
+use Rattle.both_engines.proofs.CheapNets.{costs_fit}
+use Rattle.both_engines.proofs.tests.fronts.fronts_of.Goals as goal
+
+pub front-requires-clause-fit : goal.front-requires-clause-fit
+front-requires-clause-fit c =
+    let over : IsRequestOver c.in_ok-net.net c.args.request = search rules in
+    costs_fit c.in_ok-net.net c.args.request c.is_over.ensures.good c.in_ok-net.ensures over
+
+pub front-requires-2-clause-fit : goal.front-requires-2-clause-fit
+front-requires-2-clause-fit c =
+    let over : IsRequestOver c.in_ok-net.net c.args.request = search rules in
+    costs_fit c.in_ok-net.net c.args.request c.is_over.ensures.good c.in_ok-net.ensures over

@@ -1,0 +1,27 @@
+-- Small nets: numbers so low that every cost of a request fits (source: own).
+use Rattle.std.specs.Prelude.{ℕ, ◌+◌, ◌*◌, ◌≤◌, ◌<◌, Option, IfSome}
+use Rattle.route_base.specs.Net.{Net, IsGoodRequest}
+use Rattle.route_base.specs.declared.types.Request.{Request}
+use Rattle.route_base.specs.declared.types.TimedArc.{TimedArc}
+
+-- an arc between the first nodes, with one of the first lists of closed runs, of at most 100 minutes and thousandths
+pub record IsSmallArc (nodes lists : ℕ) (arc : TimedArc) : Type 0 where
+  pub tail : (1 ≤ arc.tail.0) × (arc.tail.0 ≤ nodes)
+  pub head : (1 ≤ arc.head.0) × (arc.head.0 ≤ nodes)
+  pub minutes : (1 ≤ arc.minutes) × (arc.minutes ≤ 100)
+  pub cost : arc.cost ≤ 100
+  pub closed : arc.closed < lists
+
+-- no minute of the arc costs more than 100,000 thousandths
+abbrev pub IsCheapArc : TimedArc → Type 0
+IsCheapArc arc = arc.cost ≤ 100000 * arc.minutes
+
+-- no weight, or one of at most 100 thousandths a minute
+abbrev pub IsLight : Option ℕ → Type 0
+IsLight weight = IfSome weight (λ w. w ≤ 100)
+
+-- a request over the net, of at most 60 days
+pub record IsRequestOver (net : Net) (r : Request) : Type 0 where
+  pub ends : IsGoodRequest net r
+  pub in_time : r.depart ≤ r.until
+  pub short : r.until ≤ r.depart + 86400

@@ -1,0 +1,10 @@
+//! Tests that the two engines agree: `TableEngine` of `plain_search`, which keeps a label for each node and minute, and
+//! `FunctionEngine` of `itinerary_unpack`, which keeps cost functions, find the same pairs on the same nets.
+//!
+//! Both are proved to find the Pareto front, so they agree by their contracts wherever memory suffices; the tests try what the
+//! compiler made of them. `nets` makes well-formed nets of plain lists, `fronts` runs both engines, `worked` has nets with pairs
+//! that were worked out by hand, and `random_nets` many small nets from a seed. `SmallNets` says what the nets keep.
+#![tactic(auto)]
+
+#[cfg(test)]
+mod tests;

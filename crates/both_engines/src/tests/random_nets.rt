@@ -1,0 +1,154 @@
+// Random nets.
+ghost use Rattle.std.specs.Prelude.{◌≤◌, ◌<◌};
+
+use super::fronts::fronts_of;
+use super::nets::NetLists;
+use route_base::{Cost, NodeId, OutOfMemory, Request, Run, TimedArc};
+use std::alloc::Global;
+use std::test::Fail;
+
+const SEED: u64 = 20201207;
+
+const NETS: u64 = 100_000;
+
+// The lists of closed runs of a net.
+const LISTS: u32 = 3;
+
+// Numbers that look random: the high bits of a linear congruential generator (source: Knuth, MMIX).
+#[derive(Drop)]
+struct Random {
+    state: u64,
+}
+
+impl Random {
+    fn next(&mut self) -> u64 {
+        self.state = self
+            .state
+            .wrapping_mul(6364136223846793005)
+            .wrapping_add(1442695040888963407);
+        self.state >> 33
+    }
+
+    fn below(&mut self, n: u64) -> u64
+        requires { 1 ≤ n }
+        ensures { result < n }
+    {
+        self.next() % n
+    }
+
+    fn node(&mut self, nodes: u32) -> NodeId
+        requires { 1 ≤ nodes }
+    {
+        NodeId(self.below(nodes as u64) as u32 + 1)
+    }
+}
+
+// A net and a request.
+#[derive(Drop)]
+struct Case {
+    nodes: u32,
+    arcs: Vec<TimedArc>,
+    closed: Vec<(u32, Run)>,
+    weights: Vec<Option<Cost>>,
+    request: Request,
+}
+
+fn random_case(alloc: Global, random: &mut Random) -> Result<Case, OutOfMemory> {
+    let nodes = random.below(4) as u32 + 3;
+    let depart = random.below(10);
+    Ok(Case {
+        nodes,
+        arcs: random_arcs(alloc, random, nodes)?,
+        closed: random_runs(alloc, random)?,
+        weights: random_weights(alloc, random, nodes)?,
+        request: Request {
+            origin: random.node(nodes),
+            goal: random.node(nodes),
+            depart,
+            until: depart + random.below(31),
+        },
+    })
+}
+
+// Up to 12 arcs, of which the shorter ones are mostly dearer.
+fn random_arcs(alloc: Global, random: &mut Random, nodes: u32) -> Result<Vec<TimedArc>, OutOfMemory>
+    requires { 1 ≤ nodes }
+{
+    let mut arcs = Vec::new(alloc);
+    for _ in 0..random.below(13) {
+        let more = random.below(5);
+        arcs.push(TimedArc {
+            tail: random.node(nodes),
+            head: random.node(nodes),
+            minutes: 5 - more,
+            cost: random.below(4) * (more + 1),
+            closed: random.below(LISTS as u64) as u32,
+        })?;
+    }
+    Ok(arcs)
+}
+
+// In each list up to four runs, which rise and don't touch.
+fn random_runs(alloc: Global, random: &mut Random) -> Result<Vec<(u32, Run)>, OutOfMemory> {
+    let mut closed = Vec::new(alloc);
+    for list in 0..LISTS {
+        for k in 0..4 {
+            let lo = 10 * k + random.below(5) + 1;
+            let hi = lo + random.below(5) + 1;
+            if random.below(2) == 0 {
+                closed.push((list, Run { lo, hi }))?;
+            }
+        }
+    }
+    Ok(closed)
+}
+
+fn random_weights(
+    alloc: Global,
+    random: &mut Random,
+    nodes: u32,
+) -> Result<Vec<Option<Cost>>, OutOfMemory> {
+    let mut weights = Vec::new(alloc);
+    for _ in 0..nodes {
+        let weight = random.below(4);
+        weights.push(if random.below(2) == 0 {
+            Some(weight)
+        } else {
+            None
+        })?;
+    }
+    Ok(weights)
+}
+
+#[test]
+fn agree_on_random_nets(rt: HostRuntime) -> Result<(), Fail> {
+    println!(rt; "{NETS} random nets from the seed {SEED}")?;
+    let alloc = rt.alloc();
+    let mut random = Random { state: SEED };
+    let mut with_pairs = 0u64;
+    let mut with_several = 0u64;
+    for net in 0..NETS {
+        let case = random_case(alloc, &mut random)?;
+        let lists = NetLists {
+            nodes: case.nodes,
+            arcs: &case.arcs,
+            lists: LISTS,
+            closed: &case.closed,
+            weights: &case.weights,
+        };
+        let fronts = fronts_of(alloc, lists, case.request)?;
+        let Some(fronts) = fronts else {
+            assert!(rt; false, "net {net} isn't well-formed");
+            return Ok(());
+        };
+        assert!(rt; fronts.agree(), "net {net}");
+        if fronts.table.len() > 0 {
+            with_pairs = with_pairs.saturating_add(1);
+        }
+        if fronts.table.len() > 1 {
+            with_several = with_several.saturating_add(1);
+        }
+    }
+    println!(rt; "{with_pairs} of them with pairs, {with_several} with several")?;
+    Ok(())
+}
