@@ -10,8 +10,6 @@
 //! each of their minutes the goal is in reach by the horizon. `writable`: it has a text (`IsWritable` of `certificate`) where no
 //! minute of a road costs more than one of driving (`HasCheapRoads` of `specs/CheapRoads`).
 //!
-//! `tightness_agrees` is the law that settings of which one stands for the other have the same tight certificates.
-//!
 //! The search promises the six conditions of the checker already (`IsFoundFor` of `propagation`), over lists with a place for each
 //! node. `bounds` and `functions` make entries by rising node of them that say the same (`AreEntriesOf` of `specs/Inside`, which
 //! is no law), and `proofs/FoundEntries` carries the conditions over. `proofs/LeastSums` shows that the bounds are within the
@@ -21,10 +19,8 @@
 mod bounds;
 mod certifier;
 mod functions;
-mod laws;
 
 pub use certifier::certify;
-pub use laws::tightness_agrees;
 
 #[cfg(test)]
 mod tests;
