@@ -19,7 +19,7 @@ use Rattle.front_desk.specs.ReadingOrder.{network_held}
 use Rattle.front_desk.specs.Trips.{failed_check, request_of}
 use Rattle.front_desk.specs.declared.outcome.Halt.{Halt}
 use Rattle.front_desk.specs.declared.outcome.Halt.TheVariants.{Refused, ReadFault, WriteFault, NoMemory}
-use Rattle.front_desk.specs.declared.outcome.Refusal.TheVariants.{Usage, Input, Request}
+use Rattle.plan_report.specs.declared.outcomes.Refusal.TheVariants.{Usage, Input, Request}
 use Rattle.front_desk.specs.declared.outcome.Report.{Report}
 use Rattle.front_desk.specs.declared.plan.CertificateFile.{CertificateFile}
 use Rattle.front_desk.specs.declared.plan.Planned.{Planned}
@@ -157,7 +157,7 @@ module _ (p : Plan) (old mid new : FolderState) (kept : KeepsFiles old mid) (net
             (record {
               routes = ready.routes;
               right = ready.right;
-              is_text = ready.is_text ∙ ap Some (sym h.1.0);
+              is_text = h.1.0 ∙ ready.is_text;
               certified = certified (trip_setting network p.trip) p.certificate planned.certificate held is ready.file h.1.1;
             });
       };

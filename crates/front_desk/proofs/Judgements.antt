@@ -12,6 +12,8 @@ use Rattle.certificate_check.specs.declared.checker.Verdict.{Verdict}
 use Rattle.certificate_check.specs.declared.checker.Verdict.TheVariants.{Accepted, Rejected}
 use Rattle.route_base.specs.FolderState.{FolderState}
 use Rattle.network_tables.specs.NetworkModel.{NetworkModel}
+use Rattle.plan_report.specs.Check.{check_text_of}
+use Rattle.plan_report.specs.declared.outcomes.Verdict3.TheVariants.{Rejected as Rejected3}
 use Rattle.front_desk.specs.Check.{no_certificate, condition_fails, check_fault, certificate_held, IsAccepted, IsRejected}
 use Rattle.front_desk.specs.CommandLine.{Check, to_check}
 use Rattle.front_desk.specs.Files.{IfTold}
@@ -19,7 +21,6 @@ use Rattle.front_desk.specs.Inside.Halting.{ReportsOn}
 use Rattle.front_desk.specs.Inside.Judging.{Tells, IsJudged}
 use Rattle.front_desk.specs.Plan.{trip_setting}
 use Rattle.front_desk.specs.ReadingOrder.{network_held}
-use Rattle.front_desk.specs.Texts.{rejected_text_of}
 use Rattle.front_desk.specs.Trips.{failed_check, request_of}
 use Rattle.front_desk.specs.declared.outcome.Report.{Report}
 
@@ -37,7 +38,7 @@ module _ (s : Setting) (request : Request) (bytes : List ℕ) (report : Report) 
   }
 
   -- no certificate has the bytes as its text
-  pub judged_unread : IsNoCertificateText bytes → report.rejects ≡ true → report.text.items ≡ rejected_text_of 0
+  pub judged_unread : IsNoCertificateText bytes → report.rejects ≡ true → report.text.items ≡ check_text_of (Rejected3 0) 0
       → IsJudged s request bytes report
   judged_unread none rejects is_text = record {
     accepted = λ accepts. absurd (both_ways report.rejects accepts rejects);

@@ -6,5 +6,6 @@ pub mod Leaving
 pub mod Loading
 pub mod NamedVehicles
 pub mod ReadFiles
+pub mod ReadyPlans
 pub mod RefusalTexts
 pub mod Rows

@@ -13,7 +13,7 @@ use Rattle.front_desk.specs.Files.{FileToRead, fault_of_file, first_unreadable, 
 use Rattle.front_desk.specs.Inside.Halting.{StopsReading}
 use Rattle.front_desk.specs.declared.outcome.Halt.{Halt}
 use Rattle.front_desk.specs.declared.outcome.Halt.TheVariants.{Refused, ReadFault, WriteFault, NoMemory}
-use Rattle.front_desk.specs.declared.outcome.Refusal.TheVariants.{Usage, Input, Request}
+use Rattle.plan_report.specs.declared.outcomes.Refusal.TheVariants.{Usage, Input, Request}
 
 -- a count that has risen since later has risen since before
 risen_before : (a b c : ℕ) → a ≤ b → HasRisen b c → HasRisen a c

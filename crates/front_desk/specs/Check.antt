@@ -15,11 +15,12 @@ use Rattle.certificate.specs.Writable.{IsCertificateText, IsNoCertificateText}
 use Rattle.certificate.specs.declared.Certificate.{Certificate}
 use Rattle.certificate_check.specs.Conditions.{pairs_of}
 use Rattle.certificate_check.specs.Verdicts.{IsGood, FailsFirst}
+use Rattle.plan_report.specs.Check.{check_text_of}
+use Rattle.plan_report.specs.declared.outcomes.Verdict3.TheVariants.{Accepted, Rejected}
 use Rattle.front_desk.specs.CommandLine.{Check}
 use Rattle.front_desk.specs.Files.{FileToRead, first_unreadable, bytes_at}
 use Rattle.front_desk.specs.Plan.{trip_setting}
 use Rattle.front_desk.specs.ReadingOrder.{network_files, files_of, network_held}
-use Rattle.front_desk.specs.Texts.{accepted_text_of, rejected_text_of}
 use Rattle.front_desk.specs.Trips.{failed_check, request_of}
 
 -- a certificate, which has to be there
@@ -52,7 +53,7 @@ pub record IsAccepted (s : Setting) (request : Request) (bytes text : List ℕ) 
   pub read : IsCertificateText bytes certificate
   pub good : IsGood s request certificate
   pub front : IsFront s request (pairs_of certificate.routes)
-  pub is_text : text ≡ accepted_text_of (length certificate.routes)
+  pub is_text : text ≡ check_text_of Accepted (length certificate.routes)
 
 -- why bytes are rejected: 0 for bytes that are no certificate's text, else the number of the first condition that fails
 pub data FailsWith (s : Setting) (request : Request) (bytes : List ℕ) : ℕ → Type 0 where
@@ -60,11 +61,11 @@ pub data FailsWith (s : Setting) (request : Request) (bytes : List ℕ) : ℕ �
   condition_fails : (certificate : Certificate) (k : ℕ) → IsCertificateText bytes certificate → FailsFirst s request certificate k
       → FailsWith s request bytes k
 
--- the text tells why the bytes are rejected
+-- the text tells why the bytes are rejected, and no number of pairs
 pub record IsRejected (s : Setting) (request : Request) (bytes text : List ℕ) : Type 0 where
   pub number : ℕ
   pub fails : FailsWith s request bytes number
-  pub is_text : text ≡ rejected_text_of number
+  pub is_text : text ≡ check_text_of (Rejected number) 0
 
 -- the text accepts the file's certificate
 abbrev pub AcceptsCertificate : Check → Contents → List ℕ → Type 0

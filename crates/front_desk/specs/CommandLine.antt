@@ -141,13 +141,8 @@ pub record IsTimed (trip : Trip) : Type 0 where
   pub depart : IsInstant trip.depart
   pub until : IsInstant trip.until
 
--- the trip's minutes are instants, and the form is one that is supported
-pub record IsSupported (p : Plan) : Type 0 where
-  pub timed : IsTimed p.trip
-  pub form : p.form ≡ Plain
-
--- all that the command asks for is supported
+-- the command begins and ends at instants; all else that it asks for is supported
 abbrev pub AsksSupported : Command → Type 0
-AsksSupported (to_plan p) = IsSupported p
+AsksSupported (to_plan p) = IsTimed p.trip
 AsksSupported (to_check c) = IsTimed c.trip
 AsksSupported (to_bans b) = IsInstant b.depart × IsInstant b.until

@@ -7,6 +7,5 @@ pub mod Inside
 pub mod Plan
 pub mod ReadingOrder
 pub mod Run
-pub mod Texts
 pub mod Trips
 pub mod Words

@@ -12,10 +12,10 @@ use Rattle.network_tables.specs.RoadSetting.{road_setting}
 use Rattle.certificate.specs.Writable.{IsCertificateText}
 use Rattle.certificate.specs.declared.Certificate.{Certificate}
 use Rattle.certificate_check.specs.Verdicts.{IsGood}
+use Rattle.plan_report.specs.Reports.{report_text}
 use Rattle.front_desk.specs.CommandLine.{Plan}
 use Rattle.front_desk.specs.Files.{path_of}
 use Rattle.front_desk.specs.ReadingOrder.{first_folder_fault, network_held}
-use Rattle.front_desk.specs.Texts.{report_text}
 use Rattle.front_desk.specs.Trips.{Trip, failed_check, request_of, vehicle_named}
 
 -- the bytes are the text of a good certificate with just these routes
@@ -36,12 +36,12 @@ abbrev pub Certifies : Setting → Request → List Route → List ℕ → Optio
 Certifies s request routes dir None before after = ⊤
 Certifies s request routes dir (Some name) before after = HoldsCertificate s request routes (path_of dir name) before after
 
--- the text reports right routes, the Pareto front with a lawful itinerary for each pair, and the certificate that was asked for has
--- just these routes
+-- the text reports right routes, the Pareto front with a lawful itinerary for each pair, in the plan's form, and the certificate that
+-- was asked for has just these routes
 pub record IsPlanned (s : Setting) (p : Plan) (before after : Option Contents) (text : List ℕ) : Type 0 where
   pub routes : List Route
   pub right : IsRight s (request_of p.trip) routes
-  pub is_text : report_text p.form s (request_of p.trip) routes ≡ Some text
+  pub is_text : text ≡ report_text p.form s (request_of p.trip) routes
   pub certified : Certifies s (request_of p.trip) routes p.dir p.certificate before after
 
 -- the road setting of the trip's vehicle

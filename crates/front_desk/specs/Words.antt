@@ -8,9 +8,10 @@ pub use Rattle.route_base.specs.declared.faults.RequestFault.{RequestFault}
 pub use Rattle.vehicle_classes.specs.VehicleModel.{VehicleModel}
 pub use Rattle.network_tables.specs.NetworkFiles.{contents_fault, network_in_files}
 pub use Rattle.network_tables.specs.NetworkModel.{IsGoodNetwork}
+pub use Rattle.plan_report.specs.Refusals.{refusal_text_of}
 pub use Rattle.front_desk.specs.Bans.{failed_bans_check, window_of, AreBans, IsBansText}
 pub use Rattle.front_desk.specs.CommandLine.{Command, to_plan, is_folder_name, node_of, trip_of, plan_of, plan_in, command_of, command_in}
-pub use Rattle.front_desk.specs.CommandLine.{IsSupported, AsksSupported, IsTimed, trip_over, to_bans, bans_of, bans_in}
+pub use Rattle.front_desk.specs.CommandLine.{AsksSupported, IsTimed, trip_over, to_bans, bans_of, bans_in}
 pub use Rattle.front_desk.specs.CommandLine.{is_certificate_name, plain_plan_of, certified_plan_of, to_check, check_of, check_in}
 pub use Rattle.front_desk.specs.Check.{certificate_file, files_to_check, check_fault, certificate_held, check_setting, IsAccepted, IsRejected}
 pub use Rattle.front_desk.specs.Commands.{first_fault_for, failed_check_for, IsFinished, IsUndisturbed, ReadsNothing, LeavesFiles, LeavesPlan, WritesFiles}
@@ -18,8 +19,7 @@ pub use Rattle.front_desk.specs.Files.{IfTold, path_of, whole_fault, fault_of_fi
 pub use Rattle.front_desk.specs.ReadingOrder.{network_files, files_from, files_of, first_folder_fault, network_held}
 pub use Rattle.front_desk.specs.Plan.{IsCertificateOf, IsPlanned, trip_setting}
 pub use Rattle.front_desk.specs.Run.{IsAnsweredBy, IsAnswer, IsDue, IsRefused, Prints, FailsToWrite, HasFailed, status_of}
-pub use Rattle.front_desk.specs.Texts.{closed_text, bans_text_of, accepted_text_of, rejected_text_of, thousandths_of, leg_text, route_text, plain_text_of, fault_text, refusal_text_of}
 pub use Rattle.front_desk.specs.Trips.{is_node, failed_time, failed_check_over, failed_check, request_of, trip_in, IsGoodTrip, is_vehicle, vehicle_named}
 pub use Rattle.front_desk.specs.Inside.Halting.{StopsReading, StopsStating, StopsCommand, StopsWords, Writes, ReportsOn, status_of_halt, status_of_report}
-pub use Rattle.front_desk.specs.Inside.Planning.{trip_window, IsTripNet, IsFileFor, IsReady, HandsOver, IsWritten, IsUnwritten}
+pub use Rattle.front_desk.specs.Inside.Planning.{trip_window, IsTripNet, IsPlannable, IsFileFor, IsReady, HandsOver, IsWritten, IsUnwritten}
 pub use Rattle.front_desk.specs.Inside.Judging.{Tells, IsJudged}

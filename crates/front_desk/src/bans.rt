@@ -5,11 +5,11 @@ ghost use Rattle.front_desk.specs.Words.{bans_in, to_bans, vehicle_named, IsBans
 
 use crate::command_line::Bans;
 use crate::networks::load_network;
-use crate::outcome::{Halt, Refusal, Report};
+use crate::outcome::{Halt, Report};
 use crate::requests::vehicle_of_bans;
-use crate::texts::bans_text;
 use ban_expansion::closed_set;
 use network_tables::Network;
+use plan_report::{Refusal, bans_text};
 use route_base::{ArcId, Folder, OutOfMemory, Run};
 use std::alloc::Global;
 use vehicle_classes::Vehicle;

@@ -1,7 +1,7 @@
 // Reads the words of the command line.
 ghost use Rattle.std.specs.Prelude.{◌≡◌, IfSome, option_map};
 ghost use Rattle.front_desk.specs.Words.{is_folder_name, node_of, trip_of, plan_of, plan_in, command_of, command_in};
-ghost use Rattle.front_desk.specs.Words.{IsSupported, AsksSupported, IsTimed, IsInstant, trip_in, trip_over, bans_of, bans_in};
+ghost use Rattle.front_desk.specs.Words.{AsksSupported, IsTimed, IsInstant, trip_in, trip_over, bans_of, bans_in};
 ghost use Rattle.front_desk.specs.Words.{is_certificate_name, plain_plan_of, certified_plan_of, check_of, check_in};
 
 use crate::requests::Trip;
@@ -120,7 +120,7 @@ fn trip_over<'a>(
 // The plan of the words behind the command's name, without a certificate.
 fn plain_plan(words: &[Text]) -> Option<Plan<'_>>
     ensures plan { option_map plan_in result ≡ plain_plan_of words.now }
-    ensures supported { IfSome result (λ p. IsSupported (plan_in p)) }
+    ensures timed { IfSome result (λ p. IsTimed (plan_in p).trip) }
 {
     let [dir, vehicle, origin, goal, depart, until] = words else {
         return None;
@@ -144,7 +144,7 @@ fn plain_plan(words: &[Text]) -> Option<Plan<'_>>
 // The plan of the words behind the command's name, with a certificate.
 fn certified_plan(words: &[Text]) -> Option<Plan<'_>>
     ensures plan { option_map plan_in result ≡ certified_plan_of words.now }
-    ensures supported { IfSome result (λ p. IsSupported (plan_in p)) }
+    ensures timed { IfSome result (λ p. IsTimed (plan_in p).trip) }
 {
     let [dir, vehicle, origin, goal, depart, until, option, name] = words else {
         return None;
@@ -171,7 +171,7 @@ fn certified_plan(words: &[Text]) -> Option<Plan<'_>>
 // The plan of the words behind the command's name.
 fn plan_words(words: &[Text]) -> Option<Plan<'_>>
     ensures plan { option_map plan_in result ≡ plan_of words.now }
-    ensures supported { IfSome result (λ p. IsSupported (plan_in p)) }
+    ensures timed { IfSome result (λ p. IsTimed (plan_in p).trip) }
 {
     match plain_plan(words) {
         Some(plan) => Some(plan),

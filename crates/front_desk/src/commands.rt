@@ -6,8 +6,9 @@ ghost use Rattle.front_desk.specs.Words.{status_of_halt, status_of_report};
 use crate::bans::report_bans;
 use crate::command_line::{Command, read_command};
 use crate::judgement::report_check;
-use crate::outcome::{Halt, Refusal, Report};
+use crate::outcome::{Halt, Report};
 use crate::plan::report_plan;
+use plan_report::Refusal;
 use route_base::{Folder, Text};
 use std::alloc::Global;
 

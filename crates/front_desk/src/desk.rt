@@ -6,8 +6,8 @@ ghost use Rattle.front_desk.specs.Words.{ReadsNothing, LeavesFiles, IsAnswer, Is
 ghost use Rattle.front_desk.specs.Words.{HasFailed, status_of, refusal_text_of, Writes};
 
 use crate::commands::answer;
-use crate::outcome::{Halt, Refusal};
-use crate::texts::refusal_text;
+use crate::outcome::{Halt, status_of_refusal};
+use plan_report::{Refusal, refusal_text};
 use route_base::{Folder, OutOfMemory, Sink, Status, Text, WriteError};
 use std::alloc::Global;
 use std::thread::Threads;
@@ -29,7 +29,7 @@ fn refuse<S: Sink>(alloc: Global, out: &mut S, refusal: Refusal) -> Status
         (refusal_text_of refusal) result }
 {
     match refusal_text(alloc, refusal) {
-        Ok(text) => put(out, text.as_slice(), refusal.status()),
+        Ok(text) => put(out, text.as_slice(), status_of_refusal(refusal)),
         Err(OutOfMemory) => Status::NoMemory,
     }
 }

@@ -5,8 +5,9 @@ ghost use Rattle.front_desk.specs.Words.{AreRead, network_files, files_from, fil
 ghost use Rattle.front_desk.specs.Words.{bytes_at, certificate_file};
 
 use crate::file_to_read::FileToRead;
-use crate::outcome::{Halt, Refusal};
+use crate::outcome::Halt;
 use network_tables::Files;
+use plan_report::Refusal;
 use route_base::{
     BadInput, Cause, FileBytes, FileKind, Folder, OutOfMemory, ReadAllFault, read_all,
 };

@@ -10,12 +10,12 @@ ghost use Rattle.certificate_check.specs.declared.checker.Verdict.TheVariants.{A
 
 use crate::command_line::Check;
 use crate::networks::{load_to_check, net_of_trip};
-use crate::outcome::{Halt, Refusal, Report};
+use crate::outcome::{Halt, Report};
 use crate::requests::{Trip, request_of, vehicle_of_trip};
-use crate::texts::{accepted_text, rejected_text};
 use certificate::{Certificate, CertificateFault, read};
 use certificate_check::{Verdict, check, verdicts_agree};
 use network_tables::Network;
+use plan_report::{Refusal, Verdict3, check_text};
 use route_base::{Folder, OutOfMemory, settings_agree};
 use std::alloc::Global;
 use vehicle_classes::Vehicle;
@@ -56,11 +56,11 @@ fn verdict_report(
 {
     match verdict {
         Verdict::Accepted => Ok(Report {
-            text: accepted_text(alloc, certificate.routes.len())?,
+            text: check_text(alloc, Verdict3::Accepted, certificate.routes.len())?,
             rejects: false,
         }),
         Verdict::Rejected(number) => Ok(Report {
-            text: rejected_text(alloc, number)?,
+            text: check_text(alloc, Verdict3::Rejected(number), 0)?,
             rejects: true,
         }),
     }
@@ -85,7 +85,7 @@ fn judged(
         Ok(certificate) => certificate,
         Err(CertificateFault::NotACertificate) => {
             return Ok(Report {
-                text: rejected_text(alloc, 0)?,
+                text: check_text(alloc, Verdict3::Rejected(0), 0)?,
                 rejects: true,
             });
         }

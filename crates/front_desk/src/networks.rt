@@ -6,10 +6,11 @@ ghost use Rattle.front_desk.specs.Words.{check_in, check_fault, certificate_held
 
 use crate::command_line::Check;
 use crate::files::{read_files_to_check, read_network_files};
-use crate::outcome::{Halt, Refusal};
+use crate::outcome::Halt;
 use crate::requests::Trip;
 use ban_expansion::expand_plain;
 use network_tables::{Files, Network, NetworkFault, read_network};
+use plan_report::Refusal;
 use route_base::{FileBytes, Folder, OutOfMemory, Run, TimedNet, settings_agree};
 use std::alloc::Global;
 use vehicle_classes::Vehicle;

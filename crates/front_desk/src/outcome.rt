@@ -3,26 +3,17 @@ ghost use Rattle.std.specs.Prelude.{◌≡◌};
 ghost use Rattle.front_desk.specs.Run.{status_of};
 ghost use Rattle.front_desk.specs.Inside.Halting.{status_of_report};
 
-use route_base::{BadInput, OutOfMemory, RequestFault, Status};
+use plan_report::Refusal;
+use route_base::{OutOfMemory, Status};
 
-/// Why nothing is answered: the words are no command, a file has a fault, or the request fails a check.
-#[derive(Clone, Copy, Debug, PartialEq, Eq)]
-pub enum Refusal {
-    Usage,
-    Input(BadInput),
-    Request(RequestFault),
-}
-
-impl Refusal {
-    /// The status of the refusal.
-    pub fn status(self) -> Status
-        ensures { result ≡ status_of self }
-    {
-        match self {
-            Refusal::Usage => Status::Usage,
-            Refusal::Input(_) => Status::BadInput,
-            Refusal::Request(_) => Status::BadRequest,
-        }
+/// The status of a refusal.
+pub fn status_of_refusal(refusal: Refusal) -> Status
+    ensures { result ≡ status_of refusal }
+{
+    match refusal {
+        Refusal::Usage => Status::Usage,
+        Refusal::Input(_) => Status::BadInput,
+        Refusal::Request(_) => Status::BadRequest,
     }
 }
 

@@ -1,23 +1,26 @@
 // The command that plans a trip.
 ghost use Rattle.std.specs.Prelude.{◌≡◌, Some, IfOk, OnOk, IfErr, IfSome, false};
-ghost use Rattle.front_desk.specs.Words.{CountsRise, IsGoodNetwork, trip_setting, vehicle_named, plan_in, to_plan, IsSupported};
-ghost use Rattle.front_desk.specs.Words.{request_of, trip_in, IsGoodTrip, IsCertificateOf, IsTripNet, IsFileFor, IsReady};
+ghost use Rattle.front_desk.specs.Words.{CountsRise, IsGoodNetwork, trip_setting, vehicle_named, plan_in, to_plan, IsTimed};
+ghost use Rattle.front_desk.specs.Words.{request_of, IsGoodTrip, IsCertificateOf, IsPlannable, IsFileFor, IsReady};
 ghost use Rattle.front_desk.specs.Words.{StopsCommand, ReportsOn, LeavesPlan, IfTold, status_of_halt, HandsOver, IsWritten, IsUnwritten};
 ghost use Rattle.route_base.specs.Front.{IsRight};
+ghost use Rattle.route_base.specs.Net.{setting_of};
 ghost use Rattle.route_base.specs.declared.status.Status.TheVariants.{Done};
 
 use crate::command_line::Plan;
 use crate::files::path_to;
 use crate::networks::{load_network, net_of_trip};
-use crate::outcome::{Halt, Refusal, Report};
-use crate::requests::{Trip, request_of, vehicle_of_trip};
-use crate::texts::plain_text;
+use crate::outcome::{Halt, Report};
+use crate::requests::{request_of, vehicle_of_trip};
 use certificate::write;
 use certificate_check::verdicts_agree;
 use itinerary_unpack::FunctionEngine;
 use network_tables::Network;
 use plan_certificate::certify;
-use route_base::{Folder, FrontSearch, OutOfMemory, Routes, TimedNet, WriteError, settings_agree};
+use plan_report::{Refusal, plan_text, reports_agree};
+use route_base::{
+    Folder, FrontSearch, OutOfMemory, Request, Routes, TimedNet, WriteError, settings_agree,
+};
 use std::alloc::Global;
 use vehicle_classes::Vehicle;
 
@@ -35,47 +38,58 @@ pub struct Planned<'a> {
     pub certificate: Option<CertificateFile<'a>>,
 }
 
-// The text of a certificate of the trip's routes over the net.
+// The text of a certificate of a request's routes over a net.
 fn certificate_bytes(
     alloc: Global,
-    network: &Network,
     net: &TimedNet,
-    trip: Trip<'_>,
+    request: Request,
     routes: Routes,
 ) -> Result<Vec<u8>, OutOfMemory>
-    requires net { IsTripNet network.now (trip_in trip) net.now }
-    requires good { IsGoodTrip network.now.graph.nodes (trip_in trip) }
-    requires right { IsRight (trip_setting network.now (trip_in trip)) (request_of (trip_in trip)) routes }
-    ensures { IfOk result (λ bytes. IsCertificateOf (trip_setting network.now (trip_in trip.entry))
-        (request_of (trip_in trip.entry)) routes bytes.items) }
+    requires plannable { IsPlannable net.now request }
+    requires right { IsRight (setting_of net.now) request routes }
+    ensures { IfOk result
+        (λ bytes. IsCertificateOf (setting_of net.now) request routes bytes.items) }
 {
-    settings_agree();
-    verdicts_agree();
-    let certificate = certify(alloc, net, request_of(trip), routes)?;
+    let certificate = certify(alloc, net, request, routes)?;
     write(alloc, &certificate)
 }
 
-// The certificate's file, where one is asked for.
+// The certificate's file, where the plan asks for one.
 fn file_for<'a>(
     alloc: Global,
-    network: &Network,
     net: &TimedNet,
+    request: Request,
     plan: Plan<'a>,
     routes: Routes,
 ) -> Result<Option<CertificateFile<'a>>, OutOfMemory>
-    requires net { IsTripNet network.now (plan_in plan).trip net.now }
-    requires good { IsGoodTrip network.now.graph.nodes (plan_in plan).trip }
-    requires right { IsRight (trip_setting network.now (plan_in plan).trip) (request_of (plan_in plan).trip) routes }
-    ensures { IfOk result (IsFileFor (trip_setting network.now (plan_in plan.entry).trip)
-        (request_of (plan_in plan.entry).trip) routes (plan_in plan.entry).certificate) }
+    requires plannable { IsPlannable net.now request }
+    requires right { IsRight (setting_of net.now) request routes }
+    ensures { IfOk result
+        (IsFileFor (setting_of net.now) request routes (plan_in plan.entry).certificate) }
 {
     match plan.certificate {
         None => Ok(None),
         Some(name) => {
-            let bytes = certificate_bytes(alloc, network, net, plan.trip, routes)?;
+            let bytes = certificate_bytes(alloc, net, request, routes)?;
             Ok(Some(CertificateFile { name, bytes }))
         }
     }
+}
+
+// What a plan prints and writes, over the net of its trip.
+fn planned_over<'a>(
+    alloc: Global,
+    net: &TimedNet,
+    plan: Plan<'a>,
+) -> Result<Planned<'a>, OutOfMemory>
+    requires { IsPlannable net.now (request_of (plan_in plan).trip) }
+    ensures { IfOk result (IsReady (setting_of net.now) (plan_in plan.entry)) }
+{
+    let request = request_of(plan.trip);
+    let routes = FunctionEngine.front(alloc, net, request)?;
+    let text = plan_text(alloc, plan.form, net, request, &routes)?;
+    let certificate = file_for(alloc, net, request, plan, routes)?;
+    Ok(Planned { text, certificate })
 }
 
 // What the plan of a trip that passes the checks prints and writes, for its vehicle.
@@ -88,15 +102,16 @@ fn planned_trip<'a>(
     requires network { IsGoodNetwork network.now }
     requires vehicle { vehicle.now ≡ vehicle_named network.now (plan_in plan).trip.vehicle }
     requires good { IsGoodTrip network.now.graph.nodes (plan_in plan).trip }
-    requires supported { IsSupported (plan_in plan) }
-    ensures { IfOk result (IsReady (trip_setting network.now (plan_in plan.entry).trip) (plan_in plan.entry)) }
+    requires timed { IsTimed (plan_in plan).trip }
+    ensures { IfOk result
+        (IsReady (trip_setting network.now (plan_in plan.entry).trip) (plan_in plan.entry)) }
 {
     let net = net_of_trip(alloc, network, vehicle, plan.trip)?;
     settings_agree();
-    let routes = FunctionEngine.front(alloc, &net, request_of(plan.trip))?;
-    let text = plain_text(alloc, &routes)?;
-    let certificate = file_for(alloc, network, &net, plan, routes)?;
-    Ok(Planned { text, certificate })
+    verdicts_agree();
+    reports_agree();
+    let planned = planned_over(alloc, &net, plan)?;
+    Ok(planned)
 }
 
 // Writes the certificate's file below dir, if there is one.
@@ -141,7 +156,7 @@ fn hand_over<F: Folder>(
 
 /// The report of the plan's trip over the files of its folder, into which its certificate is written where one is asked for.
 pub fn report_plan<F: Folder>(alloc: Global, folder: &mut F, plan: Plan<'_>) -> Result<Report, Halt>
-    requires supported { IsSupported (plan_in plan) }
+    requires timed { IsTimed (plan_in plan).trip }
     ensures reports { IfOk result (ReportsOn (to_plan (plan_in plan.entry))
         (F.state folder.old) (F.state folder.new)) }
     ensures done { IfOk result (λ report. report.rejects ≡ false) }

@@ -14,7 +14,7 @@ use Rattle.front_desk.specs.Run.{IsAnsweredBy, IsRejectedBy, IsFirstFault, IsCau
 use Rattle.front_desk.specs.declared.outcome.Halt.{Halt}
 use Rattle.front_desk.specs.declared.outcome.Halt.TheVariants.{Refused, ReadFault, WriteFault as WriteFaultHalt, NoMemory as NoMemoryHalt}
 use Rattle.front_desk.specs.declared.outcome.Report.{Report}
-use Rattle.front_desk.specs.declared.outcome.Refusal.TheVariants.{Usage, Input, Request}
+use Rattle.plan_report.specs.declared.outcomes.Refusal.TheVariants.{Usage, Input, Request}
 
 -- why no files can be had: their first fault, a failed read, or no memory
 abbrev pub StopsReading : (Contents → Option BadInput) → FolderState → FolderState → Halt → Type 0

@@ -1,20 +1,21 @@
 -- The net of a trip, and what a plan has ready before it writes (source: own).
-use Rattle.std.specs.Prelude.{◌≡◌, ℕ, ◌≤◌, false, ⊤, Option, Some, None, List, length, Result, Ok, Err}
+use Rattle.std.specs.Prelude.{◌≡◌, ℕ, ◌-◌, ◌≤◌, false, ⊤, Option, Some, None, List, length, Result, Ok, Err}
 use Rattle.route_base.specs.FolderState.{FolderState, CountsRise, KeepsFiles, FailedToWrite, PutsFile, SpoilsFile}
 use Rattle.route_base.specs.Front.{IsRight}
 use Rattle.route_base.specs.Legs.{CostsFit}
 use Rattle.route_base.specs.Matching.{StandsFor}
 use Rattle.route_base.specs.Net.{Net, IsGoodRequest, setting_of}
 use Rattle.route_base.specs.Setting.{Setting}
-use Rattle.route_base.specs.declared.limits.TheConstants.{MOST_NODES, MOST_ARCS}
+use Rattle.route_base.specs.Time.{IsInstant}
+use Rattle.route_base.specs.declared.limits.TheConstants.{LONGEST_HORIZON, MOST_NODES, MOST_ARCS}
 use Rattle.route_base.specs.declared.types.Request.{Request}
 use Rattle.route_base.specs.declared.types.Route.{Route}
 use Rattle.route_base.specs.declared.types.Run.{Run}
 use Rattle.network_tables.specs.NetworkModel.{NetworkModel}
+use Rattle.plan_report.specs.Reports.{report_text}
 use Rattle.front_desk.specs.CommandLine.{Plan}
 use Rattle.front_desk.specs.Files.{path_of}
 use Rattle.front_desk.specs.Plan.{IsCertificateOf, trip_setting}
-use Rattle.front_desk.specs.Texts.{report_text}
 use Rattle.front_desk.specs.Trips.{Trip, request_of}
 use Rattle.front_desk.specs.declared.outcome.Halt.{Halt}
 use Rattle.front_desk.specs.declared.outcome.Halt.TheVariants.{Refused, ReadFault, WriteFault, NoMemory}
@@ -34,6 +35,17 @@ pub record IsTripNet (network : NetworkModel) (trip : Trip) (net : Net) : Type 0
   pub nodes : net.nodes ≤ MOST_NODES
   pub arcs : length net.arcs ≤ MOST_ARCS
 
+-- the request asks for a plan over the net that is no longer, and no larger, than a plan may be
+pub record IsPlannable (net : Net) (request : Request) : Type 0 where
+  pub good : IsGoodRequest net request
+  pub depart : IsInstant request.depart
+  pub until : IsInstant request.until
+  pub in_time : request.depart ≤ request.until
+  pub horizon : request.until - request.depart ≤ LONGEST_HORIZON
+  pub fit : CostsFit (setting_of net) request
+  pub nodes : net.nodes ≤ MOST_NODES
+  pub arcs : length net.arcs ≤ MOST_ARCS
+
 -- the file is the certificate that was asked for
 abbrev pub IsFileFor : Setting → Request → List Route → Option (List ℕ) → Option CertificateFile → Type 0
 IsFileFor s request routes None None = ⊤
@@ -45,7 +57,7 @@ IsFileFor s request routes (Some name) (Some file) = (file.name.now ≡ name) ×
 pub record IsReady (s : Setting) (p : Plan) (planned : Planned) : Type 0 where
   pub routes : List Route
   pub right : IsRight s (request_of p.trip) routes
-  pub is_text : report_text p.form s (request_of p.trip) routes ≡ Some planned.text.items
+  pub is_text : planned.text.items ≡ report_text p.form s (request_of p.trip) routes
   pub file : IsFileFor s (request_of p.trip) routes p.certificate planned.certificate
 
 -- the file was written, if there is one, and no other file is changed

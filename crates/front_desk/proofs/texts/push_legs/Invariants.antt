@@ -1,6 +1,0 @@
-use Rattle.std.proofs.Common.{◌≡◌, ◌++◌, flat_map, take}
-use Rattle.front_desk.specs.Texts.{leg_text}
-use Rattle.front_desk.proofs.texts.push_legs.Given as goal
-
-abbrev pub invariant-loop-leg : goal.invariant-loop-leg
-invariant-loop-leg l = l.out.items ≡ l.initial.out.items ++ flat_map leg_text (take l.leg-index l.legs)
