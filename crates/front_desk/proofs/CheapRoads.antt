@@ -9,6 +9,7 @@ use Rattle.dimacs_reader.specs.declared.graph.GraphArc.{GraphArc}
 use Rattle.vehicle_classes.specs.VehicleModel.{VehicleModel}
 use Rattle.network_tables.specs.NetworkModel.{NetworkModel, IsGoodNetwork, IsSmall}
 use Rattle.network_tables.specs.RoadSetting.{road_setting, road_over}
+use Rattle.plan_certificate.specs.CheapRoads.{HasCheapRoads}
 
 -- the weight of a node is small
 option_flatten-small : (o : Option (Option ℕ)) (w : ℕ) → ((x : Option ℕ) → o ≡ Some x → IsSmall x) → option_flatten o ≡ Some w → w ≤ 100000
@@ -30,3 +31,13 @@ cheap net vehicle good = record {
     at (Some arc) road is =
         let same : road_over arc ≡ road = cc in
         subst (λ (r : Road). r.cost ≤ 100000 * r.minutes) same (omega arith)
+
+-- no minute of a road costs more than one of driving
+pub cheap_roads : (net : NetworkModel) (vehicle : VehicleModel) → HasCheapRoads (road_setting net vehicle)
+cheap_roads net vehicle a road is = at (at_number net.graph.arcs a) is
+  where
+    at : (o : Option GraphArc) → option_map road_over o ≡ Some road → road.cost ≤ 1000 * road.minutes
+    at None is = absurd (cc)
+    at (Some arc) is =
+        let same : road_over arc ≡ road = cc in
+        subst (λ (r : Road). r.cost ≤ 1000 * r.minutes) same (omega arith)

@@ -5,6 +5,7 @@ use Rattle.route_base.specs.Setting.{Setting}
 use Rattle.route_base.specs.declared.types.Route.{Route}
 use Rattle.certificate.specs.declared.Certificate.{Certificate}
 use Rattle.certificate_check.specs.Verdicts.{IsGood}
+use Rattle.plan_certificate.specs.Tight.{IsTight}
 use Rattle.plan_report.specs.Reports.{report_text}
 use Rattle.front_desk.specs.CommandLine.{Plan}
 use Rattle.front_desk.specs.Inside.Planning.{IsFileFor, IsReady}
@@ -15,14 +16,23 @@ use Rattle.front_desk.specs.declared.plan.Planned.{Planned}
 module _ (s z : Setting) (p : Plan)
     (right : (routes : List Route) → IsRight s (request_of p.trip) routes → IsRight z (request_of p.trip) routes)
     (good : (c : Certificate) → IsGood s (request_of p.trip) c → IsGood z (request_of p.trip) c)
+    (tight : (c : Certificate) → IsTight s (request_of p.trip) c → IsTight z (request_of p.trip) c)
     (same : (routes : List Route) → report_text p.form s (request_of p.trip) routes ≡ report_text p.form z (request_of p.trip) routes) where
   file_stands : (routes : List Route) (asked : Option (List ℕ)) (file : Option CertificateFile)
       → IsFileFor s (request_of p.trip) routes asked file → IsFileFor z (request_of p.trip) routes asked file
   file_stands routes None None is = tt
   file_stands routes None (Some file) is = is
   file_stands routes (Some name) None is = is
-  file_stands routes (Some name) (Some file) is =
-      (is.0, record { certificate = is.1.certificate; same = is.1.same; good = good is.1.certificate is.1.good; is_text = is.1.is_text })
+  file_stands routes (Some name) (Some file) is = (
+    is.0,
+    record {
+      certificate = is.1.certificate;
+      same = is.1.same;
+      good = good is.1.certificate is.1.good;
+      tight = tight is.1.certificate is.1.tight;
+      is_text = is.1.is_text;
+    },
+  )
 
   pub ready_stands : (planned : Planned) → IsReady s p planned → IsReady z p planned
   ready_stands planned ready = record {

@@ -12,20 +12,22 @@ use Rattle.network_tables.specs.RoadSetting.{road_setting}
 use Rattle.certificate.specs.Writable.{IsCertificateText}
 use Rattle.certificate.specs.declared.Certificate.{Certificate}
 use Rattle.certificate_check.specs.Verdicts.{IsGood}
+use Rattle.plan_certificate.specs.Tight.{IsTight}
 use Rattle.plan_report.specs.Reports.{report_text}
 use Rattle.front_desk.specs.CommandLine.{Plan}
 use Rattle.front_desk.specs.Files.{path_of}
 use Rattle.front_desk.specs.ReadingOrder.{first_folder_fault, network_held}
 use Rattle.front_desk.specs.Trips.{Trip, failed_check, request_of, vehicle_named}
 
--- the bytes are the text of a good certificate with just these routes
+-- the bytes are the text of a good and tight certificate with just these routes
 pub record IsCertificateOf (s : Setting) (request : Request) (routes : List Route) (bytes : List ℕ) : Type 0 where
   pub certificate : Certificate
   pub same : certificate.routes ≡ routes
   pub good : IsGood s request certificate
+  pub tight : IsTight s request certificate
   pub is_text : IsCertificateText bytes certificate
 
--- the folder holds a good certificate of the routes under this path, and all else is as it was
+-- the folder holds a good and tight certificate of the routes under this path, and all else is as it was
 pub record HoldsCertificate (s : Setting) (request : Request) (routes : List Route) (path : List ℕ) (before after : Option Contents) : Type 0 where
   pub bytes : List ℕ
   pub certifies : IsCertificateOf s request routes bytes

@@ -16,7 +16,7 @@ use certificate::write;
 use certificate_check::verdicts_agree;
 use itinerary_unpack::FunctionEngine;
 use network_tables::Network;
-use plan_certificate::certify;
+use plan_certificate::{certificates_agree, certify};
 use plan_report::{Refusal, plan_text, reports_agree};
 use route_base::{
     Folder, FrontSearch, OutOfMemory, Request, Routes, TimedNet, WriteError, settings_agree,
@@ -38,45 +38,7 @@ pub struct Planned<'a> {
     pub certificate: Option<CertificateFile<'a>>,
 }
 
-// The text of a certificate of a request's routes over a net.
-fn certificate_bytes(
-    alloc: Global,
-    net: &TimedNet,
-    request: Request,
-    routes: Routes,
-) -> Result<Vec<u8>, OutOfMemory>
-    requires plannable { IsPlannable net.now request }
-    requires right { IsRight (setting_of net.now) request routes }
-    ensures { IfOk result
-        (λ bytes. IsCertificateOf (setting_of net.now) request routes bytes.items) }
-{
-    let certificate = certify(alloc, net, request, routes)?;
-    write(alloc, &certificate)
-}
-
-// The certificate's file, where the plan asks for one.
-fn file_for<'a>(
-    alloc: Global,
-    net: &TimedNet,
-    request: Request,
-    plan: Plan<'a>,
-    routes: Routes,
-) -> Result<Option<CertificateFile<'a>>, OutOfMemory>
-    requires plannable { IsPlannable net.now request }
-    requires right { IsRight (setting_of net.now) request routes }
-    ensures { IfOk result
-        (IsFileFor (setting_of net.now) request routes (plan_in plan.entry).certificate) }
-{
-    match plan.certificate {
-        None => Ok(None),
-        Some(name) => {
-            let bytes = certificate_bytes(alloc, net, request, routes)?;
-            Ok(Some(CertificateFile { name, bytes }))
-        }
-    }
-}
-
-// What a plan prints and writes, over the net of its trip.
+// What a plan prints and writes, over the net of its trip. It searches once: a certificate has the routes that are printed.
 fn planned_over<'a>(
     alloc: Global,
     net: &TimedNet,
@@ -86,10 +48,25 @@ fn planned_over<'a>(
     ensures { IfOk result (IsReady (setting_of net.now) (plan_in plan.entry)) }
 {
     let request = request_of(plan.trip);
-    let routes = FunctionEngine.front(alloc, net, request)?;
-    let text = plan_text(alloc, plan.form, net, request, &routes)?;
-    let certificate = file_for(alloc, net, request, plan, routes)?;
-    Ok(Planned { text, certificate })
+    match plan.certificate {
+        None => {
+            let routes = FunctionEngine.front(alloc, net, request)?;
+            let text = plan_text(alloc, plan.form, net, request, &routes)?;
+            Ok(Planned {
+                text,
+                certificate: None,
+            })
+        }
+        Some(name) => {
+            let certificate = certify(alloc, net, request)?;
+            let text = plan_text(alloc, plan.form, net, request, &certificate.routes)?;
+            let bytes = write(alloc, &certificate)?;
+            Ok(Planned {
+                text,
+                certificate: Some(CertificateFile { name, bytes }),
+            })
+        }
+    }
 }
 
 // What the plan of a trip that passes the checks prints and writes, for its vehicle.
@@ -109,6 +86,7 @@ fn planned_trip<'a>(
     let net = net_of_trip(alloc, network, vehicle, plan.trip)?;
     settings_agree();
     verdicts_agree();
+    certificates_agree();
     reports_agree();
     let planned = planned_over(alloc, &net, plan)?;
     Ok(planned)

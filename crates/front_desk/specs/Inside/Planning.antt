@@ -12,6 +12,7 @@ use Rattle.route_base.specs.declared.types.Request.{Request}
 use Rattle.route_base.specs.declared.types.Route.{Route}
 use Rattle.route_base.specs.declared.types.Run.{Run}
 use Rattle.network_tables.specs.NetworkModel.{NetworkModel}
+use Rattle.plan_certificate.specs.CheapRoads.{HasCheapRoads}
 use Rattle.plan_report.specs.Reports.{report_text}
 use Rattle.front_desk.specs.CommandLine.{Plan}
 use Rattle.front_desk.specs.Files.{path_of}
@@ -43,6 +44,7 @@ pub record IsPlannable (net : Net) (request : Request) : Type 0 where
   pub in_time : request.depart ≤ request.until
   pub horizon : request.until - request.depart ≤ LONGEST_HORIZON
   pub fit : CostsFit (setting_of net) request
+  pub cheap : HasCheapRoads (setting_of net)
   pub nodes : net.nodes ≤ MOST_NODES
   pub arcs : length net.arcs ≤ MOST_ARCS
 
