@@ -1,0 +1,6 @@
+pub mod Forms
+pub mod Inside
+pub mod Splitting
+pub mod Usages
+pub mod Commands
+pub mod Words
