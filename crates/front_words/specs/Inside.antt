@@ -1,8 +1,13 @@
 -- What the calls hand to one another; no law.
 use Rattle.std.specs.Prelude.{ℕ, ◌≡◌, Option, Some, None, List, map, option_map, Result, Ok, Err, ◌++◌}
-use Rattle.std.specs.Prelude.{bytes_eq}
-use Rattle.std.specs.List.{filter}
+use Rattle.std.specs.Prelude.{bytes_eq, [], ◌∷◌}
+use Rattle.std.specs.Borrow.{Bor}
 use Rattle.front_words.specs.Splitting.{Given, Split, split_of, Piece, plain, named, assigned, stray}
+use Rattle.front_words.specs.Forms.{Value, of_text, of_number, of_report}
+use Rattle.front_words.specs.declared.plan.Trip.{Trip as TripParts}
+use Rattle.front_words.specs.declared.plan.Choices.{Choices}
+use Rattle.front_words.specs.declared.check.Check.{Check as CheckParts}
+use Rattle.front_words.specs.declared.bans.Bans.{Bans as BansParts}
 use Rattle.front_words.specs.declared.commands.WordsFault.{WordsFault}
 use Rattle.front_words.specs.declared.commands.WordsFault.TheVariants.{NotACommand, OutOfMemory}
 use Rattle.front_words.specs.declared.splitting.Given.{Given as GivenWords}
@@ -14,9 +19,10 @@ use Rattle.front_words.specs.declared.splitting.Piece.TheVariants.{Plain, Named,
 abbrev pub given_in : GivenWords → Given
 given_in g = record { option = g.option.now; value = g.value.now }
 
--- the values that are given for an option, as the code holds them
-abbrev pub values_in : List ℕ → List GivenWords → List (List ℕ)
-values_in option given = map (λ g. g.value.now) (filter (λ g. bytes_eq g.option.now option) given)
+-- the text that is there, or none
+abbrev pub text_in : Option (Bor (List ℕ)) → List (List ℕ)
+text_in None = []
+text_in (Some word) = word.now ∷ []
 
 -- the split that the code holds
 abbrev pub split_in : SplitWords → Split
@@ -28,6 +34,24 @@ piece_in (Plain word) = plain word.now
 piece_in (Named option) = named option.now
 piece_in (Assigned option value) = assigned option.now value.now
 piece_in Stray = stray
+
+-- the values of a plan's positional words
+abbrev pub trip_values : TripParts → List Value
+trip_values t = of_text t.dir.now ∷ of_text t.vehicle.now ∷ of_number t.from ∷ of_number t.to ∷ of_number t.depart
+    ∷ of_number t.until ∷ []
+
+-- the values of a check's positional words
+abbrev pub check_values : CheckParts → List Value
+check_values c = of_text c.dir.now ∷ of_text c.vehicle.now ∷ of_number c.from ∷ of_number c.to ∷ of_number c.depart
+    ∷ of_number c.until ∷ of_text c.name.now ∷ []
+
+-- the values of positional words of bans
+abbrev pub bans_values : BansParts → List Value
+bans_values b = of_text b.dir.now ∷ of_text b.vehicle.now ∷ of_number b.arc ∷ of_number b.depart ∷ of_number b.until ∷ []
+
+-- the values of a plan's options
+abbrev pub choice_values : Choices → List (Option Value)
+choice_values c = option_map of_report c.form ∷ option_map (λ name. of_text name.now) c.certificate ∷ []
 
 -- one split behind another
 abbrev pub follow : Split → Split → Split

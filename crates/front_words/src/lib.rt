@@ -1,9 +1,14 @@
 //! The commands of the command line.
 #![tactic(auto)]
 
+mod bans;
+mod check;
 mod commands;
 mod forms;
 mod options;
+mod plan;
+mod reading;
 mod splitting;
 
 pub use commands::{Command, WordsFault};
+pub use reading::read_words;

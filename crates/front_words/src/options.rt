@@ -1,13 +1,14 @@
 // The values of options.
-ghost use Rattle.std.specs.Prelude.{◌≡◌, option_map};
-ghost use Rattle.front_words.specs.Splitting.{only_value};
-ghost use Rattle.front_words.specs.Inside.{values_in};
+ghost use Rattle.std.specs.Prelude.{◌≡◌, option_map, map};
+ghost use Rattle.front_words.specs.Splitting.{only_value, values_for};
+ghost use Rattle.front_words.specs.Inside.{given_in};
 
 use crate::splitting::Given;
 
 // The value of an option that is given at most once; `None` exactly where it is given twice.
 pub fn value_of_option<'a>(given: &[Given<'a>], option: &str) -> Option<Option<&'a str>>
-    ensures { option_map (option_map (λ v. v.now)) result ≡ only_value (values_in option.now given.now) }
+    ensures { option_map (option_map (λ v. v.now)) result
+        ≡ only_value (values_for option.now (map given_in given.now)) }
 {
     let mut value = None;
     for g in given {
