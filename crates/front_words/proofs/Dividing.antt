@@ -44,29 +44,35 @@ module _ {options words rest : List (List ℕ)} {done new : Split} where
   pub adds_place : {word place : List ℕ} {behind : List (List ℕ)} → IsDivided options words done rest
       → rest ≡ word ∷ behind → piece_of options word ≡ plain place → new.places ≡ done.places ++ place ∷ [] → new.given ≡ done.given
       → IsDivided options words new behind
-  adds_place {word} {place} {behind} d r e p g = record { same = d.same
-      ∙ ap (λ ws. option_map (follow done) (split_of options ws)) r
-      ∙ ap (λ p. option_map (follow done) (joined (p ∷ map (piece_of options) behind))) e
-      ∙ follow_place done place (split_of options behind)
-      ∙ ap (λ s. option_map (follow s) (split_of options behind)) (sym (same_split _ _ p g)) }
+  adds_place {word} {place} {behind} d r e p g = record {
+    same = d.same
+        ∙ ap (λ ws. option_map (follow done) (split_of options ws)) r
+        ∙ ap (λ p. option_map (follow done) (joined (p ∷ map (piece_of options) behind))) e
+        ∙ follow_place done place (split_of options behind)
+        ∙ ap (λ s. option_map (follow s) (split_of options behind)) (sym (same_split _ _ p g));
+  }
 
   pub adds_assigned : {word option value : List ℕ} {behind : List (List ℕ)} → IsDivided options words done rest
       → rest ≡ word ∷ behind → piece_of options word ≡ assigned option value → new.places ≡ done.places
       → new.given ≡ done.given ++ record { option = option; value = value } ∷ []
       → IsDivided options words new behind
-  adds_assigned {word} {option} {value} {behind} d r e p g = record { same = d.same
-      ∙ ap (λ ws. option_map (follow done) (split_of options ws)) r
-      ∙ ap (λ p. option_map (follow done) (joined (p ∷ map (piece_of options) behind))) e
-      ∙ follow_given done option value (split_of options behind)
-      ∙ ap (λ s. option_map (follow s) (split_of options behind)) (sym (same_split _ _ p g)) }
+  adds_assigned {word} {option} {value} {behind} d r e p g = record {
+    same = d.same
+        ∙ ap (λ ws. option_map (follow done) (split_of options ws)) r
+        ∙ ap (λ p. option_map (follow done) (joined (p ∷ map (piece_of options) behind))) e
+        ∙ follow_given done option value (split_of options behind)
+        ∙ ap (λ s. option_map (follow s) (split_of options behind)) (sym (same_split _ _ p g));
+  }
 
   pub adds_named : {word option value : List ℕ} {first behind : List (List ℕ)} → IsDivided options words done rest
       → rest ≡ word ∷ first → piece_of options word ≡ named option → first ≡ value ∷ behind → is_dashed value ≡ false
       → new.places ≡ done.places → new.given ≡ done.given ++ record { option = option; value = value } ∷ []
       → IsDivided options words new behind
-  adds_named {word} {option} {value} {first} {behind} d r e f h p g = record { same = d.same
-      ∙ ap (λ ws. option_map (follow done) (split_of options ws)) (r ∙ ap (λ ws. word ∷ ws) f)
-      ∙ ap (λ p. option_map (follow done) (joined (p ∷ piece_of options value ∷ map (piece_of options) behind))) e
-      ∙ ap (λ b. option_map (follow done) (joined (named option ∷ by_dash options value b ∷ map (piece_of options) behind))) h
-      ∙ follow_given done option value (split_of options behind)
-      ∙ ap (λ s. option_map (follow s) (split_of options behind)) (sym (same_split _ _ p g)) }
+  adds_named {word} {option} {value} {first} {behind} d r e f h p g = record {
+    same = d.same
+        ∙ ap (λ ws. option_map (follow done) (split_of options ws)) (r ∙ ap (λ ws. word ∷ ws) f)
+        ∙ ap (λ p. option_map (follow done) (joined (p ∷ piece_of options value ∷ map (piece_of options) behind))) e
+        ∙ ap (λ b. option_map (follow done) (joined (named option ∷ by_dash options value b ∷ map (piece_of options) behind))) h
+        ∙ follow_given done option value (split_of options behind)
+        ∙ ap (λ s. option_map (follow s) (split_of options behind)) (sym (same_split _ _ p g));
+  }

@@ -8,9 +8,9 @@ no_more : (form : WordForm) (word : List ℕ) (o : Option (List Value)) → o �
     → option_and_then (λ v. option_map (λ vs. v ∷ vs) o) (value_of form word) ≡ None
 no_more form word o e = rw e (at (value_of form word))
   where
-  at : (v : Option Value) → option_and_then (λ v. option_map (λ vs. v ∷ vs) (let n : Option (List Value) = None in n)) v ≡ None
-  at None = refl
-  at (Some v) = refl
+    at : (v : Option Value) → option_and_then (λ v. option_map (λ vs. v ∷ vs) (let n : Option (List Value) = None in n)) v ≡ None
+    at None = refl
+    at (Some v) = refl
 
 -- words are refused where there are more or fewer than forms
 pub miscounted : (forms : List WordForm) (words : List (Bor (List ℕ))) → length words ≢ length forms

@@ -1,7 +1,8 @@
 // The words of `bans DIR VEHICLE ARC DEPART UNTIL`.
-ghost use Rattle.std.specs.Prelude.{◌≡◌, map, option_map};
-ghost use Rattle.front_words.specs.Commands.{bans_usage, command_in};
+ghost use Rattle.std.specs.Prelude.{◌≡◌, IfOk, IfSome, map, option_map};
+ghost use Rattle.front_words.specs.Commands.{AsksSupported, bans_usage, command_in};
 ghost use Rattle.front_words.specs.Inside.{Answers, bans_values};
+ghost use Rattle.route_base.specs.Time.{IsInstant};
 ghost use Rattle.front_words.specs.Usages.{made_by, places_read};
 
 use crate::forms::{instant_word, is_folder_word, is_vehicle_word, number_word};
@@ -22,7 +23,9 @@ pub struct Bans<'a> {
 
 // The bans of positional words.
 fn bans_of<'a>(places: &[&'a str]) -> Option<Bans<'a>>
-    ensures { option_map bans_values result ≡ places_read bans_usage.places (map (λ w. w.now) places.now) }
+    ensures values { option_map bans_values result
+        ≡ places_read bans_usage.places (map (λ w. w.now) places.now) }
+    ensures timed { IfSome result (λ b. IsInstant b.depart × IsInstant b.until) }
 {
     let [dir, vehicle, arc, depart, until] = places else {
         return None;
@@ -41,7 +44,8 @@ fn bans_of<'a>(places: &[&'a str]) -> Option<Bans<'a>>
 
 // The bans of the words behind the command's name.
 pub fn read_bans(alloc: Global, words: &[Text]) -> Result<Command, WordsFault>
-    ensures { Answers command_in (made_by bans_usage words.now) result }
+    ensures bans { Answers command_in (made_by bans_usage words.now) result }
+    ensures supported { IfOk result (λ c. AsksSupported (command_in c)) }
 {
     let split = split_words(alloc, &[], words)?;
     let bans = bans_of(split.places.as_slice()).ok_or(WordsFault::NotACommand)?;

@@ -1,7 +1,8 @@
 // The words of `check DIR VEHICLE FROM TO DEPART UNTIL NAME`.
-ghost use Rattle.std.specs.Prelude.{◌≡◌, map, option_map};
-ghost use Rattle.front_words.specs.Commands.{IsTimed, check_usage, command_in};
+ghost use Rattle.std.specs.Prelude.{◌≡◌, IfOk, IfSome, map, option_map};
+ghost use Rattle.front_words.specs.Commands.{AsksSupported, check_usage, command_in};
 ghost use Rattle.front_words.specs.Inside.{Answers, check_values};
+ghost use Rattle.route_base.specs.Time.{IsInstant};
 ghost use Rattle.front_words.specs.Usages.{made_by, places_read};
 
 use crate::forms::{
@@ -26,8 +27,9 @@ pub struct Check<'a> {
 
 // The check of positional words.
 fn check_of<'a>(places: &[&'a str]) -> Option<Check<'a>>
-    ensures { option_map check_values result
+    ensures values { option_map check_values result
         ≡ places_read check_usage.places (map (λ w. w.now) places.now) }
+    ensures timed { IfSome result (λ c. IsInstant c.depart × IsInstant c.until) }
 {
     let [dir, vehicle, from, to, depart, until, name] = places else {
         return None;
@@ -55,7 +57,8 @@ fn check_of<'a>(places: &[&'a str]) -> Option<Check<'a>>
 
 // The check of the words behind the command's name.
 pub fn read_check(alloc: Global, words: &[Text]) -> Result<Command, WordsFault>
-    ensures { Answers command_in (made_by check_usage words.now) result }
+    ensures check { Answers command_in (made_by check_usage words.now) result }
+    ensures supported { IfOk result (λ c. AsksSupported (command_in c)) }
 {
     let split = split_words(alloc, &[], words)?;
     let check = check_of(split.places.as_slice()).ok_or(WordsFault::NotACommand)?;

@@ -9,6 +9,8 @@ mod options;
 mod plan;
 mod reading;
 mod splitting;
+#[cfg(test)]
+mod tests;
 
 pub use commands::{Command, WordsFault};
 pub use reading::read_words;

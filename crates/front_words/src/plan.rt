@@ -1,8 +1,9 @@
 // The words of `plan DIR VEHICLE FROM TO DEPART UNTIL [--form F] [--certificate NAME]`.
-ghost use Rattle.std.specs.Prelude.{◌≡◌, Some, map, option_map};
-ghost use Rattle.front_words.specs.Commands.{command_in, name_in, plan_usage, report_in};
+ghost use Rattle.std.specs.Prelude.{◌≡◌, IfOk, IfSome, Some, map, option_map};
+ghost use Rattle.front_words.specs.Commands.{AsksSupported, command_in, name_in, plan_usage, report_in};
 ghost use Rattle.front_words.specs.Forms.{certificate, of_report, of_text, report};
 ghost use Rattle.front_words.specs.Inside.{Answers, choice_values, given_in, trip_values};
+ghost use Rattle.route_base.specs.Time.{IsInstant};
 ghost use Rattle.front_words.specs.Usages.{made_by, options_read, places_read, value_if};
 
 use crate::forms::{
@@ -56,7 +57,9 @@ fn name_if(word: Option<&str>) -> Option<Option<&str>>
 
 // The trip of positional words.
 fn trip_of<'a>(places: &[&'a str]) -> Option<Trip<'a>>
-    ensures { option_map trip_values result ≡ places_read plan_usage.places (map (λ w. w.now) places.now) }
+    ensures values { option_map trip_values result
+        ≡ places_read plan_usage.places (map (λ w. w.now) places.now) }
+    ensures timed { IfSome result (λ t. IsInstant t.depart × IsInstant t.until) }
 {
     let [dir, vehicle, from, to, depart, until] = places else {
         return None;
@@ -106,7 +109,8 @@ fn copy_if(alloc: Global, name: Option<&str>) -> Result<Option<Text>, WordsFault
 
 // The plan of the words behind the command's name.
 pub fn read_plan(alloc: Global, words: &[Text]) -> Result<Command, WordsFault>
-    ensures { Answers command_in (made_by plan_usage words.now) result }
+    ensures plan { Answers command_in (made_by plan_usage words.now) result }
+    ensures supported { IfOk result (λ c. AsksSupported (command_in c)) }
 {
     let split = split_words(alloc, &["--form", "--certificate"], words)?;
     let trip = trip_of(split.places.as_slice()).ok_or(WordsFault::NotACommand)?;

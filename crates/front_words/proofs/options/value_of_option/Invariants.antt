@@ -4,5 +4,5 @@ use Rattle.front_words.specs.Splitting.{values_for}
 use Rattle.front_words.proofs.options.value_of_option.Given as goal
 
 abbrev pub invariant-loop-g : goal.invariant-loop-g
-invariant-loop-g l = 
+invariant-loop-g l =
     values_for l.option (map given_in l.given) ≡ text_in l.value ++ values_for l.option (map given_in (drop l.g-index l.given))
