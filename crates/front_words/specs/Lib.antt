@@ -1,3 +1,4 @@
+pub mod ClapCommands
 pub mod Forms
 pub mod Inside
 pub mod Splitting
