@@ -2,20 +2,34 @@
 use Rattle.std.proofs.Common.{◌≡◌, refl, codes, true, ℕ, List, Option, Some, [], ◌∷◌, length, ap, ◌∙◌, arith}
 use Rattle.std.specs.Prelude.{unwrap_or}
 use Rattle.clap.specs.Walk.{Held, Rule, Text, arg_by_index, finished, first_of, nothing_held, positional_held}
-use Rattle.clap.specs.Simple.{Shape, built, matches_of, new_rule}
+use Rattle.clap.specs.Simple.{App, Shape, built, is_simple, matches_of, new_app, new_rule, with_rule}
 use Rattle.clap.specs.Takes.{takes}
-use Rattle.front_words.specs.ClapCommands.{bans_app}
+use Rattle.front_words.specs.ClapCommands.{IsTaken, bans_app, place, text_found}
 use Rattle.front_words.specs.Commands.{bans_usage}
 use Rattle.front_words.specs.Forms.{Value, of_text, number, instant}
 use Rattle.front_words.specs.Usages.{places_read}
 use Rattle.front_words.proofs.ClapWalk.{IsLeaf, Reaches, at, finds_at, places, takes_at, then_reaches}
 use Rattle.front_words.proofs.Shown.{AllShown, IsShown, all_shown, first_texts, shown_length}
 
-leaf : IsLeaf bans_app
+-- the command, written out
+abbrev bans : App
+bans = with_rule (with_rule (with_rule (with_rule (with_rule (new_app (codes "bans"))
+    (place (codes "dir"))) (place (codes "vehicle"))) (place (codes "arc"))) (place (codes "depart"))) (place (codes "until"))
+
+pub bans_built : with_rule (with_rule (with_rule (with_rule (with_rule (new_app (codes "bans"))
+    (place (codes "dir"))) (place (codes "vehicle"))) (place (codes "arc"))) (place (codes "depart"))) (place (codes "until")) ≡ bans_app
+unfolding bans_app
+bans_built = refl
+
+pub bans_simple : is_simple bans_app ≡ true
+unfolding bans_app
+bans_simple = refl
+
+leaf : IsLeaf bans
 leaf = record { simple = refl; named = refl; alone = refl }
 
 abbrev shape : Shape
-shape = (built bans_app).top
+shape = (built bans).top
 
 abbrev rule : ℕ → Rule
 rule i = unwrap_or (arg_by_index shape.rules i) (new_rule [])
@@ -50,18 +64,19 @@ module _ (a b c d e : Text) where
 
 -- what `clap` makes of the words of bans
 pub record PassesBans (words : List Text) (dir lorry : Text) : Type 0 where
-  pub taken : takes bans_app (codes "bans" ∷ words) ≡ true
-  pub dir_is : first_of (codes "dir") (matches_of bans_app (codes "bans" ∷ words)) ≡ Some dir
-  pub vehicle_is : first_of (codes "vehicle") (matches_of bans_app (codes "bans" ∷ words)) ≡ Some lorry
+  pub taken : IsTaken bans_app (codes "bans" ∷ words)
+  pub dir_is : text_found bans_app (codes "bans" ∷ words) (codes "dir") ≡ Some dir
+  pub vehicle_is : text_found bans_app (codes "bans" ∷ words) (codes "vehicle") ≡ Some lorry
 
 passes : (words : List Text) (dir lorry : Text) (vs : List Value) → AllShown bans_usage.places words → length words ≡ 5
     → places_read bans_usage.places words ≡ Some (of_text dir ∷ of_text lorry ∷ vs) → PassesBans words dir lorry
+unfolding bans_app IsTaken text_found
 passes (a ∷ b ∷ c ∷ d ∷ e ∷ []) dir lorry vs s n r =
     let t = first_texts (number ∷ instant ∷ instant ∷ []) a b (c ∷ d ∷ e ∷ []) dir lorry vs r in
     let w = walks a b c d e s in
-    let found = finds_at bans_app (codes "bans") (a ∷ b ∷ c ∷ d ∷ e ∷ []) 6 (last a b c d e) leaf w in
+    let found = finds_at bans (codes "bans") (a ∷ b ∷ c ∷ d ∷ e ∷ []) 6 (last a b c d e) leaf w in
     record {
-      taken = takes_at bans_app (codes "bans") (a ∷ b ∷ c ∷ d ∷ e ∷ []) 6 (last a b c d e) leaf w refl;
+      taken = takes_at bans (codes "bans") (a ∷ b ∷ c ∷ d ∷ e ∷ []) 6 (last a b c d e) leaf w refl;
       dir_is = ap (first_of (codes "dir")) found ∙ ap (λ x. Some x) t.0;
       vehicle_is = ap (first_of (codes "vehicle")) found ∙ ap (λ x. Some x) t.1;
     }

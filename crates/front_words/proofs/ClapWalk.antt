@@ -6,6 +6,10 @@ use Rattle.std.specs.List.{list_all}
 use Rattle.clap.specs.Simple.{App, Shape, argument_words, built, is_simple, label_of, matches_of}
 use Rattle.clap.specs.Takes.{walk_passes, positional_passes, turn_passes, settle_passes, default_passes, is_valid, level_passes, built_takes, takes}
 use Rattle.clap.proofs.TakesLemmas.{leaf_takes}
+use Rattle.clap.specs.Words.{HasMatchesOf, first_of, first_value, found_of}
+use Rattle.clap.specs.declared.parser.matches.ArgMatches.{ArgMatches}
+use Rattle.clap.proofs.WalkLemmas.{first_value-rows}
+use Rattle.front_words.specs.ClapCommands.{IsTaken, text_found}
 use Rattle.front_words.proofs.Shown.{IsShown}
 use Rattle.clap.specs.Walk.{finished, nothing_held, rows_after, Held, Names, Rule, Step, Text, Waiting, Walk, idle, option, value, next, arg_by_id, arg_by_index, option_word, to_positional, after_step, walked, word_met}
 
@@ -108,3 +112,14 @@ pub finds_at : (a : App) (name : Text) (words : List Text) (p : ℕ) (end : Held
 finds_at a name words p end l r =
     ap₂ (λ (names : Names) (ws : List Text). rows_after (built a).top.rules names ws) (ap (map label_of) l.alone) (arguments a name words l)
     ∙ ap (λ (w : Walk). finished (built a).top.rules w.held) r.walks
+
+-- what a parse finds, and that it refuses the words for want of memory alone, by what the command is
+pub is_found : (a app : App) (words : List Text) (m : ArgMatches) → a ≡ app → is_simple app ≡ true → HasMatchesOf a words m
+    → (id : Text) → first_value (found_of m) id ≡ text_found app words id
+unfolding text_found
+is_found a app words m e i h id =
+    first_value-rows (found_of m) id ∙ ap (first_of id) ((h (ap is_simple e ∙ i)).0 ∙ ap (λ (b : App). matches_of b words) e)
+
+pub is_refused : (a app : App) (words : List Text) → a ≡ app → IsTaken app words → takes a words ≡ true
+unfolding IsTaken
+is_refused a app words e t = ap (λ (b : App). takes b words) e ∙ t

@@ -3,6 +3,7 @@
 
 mod bans;
 mod check;
+mod clap_words;
 mod commands;
 mod forms;
 mod options;
