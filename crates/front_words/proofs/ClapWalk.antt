@@ -1,8 +1,10 @@
 -- How `clap` walks over words that begin with no dash.
-use Rattle.std.proofs.Common.{◌≡◌, refl, subst, true, false, eqb, ℕ, Bool, List, Option, Some, None, [], ◌∷◌, ap, ap₂, sym, ◌∙◌}
+use Rattle.std.proofs.Common.{Bor, ◌≡◌, refl, subst, true, false, eqb, ℕ, Bool, List, Option, Some, None, [], ◌∷◌, ap, ap₂, sym, ◌∙◌}
 use Rattle.std.specs.Prelude.{◌&&◌, drop, if◌then◌else◌, map}
 use Rattle.std.specs.List.{fold}
 use Rattle.std.specs.List.{list_all}
+use Rattle.std.specs.Option.{IsSome}
+use Rattle.std.specs.Prelude.{is_some}
 use Rattle.clap.specs.Simple.{App, Shape, argument_words, built, is_simple, label_of, matches_of}
 use Rattle.clap.specs.Takes.{walk_passes, positional_passes, turn_passes, settle_passes, default_passes, is_valid, level_passes, built_takes, takes}
 use Rattle.clap.proofs.TakesLemmas.{leaf_takes}
@@ -123,3 +125,20 @@ is_found a app words m e i h id =
 pub is_refused : (a app : App) (words : List Text) → a ≡ app → IsTaken app words → takes a words ≡ true
 unfolding IsTaken
 is_refused a app words e t = ap (λ (b : App). takes b words) e ∙ t
+
+-- a text that is there
+pub is_text : (app : App) (line words : List Text) (id : Text) (o : Option Text) (text : Text) → line ≡ words → o ≡ text_found app line id
+    → text_found app words id ≡ Some text → o ≡ Some text
+is_text app line words id o text l e f = e ∙ ap (λ ws. text_found app ws id) l ∙ f
+
+pub is_there : (o : Option Text) (text : Text) → o ≡ Some text → IsSome o
+is_there o text e = ap is_some e
+
+-- the line is the name and the words
+pub same_line : (name : Text) (items slice : List (Bor Text)) (words : List (Bor Text)) → slice ≡ items
+    → map (λ w. w.now) items ≡ name ∷ map (λ w. w.now) words → map (λ w. w.now) slice ≡ name ∷ map (λ w. w.now) words
+same_line name items slice words e f = ap (map (λ (w : Bor Text). w.now)) e ∙ f
+
+-- two texts that are one
+pub one_text : (o : Option Text) (a b : Text) → o ≡ Some a → o ≡ Some b → a ≡ b
+one_text o a b e f = cc

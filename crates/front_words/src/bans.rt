@@ -7,7 +7,7 @@ ghost use Rattle.front_words.specs.Inside.{Answers, bans_values};
 ghost use Rattle.route_base.specs.Time.{IsInstant};
 ghost use Rattle.front_words.specs.Usages.{made_by, places_read};
 
-use crate::clap_words::{push_places, text_of};
+use crate::clap_words::{line_of, text_of};
 use crate::forms::{instant_word, is_folder_word, is_vehicle_word, number_word};
 use crate::splitting::split_words;
 use crate::{Command as FrontCommand, WordsFault};
@@ -73,9 +73,7 @@ fn bans_by_clap(alloc: Global, bans: &Bans, places: &[&str]) -> Result<FrontComm
     requires { places_read bans_usage.places (map (λ w. w.now) places.now) ≡ Some (bans_values bans.now) }
     ensures { IfOk result (λ c. bans_usage.make (bans_values bans.now) [] ≡ Some (command_in c)) }
 {
-    let mut line = Vec::new(alloc);
-    line.push("bans")?;
-    push_places(&mut line, places)?;
+    let line = line_of(alloc, "bans", &[], places)?;
     let matches = match bans_matches(alloc, line.as_slice()) {
         Ok(matches) => matches,
         Err(_) => return Err(OutOfMemory),
