@@ -1,0 +1,121 @@
+-- Words in their forms begin with no dash.
+use Rattle.std.proofs.Common.{◌≡◌, refl, true, false, eqb, ℕ, Bool, List, Option, Some, None, [], ◌∷◌, ap, sym, ◌∙◌}
+use borrow.Author.Tests.{eqb-true}
+use Rattle.std.specs.Prelude.{suc, option_and_then, option_map, nat_le, length, bytes_eq, codes, if◌then◌else◌}
+use Rattle.calendar_days.specs.Texts.{instant_of, day_of_text}
+use Rattle.route_base.specs.Digits.{plain_number_of}
+use Rattle.front_words.specs.Usages.{places_read}
+use Rattle.front_words.specs.Forms.{Value, WordForm, value_of, text_if, of_text, folder, vehicle, number, instant, certificate, report, is_certificate_name, is_folder_name}
+use Rattle.route_base.specs.Forms.{is_name}
+
+-- a word that has a first byte, which is no `-`
+pub record IsShown (word : List ℕ) : Type 0 where
+  pub first : ℕ
+  pub rest : List ℕ
+  pub is : word ≡ first ∷ rest
+  pub plain : eqb first 45 ≡ false
+
+if_none : {A : Type 0} (b : Bool) → (if b then (let n : Option A = None in n) else None) ≡ None
+if_none true = refl
+if_none false = refl
+
+number_dash : (xs : List ℕ) → plain_number_of (45 ∷ xs) ≡ None
+number_dash [] = refl
+number_dash (y ∷ ys) = if_none (nat_le (length (45 ∷ y ∷ ys)) 18)
+
+day_dash : (xs : List ℕ) → day_of_text (45 ∷ xs) ≡ None
+unfolding day_of_text
+day_dash (y2 ∷ y1 ∷ y0 ∷ a ∷ m1 ∷ m0 ∷ b ∷ d1 ∷ d0 ∷ []) = if_none (bytes_eq (a ∷ b ∷ []) (codes "--"))
+day_dash xs = refl
+
+instant_dash : (xs : List ℕ) → instant_of (45 ∷ xs) ≡ None
+unfolding instant_of
+instant_dash xs = simp (number_dash, day_dash)
+
+instant_empty : instant_of [] ≡ None
+unfolding instant_of day_of_text
+instant_empty = refl
+
+certificate_dash : (xs : List ℕ) → is_certificate_name (45 ∷ xs) ≡ false
+unfolding is_certificate_name
+certificate_dash xs = refl
+
+certificate_empty : is_certificate_name [] ≡ false
+unfolding is_certificate_name
+certificate_empty = refl
+
+-- no form has the empty word, or one that begins with a dash
+empty : (form : WordForm) → value_of form [] ≡ None
+empty folder = refl
+empty vehicle = refl
+empty number = refl
+empty instant = simp instant_empty
+empty certificate = simp certificate_empty
+empty report = refl
+
+dash : (form : WordForm) (xs : List ℕ) → value_of form (45 ∷ xs) ≡ None
+dash folder xs = refl
+dash vehicle xs = refl
+dash number xs = simp number_dash
+dash instant xs = simp instant_dash
+dash certificate xs = simp certificate_dash
+dash report xs = refl
+
+none_is_no_value : {A : Type 0} {o : Option A} {v : A} {P : Type 0} → o ≡ None → o ≡ Some v → P
+none_is_no_value e f = cc
+
+at_byte : (form : WordForm) (x : ℕ) (xs : List ℕ) (v : Value) (b : Bool) → eqb x 45 ≡ b → value_of form (x ∷ xs) ≡ Some v → IsShown (x ∷ xs)
+at_byte form x xs v false h e = record { first = x; rest = xs; is = refl; plain = h }
+at_byte form x xs v true h e =
+    none_is_no_value (ap (λ y. value_of form (y ∷ xs)) (eqb-true x 45 h) ∙ dash form xs) e
+
+pub shown : (form : WordForm) (word : List ℕ) (v : Value) → value_of form word ≡ Some v → IsShown word
+shown form [] v e = none_is_no_value (empty form) e
+shown form (x ∷ xs) v e = at_byte form x xs v (eqb x 45) refl e
+
+some_same : {A : Type 0} {x y : A} → Some x ≡ Some y → x ≡ y
+some_same e = cc
+
+-- a word that is its own value
+pub own_text : (b : Bool) (word text : List ℕ) → text_if b word ≡ Some (of_text text) → word ≡ text
+own_text true word text e = cc
+own_text false word text e = none_is_no_value refl e
+
+-- the values of a form and of forms, one after another
+first_value_of : (o : Option Value) (rest : Option (List Value)) (vs : List Value)
+    → option_and_then (λ v. option_map (λ us. v ∷ us) rest) o ≡ Some vs
+    → (v : Value) × (us : List Value) × ((o ≡ Some v) × (rest ≡ Some us) × (v ∷ us ≡ vs))
+first_value_of None rest vs e = none_is_no_value refl e
+first_value_of (Some v) None vs e = none_is_no_value refl e
+first_value_of (Some v) (Some us) vs e = (v, us, (refl, refl, some_same e))
+
+-- all words that are read are shown, one for each form
+abbrev pub AllShown : List WordForm → List (List ℕ) → Type 0
+AllShown [] [] = Unit {0}
+AllShown (form ∷ forms) (word ∷ words) = IsShown word × AllShown forms words
+AllShown forms words = ⊥
+
+pub all_shown : (forms : List WordForm) (words : List (List ℕ)) (vs : List Value) → places_read forms words ≡ Some vs → AllShown forms words
+all_shown [] [] vs e = tt
+all_shown [] (word ∷ words) vs e = none_is_no_value refl e
+all_shown (form ∷ forms) [] vs e = none_is_no_value refl e
+all_shown (form ∷ forms) (word ∷ words) vs e =
+    let f = first_value_of (value_of form word) (places_read forms words) vs e in
+    (shown form word f.0 f.2.0, all_shown forms words f.1 f.2.1)
+
+pub shown_length : (forms : List WordForm) (words : List (List ℕ)) → AllShown forms words → length words ≡ length forms
+shown_length [] [] s = refl
+shown_length [] (word ∷ words) s = absurd s
+shown_length (form ∷ forms) [] s = absurd s
+shown_length (form ∷ forms) (word ∷ words) s = ap (λ n. suc n) (shown_length forms words s.1)
+
+-- the first two words of a command are their own values
+pub first_texts : (forms : List WordForm) (a b : List ℕ) (words : List (List ℕ)) (dir lorry : List ℕ) (vs : List Value)
+    → places_read (folder ∷ vehicle ∷ forms) (a ∷ b ∷ words) ≡ Some (of_text dir ∷ of_text lorry ∷ vs) → (a ≡ dir) × (b ≡ lorry)
+first_texts forms a b words dir lorry vs e =
+    let f = first_value_of (value_of folder a) (places_read (vehicle ∷ forms) (b ∷ words)) (of_text dir ∷ of_text lorry ∷ vs) e in
+    let v : f.0 ≡ of_text dir = cc in
+    let r : f.1 ≡ of_text lorry ∷ vs = cc in
+    let g = first_value_of (value_of vehicle b) (places_read forms words) (of_text lorry ∷ vs) (f.2.1 ∙ ap (λ us. Some us) r) in
+    let w : g.0 ≡ of_text lorry = cc in
+    (own_text (is_folder_name a) a dir (f.2.0 ∙ ap (λ u. Some u) v), own_text (is_name b) b lorry (g.2.0 ∙ ap (λ u. Some u) w))

@@ -1,0 +1,133 @@
+-- The commands, and the table of their words (source: own).
+use Rattle.std.specs.Prelude.{ℕ, Option, Some, None, List, [], ◌∷◌, codes}
+use Rattle.route_base.specs.Time.{IsInstant}
+use Rattle.route_base.specs.declared.types.Form.{Form}
+use Rattle.route_base.specs.declared.types.Form.TheVariants.{Plain}
+use Rattle.front_words.specs.Forms.{Value, WordForm, of_text, of_number, of_report}
+use Rattle.front_words.specs.Forms.{folder, vehicle, number, instant, certificate, report}
+use Rattle.front_words.specs.Usages.{Usage, OptionUsage, made_in}
+use Rattle.front_words.specs.declared.commands.Command.{Command as CommandWords}
+use Rattle.front_words.specs.declared.commands.Command.TheVariants.{Plan as PlanWords, Check as CheckWords, Bans as BansWords}
+
+-- a trip of a vehicle from a node at a minute to a node, by a minute at the latest
+pub record Trip : Type 0 where
+  pub vehicle : List ℕ
+  pub origin : ℕ
+  pub goal : ℕ
+  pub depart : ℕ
+  pub until : ℕ
+
+-- the command that plans a trip over the files of a folder, reports it in a form, and writes a certificate where a name is given
+pub record Plan : Type 0 where
+  pub dir : List ℕ
+  pub trip : Trip
+  pub form : Form
+  pub certificate : Option (List ℕ)
+
+-- the command that judges the certificate of this name for a trip over the files of a folder
+pub record Check : Type 0 where
+  pub dir : List ℕ
+  pub trip : Trip
+  pub name : List ℕ
+
+-- the command that prints the minutes from an instant up to, but not with, another at which an arc is closed to a vehicle
+pub record Bans : Type 0 where
+  pub dir : List ℕ
+  pub vehicle : List ℕ
+  pub arc : ℕ
+  pub depart : ℕ
+  pub until : ℕ
+
+-- a command, with the values of its words
+pub data Command : Type 0 where
+  to_plan : Plan → Command
+  to_check : Check → Command
+  to_bans : Bans → Command
+
+-- the trip that these values make
+abbrev pub trip_to : List ℕ → ℕ → ℕ → ℕ → ℕ → Trip
+trip_to lorry from to start end = record { vehicle = lorry; origin = from; goal = to; depart = start; until = end }
+
+-- the form of a report: `plain` where none is given
+abbrev pub report_in : Option Value → Form
+report_in (Some (of_report form)) = form
+report_in value = Plain
+
+-- the name that is given, or none
+abbrev pub name_in : Option Value → Option (List ℕ)
+name_in (Some (of_text name)) = Some name
+name_in value = None
+
+-- the plan that the values of its words make
+abbrev pub plan_of : List Value → List (Option Value) → Option Command
+plan_of (of_text dir ∷ of_text lorry ∷ of_number from ∷ of_number to ∷ of_number start ∷ of_number end ∷ []) (form ∷ name ∷ []) =
+    Some (to_plan (record { dir = dir; trip = trip_to lorry from to start end; form = report_in form; certificate = name_in name }))
+plan_of places options = None
+
+-- the check that the values of its words make
+abbrev pub check_of : List Value → List (Option Value) → Option Command
+check_of (of_text dir ∷ of_text lorry ∷ of_number from ∷ of_number to ∷ of_number start ∷ of_number end ∷ of_text name ∷ []) [] =
+    Some (to_check (record { dir = dir; trip = trip_to lorry from to start end; name = name }))
+check_of places options = None
+
+-- the bans that the values of its words make
+abbrev pub bans_of : List Value → List (Option Value) → Option Command
+bans_of (of_text dir ∷ of_text lorry ∷ of_number arc ∷ of_number start ∷ of_number end ∷ []) [] =
+    Some (to_bans (record { dir = dir; vehicle = lorry; arc = arc; depart = start; until = end }))
+bans_of places options = None
+
+-- `plan DIR VEHICLE FROM TO DEPART UNTIL [--form F] [--certificate NAME]`
+abbrev pub plan_usage : Usage Command
+plan_usage = record {
+  name = codes "plan";
+  places = folder ∷ vehicle ∷ number ∷ number ∷ instant ∷ instant ∷ [];
+  options = record { name = codes "--form"; form = report } ∷ record { name = codes "--certificate"; form = certificate } ∷ [];
+  make = plan_of;
+}
+
+-- `check DIR VEHICLE FROM TO DEPART UNTIL NAME`
+abbrev pub check_usage : Usage Command
+check_usage = record {
+  name = codes "check";
+  places = folder ∷ vehicle ∷ number ∷ number ∷ instant ∷ instant ∷ certificate ∷ [];
+  options = [];
+  make = check_of;
+}
+
+-- `bans DIR VEHICLE ARC DEPART UNTIL`
+abbrev pub bans_usage : Usage Command
+bans_usage = record {
+  name = codes "bans";
+  places = folder ∷ vehicle ∷ number ∷ instant ∷ instant ∷ [];
+  options = [];
+  make = bans_of;
+}
+
+-- the commands, in the order of their table
+abbrev pub usages : List (Usage Command)
+usages = plan_usage ∷ check_usage ∷ bans_usage ∷ []
+
+-- the command of words: its name and then its own words; nothing for words that are no command
+abbrev pub command_of : List (List ℕ) → Option Command
+command_of [] = None
+command_of (name ∷ words) = made_in usages name words
+
+-- the command that the code holds
+abbrev pub command_in : CommandWords → Command
+command_in (PlanWords dir lorry from to start end form name) =
+    to_plan (record { dir = dir; trip = trip_to lorry from to start end; form = form; certificate = name })
+command_in (CheckWords dir lorry from to start end name) =
+    to_check (record { dir = dir; trip = trip_to lorry from to start end; name = name })
+command_in (BansWords dir lorry arc start end) =
+    to_bans (record { dir = dir; vehicle = lorry; arc = arc; depart = start; until = end })
+
+-- the trip begins and ends at instants
+pub record IsTimed (trip : Trip) : Type 0 where
+  pub depart : IsInstant trip.depart
+  pub until : IsInstant trip.until
+
+-- all minutes that the command names are instants
+abbrev pub AsksSupported : Command → Type 0
+AsksSupported (to_plan p) = IsTimed p.trip
+AsksSupported (to_check c) = IsTimed c.trip
+AsksSupported (to_bans b) = IsInstant b.depart × IsInstant b.until

@@ -1,0 +1,68 @@
+-- What the calls hand to one another; no law.
+use Rattle.std.specs.Prelude.{ℕ, ◌≡◌, Option, Some, None, List, map, option_map, Result, Ok, Err, ◌++◌}
+use Rattle.std.specs.Prelude.{bytes_eq, [], ◌∷◌}
+use Rattle.std.specs.Borrow.{Bor}
+use Rattle.front_words.specs.Splitting.{Given, Split, split_of, Piece, plain, named, assigned, stray}
+use Rattle.front_words.specs.Forms.{Value, of_text, of_number, of_report}
+use Rattle.front_words.specs.declared.plan.Trip.{Trip as TripParts}
+use Rattle.front_words.specs.declared.plan.Choices.{Choices}
+use Rattle.front_words.specs.declared.check.Check.{Check as CheckParts}
+use Rattle.front_words.specs.declared.bans.Bans.{Bans as BansParts}
+use Rattle.front_words.specs.declared.commands.WordsFault.{WordsFault}
+use Rattle.front_words.specs.declared.commands.WordsFault.TheVariants.{NotACommand, OutOfMemory}
+use Rattle.front_words.specs.declared.splitting.Given.{Given as GivenWords}
+use Rattle.front_words.specs.declared.splitting.Split.{Split as SplitWords}
+use Rattle.front_words.specs.declared.splitting.Piece.{Piece as PieceWord}
+use Rattle.front_words.specs.declared.splitting.Piece.TheVariants.{Plain, Named, Assigned, Stray}
+
+-- the option that the code holds
+abbrev pub given_in : GivenWords → Given
+given_in g = record { option = g.option.now; value = g.value.now }
+
+-- the text that is there, or none
+abbrev pub text_in : Option (Bor (List ℕ)) → List (List ℕ)
+text_in None = []
+text_in (Some word) = word.now ∷ []
+
+-- the split that the code holds
+abbrev pub split_in : SplitWords → Split
+split_in s = record { places = map (λ word. word.now) s.places.items; given = map given_in s.given.items }
+
+-- the piece that the code holds
+abbrev pub piece_in : PieceWord → Piece
+piece_in (Plain word) = plain word.now
+piece_in (Named option) = named option.now
+piece_in (Assigned option value) = assigned option.now value.now
+piece_in Stray = stray
+
+-- the values of a plan's positional words
+abbrev pub trip_values : TripParts → List Value
+trip_values t = of_text t.dir.now ∷ of_text t.vehicle.now ∷ of_number t.from ∷ of_number t.to ∷ of_number t.depart
+    ∷ of_number t.until ∷ []
+
+-- the values of a check's positional words
+abbrev pub check_values : CheckParts → List Value
+check_values c = of_text c.dir.now ∷ of_text c.vehicle.now ∷ of_number c.from ∷ of_number c.to ∷ of_number c.depart
+    ∷ of_number c.until ∷ of_text c.name.now ∷ []
+
+-- the values of positional words of bans
+abbrev pub bans_values : BansParts → List Value
+bans_values b = of_text b.dir.now ∷ of_text b.vehicle.now ∷ of_number b.arc ∷ of_number b.depart ∷ of_number b.until ∷ []
+
+-- the values of a plan's options
+abbrev pub choice_values : Choices → List (Option Value)
+choice_values c = option_map of_report c.form ∷ option_map (λ name. of_text name.now) c.certificate ∷ []
+
+-- one split behind another
+abbrev pub follow : Split → Split → Split
+follow done s = record { places = done.places ++ s.places; given = done.given ++ s.given }
+
+-- the words divide as those that are done, followed by the rest
+pub record IsDivided (options words : List (List ℕ)) (done : Split) (rest : List (List ℕ)) : Type 0 where
+  pub same : split_of options words ≡ option_map (follow done) (split_of options rest)
+
+-- the answer is what is due, or out of memory
+abbrev pub Answers : {A B : Type 0} → (B → A) → Option A → Result B WordsFault → Type 0
+Answers value_in due (Ok value) = due ≡ Some (value_in value)
+Answers value_in due (Err NotACommand) = due ≡ None
+Answers value_in due (Err OutOfMemory) = Unit {0}

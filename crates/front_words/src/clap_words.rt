@@ -1,0 +1,46 @@
+// The line of words that goes to `clap`, and the texts that it gives back.
+ghost use Rattle.std.specs.Prelude.{◌≡◌, ◌∷◌, ◌++◌, IfOk, IsSome, Some, map};
+ghost use Rattle.clap.specs.Words.{first_value, found_of};
+
+use clap::ArgMatches;
+use route_base::{OutOfMemory, Text};
+use std::alloc::Global;
+
+// Appends words to a line.
+fn push_words<'a>(line: &mut Vec<&'a str>, words: &[&'a str]) -> Result<(), OutOfMemory>
+    ensures { IfOk result (λ _. map (λ w. w.now) line.new.items
+        ≡ map (λ w. w.now) line.old.items ++ map (λ w. w.now) words.now) }
+{
+    for word in words {
+        line.push(*word)?;
+    }
+    Ok(())
+}
+
+// The line that goes to `clap`: a command's name, its options with their values, and its positional words.
+pub fn line_of<'a>(
+    alloc: Global,
+    name: &'a str,
+    options: &[&'a str],
+    places: &[&'a str],
+) -> Result<Vec<&'a str>, OutOfMemory>
+    ensures { IfOk result (λ line. map (λ w. w.now) line.items
+        ≡ name.entry.now ∷ (map (λ w. w.now) options.entry.now ++ map (λ w. w.now) places.entry.now)) }
+{
+    let mut line = Vec::new(alloc);
+    line.push(name)?;
+    push_words(&mut line, options)?;
+    push_words(&mut line, places)?;
+    Ok(line)
+}
+
+// A copy of the text of an argument that is there.
+pub fn text_of(alloc: Global, matches: &ArgMatches, id: &str) -> Result<Text, OutOfMemory>
+    requires { IsSome (first_value (found_of matches.now) id.now) }
+    ensures { IfOk result (λ t. first_value (found_of matches.now) id.now ≡ Some t) }
+{
+    match matches.get_str(id) {
+        Some(text) => Text::of(alloc, text),
+        None => unreachable!(),
+    }
+}

@@ -1,0 +1,40 @@
+// Reads the words of the command line.
+ghost use Rattle.std.specs.Prelude.{◌≡◌, None, Some, IfErr, IfOk};
+ghost use Rattle.front_words.specs.Commands.{AsksSupported, command_in, command_of};
+
+use crate::bans::read_bans;
+use crate::check::read_check;
+use crate::plan::read_plan;
+use crate::{Command, WordsFault};
+use route_base::Text;
+use std::alloc::Global;
+
+/// The command that the words are: the command's name first, without the name of the program. NotACommand exactly where they are none,
+/// unless there isn't memory enough. Linear in the length of the words.
+///
+/// The commands are `plan DIR VEHICLE FROM TO DEPART UNTIL [--form F] [--certificate NAME]`, `check DIR VEHICLE FROM TO DEPART UNTIL
+/// NAME` and `bans DIR VEHICLE ARC DEPART UNTIL`. An option stands anywhere behind the command's name, once at most, as two words or as
+/// one, `--form F` or `--form=F`; any other word that begins with `-` is refused. DIR has 1 to 4,096 bytes and doesn't begin with `-`;
+/// VEHICLE is a name, and `any` is one; FROM, TO and ARC are numbers of 32 bits without a leading zero; DEPART and UNTIL are instants,
+/// as texts or as Unix minutes; F is `plain`, `table`, `csv` or `json`, and `plain` where it isn't given; NAME is a name that ends in
+/// `.cert`.
+pub fn read_words(alloc: Global, words: &[Text]) -> Result<Command, WordsFault>
+    ensures command { IfOk result (λ c. command_of words.now ≡ Some (command_in c)) }
+    ensures none { IfErr result (λ e. e ≡ WordsFault.NotACommand → command_of words.now ≡ None) }
+    ensures supported { IfOk result (λ c. AsksSupported (command_in c)) }
+{
+    let Some((name, rest)) = words.split_first() else {
+        return Err(WordsFault::NotACommand);
+    };
+    let name = name.as_str();
+    if name == "plan" {
+        return read_plan(alloc, rest);
+    }
+    if name == "check" {
+        return read_check(alloc, rest);
+    }
+    if name == "bans" {
+        return read_bans(alloc, rest);
+    }
+    Err(WordsFault::NotACommand)
+}

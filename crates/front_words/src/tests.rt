@@ -1,0 +1,270 @@
+// Which words are a command, and which command they are.
+use crate::{Command, WordsFault, read_words};
+use route_base::{Form, Text};
+use std::alloc::Global;
+use std::test::Fail;
+
+// Words with `|` between them, and the command that they are.
+const CASES: [(&str, &str); 77] = [
+    ("", "no"),
+    ("plan", "no"),
+    ("Plan|d|any|1|3|26563680|26564080", "no"),
+    ("help", "no"),
+    ("--help", "no"),
+    ("-h", "no"),
+    ("--form|csv|plan|d|any|1|3|26563680|26564080", "no"),
+    (
+        "plan|d|any|1|3|26563680|26564080",
+        "plan d any 1 3 26563680 26564080 plain -",
+    ),
+    (
+        "plan|d|any|0|4294967295|525600|120968639",
+        "plan d any 0 4294967295 525600 120968639 plain -",
+    ),
+    (
+        "plan|a b/c|v_1.x|1|3|2020-07-04T00:00Z|2020-07-04T06:40:00Z",
+        "plan a b/c v_1.x 1 3 26563680 26564080 plain -",
+    ),
+    (
+        "plan|--form|csv|d|any|1|3|26563680|26564080",
+        "plan d any 1 3 26563680 26564080 csv -",
+    ),
+    (
+        "plan|d|any|1|--form|json|3|26563680|26564080",
+        "plan d any 1 3 26563680 26564080 json -",
+    ),
+    (
+        "plan|d|any|1|3|26563680|26564080|--form|table",
+        "plan d any 1 3 26563680 26564080 table -",
+    ),
+    (
+        "plan|d|any|1|3|26563680|26564080|--form|plain",
+        "plan d any 1 3 26563680 26564080 plain -",
+    ),
+    (
+        "plan|--form=csv|d|any|1|3|26563680|26564080",
+        "plan d any 1 3 26563680 26564080 csv -",
+    ),
+    (
+        "plan|d|any|1|3|26563680|--form=json|26564080",
+        "plan d any 1 3 26563680 26564080 json -",
+    ),
+    (
+        "plan|d|any|1|3|26563680|26564080|--certificate|c.cert",
+        "plan d any 1 3 26563680 26564080 plain c.cert",
+    ),
+    (
+        "plan|--certificate=c.cert|d|any|1|3|26563680|26564080|--form=csv",
+        "plan d any 1 3 26563680 26564080 csv c.cert",
+    ),
+    (
+        "plan|d|--form|table|any|1|3|--certificate|.cert|26563680|26564080",
+        "plan d any 1 3 26563680 26564080 table .cert",
+    ),
+    (
+        "plan|d|any|1|3|26563680|26564080|--certificate|abcdefghijklmnopqrstuvwxyzABCDEFGHIJKLMNOPQRSTUVWXYZ0123456.cert",
+        "plan d any 1 3 26563680 26564080 plain abcdefghijklmnopqrstuvwxyzABCDEFGHIJKLMNOPQRSTUVWXYZ0123456.cert",
+    ),
+    (
+        "plan|d|any|1|3|26563680|26564080|--certificate|abcdefghijklmnopqrstuvwxyzABCDEFGHIJKLMNOPQRSTUVWXYZ01234567.cert",
+        "no",
+    ),
+    ("plan|d|any|1|3|26563680|26564080|--certificate|cert", "no"),
+    (
+        "plan|d|any|1|3|26563680|26564080|--certificate|c.certs",
+        "no",
+    ),
+    (
+        "plan|d|any|1|3|26563680|26564080|--certificate|a/c.cert",
+        "no",
+    ),
+    (
+        "plan|d|any|1|3|26563680|26564080|--certificate=-c.cert",
+        "no",
+    ),
+    ("plan|d|any|1|3|26563680|26564080|--certificate", "no"),
+    ("plan|d|any|1|3|26563680|26564080|--certificate=", "no"),
+    ("plan|d|any|1|3|26563680|26564080|--certificate|", "no"),
+    (
+        "plan|d|any|1|3|26563680|26564080|--certificate|-c.cert",
+        "no",
+    ),
+    (
+        "plan|d|any|1|3|26563680|26564080|--certificate|--form|csv",
+        "no",
+    ),
+    ("plan|d|any|1|3|26563680|26564080|--form", "no"),
+    ("plan|d|any|1|3|26563680|26564080|--form=", "no"),
+    ("plan|d|any|1|3|26563680|26564080|--form|", "no"),
+    ("plan|d|any|1|3|26563680|26564080|--form|CSV", "no"),
+    ("plan|d|any|1|3|26563680|26564080|--form=Json", "no"),
+    ("plan|d|any|1|3|26563680|26564080|--form|xml", "no"),
+    ("plan|d|any|1|3|26563680|26564080|--form==csv", "no"),
+    ("plan|d|any|1|3|26563680|26564080|--form=csv=", "no"),
+    ("plan|d|any|1|3|26563680|26564080|--form|-csv", "no"),
+    ("plan|d|any|1|3|26563680|26564080|--form=-csv", "no"),
+    (
+        "plan|d|any|1|3|26563680|26564080|--form=--certificate",
+        "no",
+    ),
+    (
+        "plan|d|any|1|3|26563680|26564080|--form|--certificate|c.cert",
+        "no",
+    ),
+    (
+        "plan|d|any|1|3|26563680|26564080|--form|csv|--form|csv",
+        "no",
+    ),
+    (
+        "plan|--form=csv|d|any|1|3|26563680|26564080|--form|table",
+        "no",
+    ),
+    (
+        "plan|--certificate|c.cert|d|any|1|3|26563680|26564080|--certificate=c.cert",
+        "no",
+    ),
+    ("plan|d|any|1|3|26563680|26564080|--Form|csv", "no"),
+    ("plan|d|any|1|3|26563680|26564080|--for|csv", "no"),
+    ("plan|d|any|1|3|26563680|26564080|-form|csv", "no"),
+    ("plan|d|any|1|3|26563680|26564080|-f|csv", "no"),
+    ("plan|d|any|1|3|26563680|26564080|form|csv", "no"),
+    ("plan|d|any|1|3|26563680|26564080|--workers|2", "no"),
+    ("plan|d|any|1|3|26563680|26564080|-h", "no"),
+    ("plan|d|any|1|3|26563680|26564080|--", "no"),
+    ("plan|--|d|any|1|3|26563680|26564080", "no"),
+    ("plan|d|any|1|3|26563680|26564080|-", "no"),
+    ("plan|-|any|1|3|26563680|26564080", "no"),
+    ("plan|-d|any|1|3|26563680|26564080", "no"),
+    ("plan||any|1|3|26563680|26564080", "no"),
+    ("plan|d|a/b|1|3|26563680|26564080", "no"),
+    ("plan|d|any|01|3|26563680|26564080", "no"),
+    ("plan|d|any|1|03|26563680|26564080", "no"),
+    ("plan|d|any|1|4294967296|26563680|26564080", "no"),
+    ("plan|d|any|+1|3|26563680|26564080", "no"),
+    ("plan|d|any|1|3|026563680|26564080", "no"),
+    ("plan|d|any|1|3|525599|26564080", "no"),
+    ("plan|d|any|1|3|26563680|120968640", "no"),
+    ("plan|d|any|1|3|26563680", "no"),
+    ("plan|d|any|1|3|26563680|26564080|more", "no"),
+    (
+        "check|d|any|1|3|26563680|26564080|c.cert",
+        "check d any 1 3 26563680 26564080 c.cert",
+    ),
+    ("check|d|any|1|3|26563680|26564080", "no"),
+    ("check|d|any|1|3|26563680|26564080|c", "no"),
+    (
+        "check|d|any|1|3|26563680|26564080|--certificate|c.cert",
+        "no",
+    ),
+    ("check|d|any|1|3|26563680|26564080|c.cert|--form|csv", "no"),
+    (
+        "bans|d|any|2|26563680|26564080",
+        "bans d any 2 26563680 26564080",
+    ),
+    ("bans|d|any|2|26563680|26564080|--form=csv", "no"),
+    ("bans|d|any|02|26563680|26564080", "no"),
+    ("bans|d|any|2|3|26563680|26564080", "no"),
+];
+
+// The words of a line.
+fn words_of(alloc: Global, line: &str) -> Result<Vec<Text>, Fail> {
+    let mut words = Vec::new(alloc);
+    if line.is_empty() {
+        return Ok(words);
+    }
+    for word in line.split('|') {
+        words.push(Text::of(alloc, word)?)?;
+    }
+    Ok(words)
+}
+
+// The command as a line; `no` for words that are none.
+fn line_of(alloc: Global, words: &[Text]) -> Result<String, Fail> {
+    let line = match read_words(alloc, words) {
+        Ok(
+            Command::Plan {
+                dir,
+                vehicle,
+                from,
+                to,
+                depart,
+                until,
+                form,
+                certificate,
+            },
+        ) => {
+            let form = match form {
+                Form::Plain => "plain",
+                Form::Table => "table",
+                Form::Csv => "csv",
+                Form::Json => "json",
+            };
+            let name = match &certificate {
+                Some(name) => name.as_str(),
+                None => "-",
+            };
+            let dir = dir.as_str();
+            let vehicle = vehicle.as_str();
+            format!(in alloc; "plan {dir} {vehicle} {from} {to} {depart} {until} {form} {name}")?
+        }
+        Ok(
+            Command::Check {
+                dir,
+                vehicle,
+                from,
+                to,
+                depart,
+                until,
+                name,
+            },
+        ) => {
+            let dir = dir.as_str();
+            let vehicle = vehicle.as_str();
+            let name = name.as_str();
+            format!(in alloc; "check {dir} {vehicle} {from} {to} {depart} {until} {name}")?
+        }
+        Ok(
+            Command::Bans {
+                dir,
+                vehicle,
+                arc,
+                depart,
+                until,
+            },
+        ) => {
+            let dir = dir.as_str();
+            let vehicle = vehicle.as_str();
+            format!(in alloc; "bans {dir} {vehicle} {arc} {depart} {until}")?
+        }
+        Err(WordsFault::NotACommand) => String::from_str(alloc, "no")?,
+        Err(WordsFault::OutOfMemory) => String::from_str(alloc, "out of memory")?,
+    };
+    Ok(line)
+}
+
+#[test]
+fn reads_commands(rt: HostRuntime) -> Result<(), Fail> {
+    let alloc = rt.alloc();
+    for (line, wanted) in CASES {
+        let words = words_of(alloc, line)?;
+        let read = line_of(alloc, words.as_slice())?;
+        assert_eq!(rt; read.as_str(), wanted, "{line}");
+    }
+    Ok(())
+}
+
+#[test]
+fn takes_folders_of_4096_bytes(rt: HostRuntime) -> Result<(), Fail> {
+    let alloc = rt.alloc();
+    for (length, wanted) in [(4096, true), (4097, false)] {
+        let mut dir = String::new(alloc);
+        for _ in 0..length {
+            dir.push('d')?;
+        }
+        let line = format!(in alloc; "bans|{dir}|any|2|26563680|26564080")?;
+        let words = words_of(alloc, line.as_str())?;
+        let read = read_words(alloc, words.as_slice());
+        assert!(rt; read.is_ok() == wanted);
+    }
+    Ok(())
+}
