@@ -8,15 +8,8 @@ use Rattle.route_base.specs.declared.faults.RequestFault.TheVariants.{HorizonToo
 use Rattle.table_reader.specs.NameIndex.{names_of, place_among, value_of}
 use Rattle.vehicle_classes.specs.VehicleModel.{VehicleModel, any_vehicle}
 use Rattle.network_tables.specs.NetworkModel.{NetworkModel}
+pub use Rattle.front_words.specs.Commands.{Trip}
 use Rattle.front_desk.specs.declared.requests.Trip.{Trip as TripWords}
-
--- a trip of a vehicle from a node at a minute to a node, by a minute at the latest
-pub record Trip : Type 0 where
-  pub vehicle : List ℕ
-  pub origin : ℕ
-  pub goal : ℕ
-  pub depart : ℕ
-  pub until : ℕ
 
 -- one of n nodes
 abbrev pub is_node : ℕ → ℕ → Bool

@@ -10,9 +10,8 @@ pub use Rattle.network_tables.specs.NetworkFiles.{contents_fault, network_in_fil
 pub use Rattle.network_tables.specs.NetworkModel.{IsGoodNetwork}
 pub use Rattle.plan_report.specs.Refusals.{refusal_text_of}
 pub use Rattle.front_desk.specs.Bans.{failed_bans_check, window_of, AreBans, IsBansText}
-pub use Rattle.front_desk.specs.CommandLine.{Command, to_plan, is_folder_name, node_of, trip_of, plan_of, plan_in, command_of, command_in}
-pub use Rattle.front_desk.specs.CommandLine.{AsksSupported, IsTimed, trip_over, to_bans, bans_of, bans_in}
-pub use Rattle.front_desk.specs.CommandLine.{is_certificate_name, plain_plan_of, certified_plan_of, to_check, check_of, check_in}
+pub use Rattle.front_desk.specs.CommandLine.{Command, to_plan, to_check, to_bans, plan_in, check_in, bans_in, command_in, command_of}
+pub use Rattle.front_desk.specs.CommandLine.{AsksSupported, IsTimed}
 pub use Rattle.front_desk.specs.Check.{certificate_file, files_to_check, check_fault, certificate_held, check_setting, IsAccepted, IsRejected}
 pub use Rattle.front_desk.specs.Commands.{first_fault_for, failed_check_for, IsFinished, IsUndisturbed, ReadsNothing, LeavesFiles, LeavesPlan, WritesFiles}
 pub use Rattle.front_desk.specs.Files.{IfTold, path_of, whole_fault, fault_of_file, first_unreadable, bytes_at, file_in, IsRead, AreRead}

@@ -1,16 +1,32 @@
 // Answers words by the command that they are: one case a command.
-ghost use Rattle.std.specs.Prelude.{◌≡◌, IfOk, IfErr};
-ghost use Rattle.front_desk.specs.Words.{CountsRise, command_of, ReadsNothing, IsDue, LeavesFiles, StopsWords};
+ghost use Rattle.std.specs.Prelude.{◌≡◌, ◌⊎◌, Some, None, IfOk, IfErr};
+ghost use Rattle.front_desk.specs.Words.{CountsRise, command_of, ReadsNothing, IsDue, LeavesFiles, StopsWords, AsksSupported};
 ghost use Rattle.front_desk.specs.Words.{status_of_halt, status_of_report};
+ghost use Rattle.front_words.specs.Commands.{command_in as command_held};
 
 use crate::bans::report_bans;
-use crate::command_line::{Command, read_command};
+use crate::command_line::{Command, command_of};
 use crate::judgement::report_check;
 use crate::outcome::{Halt, Report};
 use crate::plan::report_plan;
+use front_words::{Command as OwnedCommand, WordsFault, read_words};
 use plan_report::Refusal;
 use route_base::{Folder, Text};
 use std::alloc::Global;
+
+// The command that the words are, or why there is none.
+fn command_of_words(alloc: Global, words: &[Text]) -> Result<OwnedCommand, Halt>
+    ensures command { IfOk result (λ c. command_of words.now ≡ Some (command_held c)) }
+    ensures supported { IfOk result (λ c. AsksSupported (command_held c)) }
+    ensures none { IfErr result (λ halt. (halt ≡ Halt.NoMemory)
+        ⊎ ((halt ≡ Halt.Refused Refusal.Usage) × (command_of words.now ≡ None))) }
+{
+    match read_words(alloc, words) {
+        Ok(command) => Ok(command),
+        Err(WordsFault::NotACommand) => Err(Halt::Refused(Refusal::Usage)),
+        Err(WordsFault::OutOfMemory) => Err(Halt::NoMemory),
+    }
+}
 
 /// The report that the words ask for.
 pub fn answer<F: Folder>(alloc: Global, words: &[Text], folder: &mut F) -> Result<Report, Halt>
@@ -18,17 +34,17 @@ pub fn answer<F: Folder>(alloc: Global, words: &[Text], folder: &mut F) -> Resul
         (status_of_report report) report.text.items) }
     ensures halted { IfErr result (StopsWords words.now (F.state folder.old) (F.state folder.new)) }
     ensures nothing_read { ReadsNothing (command_of words.now)
-        → result ≡ Err (Halt.Refused Refusal.Usage) }
+        → (result ≡ Err (Halt.Refused Refusal.Usage)) ⊎ (result ≡ Err Halt.NoMemory) }
     ensures left { IfOk result (λ report. LeavesFiles (command_of words.now)
         (F.state folder.old) (F.state folder.new) (status_of_report report)) }
     ensures left_halted { IfErr result (λ halt. LeavesFiles (command_of words.now)
         (F.state folder.old) (F.state folder.new) (status_of_halt halt)) }
     ensures counts { CountsRise (F.state folder.old) (F.state folder.new) }
 {
-    match read_command(words) {
-        None => Err(Halt::Refused(Refusal::Usage)),
-        Some(Command::Plan(plan)) => report_plan(alloc, folder, plan),
-        Some(Command::Check(check)) => report_check(alloc, folder, check),
-        Some(Command::Bans(bans)) => report_bans(alloc, folder, bans),
+    let owned = command_of_words(alloc, words)?;
+    match command_of(&owned) {
+        Command::Plan(plan) => report_plan(alloc, folder, plan),
+        Command::Check(check) => report_check(alloc, folder, check),
+        Command::Bans(bans) => report_bans(alloc, folder, bans),
     }
 }
