@@ -9,6 +9,7 @@ use Rattle.route_base.specs.Front.{IsRight}
 use Rattle.route_base.specs.Setting.{Setting}
 use Rattle.route_base.specs.declared.status.Status.TheVariants.{Done}
 use Rattle.network_tables.specs.NetworkModel.{NetworkModel}
+use Rattle.plan_report.specs.declared.outcomes.Refusal.TheVariants.{Usage, Input, Request}
 use Rattle.front_desk.specs.CommandLine.{Plan, to_plan}
 use Rattle.front_desk.specs.Commands.{PlanWrites, LeavesPlan}
 use Rattle.front_desk.specs.Files.{IfTold, path_of}
@@ -19,7 +20,6 @@ use Rattle.front_desk.specs.ReadingOrder.{network_held}
 use Rattle.front_desk.specs.Trips.{failed_check, request_of}
 use Rattle.front_desk.specs.declared.outcome.Halt.{Halt}
 use Rattle.front_desk.specs.declared.outcome.Halt.TheVariants.{Refused, ReadFault, WriteFault, NoMemory}
-use Rattle.plan_report.specs.declared.outcomes.Refusal.TheVariants.{Usage, Input, Request}
 use Rattle.front_desk.specs.declared.outcome.Report.{Report}
 use Rattle.front_desk.specs.declared.plan.CertificateFile.{CertificateFile}
 use Rattle.front_desk.specs.declared.plan.Planned.{Planned}

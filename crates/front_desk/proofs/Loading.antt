@@ -6,12 +6,12 @@ use Rattle.route_base.specs.FolderState.{FolderState}
 use Rattle.route_base.specs.declared.faults.BadInput.{BadInput}
 use Rattle.network_tables.specs.NetworkFiles.{contents_fault}
 use Rattle.network_tables.specs.declared.files.Files.{Files}
+use Rattle.plan_report.specs.declared.outcomes.Refusal.TheVariants.{Usage, Input, Request}
 use Rattle.front_desk.specs.Files.{FileToRead, IfTold, first_unreadable}
 use Rattle.front_desk.specs.Inside.Halting.{StopsReading, StopsStating}
 use Rattle.front_desk.specs.ReadingOrder.{files_of}
 use Rattle.front_desk.specs.declared.outcome.Halt.{Halt}
 use Rattle.front_desk.specs.declared.outcome.Halt.TheVariants.{Refused, ReadFault, WriteFault, NoMemory}
-use Rattle.plan_report.specs.declared.outcomes.Refusal.TheVariants.{Usage, Input, Request}
 
 module _ (old : FolderState) (dir : List ℕ) (list : List FileToRead) (files : Files)
     (readable : IfTold old (λ held. first_unreadable held dir list ≡ None)) (same : IfTold old (λ held. files ≡ files_of held dir)) where

@@ -9,11 +9,11 @@ use Rattle.route_base.specs.Contents.{Contents}
 use Rattle.route_base.specs.Counts.{HasRisen}
 use Rattle.route_base.specs.FolderState.{FolderState, KeepsFiles}
 use Rattle.route_base.specs.declared.faults.BadInput.{BadInput}
+use Rattle.plan_report.specs.declared.outcomes.Refusal.TheVariants.{Usage, Input, Request}
 use Rattle.front_desk.specs.Files.{FileToRead, fault_of_file, first_unreadable, bytes_at, AreWithin, IsRead, AreRead}
 use Rattle.front_desk.specs.Inside.Halting.{StopsReading}
 use Rattle.front_desk.specs.declared.outcome.Halt.{Halt}
 use Rattle.front_desk.specs.declared.outcome.Halt.TheVariants.{Refused, ReadFault, WriteFault, NoMemory}
-use Rattle.plan_report.specs.declared.outcomes.Refusal.TheVariants.{Usage, Input, Request}
 
 -- a count that has risen since later has risen since before
 risen_before : (a b c : ℕ) → a ≤ b → HasRisen b c → HasRisen a c

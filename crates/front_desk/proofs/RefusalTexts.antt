@@ -2,10 +2,10 @@
 use Rattle.std.proofs.Common.{◌≢◌, ℕ, List, refl}
 use Rattle.route_base.specs.FolderState.{FolderState}
 use Rattle.route_base.specs.declared.status.Status.TheVariants.{WriteFault}
-use Rattle.front_desk.specs.Run.{IsCause, IsDue, status_of}
 use Rattle.plan_report.specs.Refusals.{refusal_text_of}
 use Rattle.plan_report.specs.declared.outcomes.Refusal.{Refusal}
 use Rattle.plan_report.specs.declared.outcomes.Refusal.TheVariants.{Usage, Input, Request}
+use Rattle.front_desk.specs.Run.{IsCause, IsDue, status_of}
 
 pub refusal_due : (words : List (List ℕ)) (old new : FolderState) (refusal : Refusal) → IsCause words old new refusal
     → IsDue words old new (status_of refusal) (refusal_text_of refusal)

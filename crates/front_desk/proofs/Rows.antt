@@ -9,16 +9,16 @@ use Rattle.route_base.specs.declared.faults.FileKind.TheVariants.{Graph}
 use Rattle.route_base.specs.declared.faults.Cause.TheVariants.{Missing}
 use Rattle.route_base.specs.declared.faults.RequestFault.{RequestFault}
 use Rattle.route_base.specs.declared.faults.RequestFault.TheVariants.{OriginRange, GoalRange, UntilBeforeDepart, HorizonTooLong}
-use Rattle.plan_report.specs.declared.outcomes.Refusal.TheVariants.{Usage, Input, Request}
 use Rattle.route_base.specs.declared.types.Form.TheVariants.{Plain}
-use Rattle.front_desk.specs.CommandLine.{Command, command_of, is_folder_name, node_of, to_plan, to_bans, trip_over}
-use Rattle.route_base.specs.Forms.{minute_of}
-use Rattle.calendar_days.specs.Days.{days_of_years, days_of_months, date_on}
-use Rattle.calendar_days.specs.Texts.{instant_of, instant_text_of, day_of_text, clock_of}
+use Rattle.plan_report.specs.declared.outcomes.Refusal.TheVariants.{Usage, Input, Request}
 use Rattle.plan_report.specs.Bans.{bans_text_of}
 use Rattle.plan_report.specs.Costs.{thousandths_of}
 use Rattle.plan_report.specs.Plain.{plain_text_of}
 use Rattle.plan_report.specs.Refusals.{refusal_text_of}
+use Rattle.front_desk.specs.CommandLine.{Command, command_of, is_folder_name, node_of, to_plan, to_bans, trip_over}
+use Rattle.route_base.specs.Forms.{minute_of}
+use Rattle.calendar_days.specs.Days.{days_of_years, days_of_months, date_on}
+use Rattle.calendar_days.specs.Texts.{instant_of, instant_text_of, day_of_text, clock_of}
 use Rattle.front_desk.specs.Trips.{failed_check_over}
 use Rattle.front_desk.specs.Files.{first_unreadable}
 use Rattle.front_desk.specs.ReadingOrder.{network_files, first_folder_fault}

@@ -9,12 +9,12 @@ use Rattle.route_base.specs.declared.faults.RequestFault.{RequestFault}
 use Rattle.route_base.specs.declared.status.Status.{Status}
 use Rattle.route_base.specs.declared.status.Status.TheVariants.{Done, Rejected, Usage, BadInput as BadInputStatus, ReadFault}
 use Rattle.route_base.specs.declared.status.Status.TheVariants.{WriteFault, NoMemory, BadRequest}
-use Rattle.front_desk.specs.CommandLine.{Command, command_of}
-use Rattle.front_desk.specs.Commands.{first_fault_for, failed_check_for, Answers, Judges, Rejects, WritesFiles}
-use Rattle.front_desk.specs.Files.{IfTold}
 use Rattle.plan_report.specs.Refusals.{refusal_text_of}
 use Rattle.plan_report.specs.declared.outcomes.Refusal.{Refusal}
 use Rattle.plan_report.specs.declared.outcomes.Refusal.TheVariants.{Usage as UsageRefusal, Input, Request}
+use Rattle.front_desk.specs.CommandLine.{Command, command_of}
+use Rattle.front_desk.specs.Commands.{first_fault_for, failed_check_for, Answers, Judges, Rejects, WritesFiles}
+use Rattle.front_desk.specs.Files.{IfTold}
 
 -- the command's files have no fault, its request passes all checks, and the text is its answer
 pub record IsAnsweredBy (command : Command) (held : Contents) (after : Option Contents) (text : List ℕ) : Type 0 where

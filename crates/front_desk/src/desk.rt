@@ -37,15 +37,15 @@ fn refuse<S: Sink>(alloc: Global, out: &mut S, refusal: Refusal) -> Status
 /// Runs the program on its words, without the program's name, over a folder and a sink.
 ///
 /// `plan DIR VEHICLE FROM TO DEPART UNTIL` prints the Pareto front of the trip of a vehicle from node FROM at the instant DEPART to
-/// node TO, by the instant UNTIL at the latest, over the files of the folder DIR. With `--certificate NAME` behind these words it
-/// first writes a good certificate of the front into DIR. `check DIR VEHICLE FROM TO DEPART UNTIL NAME` judges the certificate NAME of
-/// DIR. `bans DIR VEHICLE ARC DEPART UNTIL` prints the minutes from DEPART up to, but not with, UNTIL at which the arc is closed to the
-/// vehicle. The vehicle is `any` or one of `vehicles.csv`. An instant is a text, as `2020-07-04T00:00Z`, or a Unix minute. Any other words
-/// are `Usage`. The text goes to the sink in one call.
+/// node TO, by the instant UNTIL at the latest, over the files of the folder DIR, in the form that `--form F` asks for. With
+/// `--certificate NAME` it first writes a certificate of the front into DIR, good and tight. `check DIR VEHICLE FROM TO DEPART UNTIL NAME`
+/// judges the certificate NAME of DIR. `bans DIR VEHICLE ARC DEPART UNTIL` prints the minutes from DEPART up to, but not with, UNTIL at
+/// which the arc is closed to the vehicle. The vehicle is `any` or one of `vehicles.csv`. An instant is a text, as `2020-07-04T00:00Z`,
+/// or a Unix minute. Any other words are `Usage`. The text goes to the sink in one call.
 ///
-/// Reading is linear in the bytes; the search looks once at each node and minute of the horizon, and for each that is
-/// reached at its arcs; memory is 8 bytes for each node and minute, and linear in nodes and arcs beside it. A judgement takes n log n
-/// steps for n pieces, closed runs and arcs, and no memory beside the certificate's.
+/// Reading is linear in the bytes. A plan takes the time and the memory of `propagation::search`, which are those of the cost functions'
+/// pieces and not of minutes, and for each pair what its legs take. A judgement takes n log n steps for n pieces, closed runs and arcs,
+/// and no memory beside the certificate's.
 pub fn run<R: Threads + Sync, F: Folder, S: Sink>(
     _rt: &R,
     alloc: Global,

@@ -7,6 +7,7 @@ use Rattle.route_base.specs.SinkState.{SinkState, Appends, AppendsPrefix, StaysS
 use Rattle.route_base.specs.declared.faults.BadInput.{BadInput}
 use Rattle.route_base.specs.declared.status.Status.{Status}
 use Rattle.route_base.specs.declared.status.Status.TheVariants.{Done, Rejected, ReadFault as ReadFaultStatus, WriteFault, NoMemory}
+use Rattle.plan_report.specs.declared.outcomes.Refusal.TheVariants.{Usage, Input, Request}
 use Rattle.front_desk.specs.CommandLine.{Command, command_of}
 use Rattle.front_desk.specs.Commands.{Judges, WritesFiles}
 use Rattle.front_desk.specs.Files.{IfTold}
@@ -14,7 +15,6 @@ use Rattle.front_desk.specs.Run.{IsAnsweredBy, IsRejectedBy, IsFirstFault, IsCau
 use Rattle.front_desk.specs.declared.outcome.Halt.{Halt}
 use Rattle.front_desk.specs.declared.outcome.Halt.TheVariants.{Refused, ReadFault, WriteFault as WriteFaultHalt, NoMemory as NoMemoryHalt}
 use Rattle.front_desk.specs.declared.outcome.Report.{Report}
-use Rattle.plan_report.specs.declared.outcomes.Refusal.TheVariants.{Usage, Input, Request}
 
 -- why no files can be had: their first fault, a failed read, or no memory
 abbrev pub StopsReading : (Contents → Option BadInput) → FolderState → FolderState → Halt → Type 0

@@ -1,8 +1,8 @@
 use Rattle.std.proofs.Common.{inr, List, ℕ, sym, subst, ◌∙◌}
 use Rattle.route_base.specs.SinkState.{AppendsPrefix}
+use Rattle.plan_report.specs.Refusals.{refusal_text_of}
 use Rattle.front_desk.specs.Inside.Halting.{status_of_report}
 use Rattle.front_desk.specs.Run.{status_of}
-use Rattle.plan_report.specs.Refusals.{refusal_text_of}
 use Rattle.front_desk.proofs.Leaving.{never_fault}
 use Rattle.front_desk.proofs.RefusalTexts.{refusal_due, no_write_fault}
 use Rattle.front_desk.proofs.desk.run.Goals as goal
