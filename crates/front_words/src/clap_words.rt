@@ -1,10 +1,27 @@
 // The line of words that goes to `clap`, and the texts that it gives back.
 ghost use Rattle.std.specs.Prelude.{◌≡◌, ◌∷◌, ◌++◌, IfOk, IsSome, Some, map};
-ghost use Rattle.clap.specs.Words.{first_value, found_of};
+ghost use Rattle.clap.specs.Words.{app_of, first_value, found_of, with_rule};
+ghost use Rattle.front_words.specs.ClapCommands.{choice, place};
 
-use clap::ArgMatches;
+use clap::{Arg, ArgMatches, Command};
 use route_base::{OutOfMemory, Text};
-use std::alloc::Global;
+use std::alloc::{AllocError, Global};
+
+// The command with a positional word more, which must be there.
+pub fn with_place<'a>(alloc: Global, command: Command<'a>, id: &'a str) -> Result<Command<'a>, AllocError>
+    ensures { IfOk result (λ c. app_of c ≡ with_rule (app_of command.entry) (place id.entry.now)) }
+{
+    let arg = Arg::new(alloc, id).required(true);
+    command.arg(arg)
+}
+
+// The command with an option more, which has a value.
+pub fn with_choice<'a>(alloc: Global, command: Command<'a>, id: &'a str) -> Result<Command<'a>, AllocError>
+    ensures { IfOk result (λ c. app_of c ≡ with_rule (app_of command.entry) (choice id.entry.now)) }
+{
+    let arg = Arg::new(alloc, id).long(id);
+    command.arg(arg)
+}
 
 // Appends words to a line.
 fn push_words<'a>(line: &mut Vec<&'a str>, words: &[&'a str]) -> Result<(), OutOfMemory>
