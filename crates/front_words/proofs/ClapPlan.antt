@@ -1,17 +1,21 @@
 -- The words of `plan` pass `clap`, which gives them back.
-use Rattle.std.proofs.Common.{◌≡◌, refl, codes, true, ℕ, Bool, List, Option, Some, None, [], ◌∷◌, ◌++◌, length, ap, ◌∙◌, arith}
-use Rattle.std.specs.Prelude.{unwrap_or, IfSome}
+use Rattle.std.proofs.Common.{Bor, ◌≡◌, refl, codes, true, ℕ, Bool, List, Option, Some, None, [], ◌∷◌, ◌++◌, length, ap, ◌∙◌, arith, ap₂}
+use Rattle.std.specs.Prelude.{unwrap_or, is_some, option_map, IfSome}
 use Rattle.clap.specs.Walk.{Held, Rule, Text, arg_by_id, arg_by_index, first_of, nothing_held, positional_held, pushed, settled, walked}
 use Rattle.clap.specs.Simple.{App, Shape, built, is_simple, new_app, new_rule, with_rule}
 use Rattle.clap.specs.Takes.{positional_passes, turn_passes}
 use Rattle.clap.proofs.OnLiterals.{clap_on_literals}
 use Rattle.front_words.specs.ClapCommands.{IsTaken, choice, option_line, plan_app, place, text_found}
-use Rattle.front_words.specs.Commands.{plan_usage}
-use Rattle.front_words.specs.Forms.{Value, is_folder_name, of_text, of_number}
+use Rattle.front_words.specs.Commands.{Command, name_in, plan_usage, to_plan, trip_to}
+use Rattle.route_base.specs.declared.types.Form.{Form}
+use Rattle.front_words.specs.Forms.{Value, WordForm, certificate, is_folder_name, of_text, of_number, report, value_of}
+use Rattle.front_words.specs.Inside.{AllIn, AreFit, trip_values}
+use Rattle.front_words.specs.declared.plan.Choices.{Choices}
+use Rattle.front_words.specs.declared.plan.Trip.{Trip}
 use Rattle.front_words.specs.Usages.{places_read}
 use Rattle.route_base.specs.Forms.{is_name}
 use Rattle.front_words.proofs.ClapWalk.{IsLeaf, Reaches, at, awaiting, finds_at, gives, places, step, takes_at, then_reaches}
-use Rattle.front_words.proofs.Shown.{AllRead, AllShown, IsShown, all_read, all_shown, own_text, read_length}
+use Rattle.front_words.proofs.Shown.{AllRead, AllShown, IsShown, all_read, all_shown, own_text, read_length, shown}
 
 -- the command, written out
 abbrev app : App
@@ -132,8 +136,7 @@ walks_places h a b c d e f s p1 p2 p3 p4 p5 p6 =
     (then_reaches (places shape 5 (held4 h a b c d) (rule 5) e (f ∷ []) s.1.1.1.1.0 refl p5)
     (places shape 6 (held5 h a b c d e) (rule 6) f ([]) s.1.1.1.1.1.0 refl p6)))))
 
--- the line of a plan
-abbrev pub plan_line : Option Text → Option Text → List Text → List Text
+abbrev plan_line : Option Text → Option Text → List Text → List Text
 plan_line form name words = codes "plan" ∷ (option_line (codes "--form") form ++ (option_line (codes "--certificate") name ++ words))
 
 -- what `clap` makes of the words of `plan`
@@ -201,3 +204,34 @@ pub passes_plan : (form name : Option Text) (words : List Text) (dir lorry : Tex
 passes_plan form name words dir lorry from to t u sf sn e =
     let r = all_read plan_usage.places words (of_text dir ∷ of_text lorry ∷ of_number from ∷ of_number to ∷ of_number t ∷ of_number u ∷ []) e in
     passes form name words dir lorry from to t u sf sn (read_length plan_usage.places words (of_text dir ∷ of_text lorry ∷ of_number from ∷ of_number to ∷ of_number t ∷ of_number u ∷ []) r) r
+
+-- a word in its form is shown
+shown_in : (form : WordForm) (word : Text) (o : Option Value) → value_of form word ≡ o → is_some o ≡ true → IsShown word
+shown_in form word None e h = cc
+shown_in form word (Some v) e h = shown form word v e
+
+all_in : (form : WordForm) (word : Option Text) → AllIn form word → IfSome word IsShown
+all_in form None h = tt
+all_in form (Some word) h = shown_in form word (value_of form word) refl h
+
+-- what `clap` makes of the line of a plan
+pub plan_passes : (t : Trip) (c : Choices) (words : List Text) → AreFit c → places_read plan_usage.places words ≡ Some (trip_values t)
+    → PassesPlan (option_map (λ w. w.now) c.form_word) (option_map (λ w. w.now) c.certificate) words t.dir.now t.vehicle.now
+plan_passes t c words f e = passes_plan (option_map (λ w. w.now) c.form_word) (option_map (λ w. w.now) c.certificate) words t.dir.now t.vehicle.now
+    t.from t.to t.depart t.until (all_in report _ f.form) (all_in certificate _ f.certificate) e
+
+-- the command of a plan
+abbrev plan_with : Text → Text → ℕ → ℕ → ℕ → ℕ → Form → Option Text → Option Command
+plan_with d v origin goal start end f n =
+    Some (to_plan (record { dir = d; trip = trip_to v origin goal start end; form = f; certificate = n }))
+
+-- the certificate's name, as the values of the options have it
+pub same_name : (name : Option (Bor Text)) → name_in (option_map (λ n. of_text n.now) name) ≡ option_map (λ n. n.now) name
+same_name None = refl
+same_name (Some name) = refl
+
+pub same_plan : (d e v w : Text) (origin goal start end : ℕ) (f g : Form) (n m : Option Text) → d ≡ e → v ≡ w → f ≡ g → n ≡ m
+    → plan_with d v origin goal start end f n ≡ plan_with e w origin goal start end g m
+same_plan d e v w origin goal start end f g n m h i j k =
+    ap₂ (λ (x y : Text). plan_with x y origin goal start end f n) h i
+    ∙ ap₂ (λ (x : Form) (y : Option Text). plan_with e w origin goal start end x y) j k
