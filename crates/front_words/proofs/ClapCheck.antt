@@ -1,11 +1,11 @@
 -- The words of `check` pass `clap`, which gives them back.
-use Rattle.std.proofs.Common.{◌≡◌, refl, codes, true, ℕ, List, Option, Some, [], ◌∷◌, length, ap, ◌∙◌, arith}
+use Rattle.std.proofs.Common.{◌≡◌, refl, codes, true, ℕ, List, Some, [], ◌∷◌, length, ap, ◌∙◌, arith}
 use Rattle.std.specs.Prelude.{unwrap_or}
 use Rattle.clap.specs.Walk.{Held, Rule, Text, arg_by_index, first_of, nothing_held, positional_held}
 use Rattle.clap.specs.Simple.{App, Shape, built, is_simple, new_app, new_rule, with_rule}
 use Rattle.front_words.specs.ClapCommands.{IsTaken, check_app, place, text_found}
 use Rattle.front_words.specs.Commands.{check_usage}
-use Rattle.front_words.specs.Forms.{Value, is_certificate_name, is_folder_name, of_text, of_number}
+use Rattle.front_words.specs.Forms.{is_certificate_name, is_folder_name, of_text, of_number}
 use Rattle.front_words.specs.Usages.{places_read}
 use Rattle.route_base.specs.Forms.{is_name}
 use Rattle.front_words.proofs.ClapWalk.{IsLeaf, Reaches, at, finds_at, places, takes_at, then_reaches}

@@ -1,5 +1,5 @@
 -- The words of `plan` pass `clap`, which gives them back.
-use Rattle.std.proofs.Common.{Bor, ◌≡◌, refl, codes, true, ℕ, Bool, List, Option, Some, None, [], ◌∷◌, ◌++◌, length, ap, ◌∙◌, arith, ap₂}
+use Rattle.std.proofs.Common.{Bor, ◌≡◌, refl, codes, true, ℕ, List, Option, Some, None, [], ◌∷◌, ◌++◌, length, ap, ◌∙◌, arith, ap₂}
 use Rattle.std.specs.Prelude.{unwrap_or, is_some, option_map, IfSome}
 use Rattle.clap.specs.Walk.{Held, Rule, Text, arg_by_id, arg_by_index, first_of, nothing_held, positional_held, pushed, settled, walked}
 use Rattle.clap.specs.Simple.{App, Shape, built, is_simple, new_app, new_rule, with_rule}
@@ -152,7 +152,7 @@ unfolding plan_app IsTaken text_found
 passes None None (a ∷ b ∷ c ∷ d ∷ e ∷ f ∷ []) dir lorry from to t u sf sn k r =
     let s = all_shown plan_usage.places (a ∷ b ∷ c ∷ d ∷ e ∷ f ∷ []) (of_text dir ∷ of_text lorry ∷ of_number from ∷ of_number to ∷ of_number t ∷ of_number u ∷ []) r in
     let w = then_reaches (walks_options None None (a ∷ b ∷ c ∷ d ∷ e ∷ f ∷ []) sf sn)
-        (walks_places (after_options None None) a b c d e f s refl refl refl refl refl refl) in
+    (walks_places (after_options None None) a b c d e f s refl refl refl refl refl refl) in
     let line = option_line (codes "--form") None ++ (option_line (codes "--certificate") None ++ (a ∷ b ∷ c ∷ d ∷ e ∷ f ∷ [])) in
     let found = finds_at app (codes "plan") line 7 (held6 (after_options None None) a b c d e f) leaf w in
     record {
@@ -164,7 +164,7 @@ passes None None (a ∷ b ∷ c ∷ d ∷ e ∷ f ∷ []) dir lorry from to t u 
 passes None (Some y) (a ∷ b ∷ c ∷ d ∷ e ∷ f ∷ []) dir lorry from to t u sf sn k r =
     let s = all_shown plan_usage.places (a ∷ b ∷ c ∷ d ∷ e ∷ f ∷ []) (of_text dir ∷ of_text lorry ∷ of_number from ∷ of_number to ∷ of_number t ∷ of_number u ∷ []) r in
     let w = then_reaches (walks_options None (Some y) (a ∷ b ∷ c ∷ d ∷ e ∷ f ∷ []) sf sn)
-        (walks_places (after_options None (Some y)) a b c d e f s refl refl refl refl refl refl) in
+    (walks_places (after_options None (Some y)) a b c d e f s refl refl refl refl refl refl) in
     let line = option_line (codes "--form") None ++ (option_line (codes "--certificate") (Some y) ++ (a ∷ b ∷ c ∷ d ∷ e ∷ f ∷ [])) in
     let found = finds_at app (codes "plan") line 7 (held6 (after_options None (Some y)) a b c d e f) leaf w in
     record {
@@ -176,7 +176,7 @@ passes None (Some y) (a ∷ b ∷ c ∷ d ∷ e ∷ f ∷ []) dir lorry from to 
 passes (Some x) None (a ∷ b ∷ c ∷ d ∷ e ∷ f ∷ []) dir lorry from to t u sf sn k r =
     let s = all_shown plan_usage.places (a ∷ b ∷ c ∷ d ∷ e ∷ f ∷ []) (of_text dir ∷ of_text lorry ∷ of_number from ∷ of_number to ∷ of_number t ∷ of_number u ∷ []) r in
     let w = then_reaches (walks_options (Some x) None (a ∷ b ∷ c ∷ d ∷ e ∷ f ∷ []) sf sn)
-        (walks_places (after_options (Some x) None) a b c d e f s refl refl refl refl refl refl) in
+    (walks_places (after_options (Some x) None) a b c d e f s refl refl refl refl refl refl) in
     let line = option_line (codes "--form") (Some x) ++ (option_line (codes "--certificate") None ++ (a ∷ b ∷ c ∷ d ∷ e ∷ f ∷ [])) in
     let found = finds_at app (codes "plan") line 7 (held6 (after_options (Some x) None) a b c d e f) leaf w in
     record {
@@ -188,7 +188,7 @@ passes (Some x) None (a ∷ b ∷ c ∷ d ∷ e ∷ f ∷ []) dir lorry from to 
 passes (Some x) (Some y) (a ∷ b ∷ c ∷ d ∷ e ∷ f ∷ []) dir lorry from to t u sf sn k r =
     let s = all_shown plan_usage.places (a ∷ b ∷ c ∷ d ∷ e ∷ f ∷ []) (of_text dir ∷ of_text lorry ∷ of_number from ∷ of_number to ∷ of_number t ∷ of_number u ∷ []) r in
     let w = then_reaches (walks_options (Some x) (Some y) (a ∷ b ∷ c ∷ d ∷ e ∷ f ∷ []) sf sn)
-        (walks_places (after_options (Some x) (Some y)) a b c d e f s refl refl refl refl refl refl) in
+    (walks_places (after_options (Some x) (Some y)) a b c d e f s refl refl refl refl refl refl) in
     let line = option_line (codes "--form") (Some x) ++ (option_line (codes "--certificate") (Some y) ++ (a ∷ b ∷ c ∷ d ∷ e ∷ f ∷ [])) in
     let found = finds_at app (codes "plan") line 7 (held6 (after_options (Some x) (Some y)) a b c d e f) leaf w in
     record {

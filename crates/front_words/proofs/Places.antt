@@ -1,5 +1,5 @@
 -- Positional words by their number.
-use Rattle.std.proofs.Common.{◌≡◌, ◌≢◌, ℕ, ◌+◌, ◌<◌, Option, Some, None, List, [], ◌∷◌, length, map, get_or, refl, sym, ap, ◌∙◌, arith, Bor, suc}
+use Rattle.std.proofs.Common.{◌≡◌, ◌≢◌, ℕ, Option, Some, None, List, [], ◌∷◌, length, map, get_or, refl, sym, ap, arith, Bor, suc}
 use Rattle.std.specs.Prelude.{option_and_then, option_map}
 use Rattle.front_words.specs.Forms.{Value, WordForm, value_of}
 use Rattle.front_words.specs.Usages.{places_read}

@@ -1,12 +1,11 @@
 -- Words in their forms begin with no dash.
-use Rattle.std.proofs.Common.{◌≡◌, refl, subst, true, false, eqb, ℕ, Bool, List, Option, Some, None, [], ◌∷◌, ap, sym, ◌∙◌}
+use Rattle.std.proofs.Common.{◌≡◌, refl, subst, true, false, eqb, ℕ, Bool, List, Option, Some, None, [], ◌∷◌, ap, ◌∙◌}
 use borrow.Author.Tests.{eqb-true}
 use Rattle.std.specs.Prelude.{suc, option_and_then, option_map, nat_le, length, bytes_eq, codes, if◌then◌else◌}
 use Rattle.calendar_days.specs.Texts.{instant_of, day_of_text}
 use Rattle.route_base.specs.Digits.{plain_number_of}
 use Rattle.front_words.specs.Usages.{places_read}
-use Rattle.front_words.specs.Forms.{Value, WordForm, value_of, text_if, of_text, folder, vehicle, number, instant, certificate, report, is_certificate_name, is_folder_name}
-use Rattle.route_base.specs.Forms.{is_name}
+use Rattle.front_words.specs.Forms.{Value, WordForm, value_of, text_if, of_text, folder, vehicle, number, instant, certificate, report, is_certificate_name}
 
 -- a word that has a first byte, which is no `-`
 pub record IsShown (word : List ℕ) : Type 0 where
@@ -99,8 +98,8 @@ pub all_read : (forms : List WordForm) (words : List (List ℕ)) (vs : List Valu
 all_read [] [] [] e = tt
 all_read [] [] (v ∷ vs) e = absurd (some_other (some_same e))
   where
-  some_other : {A : Type 0} {x : A} {xs : List A} → [] ≡ x ∷ xs → ⊥
-  some_other h = cc
+    some_other : {A : Type 0} {x : A} {xs : List A} → [] ≡ x ∷ xs → ⊥
+    some_other h = cc
 all_read [] (word ∷ words) vs e = none_is_no_value refl e
 all_read (form ∷ forms) [] vs e = none_is_no_value refl e
 all_read (form ∷ forms) (word ∷ words) vs e =

@@ -1,6 +1,6 @@
 -- What the calls hand to one another; no law.
 use Rattle.std.specs.Prelude.{ℕ, ◌≡◌, Option, Some, None, List, map, option_map, Result, Ok, Err, ◌++◌}
-use Rattle.std.specs.Prelude.{bytes_eq, [], ◌∷◌}
+use Rattle.std.specs.Prelude.{[], ◌∷◌}
 use Rattle.std.specs.Borrow.{Bor}
 use Rattle.front_words.specs.Splitting.{Given, Split, split_of, Piece, plain, named, assigned, stray}
 use Rattle.front_words.specs.Forms.{Value, WordForm, value_of, of_text, of_number, of_report, report, certificate as certificate_form}

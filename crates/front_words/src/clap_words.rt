@@ -8,7 +8,11 @@ use route_base::{OutOfMemory, Text};
 use std::alloc::{AllocError, Global};
 
 // The command with a positional word more, which must be there.
-pub fn with_place<'a>(alloc: Global, command: Command<'a>, id: &'a str) -> Result<Command<'a>, AllocError>
+pub fn with_place<'a>(
+    alloc: Global,
+    command: Command<'a>,
+    id: &'a str,
+) -> Result<Command<'a>, AllocError>
     ensures { IfOk result (λ c. app_of c ≡ with_rule (app_of command.entry) (place id.entry.now)) }
 {
     let arg = Arg::new(alloc, id).required(true);
@@ -16,7 +20,11 @@ pub fn with_place<'a>(alloc: Global, command: Command<'a>, id: &'a str) -> Resul
 }
 
 // The command with an option more, which has a value.
-pub fn with_choice<'a>(alloc: Global, command: Command<'a>, id: &'a str) -> Result<Command<'a>, AllocError>
+pub fn with_choice<'a>(
+    alloc: Global,
+    command: Command<'a>,
+    id: &'a str,
+) -> Result<Command<'a>, AllocError>
     ensures { IfOk result (λ c. app_of c ≡ with_rule (app_of command.entry) (choice id.entry.now)) }
 {
     let arg = Arg::new(alloc, id).long(id);

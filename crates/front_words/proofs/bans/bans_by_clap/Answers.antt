@@ -1,7 +1,7 @@
-use Rattle.std.proofs.Common.{◌≡◌, ◌∙◌, codes, ap, ap₂, sym, subst, map, List, ℕ, Some, ◌∷◌}
+use Rattle.std.proofs.Common.{codes, ap₂, sym, subst, map, List, ℕ, Some, ◌∷◌}
 use Rattle.front_words.specs.ClapCommands.{IsTaken, bans_app}
-use Rattle.front_words.specs.Commands.{to_bans, trip_to}
-use Rattle.front_words.proofs.ClapBans.{PassesBans, passes_bans}
+use Rattle.front_words.specs.Commands.{to_bans}
+use Rattle.front_words.proofs.ClapBans.{passes_bans}
 use Rattle.front_words.proofs.ClapWalk.{is_text, is_there, one_text, same_line}
 use Rattle.front_words.proofs.bans.bans_by_clap.Goals as goal
 

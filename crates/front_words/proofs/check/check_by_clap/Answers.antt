@@ -1,7 +1,7 @@
-use Rattle.std.proofs.Common.{◌≡◌, ◌∙◌, codes, ap, ap₂, sym, subst, map, List, ℕ, Some, ◌∷◌}
+use Rattle.std.proofs.Common.{◌∙◌, codes, ap, ap₂, sym, subst, map, List, ℕ, Some, ◌∷◌}
 use Rattle.front_words.specs.ClapCommands.{IsTaken, check_app}
 use Rattle.front_words.specs.Commands.{to_check, trip_to}
-use Rattle.front_words.proofs.ClapCheck.{PassesCheck, passes_check}
+use Rattle.front_words.proofs.ClapCheck.{passes_check}
 use Rattle.front_words.proofs.ClapWalk.{is_text, is_there, one_text, same_line}
 use Rattle.front_words.proofs.check.check_by_clap.Goals as goal
 

@@ -1,4 +1,4 @@
-use Rattle.std.proofs.Common.{rules, arith, ◌≡◌, ◌≢◌, length, []}
+use Rattle.std.proofs.Common.{rules, arith, ◌≢◌, length, []}
 use borrow.Author.Tests.{ltb-true, ltb-false}
 use Rattle.front_words.specs.Commands.{check_usage}
 use Rattle.front_words.proofs.Places.{by_seven, miscounted}

@@ -1,6 +1,5 @@
-use Rattle.std.proofs.Common.{Bor, ◌≡◌, ◌∙◌, codes, ap, ap₂, sym, subst, map, option_map, Option, List, ℕ, Some}
+use Rattle.std.proofs.Common.{Bor, ◌∙◌, codes, ap, sym, subst, map, List, ℕ}
 use Rattle.front_words.specs.ClapCommands.{IsTaken, plan_app, text_found}
-use Rattle.front_words.specs.Commands.{to_plan, trip_to}
 use Rattle.front_words.specs.Inside.{line_of_plan}
 use Rattle.front_words.proofs.ClapPlan.{plan_passes, same_name, same_plan}
 use Rattle.front_words.proofs.ClapWalk.{is_text, is_there, one_text}
@@ -35,6 +34,6 @@ returns c =
     let dir_same = one_text _ c.args.trip.now.dir.now c.in_ok-dir.dir dir_there c.in_ok-dir.ensures in
     let vehicle_same = one_text _ c.args.trip.now.vehicle.now c.in_ok-vehicle.vehicle vehicle_there c.in_ok-vehicle.ensures in
     let name_same = same_name c.args.choices.now.certificate ∙ sym passed.certificate_is
-        ∙ ap (λ ws. text_found plan_app ws (codes "certificate")) (sym line) ∙ sym (c.in-Ok.ensures.found (codes "certificate")) ∙ c.in_ok-certificate.ensures in
+    ∙ ap (λ ws. text_found plan_app ws (codes "certificate")) (sym line) ∙ sym (c.in-Ok.ensures.found (codes "certificate")) ∙ c.in_ok-certificate.ensures in
     same_plan _ _ _ _ c.args.trip.now.from c.args.trip.now.to c.args.trip.now.depart c.args.trip.now.until _ _ _ _ dir_same vehicle_same
     (sym c.form_or_plain.ensures) name_same
