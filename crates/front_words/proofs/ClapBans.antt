@@ -8,14 +8,18 @@ use Rattle.front_words.specs.Commands.{bans_usage}
 use Rattle.front_words.specs.Forms.{is_folder_name, of_text, of_number}
 use Rattle.front_words.specs.Usages.{places_read}
 use Rattle.route_base.specs.Forms.{is_name}
+use Rattle.front_words.specs.Inside.{bans_values}
+use Rattle.front_words.specs.declared.bans.Bans.{Bans as BansParts}
 use Rattle.front_words.proofs.ClapWalk.{IsLeaf, Reaches, at, finds_at, places, takes_at, then_reaches}
 use Rattle.front_words.proofs.Shown.{AllRead, AllShown, all_read, all_shown, own_text, read_length}
 
 -- the command, written out
 abbrev app : App
-app = with_rule (with_rule (with_rule (with_rule (with_rule (new_app (codes "bans")) (place (codes "dir"))) (place (codes "vehicle"))) (place (codes "arc"))) (place (codes "depart"))) (place (codes "until"))
+app = with_rule (with_rule (with_rule (with_rule (with_rule (new_app (codes "bans")) (place (codes "dir"))) (place (codes "vehicle"))) (place
+    (codes "arc"))) (place (codes "depart"))) (place (codes "until"))
 
-pub bans_built : with_rule (with_rule (with_rule (with_rule (with_rule (new_app (codes "bans")) (place (codes "dir"))) (place (codes "vehicle"))) (place (codes "arc"))) (place (codes "depart"))) (place (codes "until")) ≡ bans_app
+pub bans_built : with_rule (with_rule (with_rule (with_rule (with_rule (new_app (codes "bans")) (place (codes "dir"))) (place (codes "vehicle"))) (place
+    (codes "arc"))) (place (codes "depart"))) (place (codes "until")) ≡ bans_app
 unfolding bans_app
 bans_built = refl
 
@@ -67,11 +71,13 @@ pub record PassesBans (words : List Text) (dir lorry : Text) : Type 0 where
   pub dir_is : text_found bans_app (codes "bans" ∷ words) (codes "dir") ≡ Some dir
   pub vehicle_is : text_found bans_app (codes "bans" ∷ words) (codes "vehicle") ≡ Some lorry
 
-passes : (words : List Text) (dir lorry : Text) (arc t u : ℕ) → length words ≡ 5 → AllRead bans_usage.places words (of_text dir ∷ of_text lorry ∷ of_number arc ∷ of_number t ∷ of_number u ∷ [])
+passes : (words : List Text) (dir lorry : Text) (arc t u : ℕ) → length words ≡ 5
+    → AllRead bans_usage.places words (of_text dir ∷ of_text lorry ∷ of_number arc ∷ of_number t ∷ of_number u ∷ [])
     → PassesBans words dir lorry
 unfolding bans_app IsTaken text_found
 passes (a ∷ b ∷ c ∷ d ∷ e ∷ []) dir lorry arc t u n r =
-    let w = walks a b c d e (all_shown bans_usage.places (a ∷ b ∷ c ∷ d ∷ e ∷ []) (of_text dir ∷ of_text lorry ∷ of_number arc ∷ of_number t ∷ of_number u ∷ []) r) in
+    let w = walks a b c d e (all_shown bans_usage.places (a ∷ b ∷ c ∷ d ∷ e ∷ [])
+    (of_text dir ∷ of_text lorry ∷ of_number arc ∷ of_number t ∷ of_number u ∷ []) r) in
     let found = finds_at app (codes "bans") (a ∷ b ∷ c ∷ d ∷ e ∷ []) 6 (held5 a b c d e) leaf w in
     record {
       taken = takes_at app (codes "bans") (a ∷ b ∷ c ∷ d ∷ e ∷ []) 6 (held5 a b c d e) leaf w refl;
@@ -80,8 +86,14 @@ passes (a ∷ b ∷ c ∷ d ∷ e ∷ []) dir lorry arc t u n r =
     }
 passes words dir lorry arc t u n r = absurd (omega arith)
 
-pub passes_bans : (words : List Text) (dir lorry : Text) (arc t u : ℕ) → places_read bans_usage.places words ≡ Some (of_text dir ∷ of_text lorry ∷ of_number arc ∷ of_number t ∷ of_number u ∷ [])
+passes_bans : (words : List Text) (dir lorry : Text) (arc t u : ℕ)
+    → places_read bans_usage.places words ≡ Some (of_text dir ∷ of_text lorry ∷ of_number arc ∷ of_number t ∷ of_number u ∷ [])
     → PassesBans words dir lorry
 passes_bans words dir lorry arc t u e =
     let r = all_read bans_usage.places words (of_text dir ∷ of_text lorry ∷ of_number arc ∷ of_number t ∷ of_number u ∷ []) e in
     passes words dir lorry arc t u (read_length bans_usage.places words (of_text dir ∷ of_text lorry ∷ of_number arc ∷ of_number t ∷ of_number u ∷ []) r) r
+
+-- the same of the words and values that the code holds
+pub bans_pass : (b : BansParts) (words : List Text) → places_read bans_usage.places words ≡ Some (bans_values b)
+    → PassesBans words b.dir.now b.vehicle.now
+bans_pass b words e = passes_bans words b.dir.now b.vehicle.now b.arc b.depart b.until e

@@ -8,14 +8,18 @@ use Rattle.front_words.specs.Commands.{check_usage}
 use Rattle.front_words.specs.Forms.{is_certificate_name, is_folder_name, of_text, of_number}
 use Rattle.front_words.specs.Usages.{places_read}
 use Rattle.route_base.specs.Forms.{is_name}
+use Rattle.front_words.specs.Inside.{check_values}
+use Rattle.front_words.specs.declared.check.Check.{Check as CheckParts}
 use Rattle.front_words.proofs.ClapWalk.{IsLeaf, Reaches, at, finds_at, places, takes_at, then_reaches}
 use Rattle.front_words.proofs.Shown.{AllRead, AllShown, all_read, all_shown, own_text, read_length}
 
 -- the command, written out
 abbrev app : App
-app = with_rule (with_rule (with_rule (with_rule (with_rule (with_rule (with_rule (new_app (codes "check")) (place (codes "dir"))) (place (codes "vehicle"))) (place (codes "from"))) (place (codes "to"))) (place (codes "depart"))) (place (codes "until"))) (place (codes "name"))
+app = with_rule (with_rule (with_rule (with_rule (with_rule (with_rule (with_rule (new_app (codes "check")) (place (codes "dir"))) (place
+    (codes "vehicle"))) (place (codes "from"))) (place (codes "to"))) (place (codes "depart"))) (place (codes "until"))) (place (codes "name"))
 
-pub check_built : with_rule (with_rule (with_rule (with_rule (with_rule (with_rule (with_rule (new_app (codes "check")) (place (codes "dir"))) (place (codes "vehicle"))) (place (codes "from"))) (place (codes "to"))) (place (codes "depart"))) (place (codes "until"))) (place (codes "name")) ≡ check_app
+pub check_built : with_rule (with_rule (with_rule (with_rule (with_rule (with_rule (with_rule (new_app (codes "check")) (place (codes "dir"))) (place
+    (codes "vehicle"))) (place (codes "from"))) (place (codes "to"))) (place (codes "depart"))) (place (codes "until"))) (place (codes "name")) ≡ check_app
 unfolding check_app
 check_built = refl
 
@@ -78,11 +82,13 @@ pub record PassesCheck (words : List Text) (dir lorry name : Text) : Type 0 wher
   pub vehicle_is : text_found check_app (codes "check" ∷ words) (codes "vehicle") ≡ Some lorry
   pub name_is : text_found check_app (codes "check" ∷ words) (codes "name") ≡ Some name
 
-passes : (words : List Text) (dir lorry name : Text) (from to t u : ℕ) → length words ≡ 7 → AllRead check_usage.places words (of_text dir ∷ of_text lorry ∷ of_number from ∷ of_number to ∷ of_number t ∷ of_number u ∷ of_text name ∷ [])
+passes : (words : List Text) (dir lorry name : Text) (from to t u : ℕ) → length words ≡ 7
+    → AllRead check_usage.places words (of_text dir ∷ of_text lorry ∷ of_number from ∷ of_number to ∷ of_number t ∷ of_number u ∷ of_text name ∷ [])
     → PassesCheck words dir lorry name
 unfolding check_app IsTaken text_found
 passes (a ∷ b ∷ c ∷ d ∷ e ∷ f ∷ g ∷ []) dir lorry name from to t u n r =
-    let w = walks a b c d e f g (all_shown check_usage.places (a ∷ b ∷ c ∷ d ∷ e ∷ f ∷ g ∷ []) (of_text dir ∷ of_text lorry ∷ of_number from ∷ of_number to ∷ of_number t ∷ of_number u ∷ of_text name ∷ []) r) in
+    let w = walks a b c d e f g (all_shown check_usage.places (a ∷ b ∷ c ∷ d ∷ e ∷ f ∷ g ∷ [])
+    (of_text dir ∷ of_text lorry ∷ of_number from ∷ of_number to ∷ of_number t ∷ of_number u ∷ of_text name ∷ []) r) in
     let found = finds_at app (codes "check") (a ∷ b ∷ c ∷ d ∷ e ∷ f ∷ g ∷ []) 8 (held7 a b c d e f g) leaf w in
     record {
       taken = takes_at app (codes "check") (a ∷ b ∷ c ∷ d ∷ e ∷ f ∷ g ∷ []) 8 (held7 a b c d e f g) leaf w refl;
@@ -92,8 +98,16 @@ passes (a ∷ b ∷ c ∷ d ∷ e ∷ f ∷ g ∷ []) dir lorry name from to t u
     }
 passes words dir lorry name from to t u n r = absurd (omega arith)
 
-pub passes_check : (words : List Text) (dir lorry name : Text) (from to t u : ℕ) → places_read check_usage.places words ≡ Some (of_text dir ∷ of_text lorry ∷ of_number from ∷ of_number to ∷ of_number t ∷ of_number u ∷ of_text name ∷ [])
+passes_check : (words : List Text) (dir lorry name : Text) (from to t u : ℕ)
+    → places_read check_usage.places words ≡ Some
+    (of_text dir ∷ of_text lorry ∷ of_number from ∷ of_number to ∷ of_number t ∷ of_number u ∷ of_text name ∷ [])
     → PassesCheck words dir lorry name
 passes_check words dir lorry name from to t u e =
     let r = all_read check_usage.places words (of_text dir ∷ of_text lorry ∷ of_number from ∷ of_number to ∷ of_number t ∷ of_number u ∷ of_text name ∷ []) e in
-    passes words dir lorry name from to t u (read_length check_usage.places words (of_text dir ∷ of_text lorry ∷ of_number from ∷ of_number to ∷ of_number t ∷ of_number u ∷ of_text name ∷ []) r) r
+    passes words dir lorry name from to t u (read_length check_usage.places words
+    (of_text dir ∷ of_text lorry ∷ of_number from ∷ of_number to ∷ of_number t ∷ of_number u ∷ of_text name ∷ []) r) r
+
+-- the same of the words and values that the code holds
+pub check_pass : (b : CheckParts) (words : List Text) → places_read check_usage.places words ≡ Some (check_values b)
+    → PassesCheck words b.dir.now b.vehicle.now b.name.now
+check_pass b words e = passes_check words b.dir.now b.vehicle.now b.name.now b.from b.to b.depart b.until e

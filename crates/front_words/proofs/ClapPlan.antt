@@ -19,9 +19,13 @@ use Rattle.front_words.proofs.Shown.{AllRead, AllShown, IsShown, all_read, all_s
 
 -- the command, written out
 abbrev app : App
-app = with_rule (with_rule (with_rule (with_rule (with_rule (with_rule (with_rule (with_rule (new_app (codes "plan")) (place (codes "dir"))) (place (codes "vehicle"))) (place (codes "from"))) (place (codes "to"))) (place (codes "depart"))) (place (codes "until"))) (choice (codes "form"))) (choice (codes "certificate"))
+app = with_rule (with_rule (with_rule (with_rule (with_rule (with_rule (with_rule (with_rule (new_app (codes "plan")) (place (codes "dir"))) (place
+    (codes "vehicle"))) (place (codes "from"))) (place (codes "to"))) (place (codes "depart"))) (place (codes "until"))) (choice (codes "form"))) (choice
+    (codes "certificate"))
 
-pub plan_built : with_rule (with_rule (with_rule (with_rule (with_rule (with_rule (with_rule (with_rule (new_app (codes "plan")) (place (codes "dir"))) (place (codes "vehicle"))) (place (codes "from"))) (place (codes "to"))) (place (codes "depart"))) (place (codes "until"))) (choice (codes "form"))) (choice (codes "certificate")) ≡ plan_app
+pub plan_built : with_rule (with_rule (with_rule (with_rule (with_rule (with_rule (with_rule (with_rule (new_app (codes "plan")) (place (codes "dir")))
+    (place (codes "vehicle"))) (place (codes "from"))) (place (codes "to"))) (place (codes "depart"))) (place (codes "until"))) (choice (codes "form")))
+    (choice (codes "certificate")) ≡ plan_app
 unfolding plan_app
 plan_built = refl
 
@@ -78,7 +82,8 @@ walks_form : (form : Option Text) (rest : List Text) → IfSome form IsShown
     → Reaches shape (at 1 nothing_held) (option_line (codes "--form") form ++ rest) (at 1 (after_form form)) rest
 walks_form None rest s = stays nothing_held rest
 walks_form (Some word) rest s =
-    then_reaches (step shape (at 1 nothing_held) (awaiting (codes "form") 1 (opened (codes "form") nothing_held)) (codes "--form") (word ∷ rest) form_turns form_walks)
+    then_reaches (step shape (at 1 nothing_held) (awaiting (codes "form") 1 (opened (codes "form") nothing_held)) (codes "--form")
+    (word ∷ rest) form_turns form_walks)
     (gives shape (codes "form") 1 (opened (codes "form") nothing_held) (unwrap_or (arg_by_id shape.rules (codes "form")) (new_rule [])) word rest s refl)
 
 walks_name : (form name : Option Text) (rest : List Text) → IfSome name IsShown
@@ -87,7 +92,8 @@ walks_name form None rest s = stays (after_form form) rest
 walks_name form (Some word) rest s =
     then_reaches (step shape (at 1 (after_form form)) (awaiting (codes "certificate") 1 (opened (codes "certificate") (after_form form)))
     (codes "--certificate") (word ∷ rest) (name_turns form) (name_walks form))
-    (gives shape (codes "certificate") 1 (opened (codes "certificate") (after_form form)) (unwrap_or (arg_by_id shape.rules (codes "certificate")) (new_rule []))
+    (gives shape (codes "certificate") 1 (opened (codes "certificate") (after_form form)) (unwrap_or (arg_by_id shape.rules (codes "certificate"))
+    (new_rule []))
     word rest s refl)
 
 walks_options : (form name : Option Text) (rest : List Text) → IfSome form IsShown → IfSome name IsShown
@@ -147,10 +153,12 @@ pub record PassesPlan (form name : Option Text) (words : List Text) (dir lorry :
   pub certificate_is : text_found plan_app (plan_line form name words) (codes "certificate") ≡ name
 
 passes : (form name : Option Text) (words : List Text) (dir lorry : Text) (from to t u : ℕ) → IfSome form IsShown → IfSome name IsShown
-    → length words ≡ 6 → AllRead plan_usage.places words (of_text dir ∷ of_text lorry ∷ of_number from ∷ of_number to ∷ of_number t ∷ of_number u ∷ []) → PassesPlan form name words dir lorry
+    → length words ≡ 6 → AllRead plan_usage.places words (of_text dir ∷ of_text lorry ∷ of_number from ∷ of_number to ∷ of_number t ∷ of_number u ∷ [])
+    → PassesPlan form name words dir lorry
 unfolding plan_app IsTaken text_found
 passes None None (a ∷ b ∷ c ∷ d ∷ e ∷ f ∷ []) dir lorry from to t u sf sn k r =
-    let s = all_shown plan_usage.places (a ∷ b ∷ c ∷ d ∷ e ∷ f ∷ []) (of_text dir ∷ of_text lorry ∷ of_number from ∷ of_number to ∷ of_number t ∷ of_number u ∷ []) r in
+    let s = all_shown plan_usage.places (a ∷ b ∷ c ∷ d ∷ e ∷ f ∷ [])
+    (of_text dir ∷ of_text lorry ∷ of_number from ∷ of_number to ∷ of_number t ∷ of_number u ∷ []) r in
     let w = then_reaches (walks_options None None (a ∷ b ∷ c ∷ d ∷ e ∷ f ∷ []) sf sn)
     (walks_places (after_options None None) a b c d e f s refl refl refl refl refl refl) in
     let line = option_line (codes "--form") None ++ (option_line (codes "--certificate") None ++ (a ∷ b ∷ c ∷ d ∷ e ∷ f ∷ [])) in
@@ -162,7 +170,8 @@ passes None None (a ∷ b ∷ c ∷ d ∷ e ∷ f ∷ []) dir lorry from to t u 
       certificate_is = ap (first_of (codes "certificate")) found;
     }
 passes None (Some y) (a ∷ b ∷ c ∷ d ∷ e ∷ f ∷ []) dir lorry from to t u sf sn k r =
-    let s = all_shown plan_usage.places (a ∷ b ∷ c ∷ d ∷ e ∷ f ∷ []) (of_text dir ∷ of_text lorry ∷ of_number from ∷ of_number to ∷ of_number t ∷ of_number u ∷ []) r in
+    let s = all_shown plan_usage.places (a ∷ b ∷ c ∷ d ∷ e ∷ f ∷ [])
+    (of_text dir ∷ of_text lorry ∷ of_number from ∷ of_number to ∷ of_number t ∷ of_number u ∷ []) r in
     let w = then_reaches (walks_options None (Some y) (a ∷ b ∷ c ∷ d ∷ e ∷ f ∷ []) sf sn)
     (walks_places (after_options None (Some y)) a b c d e f s refl refl refl refl refl refl) in
     let line = option_line (codes "--form") None ++ (option_line (codes "--certificate") (Some y) ++ (a ∷ b ∷ c ∷ d ∷ e ∷ f ∷ [])) in
@@ -174,7 +183,8 @@ passes None (Some y) (a ∷ b ∷ c ∷ d ∷ e ∷ f ∷ []) dir lorry from to 
       certificate_is = ap (first_of (codes "certificate")) found;
     }
 passes (Some x) None (a ∷ b ∷ c ∷ d ∷ e ∷ f ∷ []) dir lorry from to t u sf sn k r =
-    let s = all_shown plan_usage.places (a ∷ b ∷ c ∷ d ∷ e ∷ f ∷ []) (of_text dir ∷ of_text lorry ∷ of_number from ∷ of_number to ∷ of_number t ∷ of_number u ∷ []) r in
+    let s = all_shown plan_usage.places (a ∷ b ∷ c ∷ d ∷ e ∷ f ∷ [])
+    (of_text dir ∷ of_text lorry ∷ of_number from ∷ of_number to ∷ of_number t ∷ of_number u ∷ []) r in
     let w = then_reaches (walks_options (Some x) None (a ∷ b ∷ c ∷ d ∷ e ∷ f ∷ []) sf sn)
     (walks_places (after_options (Some x) None) a b c d e f s refl refl refl refl refl refl) in
     let line = option_line (codes "--form") (Some x) ++ (option_line (codes "--certificate") None ++ (a ∷ b ∷ c ∷ d ∷ e ∷ f ∷ [])) in
@@ -186,7 +196,8 @@ passes (Some x) None (a ∷ b ∷ c ∷ d ∷ e ∷ f ∷ []) dir lorry from to 
       certificate_is = ap (first_of (codes "certificate")) found;
     }
 passes (Some x) (Some y) (a ∷ b ∷ c ∷ d ∷ e ∷ f ∷ []) dir lorry from to t u sf sn k r =
-    let s = all_shown plan_usage.places (a ∷ b ∷ c ∷ d ∷ e ∷ f ∷ []) (of_text dir ∷ of_text lorry ∷ of_number from ∷ of_number to ∷ of_number t ∷ of_number u ∷ []) r in
+    let s = all_shown plan_usage.places (a ∷ b ∷ c ∷ d ∷ e ∷ f ∷ [])
+    (of_text dir ∷ of_text lorry ∷ of_number from ∷ of_number to ∷ of_number t ∷ of_number u ∷ []) r in
     let w = then_reaches (walks_options (Some x) (Some y) (a ∷ b ∷ c ∷ d ∷ e ∷ f ∷ []) sf sn)
     (walks_places (after_options (Some x) (Some y)) a b c d e f s refl refl refl refl refl refl) in
     let line = option_line (codes "--form") (Some x) ++ (option_line (codes "--certificate") (Some y) ++ (a ∷ b ∷ c ∷ d ∷ e ∷ f ∷ [])) in
@@ -200,10 +211,12 @@ passes (Some x) (Some y) (a ∷ b ∷ c ∷ d ∷ e ∷ f ∷ []) dir lorry from
 passes form name words dir lorry from to t u sf sn k r = absurd (omega arith)
 
 pub passes_plan : (form name : Option Text) (words : List Text) (dir lorry : Text) (from to t u : ℕ) → IfSome form IsShown → IfSome name IsShown
-    → places_read plan_usage.places words ≡ Some (of_text dir ∷ of_text lorry ∷ of_number from ∷ of_number to ∷ of_number t ∷ of_number u ∷ []) → PassesPlan form name words dir lorry
+    → places_read plan_usage.places words ≡ Some (of_text dir ∷ of_text lorry ∷ of_number from ∷ of_number to ∷ of_number t ∷ of_number u ∷ [])
+    → PassesPlan form name words dir lorry
 passes_plan form name words dir lorry from to t u sf sn e =
     let r = all_read plan_usage.places words (of_text dir ∷ of_text lorry ∷ of_number from ∷ of_number to ∷ of_number t ∷ of_number u ∷ []) e in
-    passes form name words dir lorry from to t u sf sn (read_length plan_usage.places words (of_text dir ∷ of_text lorry ∷ of_number from ∷ of_number to ∷ of_number t ∷ of_number u ∷ []) r) r
+    passes form name words dir lorry from to t u sf sn (read_length plan_usage.places words
+    (of_text dir ∷ of_text lorry ∷ of_number from ∷ of_number to ∷ of_number t ∷ of_number u ∷ []) r) r
 
 -- a word in its form is shown
 shown_in : (form : WordForm) (word : Text) (o : Option Value) → value_of form word ≡ o → is_some o ≡ true → IsShown word

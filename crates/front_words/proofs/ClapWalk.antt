@@ -13,7 +13,8 @@ use Rattle.clap.specs.declared.parser.matches.ArgMatches.{ArgMatches}
 use Rattle.clap.proofs.WalkLemmas.{first_value-rows}
 use Rattle.front_words.specs.ClapCommands.{IsTaken, text_found}
 use Rattle.front_words.proofs.Shown.{IsShown}
-use Rattle.clap.specs.Walk.{finished, nothing_held, rows_after, Held, Names, Rule, Text, Walk, idle, option, value, next, arg_by_id, arg_by_index, option_word, to_positional, after_step, walked, word_met}
+use Rattle.clap.specs.Walk.{finished, nothing_held, rows_after, Held, Names, Rule, Text, Walk, idle}
+use Rattle.clap.specs.Walk.{option, value, next, arg_by_id, arg_by_index, option_word, to_positional, after_step, walked, word_met}
 
 -- between two words, with the next positional word's number
 abbrev pub at : ℕ → Held → Walk

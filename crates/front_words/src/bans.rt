@@ -65,7 +65,8 @@ fn bans_matches<'a>(alloc: Global, line: &'a [&'a str]) -> Result<ArgMatches<'a>
 
 // The command of bans, with the texts that `clap` gives back.
 fn bans_by_clap(alloc: Global, bans: &Bans, places: &[&str]) -> Result<FrontCommand, OutOfMemory>
-    requires { places_read bans_usage.places (map (λ w. w.now) places.now) ≡ Some (bans_values bans.now) }
+    requires { places_read bans_usage.places (map (λ w. w.now) places.now)
+        ≡ Some (bans_values bans.now) }
     ensures { IfOk result (λ c. bans_usage.make (bans_values bans.now) [] ≡ Some (command_in c)) }
 {
     let line = line_of(alloc, "bans", &[], places)?;

@@ -80,7 +80,8 @@ fn check_matches<'a>(alloc: Global, line: &'a [&'a str]) -> Result<ArgMatches<'a
 
 // The command of a check, with the texts that `clap` gives back.
 fn check_by_clap(alloc: Global, check: &Check, places: &[&str]) -> Result<FrontCommand, OutOfMemory>
-    requires { places_read check_usage.places (map (λ w. w.now) places.now) ≡ Some (check_values check.now) }
+    requires { places_read check_usage.places (map (λ w. w.now) places.now)
+        ≡ Some (check_values check.now) }
     ensures { IfOk result (λ c. check_usage.make (check_values check.now) [] ≡ Some (command_in c)) }
 {
     let line = line_of(alloc, "check", &[], places)?;

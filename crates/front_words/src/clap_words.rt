@@ -49,7 +49,8 @@ pub fn push_option<'a>(
     value: Option<&'a str>,
 ) -> Result<(), OutOfMemory>
     ensures { IfOk result (λ _. map (λ w. w.now) line.new.items
-        ≡ map (λ w. w.now) line.old.items ++ option_line option.entry.now (option_map (λ w. w.now) value.entry)) }
+        ≡ map (λ w. w.now) line.old.items
+        ++ option_line option.entry.now (option_map (λ w. w.now) value.entry)) }
 {
     match value {
         Some(value) => push_words(line, &[option, value]),

@@ -151,7 +151,8 @@ fn plan_by_clap(
     choices: &Choices,
     places: &[&str],
 ) -> Result<FrontCommand, OutOfMemory>
-    requires values { places_read plan_usage.places (map (λ w. w.now) places.now) ≡ Some (trip_values trip.now) }
+    requires values { places_read plan_usage.places (map (λ w. w.now) places.now)
+        ≡ Some (trip_values trip.now) }
     requires fit { AreFit choices.now }
     ensures { IfOk result (λ c. plan_usage.make (trip_values trip.now) (choice_values choices.now)
         ≡ Some (command_in c)) }

@@ -15,22 +15,26 @@ pub text_of-requires : goal.text_of-requires
 text_of-requires c =
     let passed = plan_passes c.args.trip.now c.args.choices.now (map (λ w. w.now) c.args.places.now) c.requires.fit c.requires.values in
     let line = ap (map (λ (w : Bor (List ℕ)). w.now)) c.as_slice.ensures.value ∙ c.in_ok-line.ensures in
-    let dir_there = is_text plan_app _ (line_of_plan c.args.choices.now (map (λ w. w.now) c.args.places.now)) (codes "dir") _ c.args.trip.now.dir.now line (c.in-Ok.ensures.found (codes "dir")) passed.dir_is in
+    let dir_there = is_text plan_app _ (line_of_plan c.args.choices.now (map (λ w. w.now) c.args.places.now)) (codes "dir") _ c.args.trip.now.dir.now line
+    (c.in-Ok.ensures.found (codes "dir")) passed.dir_is in
     is_there _ c.args.trip.now.dir.now dir_there
 
 pub text_of-requires-2 : goal.text_of-requires-2
 text_of-requires-2 c =
     let passed = plan_passes c.args.trip.now c.args.choices.now (map (λ w. w.now) c.args.places.now) c.requires.fit c.requires.values in
     let line = ap (map (λ (w : Bor (List ℕ)). w.now)) c.as_slice.ensures.value ∙ c.in_ok-line.ensures in
-    let vehicle_there = is_text plan_app _ (line_of_plan c.args.choices.now (map (λ w. w.now) c.args.places.now)) (codes "vehicle") _ c.args.trip.now.vehicle.now line (c.in-Ok.ensures.found (codes "vehicle")) passed.vehicle_is in
+    let vehicle_there = is_text plan_app _ (line_of_plan c.args.choices.now (map (λ w. w.now) c.args.places.now))
+    (codes "vehicle") _ c.args.trip.now.vehicle.now line (c.in-Ok.ensures.found (codes "vehicle")) passed.vehicle_is in
     is_there _ c.args.trip.now.vehicle.now vehicle_there
 
 pub returns : goal.returns
 returns c =
     let passed = plan_passes c.args.trip.now c.args.choices.now (map (λ w. w.now) c.args.places.now) c.requires.fit c.requires.values in
     let line = ap (map (λ (w : Bor (List ℕ)). w.now)) c.as_slice.ensures.value ∙ c.in_ok-line.ensures in
-    let dir_there = is_text plan_app _ (line_of_plan c.args.choices.now (map (λ w. w.now) c.args.places.now)) (codes "dir") _ c.args.trip.now.dir.now line (c.in-Ok.ensures.found (codes "dir")) passed.dir_is in
-    let vehicle_there = is_text plan_app _ (line_of_plan c.args.choices.now (map (λ w. w.now) c.args.places.now)) (codes "vehicle") _ c.args.trip.now.vehicle.now line (c.in-Ok.ensures.found (codes "vehicle")) passed.vehicle_is in
+    let dir_there = is_text plan_app _ (line_of_plan c.args.choices.now (map (λ w. w.now) c.args.places.now)) (codes "dir") _ c.args.trip.now.dir.now line
+    (c.in-Ok.ensures.found (codes "dir")) passed.dir_is in
+    let vehicle_there = is_text plan_app _ (line_of_plan c.args.choices.now (map (λ w. w.now) c.args.places.now))
+    (codes "vehicle") _ c.args.trip.now.vehicle.now line (c.in-Ok.ensures.found (codes "vehicle")) passed.vehicle_is in
     let dir_same = one_text _ c.args.trip.now.dir.now c.in_ok-dir.dir dir_there c.in_ok-dir.ensures in
     let vehicle_same = one_text _ c.args.trip.now.vehicle.now c.in_ok-vehicle.vehicle vehicle_there c.in_ok-vehicle.ensures in
     let name_same = same_name c.args.choices.now.certificate ∙ sym passed.certificate_is
