@@ -1,5 +1,5 @@
 -- How `clap` walks over words that begin with no dash.
-use Rattle.std.proofs.Common.{Bor, ◌≡◌, refl, subst, true, false, eqb, ℕ, Bool, List, Option, Some, None, [], ◌∷◌, ap, ap₂, sym, ◌∙◌}
+use Rattle.std.proofs.Common.{Bor, ◌≡◌, subst, true, false, eqb, ℕ, Bool, List, Option, Some, None, [], ◌∷◌, ap, ap₂, sym, ◌∙◌}
 use Rattle.std.specs.Prelude.{◌&&◌, drop, if◌then◌else◌, map}
 use Rattle.std.specs.List.{fold}
 use Rattle.std.specs.List.{list_all}
@@ -13,7 +13,8 @@ use Rattle.clap.specs.declared.parser.matches.ArgMatches.{ArgMatches}
 use Rattle.clap.proofs.WalkLemmas.{first_value-rows}
 use Rattle.front_words.specs.ClapCommands.{IsTaken, text_found}
 use Rattle.front_words.proofs.Shown.{IsShown}
-use Rattle.clap.specs.Walk.{finished, nothing_held, rows_after, Held, Names, Rule, Step, Text, Waiting, Walk, idle, option, value, next, arg_by_id, arg_by_index, option_word, to_positional, after_step, walked, word_met}
+use Rattle.clap.specs.Walk.{finished, nothing_held, rows_after, Held, Names, Rule, Text, Walk, idle}
+use Rattle.clap.specs.Walk.{option, value, next, arg_by_id, arg_by_index, option_word, to_positional, after_step, walked, word_met}
 
 -- between two words, with the next positional word's number
 abbrev pub at : ℕ → Held → Walk
@@ -63,9 +64,9 @@ places s p h a word rest w f g =
     subst (λ (v : Text). Reaches s (at p h) (v ∷ rest) (to_positional s.rules (Some a) v (at p h) h) rest) (sym w.is)
     (step s _ _ _ rest (place_turns s p h a w.first w.rest w.plain f g) (place_walks s.rules p h a w.first w.rest w.plain f))
 
-value_turns : (s : Shape) (id : Text) (p : ℕ) (h : Held) (a : Rule) (x : ℕ) (xs : Text) → eqb x 45 ≡ false → arg_by_id s.rules id ≡ Some a
+value_turns : (s : Shape) (id : Text) (p : ℕ) (h : Held) (x : ℕ) (xs : Text) → eqb x 45 ≡ false
     → turn_passes s [] (awaiting id p h) (x ∷ xs) ≡ true
-value_turns s id p h a x xs e f = simp (e, f)
+value_turns s id p h x xs e = simp e
 
 value_walks : (c : List Rule) (id : Text) (p : ℕ) (h : Held) (a : Rule) (x : ℕ) (xs : Text) → eqb x 45 ≡ false → arg_by_id c id ≡ Some a
     → walked c [] (awaiting id p h) (x ∷ xs)
@@ -80,7 +81,7 @@ pub gives : (s : Shape) (id : Text) (p : ℕ) (h : Held) (a : Rule) (word : Text
 gives s id p h a word rest w f =
     subst (λ (v : Text). Reaches s (awaiting id p h) (v ∷ rest)
     (after_step s.rules v (awaiting id p h) (option_word (Some a) id v h).0 (next (option_word (Some a) id v h).1)) rest) (sym w.is)
-    (step s _ _ _ rest (value_turns s id p h a w.first w.rest w.plain f) (value_walks s.rules id p h a w.first w.rest w.plain f))
+    (step s _ _ _ rest (value_turns s id p h w.first w.rest w.plain) (value_walks s.rules id p h a w.first w.rest w.plain f))
 
 -- the command has no subcommand, and its words begin with its name
 pub record IsLeaf (a : App) : Type 0 where

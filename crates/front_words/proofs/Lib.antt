@@ -1,4 +1,6 @@
 pub mod ClapBans
+pub mod ClapCheck
+pub mod ClapPlan
 pub mod ClapWalk
 pub mod Dividing
 pub mod Places

@@ -1,12 +1,11 @@
 -- Words in their forms begin with no dash.
-use Rattle.std.proofs.Common.{◌≡◌, refl, true, false, eqb, ℕ, Bool, List, Option, Some, None, [], ◌∷◌, ap, sym, ◌∙◌}
+use Rattle.std.proofs.Common.{◌≡◌, refl, subst, true, false, eqb, ℕ, Bool, List, Option, Some, None, [], ◌∷◌, ap, ◌∙◌}
 use borrow.Author.Tests.{eqb-true}
 use Rattle.std.specs.Prelude.{suc, option_and_then, option_map, nat_le, length, bytes_eq, codes, if◌then◌else◌}
 use Rattle.calendar_days.specs.Texts.{instant_of, day_of_text}
 use Rattle.route_base.specs.Digits.{plain_number_of}
 use Rattle.front_words.specs.Usages.{places_read}
-use Rattle.front_words.specs.Forms.{Value, WordForm, value_of, text_if, of_text, folder, vehicle, number, instant, certificate, report, is_certificate_name, is_folder_name}
-use Rattle.route_base.specs.Forms.{is_name}
+use Rattle.front_words.specs.Forms.{Value, WordForm, value_of, text_if, of_text, folder, vehicle, number, instant, certificate, report, is_certificate_name}
 
 -- a word that has a first byte, which is no `-`
 pub record IsShown (word : List ℕ) : Type 0 where
@@ -81,41 +80,49 @@ pub own_text : (b : Bool) (word text : List ℕ) → text_if b word ≡ Some (of
 own_text true word text e = cc
 own_text false word text e = none_is_no_value refl e
 
--- the values of a form and of forms, one after another
-first_value_of : (o : Option Value) (rest : Option (List Value)) (vs : List Value)
-    → option_and_then (λ v. option_map (λ us. v ∷ us) rest) o ≡ Some vs
-    → (v : Value) × (us : List Value) × ((o ≡ Some v) × (rest ≡ Some us) × (v ∷ us ≡ vs))
-first_value_of None rest vs e = none_is_no_value refl e
-first_value_of (Some v) None vs e = none_is_no_value refl e
-first_value_of (Some v) (Some us) vs e = (v, us, (refl, refl, some_same e))
+-- each word has its value in its form
+abbrev pub AllRead : List WordForm → List (List ℕ) → List Value → Type 0
+AllRead [] [] [] = Unit {0}
+AllRead (form ∷ forms) (word ∷ words) (v ∷ vs) = (value_of form word ≡ Some v) × AllRead forms words vs
+AllRead forms words vs = ⊥
 
--- all words that are read are shown, one for each form
+read_front : (form : WordForm) (forms : List WordForm) (word : List ℕ) (words : List (List ℕ)) (o : Option Value) (rest : Option (List Value)) (vs : List Value)
+    → value_of form word ≡ o → places_read forms words ≡ rest → ((us : List Value) → places_read forms words ≡ Some us → AllRead forms words us)
+    → option_and_then (λ v. option_map (λ us. v ∷ us) rest) o ≡ Some vs → AllRead (form ∷ forms) (word ∷ words) vs
+read_front form forms word words None rest vs e f go h = none_is_no_value refl h
+read_front form forms word words (Some v) None vs e f go h = none_is_no_value refl h
+read_front form forms word words (Some v) (Some us) vs e f go h =
+    subst (λ (ws : List Value). AllRead (form ∷ forms) (word ∷ words) ws) (some_same h) (e, go us f)
+
+pub all_read : (forms : List WordForm) (words : List (List ℕ)) (vs : List Value) → places_read forms words ≡ Some vs → AllRead forms words vs
+all_read [] [] [] e = tt
+all_read [] [] (v ∷ vs) e = absurd (some_other (some_same e))
+  where
+    some_other : {A : Type 0} {x : A} {xs : List A} → [] ≡ x ∷ xs → ⊥
+    some_other h = cc
+all_read [] (word ∷ words) vs e = none_is_no_value refl e
+all_read (form ∷ forms) [] vs e = none_is_no_value refl e
+all_read (form ∷ forms) (word ∷ words) vs e =
+    read_front form forms word words (value_of form word) (places_read forms words) vs refl refl (all_read forms words) e
+
+pub read_length : (forms : List WordForm) (words : List (List ℕ)) (vs : List Value) → AllRead forms words vs → length words ≡ length forms
+read_length [] [] [] r = refl
+read_length [] [] (v ∷ vs) r = absurd r
+read_length [] (word ∷ words) vs r = absurd r
+read_length (form ∷ forms) [] vs r = absurd r
+read_length (form ∷ forms) (word ∷ words) [] r = absurd r
+read_length (form ∷ forms) (word ∷ words) (v ∷ vs) r = ap (λ n. suc n) (read_length forms words vs r.1)
+
+-- all words are shown, one for each form
 abbrev pub AllShown : List WordForm → List (List ℕ) → Type 0
 AllShown [] [] = Unit {0}
 AllShown (form ∷ forms) (word ∷ words) = IsShown word × AllShown forms words
 AllShown forms words = ⊥
 
-pub all_shown : (forms : List WordForm) (words : List (List ℕ)) (vs : List Value) → places_read forms words ≡ Some vs → AllShown forms words
-all_shown [] [] vs e = tt
-all_shown [] (word ∷ words) vs e = none_is_no_value refl e
-all_shown (form ∷ forms) [] vs e = none_is_no_value refl e
-all_shown (form ∷ forms) (word ∷ words) vs e =
-    let f = first_value_of (value_of form word) (places_read forms words) vs e in
-    (shown form word f.0 f.2.0, all_shown forms words f.1 f.2.1)
-
-pub shown_length : (forms : List WordForm) (words : List (List ℕ)) → AllShown forms words → length words ≡ length forms
-shown_length [] [] s = refl
-shown_length [] (word ∷ words) s = absurd s
-shown_length (form ∷ forms) [] s = absurd s
-shown_length (form ∷ forms) (word ∷ words) s = ap (λ n. suc n) (shown_length forms words s.1)
-
--- the first two words of a command are their own values
-pub first_texts : (forms : List WordForm) (a b : List ℕ) (words : List (List ℕ)) (dir lorry : List ℕ) (vs : List Value)
-    → places_read (folder ∷ vehicle ∷ forms) (a ∷ b ∷ words) ≡ Some (of_text dir ∷ of_text lorry ∷ vs) → (a ≡ dir) × (b ≡ lorry)
-first_texts forms a b words dir lorry vs e =
-    let f = first_value_of (value_of folder a) (places_read (vehicle ∷ forms) (b ∷ words)) (of_text dir ∷ of_text lorry ∷ vs) e in
-    let v : f.0 ≡ of_text dir = cc in
-    let r : f.1 ≡ of_text lorry ∷ vs = cc in
-    let g = first_value_of (value_of vehicle b) (places_read forms words) (of_text lorry ∷ vs) (f.2.1 ∙ ap (λ us. Some us) r) in
-    let w : g.0 ≡ of_text lorry = cc in
-    (own_text (is_folder_name a) a dir (f.2.0 ∙ ap (λ u. Some u) v), own_text (is_name b) b lorry (g.2.0 ∙ ap (λ u. Some u) w))
+pub all_shown : (forms : List WordForm) (words : List (List ℕ)) (vs : List Value) → AllRead forms words vs → AllShown forms words
+all_shown [] [] vs r = tt
+all_shown [] (word ∷ words) [] r = absurd r
+all_shown [] (word ∷ words) (v ∷ vs) r = absurd r
+all_shown (form ∷ forms) [] vs r = absurd r
+all_shown (form ∷ forms) (word ∷ words) [] r = absurd r
+all_shown (form ∷ forms) (word ∷ words) (v ∷ vs) r = (shown form word v r.0, all_shown forms words vs r.1)

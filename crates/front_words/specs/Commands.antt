@@ -3,9 +3,9 @@ use Rattle.std.specs.Prelude.{ℕ, Option, Some, None, List, [], ◌∷◌, code
 use Rattle.route_base.specs.Time.{IsInstant}
 use Rattle.route_base.specs.declared.types.Form.{Form}
 use Rattle.route_base.specs.declared.types.Form.TheVariants.{Plain}
-use Rattle.front_words.specs.Forms.{Value, WordForm, of_text, of_number, of_report}
+use Rattle.front_words.specs.Forms.{Value, of_text, of_number, of_report}
 use Rattle.front_words.specs.Forms.{folder, vehicle, number, instant, certificate, report}
-use Rattle.front_words.specs.Usages.{Usage, OptionUsage, made_in}
+use Rattle.front_words.specs.Usages.{Usage, made_in}
 use Rattle.front_words.specs.declared.commands.Command.{Command as CommandWords}
 use Rattle.front_words.specs.declared.commands.Command.TheVariants.{Plan as PlanWords, Check as CheckWords, Bans as BansWords}
 

@@ -1,9 +1,11 @@
 -- What the calls hand to one another; no law.
 use Rattle.std.specs.Prelude.{ℕ, ◌≡◌, Option, Some, None, List, map, option_map, Result, Ok, Err, ◌++◌}
-use Rattle.std.specs.Prelude.{bytes_eq, [], ◌∷◌}
+use Rattle.std.specs.Prelude.{[], ◌∷◌}
 use Rattle.std.specs.Borrow.{Bor}
 use Rattle.front_words.specs.Splitting.{Given, Split, split_of, Piece, plain, named, assigned, stray}
-use Rattle.front_words.specs.Forms.{Value, of_text, of_number, of_report}
+use Rattle.front_words.specs.Forms.{Value, WordForm, value_of, of_text, of_number, of_report, report, certificate as certificate_form}
+use Rattle.front_words.specs.ClapCommands.{option_line}
+use Rattle.std.specs.Prelude.{codes, is_some, true, ◌∷◌}
 use Rattle.front_words.specs.declared.plan.Trip.{Trip as TripParts}
 use Rattle.front_words.specs.declared.plan.Choices.{Choices}
 use Rattle.front_words.specs.declared.check.Check.{Check as CheckParts}
@@ -52,6 +54,21 @@ bans_values b = of_text b.dir.now ∷ of_text b.vehicle.now ∷ of_number b.arc 
 -- the values of a plan's options
 abbrev pub choice_values : Choices → List (Option Value)
 choice_values c = option_map of_report c.form ∷ option_map (λ name. of_text name.now) c.certificate ∷ []
+
+-- the word, if there is one, is in the form
+abbrev pub AllIn : WordForm → Option (List ℕ) → Type 0
+AllIn form None = Unit {0}
+AllIn form (Some word) = is_some (value_of form word) ≡ true
+
+-- the words of the choices are in their forms
+pub record AreFit (c : Choices) : Type 0 where
+  pub form : AllIn report (option_map (λ word. word.now) c.form_word)
+  pub certificate : AllIn certificate_form (option_map (λ word. word.now) c.certificate)
+
+-- the line of a plan that goes to `clap`
+abbrev pub line_of_plan : Choices → List (List ℕ) → List (List ℕ)
+line_of_plan c words = codes "plan" ∷ (option_line (codes "--form") (option_map (λ word. word.now) c.form_word)
+    ++ (option_line (codes "--certificate") (option_map (λ word. word.now) c.certificate) ++ words))
 
 -- one split behind another
 abbrev pub follow : Split → Split → Split

@@ -7,12 +7,12 @@ ghost use Rattle.front_words.specs.Inside.{Answers, bans_values};
 ghost use Rattle.route_base.specs.Time.{IsInstant};
 ghost use Rattle.front_words.specs.Usages.{made_by, places_read};
 
-use crate::clap_words::{line_of, text_of};
+use crate::clap_words::{line_of, text_of, with_place};
 use crate::forms::{instant_word, is_folder_word, is_vehicle_word, number_word};
 use crate::splitting::split_words;
 use crate::{Command as FrontCommand, WordsFault};
 use clap::error::ErrorKind;
-use clap::{Arg, ArgMatches, Command, Error};
+use clap::{ArgMatches, Command, Error};
 use route_base::{Minute, OutOfMemory, Text};
 use std::alloc::Global;
 
@@ -54,23 +54,19 @@ fn bans_matches<'a>(alloc: Global, line: &'a [&'a str]) -> Result<ArgMatches<'a>
         ≡ text_found bans_app (map (λ w. w.now) line.entry.now) id) }
     ensures refused { IfErr result (λ e. kind_of e ≡ ErrorKind.OutOfMemory) }
 {
-    let dir = Arg::new(alloc, "dir").required(true);
-    let vehicle = Arg::new(alloc, "vehicle").required(true);
-    let arc = Arg::new(alloc, "arc").required(true);
-    let depart = Arg::new(alloc, "depart").required(true);
-    let until = Arg::new(alloc, "until").required(true);
-    let command = Command::new(alloc, "bans")
-        .arg(dir)?
-        .arg(vehicle)?
-        .arg(arc)?
-        .arg(depart)?
-        .arg(until)?;
+    let command = Command::new(alloc, "bans");
+    let command = with_place(alloc, command, "dir")?;
+    let command = with_place(alloc, command, "vehicle")?;
+    let command = with_place(alloc, command, "arc")?;
+    let command = with_place(alloc, command, "depart")?;
+    let command = with_place(alloc, command, "until")?;
     command.try_get_matches_from(line)
 }
 
 // The command of bans, with the texts that `clap` gives back.
 fn bans_by_clap(alloc: Global, bans: &Bans, places: &[&str]) -> Result<FrontCommand, OutOfMemory>
-    requires { places_read bans_usage.places (map (λ w. w.now) places.now) ≡ Some (bans_values bans.now) }
+    requires { places_read bans_usage.places (map (λ w. w.now) places.now)
+        ≡ Some (bans_values bans.now) }
     ensures { IfOk result (λ c. bans_usage.make (bans_values bans.now) [] ≡ Some (command_in c)) }
 {
     let line = line_of(alloc, "bans", &[], places)?;

@@ -1,10 +1,35 @@
 // The line of words that goes to `clap`, and the texts that it gives back.
-ghost use Rattle.std.specs.Prelude.{◌≡◌, ◌∷◌, ◌++◌, IfOk, IsSome, Some, map};
-ghost use Rattle.clap.specs.Words.{first_value, found_of};
+ghost use Rattle.std.specs.Prelude.{◌≡◌, ◌∷◌, ◌++◌, IfOk, IsSome, Some, map, option_map};
+ghost use Rattle.clap.specs.Words.{app_of, first_value, found_of, with_rule};
+ghost use Rattle.front_words.specs.ClapCommands.{choice, option_line, place};
 
-use clap::ArgMatches;
+use clap::{Arg, ArgMatches, Command};
 use route_base::{OutOfMemory, Text};
-use std::alloc::Global;
+use std::alloc::{AllocError, Global};
+
+// The command with a positional word more, which must be there.
+pub fn with_place<'a>(
+    alloc: Global,
+    command: Command<'a>,
+    id: &'a str,
+) -> Result<Command<'a>, AllocError>
+    ensures { IfOk result (λ c. app_of c ≡ with_rule (app_of command.entry) (place id.entry.now)) }
+{
+    let arg = Arg::new(alloc, id).required(true);
+    command.arg(arg)
+}
+
+// The command with an option more, which has a value.
+pub fn with_choice<'a>(
+    alloc: Global,
+    command: Command<'a>,
+    id: &'a str,
+) -> Result<Command<'a>, AllocError>
+    ensures { IfOk result (λ c. app_of c ≡ with_rule (app_of command.entry) (choice id.entry.now)) }
+{
+    let arg = Arg::new(alloc, id).long(id);
+    command.arg(arg)
+}
 
 // Appends words to a line.
 fn push_words<'a>(line: &mut Vec<&'a str>, words: &[&'a str]) -> Result<(), OutOfMemory>
@@ -15,6 +40,22 @@ fn push_words<'a>(line: &mut Vec<&'a str>, words: &[&'a str]) -> Result<(), OutO
         line.push(*word)?;
     }
     Ok(())
+}
+
+// Appends an option and its value to a line, if it is given.
+pub fn push_option<'a>(
+    line: &mut Vec<&'a str>,
+    option: &'a str,
+    value: Option<&'a str>,
+) -> Result<(), OutOfMemory>
+    ensures { IfOk result (λ _. map (λ w. w.now) line.new.items
+        ≡ map (λ w. w.now) line.old.items
+        ++ option_line option.entry.now (option_map (λ w. w.now) value.entry)) }
+{
+    match value {
+        Some(value) => push_words(line, &[option, value]),
+        None => Ok(()),
+    }
 }
 
 // The line that goes to `clap`: a command's name, its options with their values, and its positional words.
@@ -42,5 +83,15 @@ pub fn text_of(alloc: Global, matches: &ArgMatches, id: &str) -> Result<Text, Ou
     match matches.get_str(id) {
         Some(text) => Text::of(alloc, text),
         None => unreachable!(),
+    }
+}
+
+// A copy of the text of an argument, if it is there.
+pub fn text_if(alloc: Global, matches: &ArgMatches, id: &str) -> Result<Option<Text>, OutOfMemory>
+    ensures { IfOk result (λ t. first_value (found_of matches.now) id.now ≡ t) }
+{
+    match matches.get_str(id) {
+        Some(text) => Ok(Some(Text::of(alloc, text)?)),
+        None => Ok(None),
     }
 }

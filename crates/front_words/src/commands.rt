@@ -2,7 +2,7 @@
 ghost use Rattle.std.specs.Prelude.{◌≡◌};
 
 use route_base::{Form, Minute, OutOfMemory, Text};
-use std::alloc::{AllocError, AllocFailed};
+use std::alloc::AllocFailed;
 
 /// A command, with the values of its words. Nodes and arcs are numbered from 1; minutes are Unix minutes.
 #[derive(Drop)]
@@ -47,16 +47,6 @@ pub enum WordsFault {
     NotACommand,
     /// There isn't memory enough.
     OutOfMemory,
-}
-
-impl From<AllocError> for WordsFault {
-    ghost use Rattle.front_words.specs.declared.commands.WordsFault.TheVariants.{OutOfMemory};
-
-    ghost from_gives = { λ _ e. e ≡ OutOfMemory };
-
-    fn from(_: AllocError) -> Self {
-        WordsFault::OutOfMemory
-    }
 }
 
 impl<T: Drop> From<AllocFailed<T>> for WordsFault {

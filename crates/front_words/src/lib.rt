@@ -1,4 +1,16 @@
-//! The commands of the command line.
+//! The words of the command line: which command they are.
+//!
+//! The law is in `specs/`. `Forms` says which words have which form, and their values; `Splitting` how the words behind a command's name
+//! divide into positional words and options; `Usages` what a row of the table of commands is, and what words make by it. `Commands` has
+//! the commands and their table, and `command_of`, the command that words are.
+//!
+//! `read_words` answers exactly this. Its own tests decide: `splitting` divides the words, `options` finds the value of an option, `forms`
+//! has the forms. `plan`, `check` and `bans` have one row of the table each, in its order. The words that pass go to one simple command of
+//! `clap` each, in one order: the options with their values, then the positional words. `clap` then refuses them for want of memory alone
+//! (`refused` of `plan_matches`, `check_matches` and `bans_matches`), and the texts of a command are those that it gives back.
+//!
+//! `Inside` and `ClapCommands` are no law: they have what the calls hand to one another, and the commands as `clap` has them.
+//! `proofs/ClapWalk` is the walk of `clap` over words that begin with no dash, and `proofs/Shown` shows that words in their forms are such.
 #![tactic(auto)]
 
 mod bans;

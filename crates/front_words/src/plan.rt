@@ -1,18 +1,23 @@
 // The words of `plan DIR VEHICLE FROM TO DEPART UNTIL [--form F] [--certificate NAME]`.
-ghost use Rattle.std.specs.Prelude.{◌≡◌, IfOk, IfSome, Some, map, option_map};
-ghost use Rattle.front_words.specs.Commands.{AsksSupported, command_in, name_in, plan_usage, report_in};
+ghost use Rattle.std.specs.Prelude.{◌≡◌, ℕ, List, IfErr, IfOk, IfSome, Some, map, option_map};
+ghost use Rattle.clap.specs.Words.{first_value, found_of, kind_of};
+ghost use Rattle.front_words.specs.ClapCommands.{IsTaken, plan_app, text_found};
+ghost use Rattle.front_words.specs.Commands.{AsksSupported, command_in, plan_usage, report_in};
 ghost use Rattle.front_words.specs.Forms.{certificate, of_report, of_text, report};
-ghost use Rattle.front_words.specs.Inside.{Answers, choice_values, given_in, trip_values};
+ghost use Rattle.front_words.specs.Inside.{AllIn, Answers, AreFit, choice_values, given_in, line_of_plan, trip_values};
 ghost use Rattle.route_base.specs.Time.{IsInstant};
 ghost use Rattle.front_words.specs.Usages.{made_by, options_read, places_read, value_if};
 
+use crate::clap_words::{line_of, push_option, text_if, text_of, with_choice, with_place};
 use crate::forms::{
     instant_word, is_certificate_word, is_folder_word, is_vehicle_word, number_word, report_word,
 };
 use crate::options::value_of_option;
 use crate::splitting::{Given, split_words};
-use crate::{Command, WordsFault};
-use route_base::{Form, Minute, Text};
+use crate::{Command as FrontCommand, WordsFault};
+use clap::error::ErrorKind;
+use clap::{ArgMatches, Command, Error};
+use route_base::{Form, Minute, OutOfMemory, Text};
 use std::alloc::Global;
 
 // The positional words that are texts, and the values of the others.
@@ -29,13 +34,16 @@ pub struct Trip<'a> {
 // The values of the options that are given.
 #[derive(Clone, Copy)]
 pub struct Choices<'a> {
+    pub form_word: Option<&'a str>,
     pub form: Option<Form>,
     pub certificate: Option<&'a str>,
 }
 
 // The form of a report that a word says, if there is a word.
 fn form_if(word: Option<&str>) -> Option<Option<Form>>
-    ensures { option_map (option_map of_report) result ≡ value_if report (option_map (λ w. w.now) word.entry) }
+    ensures value { option_map (option_map of_report) result
+        ≡ value_if report (option_map (λ w. w.now) word.entry) }
+    ensures fits { IfSome result (λ _. AllIn report (option_map (λ w. w.now) word.entry)) }
 {
     match word {
         Some(word) => Some(Some(report_word(word)?)),
@@ -45,8 +53,9 @@ fn form_if(word: Option<&str>) -> Option<Option<Form>>
 
 // The name of a certificate that a word is, if there is a word.
 fn name_if(word: Option<&str>) -> Option<Option<&str>>
-    ensures { option_map (option_map (λ n. of_text n.now)) result
+    ensures value { option_map (option_map (λ n. of_text n.now)) result
         ≡ value_if certificate (option_map (λ w. w.now) word.entry) }
+    ensures fits { IfSome result (λ n. AllIn certificate (option_map (λ w. w.now) n)) }
 {
     match word {
         Some(word) if is_certificate_word(word) => Some(Some(word)),
@@ -79,10 +88,14 @@ fn trip_of<'a>(places: &[&'a str]) -> Option<Trip<'a>>
 
 // The choices of options.
 fn choices_of<'a>(given: &[Given<'a>]) -> Option<Choices<'a>>
-    ensures { option_map choice_values result ≡ options_read plan_usage.options (map given_in given.now) }
+    ensures values { option_map choice_values result
+        ≡ options_read plan_usage.options (map given_in given.now) }
+    ensures fit { IfSome result AreFit }
 {
+    let form_word = value_of_option(given, "--form")?;
     Some(Choices {
-        form: form_if(value_of_option(given, "--form")?)?,
+        form_word,
+        form: form_if(form_word)?,
         certificate: name_if(value_of_option(given, "--certificate")?)?,
     })
 }
@@ -97,32 +110,81 @@ fn form_or_plain(form: Option<Form>) -> Form
     }
 }
 
-// A copy of the name that is given, if there is one.
-fn copy_if(alloc: Global, name: Option<&str>) -> Result<Option<Text>, WordsFault>
-    ensures { Answers (λ t. t) (Some (name_in (option_map (λ n. of_text n.now) name.entry))) result }
+// The matches of a line of a plan, which `clap` refuses for want of memory alone.
+fn plan_matches<'a>(alloc: Global, line: &'a [&'a str]) -> Result<ArgMatches<'a>, Error>
+    requires { IsTaken plan_app (map (λ w. w.now) line.now) }
+    ensures found { IfOk result (λ m. (id : List ℕ) → first_value (found_of m) id
+        ≡ text_found plan_app (map (λ w. w.now) line.entry.now) id) }
+    ensures refused { IfErr result (λ e. kind_of e ≡ ErrorKind.OutOfMemory) }
 {
-    match name {
-        Some(name) => Ok(Some(Text::of(alloc, name)?)),
-        None => Ok(None),
-    }
+    let command = Command::new(alloc, "plan");
+    let command = with_place(alloc, command, "dir")?;
+    let command = with_place(alloc, command, "vehicle")?;
+    let command = with_place(alloc, command, "from")?;
+    let command = with_place(alloc, command, "to")?;
+    let command = with_place(alloc, command, "depart")?;
+    let command = with_place(alloc, command, "until")?;
+    let command = with_choice(alloc, command, "form")?;
+    let command = with_choice(alloc, command, "certificate")?;
+    command.try_get_matches_from(line)
 }
 
-// The plan of the words behind the command's name.
-pub fn read_plan(alloc: Global, words: &[Text]) -> Result<Command, WordsFault>
-    ensures plan { Answers command_in (made_by plan_usage words.now) result }
-    ensures supported { IfOk result (λ c. AsksSupported (command_in c)) }
+// The line of a plan: its options with their values, and its positional words.
+fn plan_line<'a>(
+    alloc: Global,
+    choices: &Choices<'a>,
+    places: &[&'a str],
+) -> Result<Vec<&'a str>, OutOfMemory>
+    ensures { IfOk result (λ line. map (λ w. w.now) line.items
+        ≡ line_of_plan choices.entry.now (map (λ w. w.now) places.entry.now)) }
 {
-    let split = split_words(alloc, &["--form", "--certificate"], words)?;
-    let trip = trip_of(split.places.as_slice()).ok_or(WordsFault::NotACommand)?;
-    let choices = choices_of(split.given.as_slice()).ok_or(WordsFault::NotACommand)?;
-    Ok(Command::Plan {
-        dir: Text::of(alloc, trip.dir)?,
-        vehicle: Text::of(alloc, trip.vehicle)?,
+    let mut options = Vec::new(alloc);
+    push_option(&mut options, "--form", choices.form_word)?;
+    push_option(&mut options, "--certificate", choices.certificate)?;
+    line_of(alloc, "plan", options.as_slice(), places)
+}
+
+// The command of a plan, with the texts that `clap` gives back.
+fn plan_by_clap(
+    alloc: Global,
+    trip: &Trip,
+    choices: &Choices,
+    places: &[&str],
+) -> Result<FrontCommand, OutOfMemory>
+    requires values { places_read plan_usage.places (map (λ w. w.now) places.now)
+        ≡ Some (trip_values trip.now) }
+    requires fit { AreFit choices.now }
+    ensures { IfOk result (λ c. plan_usage.make (trip_values trip.now) (choice_values choices.now)
+        ≡ Some (command_in c)) }
+{
+    let line = plan_line(alloc, choices, places)?;
+    let matches = match plan_matches(alloc, line.as_slice()) {
+        Ok(matches) => matches,
+        Err(_) => return Err(OutOfMemory),
+    };
+    let dir = text_of(alloc, &matches, "dir")?;
+    let vehicle = text_of(alloc, &matches, "vehicle")?;
+    let certificate = text_if(alloc, &matches, "certificate")?;
+    Ok(FrontCommand::Plan {
+        dir,
+        vehicle,
         from: trip.from,
         to: trip.to,
         depart: trip.depart,
         until: trip.until,
         form: form_or_plain(choices.form),
-        certificate: copy_if(alloc, choices.certificate)?,
+        certificate,
     })
+}
+
+// The plan of the words behind the command's name.
+pub fn read_plan(alloc: Global, words: &[Text]) -> Result<FrontCommand, WordsFault>
+    ensures plan { Answers command_in (made_by plan_usage words.now) result }
+    ensures supported { IfOk result (λ c. AsksSupported (command_in c)) }
+{
+    let split = split_words(alloc, &["--form", "--certificate"], words)?;
+    let places = split.places.as_slice();
+    let trip = trip_of(places).ok_or(WordsFault::NotACommand)?;
+    let choices = choices_of(split.given.as_slice()).ok_or(WordsFault::NotACommand)?;
+    Ok(plan_by_clap(alloc, &trip, &choices, places)?)
 }

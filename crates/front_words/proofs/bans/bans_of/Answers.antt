@@ -1,4 +1,4 @@
-use Rattle.std.proofs.Common.{rules, arith, ◌≡◌, ◌≢◌, length, []}
+use Rattle.std.proofs.Common.{rules, arith, ◌≢◌, length, []}
 use borrow.Author.Tests.{ltb-true, ltb-false}
 use Rattle.front_words.specs.Commands.{bans_usage}
 use Rattle.front_words.proofs.Places.{by_five, miscounted}
@@ -8,7 +8,10 @@ use Rattle.front_words.proofs.bans.bans_of.Goals.{in_default-via-then-places-lt5
 pub returns-in_default-clause-values : goal.returns-in_default-clause-values
 returns-in_default-clause-values c =
     let n : length c.args.places.now ≢ 5 =
-    elim c.in_default.branch [ in_default-via-then-places-lt5 w ↦ omega (arith, ltb-true, ltb-false) | in_default-via-else-places-lt5+else-places-lt6 w ↦ omega (arith, ltb-true, ltb-false) ] in
+    elim c.in_default.branch [
+      | in_default-via-then-places-lt5 w ↦ omega (arith, ltb-true, ltb-false)
+      | in_default-via-else-places-lt5+else-places-lt6 w ↦ omega (arith, ltb-true, ltb-false)
+    ] in
     miscounted bans_usage.places c.args.places.now n
 
 pub returns-clause-values : goal.returns-clause-values

@@ -1,4 +1,4 @@
-use Rattle.std.proofs.Common.{rules, arith, ◌≡◌, ◌≢◌, length, []}
+use Rattle.std.proofs.Common.{rules, arith, ◌≢◌, length, []}
 use borrow.Author.Tests.{ltb-true, ltb-false}
 use Rattle.front_words.specs.Commands.{check_usage}
 use Rattle.front_words.proofs.Places.{by_seven, miscounted}
@@ -8,7 +8,10 @@ use Rattle.front_words.proofs.check.check_of.Goals.{in_default-via-then-places-l
 pub returns-in_default-clause-values : goal.returns-in_default-clause-values
 returns-in_default-clause-values c =
     let n : length c.args.places.now ≢ 7 =
-    elim c.in_default.branch [ in_default-via-then-places-lt7 w ↦ omega (arith, ltb-true, ltb-false) | in_default-via-else-places-lt7+else-places-lt8 w ↦ omega (arith, ltb-true, ltb-false) ] in
+    elim c.in_default.branch [
+      | in_default-via-then-places-lt7 w ↦ omega (arith, ltb-true, ltb-false)
+      | in_default-via-else-places-lt7+else-places-lt8 w ↦ omega (arith, ltb-true, ltb-false)
+    ] in
     miscounted check_usage.places c.args.places.now n
 
 pub returns-clause-values : goal.returns-clause-values

@@ -1,4 +1,4 @@
-use Rattle.std.proofs.Common.{rules, arith, ◌≡◌, ◌≢◌, length, []}
+use Rattle.std.proofs.Common.{rules, arith, ◌≢◌, length, []}
 use borrow.Author.Tests.{ltb-true, ltb-false}
 use Rattle.front_words.specs.Commands.{plan_usage}
 use Rattle.front_words.proofs.Places.{by_six, miscounted}
@@ -8,7 +8,10 @@ use Rattle.front_words.proofs.plan.trip_of.Goals.{in_default-via-then-places-lt6
 pub returns-in_default-clause-values : goal.returns-in_default-clause-values
 returns-in_default-clause-values c =
     let n : length c.args.places.now ≢ 6 =
-    elim c.in_default.branch [ in_default-via-then-places-lt6 w ↦ omega (arith, ltb-true, ltb-false) | in_default-via-else-places-lt6+else-places-lt7 w ↦ omega (arith, ltb-true, ltb-false) ] in
+    elim c.in_default.branch [
+      | in_default-via-then-places-lt6 w ↦ omega (arith, ltb-true, ltb-false)
+      | in_default-via-else-places-lt6+else-places-lt7 w ↦ omega (arith, ltb-true, ltb-false)
+    ] in
     miscounted plan_usage.places c.args.places.now n
 
 pub returns-clause-values : goal.returns-clause-values
