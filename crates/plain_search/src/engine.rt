@@ -57,7 +57,7 @@ impl Search<'_> {
 /// a binary search in the arc's closed runs. So it takes time O((horizon + 1) · nodes + arcs), and for each node and minute that
 /// some itinerary reaches, O(1 + log runs) for each arc that leaves the node. A route is found backwards, by a look at the
 /// arcs that enter each of its nodes. It takes 8 bytes for each node and minute, and for each of the two lists of arcs
-/// 8 bytes for each node and 4 bytes for each arc.
+/// 8 bytes for each node and 4 bytes for each arc; while a list is made, 4 more for each node and arc.
 #[derive(Clone, Copy, Debug)]
 pub struct TableEngine;
 
