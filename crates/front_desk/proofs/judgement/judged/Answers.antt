@@ -7,7 +7,8 @@ use Rattle.front_desk.proofs.judgement.judged.Goals as goal
 pub returns-in-Err-NotACertificate : goal.returns-in-Err-NotACertificate
 returns-in-Err-NotACertificate c =
     let trip = trip_in c.args.trip in
-    judged_unread (trip_setting c.args.network.now trip) (request_of trip) c.args.bytes.now _ (c.in-Err-NotACertificate.ensures.none c.in-Err-NotACertificate.field-0-is) refl
+    judged_unread (trip_setting c.args.network.now trip) (request_of trip) c.args.bytes.now _
+    (c.in-Err-NotACertificate.ensures.none c.in-Err-NotACertificate.field-0-is) refl
     c.in_ok-check_text-in-Err-NotACertificate.ensures
 
 pub returns : goal.returns

@@ -22,7 +22,8 @@ planned_over-requires c =
       in_time = c.requires.good.in_order;
       horizon = omega (arith, c.requires.good.short);
       fit = e.fit;
-      cheap = (c.certificates_agree.ensures.cheap net (trip_setting c.args.network.now trip) (trip_window trip) e.stands).1 (cheap_roads c.args.network.now c.args.vehicle.now);
+      cheap = (c.certificates_agree.ensures.cheap net (trip_setting c.args.network.now trip) (trip_window trip) e.stands).1
+          (cheap_roads c.args.network.now c.args.vehicle.now);
       nodes = e.nodes;
       arcs = e.arcs;
     }
