@@ -15,7 +15,8 @@ use Rattle.plan_report.specs.Bans.{bans_text_of}
 use Rattle.plan_report.specs.Costs.{thousandths_of}
 use Rattle.plan_report.specs.Plain.{plain_text_of}
 use Rattle.plan_report.specs.Refusals.{refusal_text_of}
-use Rattle.front_desk.specs.CommandLine.{Command, command_of, is_folder_name, node_of, to_plan, to_bans, trip_over}
+use Rattle.front_words.specs.Commands.{Command, command_of, to_plan, to_bans}
+use Rattle.front_words.specs.Forms.{is_folder_name, node_of}
 use Rattle.route_base.specs.Forms.{minute_of}
 use Rattle.calendar_days.specs.Days.{days_of_years, days_of_months, date_on}
 use Rattle.calendar_days.specs.Texts.{instant_of, instant_text_of, day_of_text, clock_of}
@@ -37,30 +38,31 @@ the_plan = Some (to_plan (record {
 }))
 
 pub plan_read : command_of (words_with (codes "1") (codes "3") (codes "26563680") (codes "26564080")) ≡ the_plan
-unfolding instant_of trip_over
+unfolding instant_of
 plan_read = refl
 
 -- the same trip, its instants as texts
 pub texts_read : command_of (words_with (codes "1") (codes "3") (codes "2020-07-04T00:00Z") (codes "2020-07-04T06:40:00Z")) ≡ the_plan
-unfolding instant_of day_of_text clock_of days_of_years days_of_months trip_over
+unfolding instant_of day_of_text clock_of days_of_years days_of_months
 texts_read = refl
 
 pub no_such_day_refused : command_of (words_with (codes "1") (codes "3") (codes "2020-02-30T00:00Z") (codes "2020-07-04T06:40Z")) ≡ None
-unfolding instant_of day_of_text clock_of days_of_years days_of_months trip_over
+unfolding instant_of day_of_text clock_of days_of_years days_of_months
 no_such_day_refused = refl
 
 pub leading_zero_refused : command_of (words_with (codes "01") (codes "3") (codes "26563680") (codes "26564080")) ≡ None
-unfolding trip_over
+unfolding instant_of
 leading_zero_refused = refl
 
 pub command_alone_refused : command_of (codes "plan" ∷ []) ≡ None
 command_alone_refused = refl
 
 pub eighth_word_refused : command_of (words_with (codes "1") (codes "3") (codes "26563680") (codes "26564080") ++ codes "x" ∷ []) ≡ None
+unfolding instant_of
 eighth_word_refused = refl
 
 pub before_first_instant : command_of (words_with (codes "1") (codes "3") (codes "525599") (codes "26564080")) ≡ None
-unfolding instant_of day_of_text trip_over
+unfolding instant_of day_of_text
 before_first_instant = refl
 
 pub first_instant_read : minute_of (codes "525600") ≡ Some 525600
@@ -70,7 +72,7 @@ pub last_instant_read : minute_of (codes "120968639") ≡ Some 120968639
 last_instant_read = refl
 
 pub after_last_instant : command_of (words_with (codes "1") (codes "3") (codes "26563680") (codes "120968640")) ≡ None
-unfolding instant_of day_of_text trip_over
+unfolding instant_of day_of_text
 after_last_instant = refl
 
 pub zero_node_read : node_of (codes "0") ≡ Some 0
@@ -128,6 +130,7 @@ unfolding instant_of
 bans_read = refl
 
 pub zero_before_arc_refused : command_of (bans_with (codes "02")) ≡ None
+unfolding instant_of
 zero_before_arc_refused = refl
 
 pub report_of_no_bans : bans_text_of [] 3 ≡ codes "bans 0\npassed 3\n"

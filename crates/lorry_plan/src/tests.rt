@@ -3,6 +3,7 @@
 mod bans;
 mod certificates;
 mod faults;
+mod forms;
 mod fronts;
 mod graph;
 mod itineraries;

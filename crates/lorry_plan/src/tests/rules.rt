@@ -133,6 +133,10 @@ fn waits_for_the_end_of_a_ban(rt: HostRuntime) -> Result<(), Fail> {
             "pairs 1\npair 26566620 1650.000\ndrive 1\nwait 2340\ndrive 2\n",
         ),
         (
+            "plan d truck 1 3 2020-07-04T02:00Z 2020-07-08T00:00Z --form table",
+            "routes 1\nroute 1 arrive 2020-07-06T01:00Z cost 1650.000\n2020-07-04T02:00Z drive 1 1 2 180\n2020-07-04T05:00Z wait 2 2340\n2020-07-05T20:00Z drive 2 2 3 300\n",
+        ),
+        (
             "plan d any 1 3 2020-07-04T02:00Z 2020-07-08T00:00Z",
             "pairs 1\npair 26564280 480.000\ndrive 1\ndrive 2\n",
         ),
