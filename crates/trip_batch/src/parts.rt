@@ -1,0 +1,84 @@
+// Cuts jobs into parts, and plans each part on a worker.
+ghost use Rattle.std.specs.Prelude.{◌≡◌, ◌<◌, ◌≤◌, IfOk};
+ghost use Rattle.std.specs.Thread.{IsSync};
+ghost use Rattle.trip_batch.specs.Right.{AreRight};
+
+use crate::{Gate, JobPlanner, JobTexts};
+use route_base::{JobText, OutOfMemory};
+use std::alloc::Global;
+use std::thread::{Threads, join};
+
+// The jobs of one part, one after another.
+fn run_part<P: JobPlanner, G: Gate>(
+    alloc: Global,
+    planner: &P,
+    from: usize,
+    to: usize,
+    gate: &G,
+) -> Result<Vec<JobText>, OutOfMemory>
+    requires order { from ≤ to }
+    requires within { to ≤ P.jobs planner.now }
+    ensures { IfOk result (λ texts. AreRight (P.is_right planner.now) from to texts.items) }
+{
+    let mut texts = Vec::new(alloc);
+    for job in from..to {
+        gate.enter(job);
+        texts.push(planner.plan_job(job)?)?;
+    }
+    Ok(texts)
+}
+
+// The jobs of several parts, a worker for each: half of the workers beside the other half.
+fn run_parts<R: Threads + Sync, P: JobPlanner, G: Gate>(
+    rt: &R,
+    alloc: Global,
+    planner: &P,
+    from: usize,
+    to: usize,
+    workers: usize,
+    gate: &G,
+) -> Result<Vec<JobText>, OutOfMemory>
+    requires order { from ≤ to }
+    requires within { to ≤ P.jobs planner.now }
+    requires some { 1 ≤ workers }
+    ensures { IfOk result (λ texts. AreRight (P.is_right planner.now) from to texts.items) }
+{
+    if workers == 1 {
+        return run_part(alloc, planner, from, to, gate);
+    }
+    let left_workers = workers / 2;
+    let share = (to - from) / workers;
+    let longer = (to - from) % workers;
+    let middle = from + left_workers * share + left_workers.min(longer);
+    let (left, right) = join(
+        rt,
+        || -> Result<Vec<JobText>, OutOfMemory>
+            requires { IsSync R.row × IsSync P.row × IsSync G.row × (from ≤ middle) × (middle ≤ P.jobs planner.now) × (1 ≤ left_workers) }
+            ensures { IfOk result (λ texts. AreRight (P.is_right planner.entry.now) from middle texts.items) }
+        { run_parts(rt, alloc, planner, from, middle, left_workers, gate) },
+        || -> Result<Vec<JobText>, OutOfMemory>
+            requires { IsSync R.row × IsSync P.row × IsSync G.row × (middle ≤ to) × (to ≤ P.jobs planner.now) × (1 ≤ left_workers) × (left_workers < workers) }
+            ensures { IfOk result (λ texts. AreRight (P.is_right planner.entry.now) middle to texts.items) }
+        { run_parts(rt, alloc, planner, middle, to, workers - left_workers, gate) },
+    );
+    let mut texts = left?;
+    texts.append(&mut right?)?;
+    Ok(texts)
+}
+
+/// Right texts of all jobs of the planner, in their order, planned on that many workers at once. It takes the time of the longest part
+/// and the memory of the texts.
+pub fn run_batch<R: Threads + Sync, P: JobPlanner, G: Gate>(
+    rt: &R,
+    alloc: Global,
+    planner: &P,
+    count: usize,
+    workers: usize,
+    gate: &G,
+) -> Result<JobTexts, OutOfMemory>
+    requires count { count ≡ P.jobs planner.now }
+    requires some { 1 ≤ workers }
+    ensures { IfOk result (λ texts. AreRight (P.is_right planner.now) 0 count texts) }
+{
+    Ok(JobTexts::from_vec(run_parts(rt, alloc, planner, 0, count, workers, gate)?))
+}
