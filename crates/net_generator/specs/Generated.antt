@@ -41,8 +41,8 @@ abbrev pub parkings_text : List Parking → List ℕ
 parkings_text parking = codes "node,rating\n" ++ flat_map parking_text parking
 
 -- graph.gr
-abbrev pub graph_of : ℕ → ℕ → ℕ → List ℕ
-graph_of number rows columns = graph_text number rows columns (roads_drawn number rows columns).values
+abbrev pub graph_file : ℕ → ℕ → ℕ → List ℕ
+graph_file number rows columns = graph_text number rows columns (roads_drawn number rows columns).values
 
 -- the closures, drawn after the roads
 abbrev pub closures_after : ℕ → ℕ → ℕ → Drawn Closure
@@ -50,14 +50,14 @@ closures_after number rows columns =
     let roads = roads_drawn number rows columns in closures_drawn (length roads.values) roads.state
 
 -- closures.csv
-abbrev pub closures_of : ℕ → ℕ → ℕ → List ℕ
-closures_of number rows columns = closures_text (closures_after number rows columns).values
+abbrev pub closures_file : ℕ → ℕ → ℕ → List ℕ
+closures_file number rows columns = closures_text (closures_after number rows columns).values
 
 -- parking.csv, drawn after the closures
-abbrev pub parking_of : ℕ → ℕ → ℕ → List ℕ
-parking_of number rows columns =
+abbrev pub parking_file : ℕ → ℕ → ℕ → List ℕ
+parking_file number rows columns =
     parkings_text (parking_drawn (rows * columns) (closures_after number rows columns).state).values
 
 -- ratings.csv: three ratings, the same for all networks
-abbrev pub ratings : List ℕ
-ratings = codes "rating,weight\na,0.500\nb,1.000\nc,2.500\n"
+abbrev pub ratings_file : List ℕ
+ratings_file = codes "rating,weight\na,0.500\nb,1.000\nc,2.500\n"

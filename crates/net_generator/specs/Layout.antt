@@ -35,27 +35,27 @@ abbrev pub roads_drawn : ℕ → ℕ → ℕ → Drawn Road
 roads_drawn number rows columns = drawn_to (roads_at rows columns) (rows * columns) number
 
 -- a closure within the first ten days, for 1 to 25 hours
-abbrev pub closure_of : ℕ → ℕ → Drawn Closure
-closure_of a s =
+abbrev pub drawn_closure : ℕ → ℕ → Drawn Closure
+drawn_closure a s =
     let from = 26563680 + next_state s % 14400 in
     let after = next_state (next_state s) in
     record { values = record { arc = a; from = from; to = from + (60 + after % 1440) } ∷ []; state = after }
 
 -- one arc in ten is closed once
 abbrev pub closures_at : ℕ → ℕ → Drawn Closure
-closures_at a s = if next_state s % 10 == 0 then closure_of a (next_state s) else undrawn (next_state s)
+closures_at a s = if next_state s % 10 == 0 then drawn_closure a (next_state s) else undrawn (next_state s)
 
 -- the closures of that many arcs
 abbrev pub closures_drawn : ℕ → ℕ → Drawn Closure
 closures_drawn arcs s = drawn_to closures_at arcs s
 
 -- a parking area with one of the ratings `a`, `b` and `c`
-abbrev pub parking_of : ℕ → ℕ → Drawn Parking
-parking_of v s = record { values = record { node = v; rating = 97 + next_state s % 3 } ∷ []; state = next_state s }
+abbrev pub drawn_parking : ℕ → ℕ → Drawn Parking
+drawn_parking v s = record { values = record { node = v; rating = 97 + next_state s % 3 } ∷ []; state = next_state s }
 
 -- one node in eight has a parking area
 abbrev pub parking_at : ℕ → ℕ → Drawn Parking
-parking_at v s = if next_state s % 8 == 0 then parking_of v (next_state s) else undrawn (next_state s)
+parking_at v s = if next_state s % 8 == 0 then drawn_parking v (next_state s) else undrawn (next_state s)
 
 -- the parking areas of that many nodes
 abbrev pub parking_drawn : ℕ → ℕ → Drawn Parking

@@ -1,6 +1,6 @@
 // The four files of a drawn network.
 ghost use Rattle.std.specs.Prelude.{◌≡◌, ◌≤◌, ◌*◌, IfOk};
-ghost use Rattle.net_generator.specs.Generated.{graph_of, closures_of, parking_of, ratings};
+ghost use Rattle.net_generator.specs.Generated.{graph_file, closures_file, parking_file, ratings_file};
 ghost use Rattle.net_generator.specs.declared.limits.TheConstants.{LAST_NUMBER, MOST_GENERATED_NODES};
 
 use crate::draws::Draws;
@@ -31,10 +31,10 @@ pub fn generate(
     requires number { number ≤ LAST_NUMBER }
     requires columns { 1 ≤ columns }
     requires nodes { rows * columns ≤ MOST_GENERATED_NODES }
-    ensures graph { IfOk result (λ files. files.graph ≡ graph_of number rows columns) }
-    ensures closures { IfOk result (λ files. files.closures ≡ closures_of number rows columns) }
-    ensures parking { IfOk result (λ files. files.parking ≡ parking_of number rows columns) }
-    ensures ratings { IfOk result (λ files. files.ratings ≡ ratings) }
+    ensures graph { IfOk result (λ files. files.graph ≡ graph_file number rows columns) }
+    ensures closures { IfOk result (λ files. files.closures ≡ closures_file number rows columns) }
+    ensures parking { IfOk result (λ files. files.parking ≡ parking_file number rows columns) }
+    ensures ratings { IfOk result (λ files. files.ratings ≡ ratings_file) }
 {
     let grid = Grid { rows, columns };
     let mut draws = Draws::after(number);
