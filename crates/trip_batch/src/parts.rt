@@ -53,12 +53,21 @@ fn run_parts<R: Threads + Sync, P: JobPlanner, G: Gate>(
     let (left, right) = join(
         rt,
         || -> Result<Vec<JobText>, OutOfMemory>
-            requires { IsSync R.row × IsSync P.row × IsSync G.row × (from ≤ middle) × (middle ≤ P.jobs planner.now) × (1 ≤ left_workers) }
-            ensures { IfOk result (λ texts. AreRight (P.is_right planner.entry.now) from middle texts.items) }
+            requires shared { IsSync R.row × IsSync P.row × IsSync G.row }
+            requires order { from ≤ middle }
+            requires within { middle ≤ P.jobs planner.now }
+            requires some { 1 ≤ left_workers }
+            ensures { IfOk result
+                (λ texts. AreRight (P.is_right planner.entry.now) from middle texts.items) }
         { run_parts(rt, alloc, planner, from, middle, left_workers, gate) },
         || -> Result<Vec<JobText>, OutOfMemory>
-            requires { IsSync R.row × IsSync P.row × IsSync G.row × (middle ≤ to) × (to ≤ P.jobs planner.now) × (1 ≤ left_workers) × (left_workers < workers) }
-            ensures { IfOk result (λ texts. AreRight (P.is_right planner.entry.now) middle to texts.items) }
+            requires shared { IsSync R.row × IsSync P.row × IsSync G.row }
+            requires order { middle ≤ to }
+            requires within { to ≤ P.jobs planner.now }
+            requires some { 1 ≤ left_workers }
+            requires rest { left_workers < workers }
+            ensures { IfOk result
+                (λ texts. AreRight (P.is_right planner.entry.now) middle to texts.items) }
         { run_parts(rt, alloc, planner, middle, to, workers - left_workers, gate) },
     );
     let mut texts = left?;
