@@ -1,7 +1,7 @@
 // The commands, borrowed from the words that they hold.
 ghost use Rattle.std.specs.Prelude.{◌≡◌, option_map};
-ghost use Rattle.front_desk.specs.Words.{command_in};
-ghost use Rattle.front_words.specs.Commands.{command_in as command_held};
+ghost use Rattle.front_desk.specs.Words.{bans_in, command_in, trip_in};
+ghost use Rattle.front_words.specs.Commands.{command_in as command_held, trip_to};
 
 use crate::requests::Trip;
 use front_words::Command as OwnedCommand;
@@ -54,6 +54,44 @@ fn borrowed(text: &Option<Text>) -> Option<&str>
     }
 }
 
+// A trip, its vehicle's name borrowed.
+fn trip_of(vehicle: &Text, from: u32, to: u32, depart: Minute, until: Minute) -> Trip<'_>
+    ensures { trip_in result ≡ trip_to vehicle.now from to depart until }
+{
+    Trip {
+        vehicle: vehicle.as_str(),
+        origin: from,
+        goal: to,
+        depart,
+        until,
+    }
+}
+
+// The bans of an arc, the names borrowed.
+fn bans_of<'a>(
+    dir: &'a Text,
+    vehicle: &'a Text,
+    arc: u32,
+    depart: Minute,
+    until: Minute,
+) -> Bans<'a>
+    ensures { bans_in result ≡ record {
+      dir = dir.now;
+      vehicle = vehicle.now;
+      arc = arc;
+      depart = depart;
+      until = until;
+    } }
+{
+    Bans {
+        dir: dir.as_str(),
+        vehicle: vehicle.as_str(),
+        arc,
+        depart,
+        until,
+    }
+}
+
 /// The command that owned words are, borrowed from them. In constant time.
 pub fn command_of(owned: &OwnedCommand) -> Command<'_>
     ensures { command_in result ≡ command_held owned.now }
@@ -70,13 +108,7 @@ pub fn command_of(owned: &OwnedCommand) -> Command<'_>
             certificate,
         } => Command::Plan(Plan {
             dir: dir.as_str(),
-            trip: Trip {
-                vehicle: vehicle.as_str(),
-                origin: *from,
-                goal: *to,
-                depart: *depart,
-                until: *until,
-            },
+            trip: trip_of(vehicle, *from, *to, *depart, *until),
             form: *form,
             certificate: borrowed(certificate),
         }),
@@ -90,13 +122,7 @@ pub fn command_of(owned: &OwnedCommand) -> Command<'_>
             name,
         } => Command::Check(Check {
             dir: dir.as_str(),
-            trip: Trip {
-                vehicle: vehicle.as_str(),
-                origin: *from,
-                goal: *to,
-                depart: *depart,
-                until: *until,
-            },
+            trip: trip_of(vehicle, *from, *to, *depart, *until),
             name: name.as_str(),
         }),
         OwnedCommand::Bans {
@@ -105,12 +131,6 @@ pub fn command_of(owned: &OwnedCommand) -> Command<'_>
             arc,
             depart,
             until,
-        } => Command::Bans(Bans {
-            dir: dir.as_str(),
-            vehicle: vehicle.as_str(),
-            arc: *arc,
-            depart: *depart,
-            until: *until,
-        }),
+        } => Command::Bans(bans_of(dir, vehicle, *arc, *depart, *until)),
     }
 }
