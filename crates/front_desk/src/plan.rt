@@ -38,7 +38,8 @@ pub struct Planned<'a> {
     pub certificate: Option<CertificateFile<'a>>,
 }
 
-// What a plan prints and writes, over the net of its trip. It searches once: a certificate has the routes that are printed.
+// The text of a plan, and its certificate where one is asked for, over the net of its trip. It searches once: a certificate has the
+// routes that are printed.
 fn planned_over<'a>(
     alloc: Global,
     net: &TimedNet,
@@ -69,7 +70,7 @@ fn planned_over<'a>(
     }
 }
 
-// What the plan of a trip that passes the checks prints and writes, for its vehicle.
+// The text of the plan of a trip that passes the checks, and its certificate where one is asked for, for its vehicle.
 fn planned_trip<'a>(
     alloc: Global,
     network: &Network,

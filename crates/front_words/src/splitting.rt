@@ -21,7 +21,7 @@ pub struct Split<'a> {
     pub given: Vec<Given<'a>>,
 }
 
-// What one word is for a command.
+// The part of a word in a command.
 #[derive(Clone, Copy)]
 enum Piece<'a> {
     // A word that doesn't begin with `-`.
@@ -51,7 +51,7 @@ fn is_option(options: &[&str], word: &str) -> bool
     options.contains(&word)
 }
 
-// What a word is for a command with these options.
+// The part of a word in a command with these options.
 fn read_piece<'a>(options: &[&str], word: &'a str) -> Piece<'a>
     ensures { piece_in result ≡ piece_of (map (λ o. o.now) options.now) word.now }
 {

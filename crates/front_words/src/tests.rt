@@ -1,4 +1,4 @@
-// Which words are a command, and which command they are.
+// Words that are a command, and words that are none.
 use crate::{Command, WordsFault, read_words};
 use route_base::{Form, Text};
 use std::alloc::Global;

@@ -1,4 +1,4 @@
-// What is told before a job is planned.
+// Gates, through which a worker goes before it plans a job.
 
 /// Is told the number of a job before a worker plans it: so a test can hold two workers until both are at work.
 pub trait Gate: Sync {

@@ -1,4 +1,4 @@
-// What plans a job.
+// The planner of jobs.
 ghost use Rattle.std.specs.Prelude.{◌<◌, ℕ, List, IfOk};
 
 use route_base::{JobText, Listing, OutOfMemory};

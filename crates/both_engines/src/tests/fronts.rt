@@ -32,7 +32,7 @@ impl Fronts {
     }
 }
 
-/// What both engines find; nothing where the lists aren't those of a small well-formed net, or the request isn't one over it.
+/// The routes that both engines find; nothing where the lists aren't those of a small well-formed net, or the request isn't one over it.
 pub fn fronts_of(
     alloc: Global,
     lists: NetLists<'_>,
