@@ -1,5 +1,5 @@
 // Parses a single date, day item, span or long span.
-ghost use Rattle.std.specs.Prelude.{◌≡◌, ◌≤◌};
+ghost use Rattle.std.specs.Prelude.{◌≡◌, ◌≤◌, Some, None, if◌then◌else◌};
 ghost use Rattle.opening_hours.specs.Grammar.{dates_from_to, span_length, long_length};
 ghost use Rattle.opening_hours.specs.Inside.Parser.{is_month, is_day_number, is_time, read_date, read_item, read_span, read_long, is_long, is_opens};
 
@@ -33,31 +33,26 @@ fn date_span(first_month: u32, first_day: u32, last_month: u32, last_day: u32) -
     }
 }
 
+// The date span, where its months and days are in range.
+fn date_if(fits: bool, span: DateSpan) -> Option<DateSpan>
+    ensures { result ≡ (if fits then Some span else None) }
+{
+    if fits { Some(span) } else { None }
+}
+
 /// The date span that the tokens are.
 pub(crate) fn date(piece: &[Token]) -> Option<DateSpan>
     ensures { result ≡ read_date piece.now }
 {
     match piece {
-        [Token::Month(m)] => {
-            if is_month_number(*m) {
-                Some(date_span(*m, 1, *m, 31))
-            } else {
-                None
-            }
-        }
+        [Token::Month(m)] => date_if(is_month_number(*m), date_span(*m, 1, *m, 31)),
         [Token::Month(m), Token::Dash, Token::Month(n)] => {
-            if is_month_number(*m) && is_month_number(*n) {
-                Some(date_span(*m, 1, *n, 31))
-            } else {
-                None
-            }
+            let fits = is_month_number(*m) && is_month_number(*n);
+            date_if(fits, date_span(*m, 1, *n, 31))
         }
         [Token::Month(m), Token::Number(a)] => {
-            if is_month_number(*m) && is_day(*a) {
-                Some(date_span(*m, *a, *m, *a))
-            } else {
-                None
-            }
+            let fits = is_month_number(*m) && is_day(*a);
+            date_if(fits, date_span(*m, *a, *m, *a))
         }
         [
             Token::Month(m),
@@ -65,11 +60,8 @@ pub(crate) fn date(piece: &[Token]) -> Option<DateSpan>
             Token::Dash,
             Token::Number(b),
         ] => {
-            if is_month_number(*m) && is_day(*a) && is_day(*b) {
-                Some(date_span(*m, *a, *m, *b))
-            } else {
-                None
-            }
+            let fits = is_month_number(*m) && is_day(*a) && is_day(*b);
+            date_if(fits, date_span(*m, *a, *m, *b))
         }
         [
             Token::Month(m),
@@ -78,11 +70,8 @@ pub(crate) fn date(piece: &[Token]) -> Option<DateSpan>
             Token::Month(n),
             Token::Number(b),
         ] => {
-            if is_month_number(*m) && is_day(*a) && is_month_number(*n) && is_day(*b) {
-                Some(date_span(*m, *a, *n, *b))
-            } else {
-                None
-            }
+            let fits = is_month_number(*m) && is_day(*a) && is_month_number(*n) && is_day(*b);
+            date_if(fits, date_span(*m, *a, *n, *b))
         }
         _ => None,
     }
