@@ -1,0 +1,142 @@
+-- The table of lawful parking areas at rising nodes has no fault.
+use Rattle.std.proofs.Common.{◌≡◌, inl, inr, ℕ, suc, ◌+◌, ◌≤◌, true, false, eqb, Some, None, List, [], ◌∷◌, ◌++◌, length, map}
+use Rattle.std.proofs.Common.{refl, sym, ◌∙◌, ap, subst, arith, append_assoc, length-append}
+use Rattle.std.specs.Prelude.{codes, decimal, flat_map, is_some}
+use Rattle.std.specs.List.{AllByRecursion, list_any}
+use Rattle.std.proofs.lemmas.Bool.{le-leb, ne_eqb, cases_eq}
+use Rattle.route_base.specs.Forms.{is_name}
+use Rattle.route_base.specs.declared.limits.TheConstants.{MOST_PARKING_ROWS}
+use Rattle.table_reader.specs.ByNumber.{NumberedRow, numbered_of, numbered_in, name_at, cause_of_numbered}
+use Rattle.table_reader.specs.NameIndex.{value_of}
+use Rattle.table_reader.specs.Records.{Record, records_of, rows_in, rows_of}
+use Rattle.table_reader.specs.Schema.{row_fault_from, first_table_fault}
+use Rattle.table_reader.proofs.Lists.{lookup-other, filter_map-push}
+use Rattle.network_tables.specs.Parking.{parking_schema}
+use Rattle.network_tables.specs.Ratings.{Rating, ratings_in}
+use Rattle.net_generator.specs.Generated.{parking_text, parkings_text, ratings_file}
+use Rattle.net_generator.specs.declared.layout.Parking.{Parking}
+use Rattle.drawn_network.specs.DrawnRows.{parking_read, three_ratings}
+use Rattle.drawn_network.proofs.DecimalFields.{decimal-plain, table_number-read}
+use Rattle.drawn_network.proofs.FaultlessRows.{row_fault-more, first_table_fault-none}
+use Rattle.drawn_network.proofs.LawfulRows.{IsLawfulParking, AreRising}
+use Rattle.drawn_network.proofs.PlainText.{is_mark, IsPlainRecord, line_of, plain_text_of, plain_text-read}
+use Rattle.drawn_network.proofs.RatingsTable.{ratings_file-ratings}
+
+abbrev header : Record
+header = codes "node" ∷ codes "rating" ∷ []
+
+abbrev parking_record : Parking → Record
+parking_record area = decimal area.node ∷ (area.rating ∷ []) ∷ []
+
+row-text : (area : Parking) → parking_text area ≡ line_of (parking_record area)
+row-text area = simp append_assoc
+
+rows-text : (areas : List Parking) → flat_map parking_text areas ≡ plain_text_of (map parking_record areas)
+rows-text [] = refl
+rows-text (area ∷ more) = rw (row-text area, rows-text more) refl
+
+-- what holds of the three letters holds of each rating
+each_letter : (P : ℕ → Type 0) (rating : ℕ) → 97 ≤ rating → rating ≤ 99 → P 97 → P 98 → P 99 → P rating
+each_letter P rating low high a b c = elim (cases_eq rating 97) [
+  | inl same ↦ subst P (sym same) a
+  | inr no_a ↦ elim (cases_eq rating 98) [
+    | inl same ↦ subst P (sym same) b
+    | inr no_b ↦ subst P (omega (arith, low, high, no_a, no_b)) c
+  ]
+]
+
+-- a letter is a plain field, a name, and one of the ratings
+letter-plain : (rating : ℕ) → 97 ≤ rating → rating ≤ 99 → list_any is_mark (rating ∷ []) ≡ false
+letter-plain rating low high = each_letter (λ r. list_any is_mark (r ∷ []) ≡ false) rating low high refl refl refl
+
+letter-name : (rating : ℕ) → 97 ≤ rating → rating ≤ 99 → is_name (rating ∷ []) ≡ true
+letter-name rating low high = each_letter (λ r. is_name (r ∷ []) ≡ true) rating low high refl refl refl
+
+letter-known : (rating : ℕ) → 97 ≤ rating → rating ≤ 99 → is_some (value_of three_ratings (rating ∷ [])) ≡ true
+letter-known rating low high = each_letter (λ r. is_some (value_of three_ratings (r ∷ [])) ≡ true) rating low high refl refl refl
+
+header-plain : IsPlainRecord header
+header-plain = record {
+  some = omega arith;
+  plain = (record { some = omega arith; plain = refl }, (record { some = omega arith; plain = refl }, tt));
+}
+
+row-plain : (first last : ℕ) (area : Parking) → last ≤ 4294967295 → IsLawfulParking first last area → IsPlainRecord (parking_record area)
+row-plain first last area few h = record {
+  some = omega arith;
+  plain = (
+    decimal-plain area.node (omega (arith, h.high, few)),
+    (record { some = omega arith; plain = letter-plain area.rating h.rating_low h.rating_high }, tt),
+  );
+}
+
+rows-plain : (first last : ℕ) (areas : List Parking) → last ≤ 4294967295 → AreRising first last areas
+    → AllByRecursion IsPlainRecord (map parking_record areas)
+rows-plain first last [] few h = tt
+rows-plain first last (area ∷ more) few h = (row-plain first last area few h.0, rows-plain (suc area.node) last more few h.1)
+
+row-read : (first last : ℕ) (area : Parking) → last ≤ 4294967295 → IsLawfulParking first last area
+    → numbered_of (parking_record area) ≡ Some (parking_read area)
+row-read first last area few h =
+    rw (letter-name area.rating h.rating_low h.rating_high, table_number-read area.node (omega (arith, h.high, few))) refl
+
+rows-read : (first last : ℕ) (areas : List Parking) → last ≤ 4294967295 → AreRising first last areas
+    → numbered_in (map parking_record areas) ≡ map parking_read areas
+rows-read first last [] few h = refl
+rows-read first last (area ∷ more) few h = rw (row-read first last area few h.0, rows-read (suc area.node) last more few h.1) refl
+
+-- no node from `first` on has a row
+abbrev AreBefore : ℕ → List Record → Type 0
+AreBefore first before = (v : ℕ) → first ≤ v → name_at (numbered_in before) v ≡ None
+
+before-more : (first last : ℕ) (before : List Record) (area : Parking) → last ≤ 4294967295 → IsLawfulParking first last area → AreBefore first before
+    → AreBefore (suc area.node) (before ++ parking_record area ∷ [])
+before-more first last before area few h none v above =
+    ap (λ (rows : List NumberedRow). name_at rows v)
+    (filter_map-push numbered_of before (parking_record area) (parking_read area) (row-read first last area few h))
+    ∙ lookup-other (λ k. eqb v k) (numbered_in before) (parking_read area) (ne_eqb v area.node (λ e. absurd (omega (arith, e, above))))
+    ∙ none v (omega (arith, above, h.low))
+
+no_cause : (first nodes : ℕ) (ratings : List Rating) (before : List Record) (area : Parking) → ratings ≡ three_ratings → 1 ≤ first → nodes ≤ 4294967295
+    → IsLawfulParking first nodes area → AreBefore first before
+    → cause_of_numbered nodes (value_of ratings) (numbered_in before) (numbered_of (parking_record area)) ≡ None
+no_cause first nodes ratings before area is low few h none =
+    rw (
+      is,
+      row-read first nodes area few h,
+      le-leb 1 area.node (omega (arith, low, h.low)),
+      le-leb area.node nodes h.high,
+      letter-known area.rating h.rating_low h.rating_high,
+      none area.node h.low,
+    ) refl
+
+no_row_fault : (first nodes : ℕ) (ratings : List Rating) (before : List Record) (areas : List Parking) → ratings ≡ three_ratings → 1 ≤ first
+    → nodes ≤ 4294967295 → AreRising first nodes areas → AreBefore first before → length before + length areas ≤ MOST_PARKING_ROWS
+    → row_fault_from (parking_schema nodes ratings) header before (map parking_record areas) ≡ None
+no_row_fault first nodes ratings before [] is low few h none room = refl
+no_row_fault first nodes ratings before (area ∷ more) is low few h none room =
+    let row = parking_record area in
+    row_fault-more (parking_schema nodes ratings) header before row (map parking_record more) refl (omega (arith, room))
+    (no_cause first nodes ratings before area is low few h.0 none)
+    (no_row_fault (suc area.node) nodes ratings (before ++ row ∷ []) more is (omega arith) few h.1 (before-more first nodes before area few h.0 none)
+    (omega (arith, room, length-append before (row ∷ []))))
+
+table-records : (nodes : ℕ) (areas : List Parking) → nodes ≤ 4294967295 → AreRising 1 nodes areas
+    → records_of (parkings_text areas) ≡ header ∷ map parking_record areas
+table-records nodes areas few h =
+    ap (λ (text : List ℕ). records_of (codes "node,rating\n" ++ text)) (rows-text areas)
+    ∙ plain_text-read (header ∷ map parking_record areas) (header-plain, rows-plain 1 nodes areas few h)
+
+pub parkings_text-faultless : (nodes : ℕ) (areas : List Parking) → nodes ≤ 4294967295 → AreRising 1 nodes areas → length areas ≤ MOST_PARKING_ROWS
+    → first_table_fault (parking_schema nodes (ratings_in (rows_of ratings_file))) (records_of (parkings_text areas)) ≡ None
+parkings_text-faultless nodes areas few h room =
+    let schema = parking_schema nodes (ratings_in (rows_of ratings_file)) in
+    ap (λ (rows : List Record). first_table_fault schema rows) (table-records nodes areas few h)
+    ∙ first_table_fault-none schema header (map parking_record areas) refl
+    (no_row_fault 1 nodes (ratings_in (rows_of ratings_file)) [] areas ratings_file-ratings (omega arith) few h (λ v above. refl) (omega (arith, room)))
+
+-- the table states the parking areas
+pub parkings_text-read : (nodes : ℕ) (areas : List Parking) → nodes ≤ 4294967295 → AreRising 1 nodes areas
+    → numbered_in (rows_of (parkings_text areas)) ≡ map parking_read areas
+parkings_text-read nodes areas few h =
+    ap (λ (rows : List Record). numbered_in (rows_in rows)) (table-records nodes areas few h) ∙ rows-read 1 nodes areas few h

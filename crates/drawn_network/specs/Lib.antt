@@ -1,0 +1,4 @@
+pub mod DrawnFiles
+pub mod DrawnGraph
+pub mod DrawnNetwork
+pub mod DrawnRows

@@ -1,0 +1,44 @@
+// Drawn files among the files of a network.
+ghost use Rattle.std.specs.Prelude.{◌≡◌, IfOk};
+ghost use Rattle.net_generator.specs.Sizes.{IsDrawable};
+ghost use Rattle.drawn_network.specs.DrawnFiles.{drawn_files};
+
+use net_generator::{Generated, generate};
+use network_tables::Files;
+use route_base::{FileBytes, OutOfMemory};
+use std::alloc::Global;
+
+/// The drawn files, beside tables that are empty. Linear in the nodes.
+pub fn draw_files(alloc: Global, number: u64, rows: u32, columns: u32) -> Result<Files, OutOfMemory>
+    requires { IsDrawable number rows columns }
+    ensures { IfOk result (λ files. files ≡ drawn_files number rows columns) }
+{
+    let drawn = generate(alloc, number, rows, columns)?;
+    Ok(Files {
+        graph: drawn.graph,
+        zones: FileBytes::new(alloc),
+        areas: FileBytes::new(alloc),
+        roads: FileBytes::new(alloc),
+        vehicles: FileBytes::new(alloc),
+        rules: FileBytes::new(alloc),
+        closures: drawn.closures,
+        ratings: drawn.ratings,
+        parking: drawn.parking,
+        holidays: FileBytes::new(alloc),
+    })
+}
+
+/// The four drawn files among these. In constant time.
+pub fn drawn_among(files: Files) -> Generated
+    ensures graph { result.graph ≡ files.graph }
+    ensures closures { result.closures ≡ files.closures }
+    ensures parking { result.parking ≡ files.parking }
+    ensures ratings { result.ratings ≡ files.ratings }
+{
+    Generated {
+        graph: files.graph,
+        closures: files.closures,
+        parking: files.parking,
+        ratings: files.ratings,
+    }
+}
