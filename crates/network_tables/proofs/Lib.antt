@@ -4,10 +4,12 @@ pub mod ClosureRows
 pub mod DatedRows
 pub mod DayLists
 pub mod FirstFaults
+mod JobRows
 pub mod NetLists
 pub mod RoadRows
 pub mod RuleRows
 mod Rows
+mod WorkedJobs
 mod WorkedZones
 pub mod SmallWeights
 pub mod ZoneRows

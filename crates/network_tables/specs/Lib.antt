@@ -4,6 +4,7 @@ pub mod Areas
 pub mod Closures
 pub mod HolidayDays
 pub mod Holidays
+pub mod Jobs
 pub mod NetworkFiles
 pub mod NetworkModel
 pub mod NetworkParts

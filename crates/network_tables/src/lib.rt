@@ -1,10 +1,14 @@
-//! Reads the tables of a road network from the bytes of its files (csv, RFC 4180), beside its graph.
+//! Reads the tables of a road network from the bytes of its files (csv, RFC 4180), beside its graph, and a table of jobs, the trips
+//! of a batch.
 //!
 //! The law is in `specs/`. A module for each table says its schema and what its rows state: `Zones`, `Areas`, `Roads`, `Rules`,
 //! `Closures`, `Ratings`, `Parking` and `Holidays` (vehicles are read by `vehicle_classes`), each over `Schema` of `table_reader`. `NetworkModel` says what a network is,
 //! `NetworkFiles` which network all files state together and what the first fault of their contents is, `Access` which access an arc
 //! gives a vehicle at an instant, and `RoadSetting` the setting in which trips over a network are planned. It is met
 //! by `read_network` and the calls of `Network`.
+//!
+//! `Jobs` is the law of `read_jobs`: which jobs a table of jobs states, its schema, and the instants of its trips. A table of jobs is read
+//! without a network, so no vehicle and no node is looked up.
 //!
 //! The other modules are machinery: `AreaPlaces`, `HolidayDays` and `RuleLists` are tables while they are read, `NetworkParts` is how a
 //! network is held, `Refusals` are words for contracts.
@@ -17,6 +21,8 @@ mod closures;
 mod faults;
 mod files;
 mod holidays;
+mod jobs;
+pub mod limits;
 mod network;
 mod network_files;
 mod parking;
@@ -31,5 +37,6 @@ mod zones;
 
 pub use faults::NetworkFault;
 pub use files::Files;
+pub use jobs::{Job, Jobs, Name, read_jobs};
 pub use network::Network;
 pub use network_files::read_network;

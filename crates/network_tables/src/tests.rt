@@ -1,5 +1,7 @@
 // A happy path for each table over a triangle of three nodes, the refusals of vehicles and rules, and the order in which files
 // are refused. The refusals of the other tables are tested in lorry_plan.
+mod jobs;
+
 use crate::{Files, Network, NetworkFault, read_network};
 use conditional_rules::{Access, Conditional};
 use route_base::{
