@@ -1,6 +1,6 @@
 -- The words of `plan` pass `clap`, which gives them back.
 use Rattle.std.proofs.Common.{Bor, ◌≡◌, refl, codes, true, ℕ, List, Option, Some, None, [], ◌∷◌, ◌++◌, length, ap, ◌∙◌, arith, ap₂}
-use Rattle.std.specs.Prelude.{unwrap_or, is_some, option_map, IfSome}
+use Rattle.std.specs.Prelude.{unwrap_or, option_map, IfSome}
 use Rattle.clap.specs.Walk.{Held, Rule, Text, arg_by_id, arg_by_index, first_of, nothing_held, positional_held, pushed, settled, walked}
 use Rattle.clap.specs.Simple.{App, Shape, built, is_simple, new_app, new_rule, with_rule}
 use Rattle.clap.specs.Takes.{positional_passes, turn_passes}
@@ -8,14 +8,14 @@ use Rattle.clap.proofs.OnLiterals.{clap_on_literals}
 use Rattle.front_words.specs.ClapCommands.{IsTaken, choice, option_line, plan_app, place, text_found}
 use Rattle.front_words.specs.Commands.{Command, name_in, plan_usage, to_plan, trip_to}
 use Rattle.route_base.specs.declared.types.Form.{Form}
-use Rattle.front_words.specs.Forms.{Value, WordForm, certificate, is_folder_name, of_text, of_number, report, value_of}
-use Rattle.front_words.specs.Inside.{AllIn, AreFit, trip_values}
+use Rattle.front_words.specs.Forms.{certificate, is_folder_name, of_text, of_number, report}
+use Rattle.front_words.specs.Inside.{AreFit, trip_values}
 use Rattle.front_words.specs.declared.plan.Choices.{Choices}
 use Rattle.front_words.specs.declared.plan.Trip.{Trip}
 use Rattle.front_words.specs.Usages.{places_read}
 use Rattle.route_base.specs.Forms.{is_name}
 use Rattle.front_words.proofs.ClapWalk.{IsLeaf, Reaches, at, awaiting, finds_at, gives, places, step, takes_at, then_reaches}
-use Rattle.front_words.proofs.Shown.{AllRead, AllShown, IsShown, all_read, all_shown, own_text, read_length, shown}
+use Rattle.front_words.proofs.Shown.{AllRead, AllShown, IsShown, all_in, all_read, all_shown, own_text, read_length}
 
 -- the command, written out
 abbrev app : App
@@ -217,15 +217,6 @@ passes_plan form name words dir lorry from to t u sf sn e =
     let r = all_read plan_usage.places words (of_text dir ∷ of_text lorry ∷ of_number from ∷ of_number to ∷ of_number t ∷ of_number u ∷ []) e in
     passes form name words dir lorry from to t u sf sn (read_length plan_usage.places words
     (of_text dir ∷ of_text lorry ∷ of_number from ∷ of_number to ∷ of_number t ∷ of_number u ∷ []) r) r
-
--- a word in its form is shown
-shown_in : (form : WordForm) (word : Text) (o : Option Value) → value_of form word ≡ o → is_some o ≡ true → IsShown word
-shown_in form word None e h = cc
-shown_in form word (Some v) e h = shown form word v e
-
-all_in : (form : WordForm) (word : Option Text) → AllIn form word → IfSome word IsShown
-all_in form None h = tt
-all_in form (Some word) h = shown_in form word (value_of form word) refl h
 
 -- what `clap` makes of the line of a plan
 pub plan_passes : (t : Trip) (c : Choices) (words : List Text) → AreFit c → places_read plan_usage.places words ≡ Some (trip_values t)

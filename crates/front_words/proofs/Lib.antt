@@ -1,5 +1,7 @@
 pub mod ClapBans
+pub mod ClapBatch
 pub mod ClapCheck
+pub mod ClapGen
 pub mod ClapPlan
 pub mod ClapWalk
 pub mod Dividing

@@ -21,6 +21,13 @@ miscounted (form ∷ forms) [] h = refl
 miscounted (form ∷ forms) (word ∷ words) h =
     sym (no_more form word.now _ (sym (miscounted forms words (λ e. h (ap (λ n. suc n) e)))))
 
+-- what reads 4 words reads them as a list
+pub by_four : (forms : List WordForm) (words : List (Bor (List ℕ))) (d : Bor (List ℕ)) {o : Option (List Value)} → length words ≡ 4
+    → o ≡ places_read forms ((get_or words 0 d).now ∷ (get_or words 1 d).now ∷ (get_or words 2 d).now ∷ (get_or words 3 d).now ∷ [])
+    → o ≡ places_read forms (map (λ w. w.now) words)
+by_four forms (w0 ∷ w1 ∷ w2 ∷ w3 ∷ []) d e h = h
+by_four forms words d e h = absurd (omega arith)
+
 -- what reads 5 words reads them as a list
 pub by_five : (forms : List WordForm) (words : List (Bor (List ℕ))) (d : Bor (List ℕ)) {o : Option (List Value)} → length words ≡ 5
     → o ≡ places_read forms ((get_or words 0 d).now ∷ (get_or words 1 d).now ∷ (get_or words 2 d).now ∷ (get_or words 3 d).now ∷ (get_or words 4 d).now ∷ [])

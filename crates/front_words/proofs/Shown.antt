@@ -1,11 +1,13 @@
 -- Words in their forms begin with no dash.
 use Rattle.std.proofs.Common.{◌≡◌, refl, subst, true, false, eqb, ℕ, Bool, List, Option, Some, None, [], ◌∷◌, ap, ◌∙◌}
 use borrow.Author.Tests.{eqb-true}
-use Rattle.std.specs.Prelude.{suc, option_and_then, option_map, nat_le, length, bytes_eq, codes, if◌then◌else◌}
+use Rattle.std.specs.Prelude.{IfSome, is_some, suc, option_and_then, option_map, nat_le, length, bytes_eq, codes, if◌then◌else◌}
 use Rattle.calendar_days.specs.Texts.{instant_of, day_of_text}
 use Rattle.route_base.specs.Digits.{plain_number_of}
+use Rattle.front_words.specs.Inside.{AllIn}
 use Rattle.front_words.specs.Usages.{places_read}
-use Rattle.front_words.specs.Forms.{Value, WordForm, value_of, text_if, of_text, folder, vehicle, number, instant, certificate, report, is_certificate_name}
+use Rattle.front_words.specs.Forms.{Value, WordForm, value_of, text_if, of_text, folder, vehicle, number, instant, certificate, report}
+use Rattle.front_words.specs.Forms.{count, is_certificate_name, jobs}
 
 -- a word that has a first byte, which is no `-`
 pub record IsShown (word : List ℕ) : Type 0 where
@@ -51,6 +53,8 @@ empty number = refl
 empty instant = simp instant_empty
 empty certificate = simp certificate_empty
 empty report = refl
+empty jobs = refl
+empty (count limit) = refl
 
 dash : (form : WordForm) (xs : List ℕ) → value_of form (45 ∷ xs) ≡ None
 dash folder xs = refl
@@ -59,6 +63,8 @@ dash number xs = simp number_dash
 dash instant xs = simp instant_dash
 dash certificate xs = simp certificate_dash
 dash report xs = refl
+dash jobs xs = refl
+dash (count limit) xs = simp number_dash
 
 none_is_no_value : {A : Type 0} {o : Option A} {v : A} {P : Type 0} → o ≡ None → o ≡ Some v → P
 none_is_no_value e f = cc
@@ -71,6 +77,15 @@ at_byte form x xs v true h e =
 pub shown : (form : WordForm) (word : List ℕ) (v : Value) → value_of form word ≡ Some v → IsShown word
 shown form [] v e = none_is_no_value (empty form) e
 shown form (x ∷ xs) v e = at_byte form x xs v (eqb x 45) refl e
+
+shown_in : (form : WordForm) (word : List ℕ) (o : Option Value) → value_of form word ≡ o → is_some o ≡ true → IsShown word
+shown_in form word None e h = cc
+shown_in form word (Some v) e h = shown form word v e
+
+-- the value of an option that is in its form is shown
+pub all_in : (form : WordForm) (word : Option (List ℕ)) → AllIn form word → IfSome word IsShown
+all_in form None h = tt
+all_in form (Some word) h = shown_in form word (value_of form word) refl h
 
 some_same : {A : Type 0} {x y : A} → Some x ≡ Some y → x ≡ y
 some_same e = cc

@@ -27,6 +27,15 @@ unfoldable pub bans_app : App
 bans_app = with_rule (with_rule (with_rule (with_rule (with_rule (new_app (codes "bans"))
     (place (codes "dir"))) (place (codes "vehicle"))) (place (codes "arc"))) (place (codes "depart"))) (place (codes "until"))
 
+-- `batch DIR JOBS [--workers N]`
+unfoldable pub batch_app : App
+batch_app = with_rule (with_rule (with_rule (new_app (codes "batch")) (place (codes "dir"))) (place (codes "jobs"))) (choice (codes "workers"))
+
+-- `gen DIR NUMBER ROWS COLUMNS`
+unfoldable pub gen_app : App
+gen_app = with_rule (with_rule (with_rule (with_rule (new_app (codes "gen")) (place (codes "dir"))) (place (codes "number")))
+    (place (codes "rows"))) (place (codes "columns"))
+
 -- `clap` refuses the words for want of memory alone
 unfoldable pub IsTaken : App → List (List ℕ) → Type 0
 IsTaken app words = takes app words ≡ true

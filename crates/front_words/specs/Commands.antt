@@ -1,13 +1,17 @@
 -- The commands, and the table of their words (source: own).
-use Rattle.std.specs.Prelude.{ℕ, Option, Some, None, List, [], ◌∷◌, codes}
+use Rattle.std.specs.Prelude.{ℕ, ◌*◌, ◌≤◌, nat_le, Option, Some, None, List, [], ◌∷◌, codes, if◌then◌else◌}
 use Rattle.route_base.specs.Time.{IsInstant}
 use Rattle.route_base.specs.declared.types.Form.{Form}
 use Rattle.route_base.specs.declared.types.Form.TheVariants.{Plain}
 use Rattle.front_words.specs.Forms.{Value, of_text, of_number, of_report}
-use Rattle.front_words.specs.Forms.{folder, vehicle, number, instant, certificate, report}
+use Rattle.front_words.specs.Forms.{folder, vehicle, number, instant, certificate, report, jobs, count}
 use Rattle.front_words.specs.Usages.{Usage, made_in}
 use Rattle.front_words.specs.declared.commands.Command.{Command as CommandWords}
 use Rattle.front_words.specs.declared.commands.Command.TheVariants.{Plan as PlanWords, Check as CheckWords, Bans as BansWords}
+use Rattle.front_words.specs.declared.commands.Command.TheVariants.{Batch as BatchWords, Gen as GenWords}
+use Rattle.front_words.specs.declared.limits.TheConstants.{MOST_WORKERS, USUAL_WORKERS}
+use Rattle.net_generator.specs.declared.limits.TheConstants.{LAST_NUMBER, MOST_GENERATED_NODES, MOST_LINES}
+use Rattle.net_generator.specs.Sizes.{IsDrawable}
 
 -- a trip of a vehicle from a node at a minute to a node, by a minute at the latest
 pub record Trip : Type 0 where
@@ -38,11 +42,26 @@ pub record Bans : Type 0 where
   pub depart : ℕ
   pub until : ℕ
 
+-- the command that plans each job of a file of jobs over the files of a folder, on some workers
+pub record Batch : Type 0 where
+  pub dir : List ℕ
+  pub jobs : List ℕ
+  pub workers : ℕ
+
+-- the command that draws a network of some rows and columns from a number, and writes its files into a folder
+pub record Gen : Type 0 where
+  pub dir : List ℕ
+  pub number : ℕ
+  pub rows : ℕ
+  pub columns : ℕ
+
 -- a command, with the values of its words
 pub data Command : Type 0 where
   to_plan : Plan → Command
   to_check : Check → Command
   to_bans : Bans → Command
+  to_batch : Batch → Command
+  to_gen : Gen → Command
 
 -- the trip that these values make
 abbrev pub trip_to : List ℕ → ℕ → ℕ → ℕ → ℕ → Trip
@@ -57,6 +76,11 @@ report_in value = Plain
 abbrev pub name_in : Option Value → Option (List ℕ)
 name_in (Some (of_text name)) = Some name
 name_in value = None
+
+-- the number of workers: the usual one where none is given
+abbrev pub workers_in : Option Value → ℕ
+workers_in (Some (of_number workers)) = workers
+workers_in value = USUAL_WORKERS
 
 -- the plan that the values of its words make
 abbrev pub plan_of : List Value → List (Option Value) → Option Command
@@ -75,6 +99,20 @@ abbrev pub bans_of : List Value → List (Option Value) → Option Command
 bans_of (of_text dir ∷ of_text lorry ∷ of_number arc ∷ of_number start ∷ of_number end ∷ []) [] =
     Some (to_bans (record { dir = dir; vehicle = lorry; arc = arc; depart = start; until = end }))
 bans_of places options = None
+
+-- the batch that the values of its words make
+abbrev pub batch_of : List Value → List (Option Value) → Option Command
+batch_of (of_text dir ∷ of_text file ∷ []) (workers ∷ []) =
+    Some (to_batch (record { dir = dir; jobs = file; workers = workers_in workers }))
+batch_of places options = None
+
+-- the generation that the values of its words make: none where there are more nodes than are drawn
+abbrev pub gen_of : List Value → List (Option Value) → Option Command
+gen_of (of_text dir ∷ of_number from ∷ of_number rows ∷ of_number columns ∷ []) [] =
+    if nat_le (rows * columns) MOST_GENERATED_NODES
+    then Some (to_gen (record { dir = dir; number = from; rows = rows; columns = columns }))
+    else None
+gen_of places options = None
 
 -- `plan DIR VEHICLE FROM TO DEPART UNTIL [--form F] [--certificate NAME]`
 abbrev pub plan_usage : Usage Command
@@ -103,9 +141,27 @@ bans_usage = record {
   make = bans_of;
 }
 
+-- `batch DIR JOBS [--workers N]`
+abbrev pub batch_usage : Usage Command
+batch_usage = record {
+  name = codes "batch";
+  places = folder ∷ jobs ∷ [];
+  options = record { name = codes "--workers"; form = count MOST_WORKERS } ∷ [];
+  make = batch_of;
+}
+
+-- `gen DIR NUMBER ROWS COLUMNS`
+abbrev pub gen_usage : Usage Command
+gen_usage = record {
+  name = codes "gen";
+  places = folder ∷ count LAST_NUMBER ∷ count MOST_LINES ∷ count MOST_LINES ∷ [];
+  options = [];
+  make = gen_of;
+}
+
 -- the commands, in the order of their table
 abbrev pub usages : List (Usage Command)
-usages = plan_usage ∷ check_usage ∷ bans_usage ∷ []
+usages = plan_usage ∷ check_usage ∷ bans_usage ∷ batch_usage ∷ gen_usage ∷ []
 
 -- the command of words: its name and then its own words; nothing for words that are no command
 abbrev pub command_of : List (List ℕ) → Option Command
@@ -120,14 +176,18 @@ command_in (CheckWords dir lorry from to start end name) =
     to_check (record { dir = dir; trip = trip_to lorry from to start end; name = name })
 command_in (BansWords dir lorry arc start end) =
     to_bans (record { dir = dir; vehicle = lorry; arc = arc; depart = start; until = end })
+command_in (BatchWords dir file workers) = to_batch (record { dir = dir; jobs = file; workers = workers })
+command_in (GenWords dir from rows columns) = to_gen (record { dir = dir; number = from; rows = rows; columns = columns })
 
 -- the trip begins and ends at instants
 pub record IsTimed (trip : Trip) : Type 0 where
   pub depart : IsInstant trip.depart
   pub until : IsInstant trip.until
 
--- all minutes that the command names are instants
+-- all minutes that the command names are instants, the workers are as many as there may be, and the network can be drawn
 abbrev pub AsksSupported : Command → Type 0
 AsksSupported (to_plan p) = IsTimed p.trip
 AsksSupported (to_check c) = IsTimed c.trip
 AsksSupported (to_bans b) = IsInstant b.depart × IsInstant b.until
+AsksSupported (to_batch b) = (1 ≤ b.workers) × (b.workers ≤ MOST_WORKERS)
+AsksSupported (to_gen g) = IsDrawable g.number g.rows g.columns

@@ -1,9 +1,9 @@
 -- The forms of words, and the values that words have in them (source: own).
 use Rattle.std.specs.Prelude.{ℕ, ◌==◌, ◌&&◌, Bool, false, not, nat_le, Option, Some, None, List, [], ◌∷◌, length, codes}
-use Rattle.std.specs.Prelude.{if◌then◌else◌, option_map, bytes_eq, drop, ◌-◌}
+use Rattle.std.specs.Prelude.{if◌then◌else◌, option_and_then, option_map, bytes_eq, drop, ◌-◌}
 use Rattle.route_base.specs.declared.limits.TheConstants.{LONGEST_FOLDER}
 use Rattle.route_base.specs.Digits.{plain_number_of}
-use Rattle.route_base.specs.Forms.{at_most, is_name}
+use Rattle.route_base.specs.Forms.{at_most, is_from_to, is_name}
 use Rattle.route_base.specs.declared.types.Form.{Form}
 use Rattle.route_base.specs.declared.types.Form.TheVariants.{Plain, Table, Csv, Json}
 use Rattle.calendar_days.specs.Texts.{instant_of}
@@ -20,6 +20,10 @@ is_certificate_name name = is_name name && bytes_eq (drop (length name - 5) name
 -- a number of 32 bits without a leading zero
 abbrev pub node_of : List ℕ → Option ℕ
 node_of word = at_most 4294967295 (plain_number_of word)
+
+-- a number from 1 to the limit without a leading zero
+abbrev pub count_of : ℕ → List ℕ → Option ℕ
+count_of limit word = option_and_then (λ n. if is_from_to 1 limit n then Some n else None) (plain_number_of word)
 
 -- the form of a report, by its name in small letters
 abbrev pub report_of : List ℕ → Option Form
@@ -44,6 +48,10 @@ pub data WordForm : Type 0 where
   certificate : WordForm
   -- F
   report : WordForm
+  -- JOBS
+  jobs : WordForm
+  -- N, NUMBER, ROWS, COLUMNS: up to the limit
+  count : ℕ → WordForm
 
 -- the value of a word
 pub data Value : Type 0 where
@@ -63,3 +71,5 @@ value_of number word = option_map of_number (node_of word)
 value_of instant word = option_map of_number (instant_of word)
 value_of certificate word = text_if (is_certificate_name word) word
 value_of report word = option_map of_report (report_of word)
+value_of jobs word = text_if (is_name word) word
+value_of (count limit) word = option_map of_number (count_of limit word)

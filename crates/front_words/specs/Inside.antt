@@ -1,15 +1,20 @@
 -- What the calls hand to one another; no law.
-use Rattle.std.specs.Prelude.{ℕ, ◌≡◌, Option, Some, None, List, map, option_map, Result, Ok, Err, ◌++◌}
+use Rattle.std.specs.Prelude.{ℕ, ◌≡◌, ◌≤◌, Option, Some, None, List, map, option_map, Result, Ok, Err, ◌++◌}
 use Rattle.std.specs.Prelude.{[], ◌∷◌}
 use Rattle.std.specs.Borrow.{Bor}
 use Rattle.front_words.specs.Splitting.{Given, Split, split_of, Piece, plain, named, assigned, stray}
-use Rattle.front_words.specs.Forms.{Value, WordForm, value_of, of_text, of_number, of_report, report, certificate as certificate_form}
+use Rattle.front_words.specs.Forms.{Value, WordForm, value_of, of_text, of_number, of_report, report, count, certificate as certificate_form}
 use Rattle.front_words.specs.ClapCommands.{option_line}
 use Rattle.std.specs.Prelude.{codes, is_some, true, ◌∷◌}
 use Rattle.front_words.specs.declared.plan.Trip.{Trip as TripParts}
 use Rattle.front_words.specs.declared.plan.Choices.{Choices}
 use Rattle.front_words.specs.declared.check.Check.{Check as CheckParts}
 use Rattle.front_words.specs.declared.bans.Bans.{Bans as BansParts}
+use Rattle.front_words.specs.declared.batch.Batch.{Batch as BatchParts}
+use Rattle.front_words.specs.declared.batch.Workers.{Workers}
+use Rattle.front_words.specs.declared.generate.Gen.{Gen as GenParts}
+use Rattle.front_words.specs.declared.limits.TheConstants.{MOST_WORKERS}
+use Rattle.net_generator.specs.declared.limits.TheConstants.{LAST_NUMBER, MOST_LINES}
 use Rattle.front_words.specs.declared.commands.WordsFault.{WordsFault}
 use Rattle.front_words.specs.declared.commands.WordsFault.TheVariants.{NotACommand, OutOfMemory}
 use Rattle.front_words.specs.declared.splitting.Given.{Given as GivenWords}
@@ -51,6 +56,26 @@ check_values c = of_text c.dir.now ∷ of_text c.vehicle.now ∷ of_number c.fro
 abbrev pub bans_values : BansParts → List Value
 bans_values b = of_text b.dir.now ∷ of_text b.vehicle.now ∷ of_number b.arc ∷ of_number b.depart ∷ of_number b.until ∷ []
 
+-- the values of positional words of a batch
+abbrev pub batch_values : BatchParts → List Value
+batch_values b = of_text b.dir.now ∷ of_text b.jobs.now ∷ []
+
+-- the values of positional words of a generation
+abbrev pub gen_values : GenParts → List Value
+gen_values g = of_text g.dir.now ∷ of_number g.number ∷ of_number g.rows ∷ of_number g.columns ∷ []
+
+-- the values of a batch's options
+abbrev pub workers_values : Workers → List (Option Value)
+workers_values w = option_map of_number w.number ∷ []
+
+-- from 1 to the limit
+abbrev pub IsUpTo : ℕ → ℕ → Type 0
+IsUpTo limit n = (1 ≤ n) × (n ≤ limit)
+
+-- the number, the rows and the columns are each within their limit
+abbrev pub AreCounted : GenParts → Type 0
+AreCounted g = IsUpTo LAST_NUMBER g.number × IsUpTo MOST_LINES g.rows × IsUpTo MOST_LINES g.columns
+
 -- the values of a plan's options
 abbrev pub choice_values : Choices → List (Option Value)
 choice_values c = option_map of_report c.form ∷ option_map (λ name. of_text name.now) c.certificate ∷ []
@@ -65,10 +90,18 @@ pub record AreFit (c : Choices) : Type 0 where
   pub form : AllIn report (option_map (λ word. word.now) c.form_word)
   pub certificate : AllIn certificate_form (option_map (λ word. word.now) c.certificate)
 
+-- the word of a batch's option, if there is one, is in its form
+abbrev pub IsFit : Option (Bor (List ℕ)) → Type 0
+IsFit word = AllIn (count MOST_WORKERS) (option_map (λ w. w.now) word)
+
 -- the line of a plan that goes to `clap`
 abbrev pub line_of_plan : Choices → List (List ℕ) → List (List ℕ)
 line_of_plan c words = codes "plan" ∷ (option_line (codes "--form") (option_map (λ word. word.now) c.form_word)
     ++ (option_line (codes "--certificate") (option_map (λ word. word.now) c.certificate) ++ words))
+
+-- the line of a batch that goes to `clap`
+abbrev pub line_of_batch : Workers → List (List ℕ) → List (List ℕ)
+line_of_batch w words = codes "batch" ∷ (option_line (codes "--workers") (option_map (λ word. word.now) w.word) ++ words)
 
 -- one split behind another
 abbrev pub follow : Split → Split → Split

@@ -38,6 +38,19 @@ pub enum Command {
         depart: Minute,
         until: Minute,
     },
+    /// Plans each job of the file `jobs` over the files of the folder `dir`, on this many workers.
+    Batch {
+        dir: Text,
+        jobs: Text,
+        workers: u32,
+    },
+    /// Draws a network of these rows and columns from a number, and writes its files into the folder `dir`.
+    Gen {
+        dir: Text,
+        number: u64,
+        rows: u32,
+        columns: u32,
+    },
 }
 
 /// Why words give no command.

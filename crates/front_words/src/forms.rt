@@ -1,7 +1,8 @@
 // The forms of words.
 ghost use Rattle.std.specs.Prelude.{◌≡◌, IfSome, option_map};
 ghost use Rattle.calendar_days.specs.Texts.{instant_of};
-ghost use Rattle.front_words.specs.Forms.{is_folder_name, is_certificate_name, node_of, report_of};
+ghost use Rattle.front_words.specs.Forms.{is_folder_name, is_certificate_name, count_of, node_of, report_of};
+ghost use Rattle.front_words.specs.Inside.{IsUpTo};
 ghost use Rattle.route_base.specs.Time.{IsInstant};
 ghost use Rattle.route_base.specs.Forms.{is_name};
 
@@ -26,6 +27,13 @@ pub fn is_vehicle_word(word: &str) -> bool
     is_name_field(word.as_bytes())
 }
 
+// Whether a word names a file of jobs.
+pub fn is_jobs_word(word: &str) -> bool
+    ensures { result ≡ is_name word.now }
+{
+    is_name_field(word.as_bytes())
+}
+
 // Whether a word is the name of a certificate.
 #[tactic(auto, unfolding(crate::specs::Forms::is_certificate_name))]
 pub fn is_certificate_word(word: &str) -> bool
@@ -44,6 +52,22 @@ pub fn number_word(word: &str) -> Option<u32>
     } else {
         None
     }
+}
+
+// The number from 1 to the limit that a word says.
+pub fn count_word(word: &str, limit: u64) -> Option<u64>
+    ensures value { result ≡ count_of limit word.now }
+    ensures within { IfSome result (IsUpTo limit) }
+{
+    read_plain_number(word.as_bytes()).filter(|number| 1 <= *number && *number <= limit)
+}
+
+// The number of 32 bits from 1 to the limit that a word says.
+pub fn small_count_word(word: &str, limit: u32) -> Option<u32>
+    ensures value { result ≡ count_of limit word.now }
+    ensures within { IfSome result (IsUpTo limit) }
+{
+    Some(count_word(word, limit as u64)? as u32)
 }
 
 // The instant that a word says.

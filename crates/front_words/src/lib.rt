@@ -5,19 +5,25 @@
 //! the commands and their table, and `command_of`, the command that words are.
 //!
 //! `read_words` answers exactly this. Its own tests decide: `splitting` divides the words, `options` finds the value of an option, `forms`
-//! has the forms. `plan`, `check` and `bans` have one row of the table each, in its order. The words that pass go to one simple command of
-//! `clap` each, in one order: the options with their values, then the positional words. `clap` then refuses them for want of memory alone
-//! (`refused` of `plan_matches`, `check_matches` and `bans_matches`), and the texts of a command are those that it gives back.
+//! has the forms. `plan`, `check`, `bans`, `batch` and `gen` have one row of the table each, in its order. The words that pass go to one
+//! simple command of `clap` each, in one order: the options with their values, then the positional words. `clap` then refuses them for want
+//! of memory alone (`refused` of `plan_matches`, `check_matches`, `bans_matches`, `batch_matches` and `gen_matches`), and the texts of a
+//! command are those that it gives back.
+//!
+//! `limits` bounds the workers of a batch; a number, rows and columns are those from which `net_generator` draws a network (`IsDrawable`).
 //!
 //! `Inside` and `ClapCommands` are no law: they have what the calls hand to one another, and the commands as `clap` has them.
 //! `proofs/ClapWalk` is the walk of `clap` over words that begin with no dash, and `proofs/Shown` shows that words in their forms are such.
 #![tactic(auto)]
 
 mod bans;
+mod batch;
 mod check;
 mod clap_words;
 mod commands;
 mod forms;
+mod generate;
+mod limits;
 mod options;
 mod plan;
 mod reading;
@@ -26,4 +32,5 @@ mod splitting;
 mod tests;
 
 pub use commands::{Command, WordsFault};
+pub use limits::{MOST_WORKERS, USUAL_WORKERS};
 pub use reading::read_words;

@@ -3,7 +3,9 @@ ghost use Rattle.std.specs.Prelude.{◌≡◌, None, Some, IfErr, IfOk};
 ghost use Rattle.front_words.specs.Commands.{AsksSupported, command_in, command_of};
 
 use crate::bans::read_bans;
+use crate::batch::read_batch;
 use crate::check::read_check;
+use crate::generate::read_gen;
 use crate::plan::read_plan;
 use crate::{Command, WordsFault};
 use route_base::Text;
@@ -13,11 +15,14 @@ use std::alloc::Global;
 /// unless there isn't memory enough. Linear in the length of the words.
 ///
 /// The commands are `plan DIR VEHICLE FROM TO DEPART UNTIL [--form F] [--certificate NAME]`, `check DIR VEHICLE FROM TO DEPART UNTIL
-/// NAME` and `bans DIR VEHICLE ARC DEPART UNTIL`. An option stands anywhere behind the command's name, once at most, as two words or as
-/// one, `--form F` or `--form=F`; any other word that begins with `-` is refused. DIR has 1 to 4,096 bytes and doesn't begin with `-`;
-/// VEHICLE is a name, and `any` is one; FROM, TO and ARC are numbers of 32 bits without a leading zero; DEPART and UNTIL are instants,
-/// as texts or as Unix minutes; F is `plain`, `table`, `csv` or `json`, and `plain` where it isn't given; NAME is a name that ends in
-/// `.cert`.
+/// NAME`, `bans DIR VEHICLE ARC DEPART UNTIL`, `batch DIR JOBS [--workers N]` and `gen DIR NUMBER ROWS COLUMNS`. An option stands
+/// anywhere behind the command's name, once at most, as two words or as one, `--form F` or `--form=F`; any other word that begins with
+/// `-` is refused.
+///
+/// DIR has 1 to 4,096 bytes and doesn't begin with `-`; VEHICLE and JOBS are names, and `any` is one; FROM, TO and ARC are numbers of 32
+/// bits without a leading zero; DEPART and UNTIL are instants, as texts or as Unix minutes; F is `plain`, `table`, `csv` or `json`, and
+/// `plain` where it isn't given; NAME is a name that ends in `.cert`. N is 1 to 64, and 4 where it isn't given; NUMBER is 1 to
+/// 2,147,483,646; ROWS and COLUMNS are 1 to 400 each, and their product is at most 22,500; none of these has a leading zero.
 pub fn read_words(alloc: Global, words: &[Text]) -> Result<Command, WordsFault>
     ensures command { IfOk result (λ c. command_of words.now ≡ Some (command_in c)) }
     ensures none { IfErr result (λ e. e ≡ WordsFault.NotACommand → command_of words.now ≡ None) }
@@ -35,6 +40,12 @@ pub fn read_words(alloc: Global, words: &[Text]) -> Result<Command, WordsFault>
     }
     if name == "bans" {
         return read_bans(alloc, rest);
+    }
+    if name == "batch" {
+        return read_batch(alloc, rest);
+    }
+    if name == "gen" {
+        return read_gen(alloc, rest);
     }
     Err(WordsFault::NotACommand)
 }

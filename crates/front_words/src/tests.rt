@@ -166,6 +166,84 @@ const CASES: [(&str, &str); 77] = [
     ("bans|d|any|2|3|26563680|26564080", "no"),
 ];
 
+// The same of batches.
+const BATCHES: [(&str, &str); 35] = [
+    ("batch|d|jobs.csv", "batch d jobs.csv 4"),
+    ("batch|a b/c|any", "batch a b/c any 4"),
+    ("batch|d|.", "batch d . 4"),
+    ("batch|d|jobs.csv|--workers|1", "batch d jobs.csv 1"),
+    ("batch|d|jobs.csv|--workers|4", "batch d jobs.csv 4"),
+    ("batch|d|jobs.csv|--workers|64", "batch d jobs.csv 64"),
+    ("batch|d|--workers|2|jobs.csv", "batch d jobs.csv 2"),
+    ("batch|--workers=2|d|jobs.csv", "batch d jobs.csv 2"),
+    ("batch|d|jobs.csv|--workers=64", "batch d jobs.csv 64"),
+    ("batch|d|jobs.csv|--workers|0", "no"),
+    ("batch|d|jobs.csv|--workers|65", "no"),
+    ("batch|d|jobs.csv|--workers|04", "no"),
+    ("batch|d|jobs.csv|--workers|+4", "no"),
+    ("batch|d|jobs.csv|--workers|4294967297", "no"),
+    ("batch|d|jobs.csv|--workers|two", "no"),
+    ("batch|d|jobs.csv|--workers|", "no"),
+    ("batch|d|jobs.csv|--workers=", "no"),
+    ("batch|d|jobs.csv|--workers", "no"),
+    ("batch|d|jobs.csv|--workers|-1", "no"),
+    ("batch|d|jobs.csv|--workers|2|--workers|2", "no"),
+    ("batch|--workers=2|d|jobs.csv|--workers|3", "no"),
+    ("batch|d|jobs.csv|--Workers|2", "no"),
+    ("batch|d|jobs.csv|-w|2", "no"),
+    ("batch|d|jobs.csv|--form|csv", "no"),
+    ("batch", "no"),
+    ("batch|d", "no"),
+    ("batch|d|--workers|2", "no"),
+    ("batch|d|jobs.csv|more", "no"),
+    ("batch||jobs.csv", "no"),
+    ("batch|-d|jobs.csv", "no"),
+    ("batch|d|", "no"),
+    ("batch|d|-jobs", "no"),
+    ("batch|d|a/b", "no"),
+    (
+        "batch|d|abcdefghijklmnopqrstuvwxyzABCDEFGHIJKLMNOPQRSTUVWXYZ01234567.csv",
+        "batch d abcdefghijklmnopqrstuvwxyzABCDEFGHIJKLMNOPQRSTUVWXYZ01234567.csv 4",
+    ),
+    (
+        "batch|d|abcdefghijklmnopqrstuvwxyzABCDEFGHIJKLMNOPQRSTUVWXYZ012345678.csv",
+        "no",
+    ),
+];
+
+// The same of networks that are drawn.
+const NETWORKS: [(&str, &str); 29] = [
+    ("gen|d|7|1|2", "gen d 7 1 2"),
+    ("gen|a b/c|1|1|1", "gen a b/c 1 1 1"),
+    ("gen|d|2147483646|150|150", "gen d 2147483646 150 150"),
+    ("gen|d|7|400|56", "gen d 7 400 56"),
+    ("gen|d|7|1|400", "gen d 7 1 400"),
+    ("gen|d|0|1|2", "no"),
+    ("gen|d|2147483647|1|2", "no"),
+    ("gen|d|4294967297|1|2", "no"),
+    ("gen|d|18446744073709551617|1|2", "no"),
+    ("gen|d|07|1|2", "no"),
+    ("gen|d|7|0|2", "no"),
+    ("gen|d|7|1|0", "no"),
+    ("gen|d|7|01|2", "no"),
+    ("gen|d|7|1|02", "no"),
+    ("gen|d|7|401|1", "no"),
+    ("gen|d|7|1|401", "no"),
+    ("gen|d|7|4294967297|1", "no"),
+    ("gen|d|7|1|4294967297", "no"),
+    ("gen|d|7|150|151", "no"),
+    ("gen|d|7|151|150", "no"),
+    ("gen|d|7|400|57", "no"),
+    ("gen|d|7|400|400", "no"),
+    ("gen|d|7|1", "no"),
+    ("gen|d|7|1|2|3", "no"),
+    ("gen|7|1|2", "no"),
+    ("gen||7|1|2", "no"),
+    ("gen|-d|7|1|2", "no"),
+    ("gen|d|7|1|2|--workers|2", "no"),
+    ("Gen|d|7|1|2", "no"),
+];
+
 // The words of a line.
 fn words_of(alloc: Global, line: &str) -> Result<Vec<Text>, Fail> {
     let mut words = Vec::new(alloc);
@@ -236,6 +314,22 @@ fn line_of(alloc: Global, words: &[Text]) -> Result<String, Fail> {
             let vehicle = vehicle.as_str();
             format!(in alloc; "bans {dir} {vehicle} {arc} {depart} {until}")?
         }
+        Ok(Command::Batch { dir, jobs, workers }) => {
+            let dir = dir.as_str();
+            let jobs = jobs.as_str();
+            format!(in alloc; "batch {dir} {jobs} {workers}")?
+        }
+        Ok(
+            Command::Gen {
+                dir,
+                number,
+                rows,
+                columns,
+            },
+        ) => {
+            let dir = dir.as_str();
+            format!(in alloc; "gen {dir} {number} {rows} {columns}")?
+        }
         Err(WordsFault::NotACommand) => String::from_str(alloc, "no")?,
         Err(WordsFault::OutOfMemory) => String::from_str(alloc, "out of memory")?,
     };
@@ -246,6 +340,28 @@ fn line_of(alloc: Global, words: &[Text]) -> Result<String, Fail> {
 fn reads_commands(rt: HostRuntime) -> Result<(), Fail> {
     let alloc = rt.alloc();
     for (line, wanted) in CASES {
+        let words = words_of(alloc, line)?;
+        let read = line_of(alloc, words.as_slice())?;
+        assert_eq!(rt; read.as_str(), wanted, "{line}");
+    }
+    Ok(())
+}
+
+#[test]
+fn reads_batches(rt: HostRuntime) -> Result<(), Fail> {
+    let alloc = rt.alloc();
+    for (line, wanted) in BATCHES {
+        let words = words_of(alloc, line)?;
+        let read = line_of(alloc, words.as_slice())?;
+        assert_eq!(rt; read.as_str(), wanted, "{line}");
+    }
+    Ok(())
+}
+
+#[test]
+fn reads_networks(rt: HostRuntime) -> Result<(), Fail> {
+    let alloc = rt.alloc();
+    for (line, wanted) in NETWORKS {
         let words = words_of(alloc, line)?;
         let read = line_of(alloc, words.as_slice())?;
         assert_eq!(rt; read.as_str(), wanted, "{line}");
