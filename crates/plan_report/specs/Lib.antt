@@ -1,4 +1,5 @@
 pub mod Bans
+pub mod Batch
 pub mod Check
 pub mod Costs
 pub mod Csv
@@ -8,4 +9,5 @@ pub mod Plain
 pub mod Refusals
 pub mod Reports
 pub mod Stages
+pub mod Summary
 pub mod Table

@@ -1,9 +1,11 @@
-//! The texts that the planner prints: routes in four forms, closed minutes, verdicts on certificates, and refusals.
+//! The texts that the planner prints: routes in four forms, closed minutes, verdicts on certificates, batches, summaries of networks
+//! that were made, and refusals.
 //!
 //! The law is in `specs/`. `Reports` is the text of routes in each form, over `Plain`, `Table`, `Csv` and `Json`; `Stages` has
-//! what the table and the CSV text share, the position before each leg. `Bans`, `Check` and `Refusals` are the other texts.
+//! what the table and the CSV text share, the position before each leg. `Bans`, `Check`, `Batch`, `Summary` and `Refusals` are the
+//! other texts.
 //!
-//! `plan_text`, `bans_text`, `check_text` and `refusal_text` give exactly these texts. `reports_agree` is the law that settings
+//! `plan_text`, `bans_text`, `check_text`, `batch_text`, `summary_text` and `refusal_text` give exactly these texts. `reports_agree` is the law that settings
 //! of which one stands for the other have the same texts.
 //!
 //! `Inside` is no law: it has what a writer keeps as it goes over the legs. `proofs/Going` shows that each position that it
@@ -11,6 +13,7 @@
 #![tactic(auto)]
 
 mod bans;
+mod batch;
 mod check;
 mod csv;
 mod json;
@@ -21,13 +24,16 @@ mod plain;
 mod pushing;
 mod refusals;
 mod reports;
+mod summary;
 mod table;
 #[cfg(test)]
 mod tests;
 
 pub use bans::bans_text;
+pub use batch::batch_text;
 pub use check::check_text;
 pub use laws::reports_agree;
 pub use outcomes::{Refusal, Verdict3};
 pub use refusals::refusal_text;
 pub use reports::plan_text;
+pub use summary::summary_text;
