@@ -1,2 +1,2 @@
-pub mod SharedSets
-pub mod TimedArcs
+pub mod GroupedNets
+pub mod Grouping

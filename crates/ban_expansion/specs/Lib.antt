@@ -1,3 +1,4 @@
+pub mod ArcGroups
 pub mod Bans
 pub mod Coverage
 pub mod Inside

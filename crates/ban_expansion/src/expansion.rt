@@ -1,31 +1,17 @@
 // Makes the net of a network for a vehicle, over which trips are planned.
-ghost use Rattle.std.specs.Prelude.{◌≡◌, ◌+◌, ◌≤◌, ◌<◌, length, IfOk, OnOk};
-ghost use Rattle.ban_expansion.specs.Words.{StandsFor, setting_of, IsGoodGraph, VehicleModel, NetworkModel};
-ghost use Rattle.ban_expansion.specs.Words.{road_setting, IsWindow, timed_over, AreTimed};
+ghost use Rattle.std.specs.Prelude.{◌≡◌, ◌≤◌, ◌<◌, length, map, IfOk};
+ghost use Rattle.ban_expansion.specs.Words.{StandsFor, setting_of, IsGoodGraph, road_setting, IsWindow};
+ghost use Rattle.ban_expansion.specs.Words.{AreGroups, AreClosedLists, AreTimed, IsTimed, timed_over};
 
-use crate::shared_sets::SharedSets;
+use crate::arc_groups::ArcGroups;
+use crate::closed_sets::closed_set;
+use crate::grouping::group_arcs;
 use dimacs_reader::GraphArc;
 use network_tables::Network;
 use route_base::limits::COST_OF_MINUTE;
 use route_base::{ArcId, Cost, NodeId, OutOfMemory, Run, TimedArc, TimedNet};
 use std::alloc::Global;
-use std::marker::Model;
 use vehicle_classes::Vehicle;
-
-// Arcs so far, and the lists of closed runs that they name by place.
-#[derive(Drop)]
-struct Timing {
-    arcs: Vec<TimedArc>,
-    sets: SharedSets,
-}
-
-impl Model for Timing {
-    ghost use Rattle.ban_expansion.specs.Inside.TimedArcs.{TimedArcs};
-
-    ghost Value = { TimedArcs };
-
-    ghost view = { λ t. record { arcs = t.arcs.items; sets = t.sets } };
-}
 
 // The arc of the net, with its closed runs at this place.
 fn timed(arc: GraphArc, place: u32) -> TimedArc
@@ -41,56 +27,55 @@ fn timed(arc: GraphArc, place: u32) -> TimedArc
     }
 }
 
-impl Timing {
-    // No arcs yet, over this number of areas.
-    fn new(alloc: Global, areas: usize) -> Result<Timing, OutOfMemory>
-        ensures { IfOk result (λ timing. (net : NetworkModel) (vehicle : VehicleModel) (window : Run) →
-            length net.areas ≡ areas → AreTimed net vehicle window 0 timing) }
-    {
-        Ok(Timing {
-            arcs: Vec::new(alloc),
-            sets: SharedSets::new(alloc, areas)?,
-        })
-    }
-
-    // Adds the next arc of the network, which has this place from 0.
-    fn add(
-        &mut self,
-        alloc: Global,
-        network: &Network,
-        vehicle: &Vehicle,
-        window: Run,
-        k: u32,
-    ) -> Result<(), OutOfMemory>
-        requires within { k < length network.now.graph.arcs }
-        requires graph { IsGoodGraph network.now.graph }
-        requires window { IsWindow window }
-        requires timed { AreTimed network.now vehicle.now window k self.old }
-        ensures { OnOk result (AreTimed network.now vehicle.now window (k + 1) self.new) }
-    {
-        let a = ArcId(k + 1);
-        let arc = network.graph().arc(a).unwrap();
-        let place = self.sets.place_for(alloc, network, vehicle, a, window)?;
-        self.arcs.push(timed(arc, place))?;
-        Ok(())
-    }
+// The arc of the net at place k from 0, with its closed runs at the place of its group.
+fn timed_at(network: &Network, groups: &ArcGroups, k: u32) -> TimedArc
+    requires within { k < length network.now.graph.arcs }
+    requires graph { IsGoodGraph network.now.graph }
+    requires groups { AreGroups network.now groups.now }
+    ensures { IsTimed network.now groups.now.groups k result }
+{
+    let arc = network.graph().arc(ArcId(k + 1)).unwrap();
+    timed(arc, groups.groups()[k as usize])
 }
 
-// All arcs with their closed runs.
-fn timing_of(
+// All arcs, with their closed runs at the places of their groups.
+fn timed_arcs(
     alloc: Global,
     network: &Network,
+    groups: &ArcGroups,
+) -> Result<Vec<TimedArc>, OutOfMemory>
+    requires { AreGroups network.now groups.now }
+    ensures { IfOk result (λ arcs.
+        AreTimed network.now groups.now.groups (length network.now.graph.arcs) arcs.items) }
+{
+    let count = network.graph().arc_count();
+    let mut arcs = Vec::with_capacity(alloc, count as usize)?;
+    for k in 0..count {
+        arcs.push(timed_at(network, groups, k))?;
+    }
+    Ok(arcs)
+}
+
+// For each group the closed minutes of its first arc.
+fn closed_lists(
+    alloc: Global,
+    network: &Network,
+    groups: &ArcGroups,
     vehicle: &Vehicle,
     window: Run,
-) -> Result<Timing, OutOfMemory>
-    requires { IsWindow window }
-    ensures { IfOk result (AreTimed network.now vehicle.now window (length network.now.graph.arcs)) }
+) -> Result<Vec<Vec<Run>>, OutOfMemory>
+    requires groups { AreGroups network.now groups.now }
+    requires window { IsWindow window }
+    ensures { IfOk result (λ lists. AreClosedLists network.now vehicle.now window groups.now.firsts
+        (map (λ v. v.items) lists.items)) }
 {
-    let mut timing = Timing::new(alloc, network.area_count())?;
-    for k in 0..network.graph().arc_count() {
-        timing.add(alloc, network, vehicle, window, k)?;
+    let firsts = groups.firsts();
+    let mut lists = Vec::with_capacity(alloc, firsts.len())?;
+    for first in firsts {
+        let set = closed_set(alloc, network, vehicle, *first, window)?;
+        lists.push(set.into_runs())?;
     }
-    Ok(timing)
+    Ok(lists)
 }
 
 // The weight of each node where one may wait.
@@ -104,12 +89,33 @@ fn weights_of(alloc: Global, network: &Network) -> Result<Vec<Option<Cost>>, Out
     Ok(weights)
 }
 
+/// The network as a net for the vehicle, as `expand_plain` makes it, over groups that `group_arcs` found.
+///
+/// It takes the time and memory of one `closed_set` for each group; beside, it is linear in nodes and arcs, and looks up no rules.
+pub fn expand_groups(
+    alloc: Global,
+    network: &Network,
+    groups: &ArcGroups,
+    vehicle: &Vehicle,
+    window: Run,
+) -> Result<TimedNet, OutOfMemory>
+    requires groups { AreGroups network.now groups.now }
+    requires window { IsWindow window }
+    ensures { IfOk result (λ net.
+        StandsFor (setting_of net) (road_setting network.now vehicle.now) window) }
+{
+    let nodes = network.graph().node_count();
+    let arcs = timed_arcs(alloc, network, groups)?;
+    let closed = closed_lists(alloc, network, groups, vehicle, window)?;
+    let weights = weights_of(alloc, network)?;
+    Ok(TimedNet::new(nodes, arcs, closed, weights))
+}
+
 /// The network as a net for the vehicle: each minute of driving costs 1,000 thousandths, an arc is closed at exactly the
 /// minutes of the window at which it is closed to the vehicle, and one may wait at the nodes with a weight.
 ///
-/// Arcs of one area that have no closures, and no rules of their own for the keys of the vehicle's class, share one set. So it
-/// takes the time and memory of one `closed_set` for each area with such arcs, and for each other arc; beside, it is linear in
-/// nodes, arcs and areas.
+/// It takes the time and memory of `group_arcs` and then of `expand_groups`; where many nets of one network are made, call these,
+/// and the first once.
 pub fn expand_plain(
     alloc: Global,
     network: &Network,
@@ -120,9 +126,6 @@ pub fn expand_plain(
     ensures { IfOk result (λ net.
         StandsFor (setting_of net) (road_setting network.now vehicle.now) window) }
 {
-    let nodes = network.graph().node_count();
-    let timing = timing_of(alloc, network, vehicle, window)?;
-    let weights = weights_of(alloc, network)?;
-    let Timing { arcs, sets } = timing;
-    Ok(TimedNet::new(nodes, arcs, sets.into_lists(), weights))
+    let groups = group_arcs(alloc, network)?;
+    expand_groups(alloc, network, &groups, vehicle, window)
 }

@@ -3,7 +3,12 @@
 //!
 //! The law of closed arcs is in `network_tables`: `Access` says which access an arc gives a vehicle at an instant, and when it is
 //! closed to it. `closed_at` meets it for one instant, `closed_set` for all minutes of a window at once, and `expand_plain` makes
-//! a net of all arcs that stands for `road_setting` within the window. Arcs of an area share a set where they can.
+//! a net of all arcs that stands for `road_setting` within the window.
+//!
+//! Arcs of an area share a set where they can. The grouping serves all vehicles and windows: `group_arcs` finds it once for a
+//! network, and `expand_groups` makes the net of a vehicle and a window over these groups. Where many nets of one network are made,
+//! call these two in place of `expand_plain`; threads may share the groups. `ArcGroups` is their law: to every vehicle, an arc is
+//! closed at exactly the minutes at which the first arc of its group is.
 //!
 //! The law of the parts is in `specs/`. `Coverage` says as a test which minutes of UTC hours cover: local time is read in the
 //! zone, and the spans that began on the local day or up to seven days before it count. The law `covered_exactly` says that this
@@ -14,24 +19,26 @@
 //! The other definitions are machinery. `LocalDays` says which minutes of UTC the spans of a local day are, while the offset of
 //! the zone stays the same: `coverage` cuts the window where the offset changes, `local_days` lays out the days of each part, and
 //! both write runs in any order, of which `minute_sets` makes a set. `Bans` says what it is to lay the values of rules over
-//! minutes that are closed so far, from general to special, as `closed_sets` does. `Inside` says how arcs share sets and are
-//! timed.
+//! minutes that are closed so far, from general to special, as `closed_sets` does. `Inside` says how arcs are grouped and timed.
 #![tactic(auto)]
 
 mod access;
+mod arc_groups;
 mod closed_sets;
 mod coverage;
 mod expansion;
+mod grouping;
 mod laws;
 mod layers;
 mod local_days;
-mod shared_sets;
 mod threads;
 
 pub use access::closed_at;
+pub use arc_groups::ArcGroups;
 pub use closed_sets::closed_set;
 pub use coverage::covered_minutes;
-pub use expansion::expand_plain;
+pub use expansion::{expand_groups, expand_plain};
+pub use grouping::group_arcs;
 pub use laws::{covered_exactly, last_of_all};
 pub use layers::{Layer, closed_by, common, overlaid};
 

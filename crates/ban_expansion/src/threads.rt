@@ -1,8 +1,9 @@
-// Compile-time check that this type is Send and Sync.
-use crate::Layer;
+// Compile-time check that these types are Send and Sync.
+use crate::{ArcGroups, Layer};
 use route_base::crosses_threads;
 
-// Names the shared type once.
+// Names each shared type once.
 fn all_cross_threads() {
+    crosses_threads::<ArcGroups>();
     crosses_threads::<Layer>();
 }

@@ -1,5 +1,5 @@
 // When arcs of a small network are closed to two vehicles.
-use crate::{closed_at, closed_set, expand_plain};
+use crate::{closed_at, closed_set, expand_plain, group_arcs};
 use network_tables::{Files, Network, NetworkFault, read_network};
 use route_base::{ArcId, FileBytes, OutOfMemory, Run};
 use std::alloc::Global;
@@ -97,5 +97,15 @@ fn shares_sets_within_an_area(rt: HostRuntime) -> Result<(), NetworkFault> {
     } else {
         assert!(rt; false, "an arc is missing");
     }
+    Ok(())
+}
+
+#[test]
+fn groups_arcs_that_have_nothing_of_their_own(rt: HostRuntime) -> Result<(), NetworkFault> {
+    let alloc = rt.alloc();
+    let network = port(alloc)?;
+    let groups = group_arcs(alloc, &network)?;
+    assert!(rt; groups.groups() == [0, 1, 2, 0].as_slice());
+    assert!(rt; groups.firsts() == [ArcId(1), ArcId(2), ArcId(3)].as_slice());
     Ok(())
 }

@@ -1,0 +1,87 @@
+-- Arcs are put into groups one after another.
+use Rattle.std.proofs.Common.{◌≡◌, ℕ, ◌+◌, ◌<◌, false, Some, Option, List, [], ◌∷◌, ◌++◌, length, slice_get, refl, sym, ◌∙◌, ap, subst, arith}
+use Rattle.std.proofs.Math.ListN.{set}
+use Rattle.std.proofs.lemmas.List.{length_push}
+use Rattle.std.proofs.lemmas.List.Elements.{All-nil, All-push}
+use Rattle.route_base.specs.declared.types.ArcId.{ArcId}
+use Rattle.network_tables.specs.Access.{area_place}
+use Rattle.network_tables.specs.NetworkModel.{NetworkModel}
+use Rattle.ban_expansion.specs.ArcGroups.{GroupsModel, IsArc, IsInGroup, AreGroupsOf}
+use Rattle.ban_expansion.specs.Inside.Grouping.{AreAlike, AreShared, begun, has_own, joined}
+use Rattle.ban_expansion.proofs.AlikeArcs.{closed_alike, nothing_own}
+use Rattle.ban_expansion.proofs.ItemLists.{got_before, got_last, got_pushed, got_set}
+
+module _ (net : NetworkModel) where
+  -- an arc stays in its group where a group is added
+  stays_in : (firsts : List ArcId) (new : ArcId) (a group : ℕ) → IsInGroup net firsts a group → IsInGroup net (firsts ++ new ∷ []) a group
+  stays_in firsts new a group is = record {
+    first = is.first;
+    there = got_before firsts (new ∷ []) group is.first is.there;
+    alike = is.alike;
+  }
+
+  -- an arc is in the group that it begins
+  begins : (firsts : List ArcId) (a : ArcId) → IsInGroup net (firsts ++ a ∷ []) a.0 (length firsts)
+  begins firsts a = record { first = a; there = got_last firsts a; alike = λ vehicle t. refl }
+
+  -- an arc is in the group of one that is like it
+  pub is_like_first : (firsts : List ArcId) (a group : ℕ) (first : ArcId) → slice_get firsts group ≡ Some first
+      → AreAlike net a first.0 → IsInGroup net firsts a group
+  is_like_first firsts a group first there same = record {
+    first = first;
+    there = there;
+    alike = λ vehicle t. closed_alike net vehicle a first.0 t same;
+  }
+
+  pub none_grouped : AreGroupsOf net 0 (record { groups = []; firsts = [] })
+  none_grouped = record { counted = refl; few = omega arith; arcs = All-nil (IsArc net); each = λ k group is. absurd (cc) }
+
+  pub joined_groups : (n group : ℕ) (all : GroupsModel) → AreGroupsOf net n all → IsInGroup net all.firsts (n + 1) group
+      → AreGroupsOf net (n + 1) (joined all group)
+  joined_groups n group all groups is = record {
+    counted = omega (arith, length_push all.groups group, groups.counted);
+    few = omega (arith, groups.few);
+    arcs = groups.arcs;
+    each = λ k other at.
+        got_pushed (IsInGroup net all.firsts (k + 1) other) all.groups group k other at
+        (λ before. groups.each k other before)
+        (λ last same. subst (λ (j : ℕ). IsInGroup net all.firsts (j + 1) other) (sym groups.counted ∙ sym last)
+        (subst (λ (g : ℕ). IsInGroup net all.firsts (n + 1) g) same is));
+  }
+
+  pub begun_groups : (n : ℕ) (a : ArcId) (all : GroupsModel) → a.0 ≡ n + 1 → n < length net.graph.arcs → AreGroupsOf net n all
+      → AreGroupsOf net (n + 1) (begun all a)
+  begun_groups n a all number within groups = record {
+    counted = omega (arith, length_push all.groups (length all.firsts), groups.counted);
+    few = omega (arith, length_push all.firsts a, groups.few);
+    arcs = All-push (IsArc net) all.firsts a groups.arcs (omega (arith, number), omega (arith, number, within));
+    each = λ k other at.
+        got_pushed (IsInGroup net (all.firsts ++ a ∷ []) (k + 1) other) all.groups (length all.firsts) k other at
+        (λ before. stays_in all.firsts a (k + 1) other (groups.each k other before))
+        (λ last same. subst (λ (j : ℕ). IsInGroup net (all.firsts ++ a ∷ []) j other)
+        (number ∙ ap (λ (j : ℕ). j + 1) (sym groups.counted ∙ sym last))
+        (subst (λ (g : ℕ). IsInGroup net (all.firsts ++ a ∷ []) a.0 g) same (begins all.firsts a)));
+  }
+
+  -- a group is added, and no area shares it
+  pub stays_shared : (firsts : List ArcId) (new : ArcId) (shared : List (Option ℕ)) → AreShared net firsts shared
+      → AreShared net (firsts ++ new ∷ []) shared
+  stays_shared firsts new shared shares = record {
+    areas = shares.areas;
+    each = λ area group a at in_area plain. stays_in firsts new a group (shares.each area group a at in_area plain);
+  }
+
+  -- an area shares the group of one of its arcs, which has nothing of its own
+  pub shares_more : (firsts : List ArcId) (shared : List (Option ℕ)) (area group : ℕ) (first : ArcId) → slice_get firsts group ≡ Some first
+      → area_place net first.0 ≡ area → has_own net first.0 ≡ false → length (set shared area (Some group)) ≡ length shared
+      → AreShared net firsts shared → AreShared net firsts (set shared area (Some group))
+  shares_more firsts shared area group first there of_area plain size shares = record {
+    areas = size ∙ shares.areas;
+    each = λ other g a at in_area plain_a.
+        got_set (IsInGroup net firsts a g) shared area (Some group) other (Some g) at
+        (λ same equal.
+        let is : group ≡ g = cc in
+        subst (λ (h : ℕ). IsInGroup net firsts a h) is
+        (is_like_first firsts a group first there (nothing_own net a first.0 (in_area ∙ sym same ∙ sym of_area) plain_a plain)))
+        (λ before. shares.each other g a before in_area plain_a);
+  }

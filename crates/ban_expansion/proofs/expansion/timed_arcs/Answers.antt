@@ -1,0 +1,12 @@
+use Rattle.std.proofs.Common.{◌+◌, List, sym, subst}
+use Rattle.route_base.specs.declared.types.TimedArc.{TimedArc}
+use Rattle.ban_expansion.specs.Inside.GroupedNets.{AreTimed}
+use Rattle.ban_expansion.proofs.TimedNets.{timed_next}
+use Rattle.ban_expansion.proofs.expansion.timed_arcs.Goals as goal
+
+pub loop-k-preserved : goal.loop-k-preserved
+loop-k-preserved c =
+    let net = c.args.network.now in
+    let groups = c.args.groups.now.groups in
+    subst (λ (arcs : List TimedArc). AreTimed net groups (c.loop-k.k + 1) arcs) (sym c.in_ok-push.ensures.items)
+    (timed_next net groups c.loop-k.k c.loop-k.arcs.items c.timed_at.result c.loop-k.invariant c.timed_at.ensures)

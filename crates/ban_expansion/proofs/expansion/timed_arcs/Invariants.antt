@@ -1,0 +1,5 @@
+use Rattle.ban_expansion.specs.Inside.GroupedNets.{AreTimed}
+use Rattle.ban_expansion.proofs.expansion.timed_arcs.Given as goal
+
+abbrev pub invariant-loop-k : goal.invariant-loop-k
+invariant-loop-k l = AreTimed l.network l.groups.groups l.k l.arcs.items

@@ -1,0 +1,58 @@
+use Rattle.std.proofs.Common.{◌≡◌, ◌+◌, ◌++◌, ◌∷◌, [], List, ℕ, Option, Some, length, slice_get, unwrap_or, refl, ap, sym, ◌∙◌, subst}
+use Rattle.std.proofs.lemmas.List.{length-set}
+use Rattle.route_base.specs.declared.types.ArcId.{ArcId}
+use Rattle.network_tables.specs.Access.{area_place}
+use Rattle.ban_expansion.specs.ArcGroups.{GroupsModel}
+use Rattle.ban_expansion.specs.Inside.Grouping.{AreGrouped, GroupingModel}
+use Rattle.ban_expansion.proofs.GroupedArcs.{begun_groups, joined_groups, stays_shared, shares_more}
+use Rattle.ban_expansion.proofs.ItemLists.{got_last}
+use Rattle.ban_expansion.proofs.grouping.Grouping.add.Goals as goal
+
+pub returns-then-has_any : goal.returns-then-has_any
+returns-then-has_any c =
+    let net = c.args.network.now in
+    let k = c.args.k in
+    let a : ArcId = record { 0 = k + 1 } in
+    let all = c.self.inside.all in
+    let shared = c.self.inside.shared.items in
+    let before : AreGrouped net k (record { all = all; shared = shared }) = subst (AreGrouped net k) (sym c.self.view_is) c.requires.grouped in
+    subst (λ (g : GroupsModel). AreGrouped net (k + 1) (record { all = g; shared = shared })) (sym c.in_ok-begin.ensures.begun) (record {
+      groups = begun_groups net k a all refl c.requires.within before.groups;
+      shares = stays_shared net all.firsts a shared before.shares;
+    })
+
+pub returns-in-Some : goal.returns-in-Some
+returns-in-Some c =
+    let net = c.args.network.now in
+    let k = c.args.k in
+    let area = c.area_of-area.result in
+    let all = c.self.inside.all in
+    let shared = c.self.inside.shared.items in
+    let before : AreGrouped net k (record { all = all; shared = shared }) = subst (AreGrouped net k) (sym c.self.view_is) c.requires.grouped in
+    let there : slice_get shared area ≡ Some (Some c.in-Some.group) =
+    ap (λ (g : GroupingModel). slice_get g.shared area) c.self.view_is ∙ c.shared_by.ensures ∙ ap (λ (o : Option ℕ). Some o) c.in-Some.is in
+    let place : area_place net (k + 1) ≡ area = ap (λ (o : Option ℕ). unwrap_or o 0) c.area_of-area.ensures.value in
+    let is = before.shares.each area c.in-Some.group (k + 1) there place (sym c.has_any.ensures ∙ c.if-has_any.false) in
+    subst (λ (g : GroupsModel). AreGrouped net (k + 1) (record { all = g; shared = shared })) (sym c.in_ok-join.ensures) (record {
+      groups = joined_groups net k c.in-Some.group all before.groups is;
+      shares = before.shares;
+    })
+
+pub returns : goal.returns
+returns c =
+    let net = c.args.network.now in
+    let k = c.args.k in
+    let a : ArcId = record { 0 = k + 1 } in
+    let area = c.area_of-area.result in
+    let grouping = c.args.self.now in
+    let all = grouping.all in
+    let shared = grouping.shared in
+    let before : AreGrouped net k grouping = c.requires.grouped in
+    let group = length all.firsts in
+    let firsts : List ArcId = all.firsts ++ a ∷ [] in
+    let place : area_place net (k + 1) ≡ area = ap (λ (o : Option ℕ). unwrap_or o 0) c.area_of-area.ensures.value in
+    subst (AreGrouped net (k + 1)) (sym c.in_ok-begin_shared.ensures) (record {
+      groups = begun_groups net k a all refl c.requires.within before.groups;
+      shares = shares_more net firsts shared area group a (got_last all.firsts a) place (sym c.has_any.ensures ∙ c.if-has_any.false)
+          (length-set shared area (Some group)) (stays_shared net all.firsts a shared before.shares);
+    })

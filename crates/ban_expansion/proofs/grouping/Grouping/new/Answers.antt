@@ -1,0 +1,10 @@
+use Rattle.std.proofs.Common.{sym, subst}
+use Rattle.ban_expansion.specs.ArcGroups.{GroupsModel}
+use Rattle.ban_expansion.specs.Inside.Grouping.{AreGrouped}
+use Rattle.ban_expansion.proofs.GroupedArcs.{none_grouped}
+use Rattle.ban_expansion.proofs.grouping.Grouping.new.Goals as goal
+
+pub returns : goal.returns
+returns c = λ net size.
+    subst (λ (all : GroupsModel). AreGrouped net 0 (record { all = all; shared = c.in_ok-shared.shared.items })) (sym c.new-all.ensures)
+    (record { groups = none_grouped net; shares = c.in_ok-shared.ensures net size })

@@ -1,0 +1,37 @@
+-- The arcs of a network and the closed minutes of their groups (source: own).
+use Rattle.std.specs.Prelude.{◌≡◌, ℕ, ◌*◌, Some, List, length, slice_get}
+use Rattle.std.specs.List.{AllZip}
+use Rattle.std.specs.Option.{option_map}
+use Rattle.route_base.specs.Runs.{AreRuns}
+use Rattle.route_base.specs.declared.limits.TheConstants.{COST_OF_MINUTE}
+use Rattle.route_base.specs.declared.types.ArcId.{ArcId}
+use Rattle.route_base.specs.declared.types.Run.{Run}
+use Rattle.route_base.specs.declared.types.TimedArc.{TimedArc}
+use Rattle.dimacs_reader.specs.declared.graph.GraphArc.{GraphArc}
+use Rattle.vehicle_classes.specs.VehicleModel.{VehicleModel}
+use Rattle.network_tables.specs.Access.{is_closed}
+use Rattle.network_tables.specs.NetworkModel.{NetworkModel}
+use Rattle.ban_expansion.specs.Bans.{HasThose}
+
+-- the arc of a timed net, which takes its closed runs from the list at this place
+abbrev pub timed_over : ℕ → GraphArc → TimedArc
+timed_over place arc = record { tail = arc.tail; head = arc.head; minutes = arc.minutes; cost = COST_OF_MINUTE * arc.minutes; closed = place }
+
+-- the timed arc is the graph's at place k, and takes its closed runs from the place of its group
+pub record IsTimed (net : NetworkModel) (groups : List ℕ) (k : ℕ) (arc : TimedArc) : Type 0 where
+  pub is : option_map (timed_over arc.closed) (slice_get net.graph.arcs k) ≡ Some arc
+  pub group : slice_get groups k ≡ Some arc.closed
+
+-- the first `count` arcs of the network are timed
+pub record AreTimed (net : NetworkModel) (groups : List ℕ) (count : ℕ) (arcs : List TimedArc) : Type 0 where
+  pub counted : length arcs ≡ count
+  pub each : (k : ℕ) (arc : TimedArc) → slice_get arcs k ≡ Some arc → IsTimed net groups k arc
+
+-- the runs have the minutes of the window at which the arc is closed
+pub record HasClosed (net : NetworkModel) (vehicle : VehicleModel) (window : Run) (a : ArcId) (set : List Run) : Type 0 where
+  pub runs : AreRuns set
+  pub minutes : HasThose window (is_closed net vehicle a.0) set
+
+-- for each of these arcs a list of its closed minutes
+abbrev pub AreClosedLists : NetworkModel → VehicleModel → Run → List ArcId → List (List Run) → Type 0
+AreClosedLists net vehicle window arcs lists = AllZip (HasClosed net vehicle window) arcs lists

@@ -1,0 +1,61 @@
+-- Arcs that are grouped so far, and those that have nothing of their own (source: own).
+use Rattle.std.specs.Prelude.{◌≡◌, ℕ, ◌||◌, nat_lt, Bool, false, is_some, Option, Some}
+use Rattle.std.specs.Prelude.{List, [], ◌∷◌, ◌++◌, length, slice_get, slice_set}
+use Rattle.std.specs.List.{list_any}
+use Rattle.route_base.specs.declared.types.ArcId.{ArcId}
+use Rattle.vehicle_classes.specs.declared.classes.Key.{Key}
+use Rattle.vehicle_classes.specs.declared.classes.Key.TheVariants as keys
+use Rattle.network_tables.specs.Access.{area_place}
+use Rattle.network_tables.specs.NetworkModel.{NetworkModel, closures_of}
+use Rattle.network_tables.specs.Rules.{plain_at, conditional_at}
+use Rattle.network_tables.specs.declared.rules.place.Scope.TheVariants as scopes
+use Rattle.ban_expansion.specs.ArcGroups.{GroupsModel, IsInGroup, AreGroupsOf}
+
+abbrev pub every_key : List Key
+every_key = keys.Access ∷ keys.Vehicle ∷ keys.MotorVehicle ∷ keys.Hgv ∷ keys.HgvArticulated ∷ keys.Goods ∷ keys.Bus ∷ []
+
+-- whether the arc has a rule of its own for the key
+abbrev pub has_own_rule : NetworkModel → ℕ → Key → Bool
+has_own_rule net a key =
+    is_some (plain_at net.rules (scopes.Arc a) key) || is_some (conditional_at net.rules (scopes.Arc a) key)
+
+-- whether the arc has closures, or a rule of its own for any key
+abbrev pub has_own : NetworkModel → ℕ → Bool
+has_own net a = nat_lt 0 (length (closures_of net a)) || list_any (has_own_rule net a) every_key
+
+-- two arcs of one area that have the same closures, and the same rules of their own
+pub record AreAlike (net : NetworkModel) (a b : ℕ) : Type 0 where
+  pub area : area_place net a ≡ area_place net b
+  pub closures : closures_of net a ≡ closures_of net b
+  pub plain : (key : Key) → plain_at net.rules (scopes.Arc a) key ≡ plain_at net.rules (scopes.Arc b) key
+  pub conditional : (key : Key) → conditional_at net.rules (scopes.Arc a) key ≡ conditional_at net.rules (scopes.Arc b) key
+
+-- groups so far, and for each area the group of its arcs that have nothing of their own, if there is one yet
+pub record GroupingModel : Type 0 where
+  pub all : GroupsModel
+  pub shared : List (Option ℕ)
+
+-- groups once an arc begins a group, and once an arc joins one
+abbrev pub begun : GroupsModel → ArcId → GroupsModel
+begun all a = record { groups = all.groups ++ length all.firsts ∷ []; firsts = all.firsts ++ a ∷ [] }
+
+abbrev pub joined : GroupsModel → ℕ → GroupsModel
+joined all group = record { groups = all.groups ++ group ∷ []; firsts = all.firsts }
+
+-- the grouping once an arc begins a group that this area then shares
+abbrev pub begun_shared : GroupingModel → ArcId → ℕ → GroupingModel
+begun_shared grouping a area = record {
+  all = begun grouping.all a;
+  shared = slice_set grouping.shared area (Some (length grouping.all.firsts));
+}
+
+-- an arc that has nothing of its own is in the group that its area shares, if there is one
+pub record AreShared (net : NetworkModel) (firsts : List ArcId) (shared : List (Option ℕ)) : Type 0 where
+  pub areas : length shared ≡ length net.areas
+  pub each : (area group a : ℕ) → slice_get shared area ≡ Some (Some group) → area_place net a ≡ area → has_own net a ≡ false
+      → IsInGroup net firsts a group
+
+-- the first `count` arcs of the network are grouped
+pub record AreGrouped (net : NetworkModel) (count : ℕ) (grouping : GroupingModel) : Type 0 where
+  pub groups : AreGroupsOf net count grouping.all
+  pub shares : AreShared net grouping.all.firsts grouping.shared
