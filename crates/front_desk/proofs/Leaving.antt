@@ -1,10 +1,11 @@
 -- The text that is due with a report, and the files that a status leaves.
-use Rattle.std.proofs.Common.{◌≡◌, ◌⊎◌, inl, inr, ⊎_elim, ℕ, Bool, true, false, cond, Some, None, Option, List, refl, sym, subst}
+use Rattle.std.proofs.Common.{◌≡◌, ◌⊎◌, inl, inr, ⊎_elim, ℕ, Bool, true, false, cond, Some, None, Option, List, [], refl, sym, subst}
 use Rattle.route_base.specs.FolderState.{FolderState}
 use Rattle.route_base.specs.declared.status.Status.{Status}
 use Rattle.route_base.specs.declared.status.Status.TheVariants.{Done, Rejected, Usage, BadInput, ReadFault, WriteFault, NoMemory, BadRequest}
-use Rattle.front_desk.specs.CommandLine.{Command, Plan, to_plan, to_check, to_bans, command_of}
-use Rattle.front_desk.specs.Commands.{Judges, LeavesCertificate, LeavesPlan, LeavesFiles}
+use Rattle.front_desk.specs.CommandLine.{Command, Plan, Gen, to_plan, to_check, to_bans, to_batch, to_gen, command_of}
+use Rattle.front_desk.specs.Commands.{Judges, LeavesCertificate, LeavesPlan, LeavesGen, LeavesFiles}
+use Rattle.front_desk.specs.Gen.{files_drawn}
 use Rattle.front_desk.specs.Files.{IfTold}
 use Rattle.front_desk.specs.Inside.Halting.{ReportsOn, status_of_report}
 use Rattle.front_desk.specs.Run.{IsAnsweredBy, IsRejectedBy, IsDue}
@@ -59,12 +60,35 @@ module _ (old new : FolderState) where
   plan_memory p None due not left = left
   plan_memory p (Some name) due not left = certificate_memory p name due not left
 
+  -- all drawn files were written before the text was handed over
+  gen_fault : (g : Gen) (due : Status) → (due ≡ NoMemory → ⊥) → LeavesGen g old new due → LeavesGen g old new WriteFault
+  gen_fault g Done not left = inl left
+  gen_fault g WriteFault not left = left
+  gen_fault g NoMemory not left = absurd (not refl)
+  gen_fault g Rejected not left = absurd left
+  gen_fault g Usage not left = absurd left
+  gen_fault g BadInput not left = absurd left
+  gen_fault g ReadFault not left = absurd left
+  gen_fault g BadRequest not left = absurd left
+
+  gen_memory : (g : Gen) (due : Status) → (due ≡ WriteFault → ⊥) → LeavesGen g old new due → LeavesGen g old new NoMemory
+  gen_memory g Done not left = record { written = files_drawn g; others = []; parts = refl; held = left }
+  gen_memory g WriteFault not left = absurd (not refl)
+  gen_memory g NoMemory not left = left
+  gen_memory g Rejected not left = absurd left
+  gen_memory g Usage not left = absurd left
+  gen_memory g BadInput not left = absurd left
+  gen_memory g ReadFault not left = absurd left
+  gen_memory g BadRequest not left = absurd left
+
   files_fault : (command : Option Command) (due : Status) → (due ≡ NoMemory → ⊥) → LeavesFiles command old new due
       → LeavesFiles command old new WriteFault
   files_fault None due not left = left
   files_fault (Some (to_plan p)) due not left = plan_fault p p.certificate due not left
   files_fault (Some (to_check c)) due not left = left
   files_fault (Some (to_bans b)) due not left = left
+  files_fault (Some (to_batch b)) due not left = left
+  files_fault (Some (to_gen g)) due not left = gen_fault g due not left
 
   files_memory : (command : Option Command) (due : Status) → (due ≡ WriteFault → ⊥) → LeavesFiles command old new due
       → LeavesFiles command old new NoMemory
@@ -72,6 +96,8 @@ module _ (old new : FolderState) where
   files_memory (Some (to_plan p)) due not left = plan_memory p p.certificate due not left
   files_memory (Some (to_check c)) due not left = left
   files_memory (Some (to_bans b)) due not left = left
+  files_memory (Some (to_batch b)) due not left = left
+  files_memory (Some (to_gen g)) due not left = gen_memory g due not left
 
   -- where a text couldn't be written, the files are as its command left them
   pub still_left : (command : Option Command) (due status : Status) → (due ≡ WriteFault → ⊥) → (due ≡ NoMemory → ⊥)

@@ -1,5 +1,8 @@
+pub mod Batches
 pub mod CheapRoads
 pub mod ClosedWindows
+pub mod Drawn
+pub mod Grouping
 pub mod Handing
 pub mod Judgements
 pub mod Leaving
@@ -9,3 +12,4 @@ pub mod ReadFiles
 pub mod ReadyPlans
 pub mod RefusalTexts
 pub mod Rows
+pub mod Written

@@ -1,6 +1,5 @@
 -- The judgement of the command that checks a certificate (source: own).
-use Rattle.std.specs.Prelude.{◌≡◌, ℕ, true, Option, List, [], ◌∷◌, ◌++◌, length}
-use Rattle.std.specs.Option.{option_or}
+use Rattle.std.specs.Prelude.{◌≡◌, ℕ, true, Option, List, length}
 use Rattle.route_base.specs.Contents.{Contents}
 use Rattle.route_base.specs.Front.{IsFront}
 use Rattle.route_base.specs.Setting.{Setting}
@@ -10,7 +9,6 @@ use Rattle.route_base.specs.declared.faults.FileKind.TheVariants.{Certificate as
 use Rattle.route_base.specs.declared.faults.RequestFault.{RequestFault}
 use Rattle.route_base.specs.declared.limits.TheConstants.{LONGEST_CERTIFICATE}
 use Rattle.route_base.specs.declared.types.Request.{Request}
-use Rattle.network_tables.specs.NetworkFiles.{contents_fault}
 use Rattle.certificate.specs.Writable.{IsCertificateText, IsNoCertificateText}
 use Rattle.certificate.specs.declared.Certificate.{Certificate}
 use Rattle.certificate_check.specs.Conditions.{pairs_of}
@@ -18,22 +16,18 @@ use Rattle.certificate_check.specs.Verdicts.{IsGood, FailsFirst}
 use Rattle.plan_report.specs.Check.{check_text_of}
 use Rattle.plan_report.specs.declared.outcomes.Verdict3.TheVariants.{Accepted, Rejected}
 use Rattle.front_desk.specs.CommandLine.{Check}
-use Rattle.front_desk.specs.Files.{FileToRead, first_unreadable, bytes_at}
+use Rattle.front_desk.specs.Files.{FileToRead, bytes_at}
 use Rattle.front_desk.specs.Plan.{trip_setting}
-use Rattle.front_desk.specs.ReadingOrder.{network_files, files_of, network_held}
+use Rattle.front_desk.specs.ReadingOrder.{first_fault_with, network_held}
 use Rattle.front_desk.specs.Trips.{failed_check, request_of}
 
 -- a certificate, which has to be there
 abbrev pub certificate_file : List ℕ → FileToRead
 certificate_file name = record { kind = CertificateKind; name = name; required = true; limit = LONGEST_CERTIFICATE; beyond = TooLong }
 
--- the files of a check in the order in which they are read: those of the network, and then the certificate
-abbrev pub files_to_check : Check → List FileToRead
-files_to_check c = network_files ++ certificate_file c.name ∷ []
-
--- the first fault of a check's files: a file that can't be read, else a fault of the contents of the network's files
+-- the first fault of a check's files, of which the certificate is read last
 abbrev pub check_fault : Check → Contents → Option BadInput
-check_fault c held = option_or (first_unreadable held c.dir (files_to_check c)) (contents_fault (files_of held c.dir))
+check_fault c held = first_fault_with (certificate_file c.name) held c.dir
 
 -- the first check that the trip fails
 abbrev pub check_check : Check → Contents → Option RequestFault

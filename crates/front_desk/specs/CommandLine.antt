@@ -1,11 +1,14 @@
 -- The commands of the command line, as the code holds them (source: own).
-use Rattle.std.specs.Prelude.{ℕ, Option, List, option_map}
-pub use Rattle.front_words.specs.Commands.{Plan, Check, Bans, Command, to_plan, to_check, to_bans, command_of, IsTimed, AsksSupported}
-use Rattle.front_desk.specs.Trips.{Trip, trip_in}
+use Rattle.std.specs.Prelude.{option_map}
+pub use Rattle.front_words.specs.Commands.{Plan, Check, Bans, Batch, Gen, Command, to_plan, to_check, to_bans, to_batch, to_gen}
+pub use Rattle.front_words.specs.Commands.{command_of, IsTimed, AsksSupported}
+use Rattle.front_desk.specs.Trips.{trip_in}
 use Rattle.front_desk.specs.declared.command_line.Command.{Command as CommandWords}
-use Rattle.front_desk.specs.declared.command_line.Command.TheVariants.{Plan as PlanVariant, Check as CheckVariant, Bans as BansVariant}
+use Rattle.front_desk.specs.declared.command_line.Command.TheVariants as held
 use Rattle.front_desk.specs.declared.command_line.Bans.{Bans as BansWords}
+use Rattle.front_desk.specs.declared.command_line.Batch.{Batch as BatchWords}
 use Rattle.front_desk.specs.declared.command_line.Check.{Check as CheckWords}
+use Rattle.front_desk.specs.declared.command_line.Gen.{Gen as GenWords}
 use Rattle.front_desk.specs.declared.command_line.Plan.{Plan as PlanWords}
 
 -- the plan that the code holds
@@ -25,8 +28,18 @@ check_in words = record { dir = words.dir.now; trip = trip_in words.trip; name =
 abbrev pub bans_in : BansWords → Bans
 bans_in words = record { dir = words.dir.now; vehicle = words.vehicle.now; arc = words.arc; depart = words.depart; until = words.until }
 
+-- the batch that the code holds
+abbrev pub batch_in : BatchWords → Batch
+batch_in words = record { dir = words.dir.now; jobs = words.jobs.now; workers = words.workers }
+
+-- the network to make that the code holds
+abbrev pub gen_in : GenWords → Gen
+gen_in words = record { dir = words.dir.now; number = words.number; rows = words.rows; columns = words.columns }
+
 -- the command that the code holds
 abbrev pub command_in : CommandWords → Command
-command_in (PlanVariant words) = to_plan (plan_in words)
-command_in (CheckVariant words) = to_check (check_in words)
-command_in (BansVariant words) = to_bans (bans_in words)
+command_in (held.Plan words) = to_plan (plan_in words)
+command_in (held.Check words) = to_check (check_in words)
+command_in (held.Bans words) = to_bans (bans_in words)
+command_in (held.Batch words) = to_batch (batch_in words)
+command_in (held.Gen words) = to_gen (gen_in words)

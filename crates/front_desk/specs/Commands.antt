@@ -9,9 +9,11 @@ use Rattle.route_base.specs.declared.status.Status.{Status}
 use Rattle.route_base.specs.declared.status.Status.TheVariants.{Done, Rejected, Usage, BadInput as BadInputStatus, ReadFault}
 use Rattle.route_base.specs.declared.status.Status.TheVariants.{WriteFault, NoMemory, BadRequest}
 use Rattle.front_desk.specs.Bans.{IsBansReport, bans_fault, bans_check}
+use Rattle.front_desk.specs.Batch.{IsBatchReport, batch_fault}
 use Rattle.front_desk.specs.Check.{AcceptsCertificate, RejectsCertificate, check_fault, check_check}
-use Rattle.front_desk.specs.CommandLine.{Command, Plan, to_plan, to_check, to_bans}
+use Rattle.front_desk.specs.CommandLine.{Command, Plan, Gen, to_plan, to_check, to_bans, to_batch, to_gen}
 use Rattle.front_desk.specs.Files.{IfTold, path_of}
+use Rattle.front_desk.specs.Gen.{IsGenReport, HoldsEach, HoldsFirst, SpoilsNext, files_drawn}
 use Rattle.front_desk.specs.Plan.{IsPlanReport, IsCertified, plan_fault, plan_check}
 
 -- the first fault of the files that the command reads
@@ -19,36 +21,48 @@ abbrev pub first_fault_for : Command → Contents → Option BadInput
 first_fault_for (to_plan p) held = plan_fault p held
 first_fault_for (to_check c) held = check_fault c held
 first_fault_for (to_bans b) held = bans_fault b held
+first_fault_for (to_batch b) held = batch_fault b held
+first_fault_for (to_gen g) held = None
 
--- the first check that the command's request fails
+-- the first check that the command's request fails; a job of a batch that fails one is answered in its place
 abbrev pub failed_check_for : Command → Contents → Option RequestFault
 failed_check_for (to_plan p) held = plan_check p held
 failed_check_for (to_check c) held = check_check c held
 failed_check_for (to_bans b) held = bans_check b held
+failed_check_for (to_batch b) held = None
+failed_check_for (to_gen g) held = None
 
 -- the text that the command prints where it is done, and what it has written into the folder
 abbrev pub Answers : Command → Contents → Option Contents → List ℕ → Type 0
 Answers (to_plan p) held after text = IsPlanReport p held after text
 Answers (to_check c) held after text = AcceptsCertificate c held text
 Answers (to_bans b) held after text = IsBansReport b held text
+Answers (to_batch b) held after text = IsBatchReport b held text
+Answers (to_gen g) held after text = IsGenReport g held after text
 
 -- the command judges a file, which it may reject
 abbrev pub Judges : Command → Type 0
 Judges (to_plan p) = ⊥
 Judges (to_check c) = ⊤
 Judges (to_bans b) = ⊥
+Judges (to_batch b) = ⊥
+Judges (to_gen g) = ⊥
 
 -- the text that the command prints where it rejects the file that it judges
 abbrev pub Rejects : Command → Contents → List ℕ → Type 0
 Rejects (to_plan p) held text = ⊥
 Rejects (to_check c) held text = RejectsCertificate c held text
 Rejects (to_bans b) held text = ⊥
+Rejects (to_batch b) held text = ⊥
+Rejects (to_gen g) held text = ⊥
 
 -- the command has come to its end
 abbrev pub IsFinished : Command → Status → Type 0
 IsFinished (to_plan p) status = status ≡ Done
 IsFinished (to_check c) status = (status ≡ Done) ⊎ (status ≡ Rejected)
 IsFinished (to_bans b) status = status ≡ Done
+IsFinished (to_batch b) status = status ≡ Done
+IsFinished (to_gen g) status = status ≡ Done
 
 -- the plan writes a file of this name
 abbrev pub PlanWrites : Option (List ℕ) → Type 0
@@ -60,6 +74,8 @@ abbrev pub WritesFiles : Command → Type 0
 WritesFiles (to_plan p) = PlanWrites p.certificate
 WritesFiles (to_check c) = ⊥
 WritesFiles (to_bans b) = ⊥
+WritesFiles (to_batch b) = ⊥
+WritesFiles (to_gen g) = ⊤
 
 -- no failed read or write was counted that could stop the command
 pub record IsUndisturbed (command : Command) (old new : FolderState) (from to : SinkState) : Type 0 where
@@ -67,12 +83,14 @@ pub record IsUndisturbed (command : Command) (old new : FolderState) (from to : 
   pub writes : WritesFiles command → FailedToWrite old new → ⊥
   pub appends : FailedToAppend from to → ⊥
 
--- words that read no file: those that are no command
+-- words that read no file: those that are no command, and those that make a network
 abbrev pub ReadsNothing : Option Command → Type 0
 ReadsNothing None = ⊤
 ReadsNothing (Some (to_plan p)) = ⊥
 ReadsNothing (Some (to_check c)) = ⊥
 ReadsNothing (Some (to_bans b)) = ⊥
+ReadsNothing (Some (to_batch b)) = ⊥
+ReadsNothing (Some (to_gen g)) = ⊤
 
 -- a certificate of the plan's routes was written under the name, whole, where the folder tells its contents; all else is as it was
 pub record PutsCertificate (p : Plan) (name : List ℕ) (old new : FolderState) : Type 0 where
@@ -96,9 +114,25 @@ abbrev pub LeavesPlan : Plan → Option (List ℕ) → FolderState → FolderSta
 LeavesPlan p None old new status = KeepsFiles old new
 LeavesPlan p (Some name) old new status = LeavesCertificate p name old new status
 
+-- how the making of a network leaves the folder, by its status: the drawn files are written one after another. It ends with no other
+-- status than these three
+abbrev pub LeavesGen : Gen → FolderState → FolderState → Status → Type 0
+LeavesGen g old new Done = HoldsEach g.dir (files_drawn g) old.contents new.contents
+LeavesGen g old new Rejected = ⊥
+LeavesGen g old new Usage = ⊥
+LeavesGen g old new BadInputStatus = ⊥
+LeavesGen g old new ReadFault = ⊥
+LeavesGen g old new WriteFault =
+    HoldsEach g.dir (files_drawn g) old.contents new.contents
+    ⊎ (FailedToWrite old new × SpoilsNext g.dir (files_drawn g) old.contents new.contents)
+LeavesGen g old new NoMemory = HoldsFirst g.dir (files_drawn g) old.contents new.contents
+LeavesGen g old new BadRequest = ⊥
+
 -- the state in which the words leave the folder
 abbrev pub LeavesFiles : Option Command → FolderState → FolderState → Status → Type 0
 LeavesFiles None old new status = KeepsFiles old new
 LeavesFiles (Some (to_plan p)) old new status = LeavesPlan p p.certificate old new status
 LeavesFiles (Some (to_check c)) old new status = KeepsFiles old new
 LeavesFiles (Some (to_bans b)) old new status = KeepsFiles old new
+LeavesFiles (Some (to_batch b)) old new status = KeepsFiles old new
+LeavesFiles (Some (to_gen g)) old new status = LeavesGen g old new status

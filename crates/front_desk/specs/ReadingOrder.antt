@@ -1,5 +1,5 @@
 -- The ten files of a network in the order in which they are read, their first fault, and the network that they state (source: own).
-use Rattle.std.specs.Prelude.{ℕ, true, false, Option, List, [], ◌∷◌, map, slice_index_or}
+use Rattle.std.specs.Prelude.{ℕ, true, false, Option, List, [], ◌∷◌, ◌++◌, map, slice_index_or}
 use Rattle.std.specs.Option.{option_or}
 use Rattle.route_base.specs.Contents.{Contents}
 use Rattle.route_base.specs.Labels.{label_of}
@@ -48,6 +48,11 @@ files_of held dir = files_from (map (bytes_at held dir) network_files)
 -- the first fault of the files of dir: a file that can't be read, else a fault of their contents
 abbrev pub first_folder_fault : Contents → List ℕ → Option BadInput
 first_folder_fault held dir = option_or (first_unreadable held dir network_files) (contents_fault (files_of held dir))
+
+-- the first fault of the files of dir, where one further file is read behind those of the network: a file that can't be read, else a
+-- fault of the contents of the network's files
+abbrev pub first_fault_with : FileToRead → Contents → List ℕ → Option BadInput
+first_fault_with last held dir = option_or (first_unreadable held dir (network_files ++ last ∷ [])) (contents_fault (files_of held dir))
 
 -- the network that the files of dir state
 abbrev pub network_held : Contents → List ℕ → NetworkModel

@@ -36,12 +36,31 @@ pub struct Bans<'a> {
     pub until: Minute,
 }
 
+/// The command that plans the trips of the table `jobs` of the folder `dir` over the files of that folder, on `workers` workers.
+#[derive(Clone, Copy)]
+pub struct Batch<'a> {
+    pub dir: &'a str,
+    pub jobs: &'a str,
+    pub workers: u32,
+}
+
+/// The command that draws a network of rows and columns from a number, and writes its files into the folder `dir`.
+#[derive(Clone, Copy)]
+pub struct Gen<'a> {
+    pub dir: &'a str,
+    pub number: u64,
+    pub rows: u32,
+    pub columns: u32,
+}
+
 /// A command, as its words give it.
 #[derive(Clone, Copy)]
 pub enum Command<'a> {
     Plan(Plan<'a>),
     Check(Check<'a>),
     Bans(Bans<'a>),
+    Batch(Batch<'a>),
+    Gen(Gen<'a>),
 }
 
 // The text that is there, borrowed.
@@ -59,7 +78,7 @@ fn trip_of(vehicle: &Text, from: u32, to: u32, depart: Minute, until: Minute) ->
     ensures { trip_in result ≡ trip_to vehicle.now from to depart until }
 {
     Trip {
-        vehicle: vehicle.as_str(),
+        vehicle: vehicle.as_str().as_bytes(),
         origin: from,
         goal: to,
         depart,
@@ -132,5 +151,21 @@ pub fn command_of(owned: &OwnedCommand) -> Command<'_>
             depart,
             until,
         } => Command::Bans(bans_of(dir, vehicle, *arc, *depart, *until)),
+        OwnedCommand::Batch { dir, jobs, workers } => Command::Batch(Batch {
+            dir: dir.as_str(),
+            jobs: jobs.as_str(),
+            workers: *workers,
+        }),
+        OwnedCommand::Gen {
+            dir,
+            number,
+            rows,
+            columns,
+        } => Command::Gen(Gen {
+            dir: dir.as_str(),
+            number: *number,
+            rows: *rows,
+            columns: *columns,
+        }),
     }
 }

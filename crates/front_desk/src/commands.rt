@@ -1,11 +1,13 @@
 // Answers words by the command that they are: one case a command.
-ghost use Rattle.std.specs.Prelude.{◌≡◌, ◌⊎◌, Some, None, IfOk, IfErr};
+ghost use Rattle.std.specs.Prelude.{◌≡◌, ◌≢◌, ◌⊎◌, Some, None, IfOk, IfErr};
 ghost use Rattle.front_desk.specs.Words.{CountsRise, command_of, ReadsNothing, IsDue, LeavesFiles, StopsWords, AsksSupported};
 ghost use Rattle.front_desk.specs.Words.{status_of_halt, status_of_report};
 ghost use Rattle.front_words.specs.Commands.{command_in as command_held};
 
 use crate::bans::report_bans;
+use crate::batch::report_batch;
 use crate::command_line::{Command, command_of};
+use crate::generation::report_gen;
 use crate::judgement::report_check;
 use crate::outcome::{Halt, Report};
 use crate::plan::report_plan;
@@ -13,6 +15,7 @@ use front_words::{Command as OwnedCommand, WordsFault, read_words};
 use plan_report::Refusal;
 use route_base::{Folder, Text};
 use std::alloc::Global;
+use std::thread::Threads;
 
 // The command that the words are, or why there is none.
 fn command_of_words(alloc: Global, words: &[Text]) -> Result<OwnedCommand, Halt>
@@ -29,12 +32,17 @@ fn command_of_words(alloc: Global, words: &[Text]) -> Result<OwnedCommand, Halt>
 }
 
 /// The report that the words ask for.
-pub fn answer<F: Folder>(alloc: Global, words: &[Text], folder: &mut F) -> Result<Report, Halt>
+pub fn answer<R: Threads + Sync, F: Folder>(
+    rt: &R,
+    alloc: Global,
+    words: &[Text],
+    folder: &mut F,
+) -> Result<Report, Halt>
     ensures due { IfOk result (λ report. IsDue words.now (F.state folder.old) (F.state folder.new)
         (status_of_report report) report.text.items) }
     ensures halted { IfErr result (StopsWords words.now (F.state folder.old) (F.state folder.new)) }
     ensures nothing_read { ReadsNothing (command_of words.now)
-        → (result ≡ Err (Halt.Refused Refusal.Usage)) ⊎ (result ≡ Err Halt.NoMemory) }
+        → IfErr result (λ halt. halt ≢ Halt.ReadFault) }
     ensures left { IfOk result (λ report. LeavesFiles (command_of words.now)
         (F.state folder.old) (F.state folder.new) (status_of_report report)) }
     ensures left_halted { IfErr result (λ halt. LeavesFiles (command_of words.now)
@@ -46,5 +54,7 @@ pub fn answer<F: Folder>(alloc: Global, words: &[Text], folder: &mut F) -> Resul
         Command::Plan(plan) => report_plan(alloc, folder, plan),
         Command::Check(check) => report_check(alloc, folder, check),
         Command::Bans(bans) => report_bans(alloc, folder, bans),
+        Command::Batch(batch) => report_batch(rt, alloc, folder, batch),
+        Command::Gen(grid) => report_gen(alloc, folder, grid),
     }
 }

@@ -40,14 +40,16 @@ fn refuse<S: Sink>(alloc: Global, out: &mut S, refusal: Refusal) -> Status
 /// node TO, by the instant UNTIL at the latest, over the files of the folder DIR, in the form that `--form F` asks for. With
 /// `--certificate NAME` it first writes a certificate of the front into DIR, good and tight. `check DIR VEHICLE FROM TO DEPART UNTIL NAME`
 /// judges the certificate NAME of DIR. `bans DIR VEHICLE ARC DEPART UNTIL` prints the minutes from DEPART up to, but not with, UNTIL at
-/// which the arc is closed to the vehicle. The vehicle is `any` or one of `vehicles.csv`. An instant is a text, as `2020-07-04T00:00Z`,
-/// or a Unix minute. Any other words are `Usage`. The text goes to the sink in one call.
+/// which the arc is closed to the vehicle. `batch DIR JOBS` prints the plans of the trips of the table JOBS of DIR, planned on four
+/// workers or as many as `--workers N` says. `gen DIR NUMBER ROWS COLUMNS` draws a network from a number, writes its files into DIR, and
+/// prints a summary of them and of a trip over them. The vehicle is `any` or one of `vehicles.csv`. An instant is a text, as
+/// `2020-07-04T00:00Z`, or a Unix minute. Any other words are `Usage`. The text goes to the sink in one call.
 ///
 /// Reading is linear in the bytes. A plan takes the time and the memory of `propagation::search`, which are those of the cost functions'
 /// pieces and not of minutes, and for each pair what its legs take. A judgement takes n log n steps for n pieces, closed runs and arcs,
 /// and no memory beside the certificate's.
 pub fn run<R: Threads + Sync, F: Folder, S: Sink>(
-    _rt: &R,
+    rt: &R,
     alloc: Global,
     words: &[Text],
     folder: &mut F,
@@ -95,7 +97,7 @@ pub fn run<R: Threads + Sync, F: Folder, S: Sink>(
     ensures folder_counts { CountsRise (F.state folder.old) (F.state folder.new) }
     ensures sink_count { FaultsRise (S.state out.old) (S.state out.new) }
 {
-    match answer(alloc, words, folder) {
+    match answer(rt, alloc, words, folder) {
         Ok(report) => put(out, report.text.as_slice(), report.status()),
         Err(Halt::Refused(refusal)) => refuse(alloc, out, refusal),
         Err(Halt::ReadFault) => Status::ReadFault,

@@ -52,6 +52,7 @@ impl FileToRead<'static> {
 impl<'a> FileToRead<'a> {
     ghost use Rattle.std.specs.Prelude.{◌≡◌};
     ghost use Rattle.front_desk.specs.Files.{file_in};
+    ghost use Rattle.front_desk.specs.Batch.{jobs_file};
     ghost use Rattle.front_desk.specs.Check.{certificate_file};
 
     /// The certificate of this name, which has to be there.
@@ -63,6 +64,18 @@ impl<'a> FileToRead<'a> {
             name,
             required: true,
             limit: LONGEST_CERTIFICATE,
+            beyond: Cause::TooLong,
+        }
+    }
+    /// The table of jobs of this name, which has to be there.
+    pub fn jobs(name: &'a str) -> FileToRead<'a>
+        ensures { file_in result ≡ jobs_file name.now }
+    {
+        FileToRead {
+            kind: FileKind::Jobs,
+            name,
+            required: true,
+            limit: LONGEST_FILE,
             beyond: Cause::TooLong,
         }
     }

@@ -2,7 +2,7 @@
 ghost use Rattle.std.specs.Prelude.{◌≡◌, ◌++◌, ◌∷◌, [], Some, None, IfOk, OnOk, IfErr, string_bytes, map, length};
 ghost use Rattle.front_desk.specs.Words.{KeepsFiles, IfTold, path_of, whole_fault, fault_of_file, first_unreadable, file_in, IsRead};
 ghost use Rattle.front_desk.specs.Words.{AreRead, network_files, files_from, files_of, StopsReading};
-ghost use Rattle.front_desk.specs.Words.{bytes_at, certificate_file};
+ghost use Rattle.front_desk.specs.Words.{bytes_at};
 
 use crate::file_to_read::FileToRead;
 use crate::outcome::Halt;
@@ -31,9 +31,9 @@ fn network_files() -> [FileToRead<'static>; 10]
     ]
 }
 
-// The files of a network, and then the certificate of this name.
-fn files_to_check(name: &str) -> [FileToRead<'_>; 11]
-    ensures { map file_in result ≡ network_files ++ certificate_file name.now ∷ [] }
+// The files of a network, and then one more.
+fn files_with(last: FileToRead<'_>) -> [FileToRead<'_>; 11]
+    ensures { map file_in result ≡ network_files ++ file_in last.entry ∷ [] }
 {
     let [
         graph,
@@ -48,17 +48,7 @@ fn files_to_check(name: &str) -> [FileToRead<'_>; 11]
         holidays,
     ] = network_files();
     [
-        graph,
-        zones,
-        areas,
-        roads,
-        vehicles,
-        rules,
-        closures,
-        ratings,
-        parking,
-        holidays,
-        FileToRead::certificate(name),
+        graph, zones, areas, roads, vehicles, rules, closures, ratings, parking, holidays, last,
     ]
 }
 
@@ -191,46 +181,45 @@ pub fn read_network_files<F: Folder>(
     Ok(named_files(read))
 }
 
-// The bytes of the files of a network, and then of the certificate of this name.
-fn read_each_to_check<F: Folder>(
+// The bytes of the files of a network, and then of one more.
+fn read_each_with<F: Folder>(
     alloc: Global,
     folder: &mut F,
     dir: &str,
-    name: &str,
+    last: FileToRead<'_>,
 ) -> Result<Vec<FileBytes>, Halt>
     ensures read { IfOk result (λ read. AreRead (F.state folder.old) dir.now
-        (network_files ++ certificate_file name.now ∷ []) read.items) }
+        (network_files ++ file_in last.entry ∷ []) read.items) }
     ensures halted { IfErr result (StopsReading (λ held.
-        first_unreadable held dir.now (network_files ++ certificate_file name.now ∷ []))
+        first_unreadable held dir.now (network_files ++ file_in last.entry ∷ []))
         (F.state folder.old) (F.state folder.new)) }
     ensures kept { KeepsFiles (F.state folder.old) (F.state folder.new) }
 {
-    let files = files_to_check(name);
+    let files = files_with(last);
     read_each(alloc, folder, dir, &files)
 }
 
-/// The files of a network in the folder dir, and the bytes of the certificate of this name, which is read behind them. Linear in the
-/// bytes.
-pub fn read_files_to_check<F: Folder>(
+/// The files of a network in the folder dir, and the bytes of one more file, which is read behind them. Linear in the bytes.
+pub fn read_files_with<F: Folder>(
     alloc: Global,
     folder: &mut F,
     dir: &str,
-    name: &str,
+    last: FileToRead<'_>,
 ) -> Result<(Files, FileBytes), Halt>
     ensures files { IfOk result (λ read.
         IfTold (F.state folder.old) (λ held. read.0 ≡ files_of held dir.now)) }
-    ensures certificate { IfOk result (λ read. IfTold (F.state folder.old)
-        (λ held. read.1 ≡ bytes_at held dir.now (certificate_file name.now))) }
+    ensures last { IfOk result (λ read. IfTold (F.state folder.old)
+        (λ held. read.1 ≡ bytes_at held dir.now (file_in last.entry))) }
     ensures readable { OnOk result (IfTold (F.state folder.old) (λ held.
-        first_unreadable held dir.now (network_files ++ certificate_file name.now ∷ []) ≡ None)) }
+        first_unreadable held dir.now (network_files ++ file_in last.entry ∷ []) ≡ None)) }
     ensures halted { IfErr result (StopsReading (λ held.
-        first_unreadable held dir.now (network_files ++ certificate_file name.now ∷ []))
+        first_unreadable held dir.now (network_files ++ file_in last.entry ∷ []))
         (F.state folder.old) (F.state folder.new)) }
     ensures kept { KeepsFiles (F.state folder.old) (F.state folder.new) }
 {
-    let mut read = read_each_to_check(alloc, folder, dir, name)?;
+    let mut read = read_each_with(alloc, folder, dir, last)?;
     match read.pop() {
-        Some(certificate) => Ok((named_files(read), certificate)),
+        Some(bytes) => Ok((named_files(read), bytes)),
         None => unreachable!(),
     }
 }

@@ -1,5 +1,6 @@
 // The command that judges a certificate.
-ghost use Rattle.std.specs.Prelude.{◌≡◌, true, false, IfOk, OnOk, IfErr};
+ghost use Rattle.std.specs.Prelude.{◌≡◌, true, false, None, IfOk, OnOk, IfErr};
+ghost use Rattle.front_desk.specs.Words.{IfTold, network_held, check_fault, certificate_held, StopsReading};
 ghost use Rattle.front_desk.specs.Words.{KeepsFiles, IsGoodNetwork, trip_setting, vehicle_named, check_in, to_check, IsTimed};
 ghost use Rattle.front_desk.specs.Words.{request_of, trip_in, IsGoodTrip, IsAccepted, IsRejected, StopsCommand, ReportsOn, Tells, IsJudged};
 ghost use Rattle.route_base.specs.Front.{IsFront};
@@ -9,14 +10,16 @@ ghost use Rattle.certificate_check.specs.Verdicts.{IsVerdict};
 ghost use Rattle.certificate_check.specs.declared.checker.Verdict.TheVariants.{Accepted};
 
 use crate::command_line::Check;
-use crate::networks::{load_to_check, net_of_trip};
+use crate::file_to_read::FileToRead;
+use crate::networks::{load_with, net_of_trip};
 use crate::outcome::{Halt, Report};
 use crate::requests::{Trip, request_of, vehicle_of_trip};
+use ban_expansion::group_arcs;
 use certificate::{Certificate, CertificateFault, read};
 use certificate_check::{Verdict, check, verdicts_agree};
 use network_tables::Network;
 use plan_report::{Refusal, Verdict3, check_text};
-use route_base::{Folder, OutOfMemory, settings_agree};
+use route_base::{FileBytes, Folder, OutOfMemory, settings_agree};
 use std::alloc::Global;
 use vehicle_classes::Vehicle;
 
@@ -39,7 +42,8 @@ fn verdict_of_trip(
         → IsFront (trip_setting network.now (trip_in trip.entry))
         (request_of (trip_in trip.entry)) (pairs_of certificate.now.routes)) }
 {
-    let net = net_of_trip(alloc, network, vehicle, trip)?;
+    let groups = group_arcs(alloc, network)?;
+    let net = net_of_trip(alloc, network, &groups, vehicle, trip)?;
     settings_agree();
     verdicts_agree();
     let verdict = check(alloc, &net, request_of(trip), certificate)?;
@@ -94,6 +98,26 @@ fn judged(
     let verdict = verdict_of_trip(alloc, network, vehicle, trip, &certificate)?;
     let report = verdict_report(alloc, &certificate, verdict)?;
     Ok(report)
+}
+
+// The network of the check's folder, and the bytes of the certificate.
+fn load_to_check<F: Folder>(
+    alloc: Global,
+    folder: &mut F,
+    check: Check<'_>,
+) -> Result<(Network, FileBytes), Halt>
+    ensures faultless { OnOk result (IfTold (F.state folder.old)
+        (λ held. check_fault (check_in check.entry) held ≡ None)) }
+    ensures found { IfOk result (λ loaded. IfTold (F.state folder.old)
+        (λ held. loaded.0 ≡ network_held held check.entry.dir.now)) }
+    ensures certificate { IfOk result (λ loaded. IfTold (F.state folder.old)
+        (λ held. loaded.1 ≡ certificate_held (check_in check.entry) held)) }
+    ensures halted { IfErr result (StopsReading (check_fault (check_in check.entry))
+        (F.state folder.old) (F.state folder.new)) }
+    ensures kept { KeepsFiles (F.state folder.old) (F.state folder.new) }
+{
+    let file = FileToRead::certificate(check.name);
+    load_with(alloc, folder, check.dir, file)
 }
 
 /// The judgement of the certificate in the check's folder for its trip over the files of that folder.

@@ -1,14 +1,15 @@
 // Reads a folder's network, and makes the net of a trip over it.
 ghost use Rattle.std.specs.Prelude.{◌≡◌, None, IfOk, OnOk, IfErr};
 ghost use Rattle.front_desk.specs.Words.{KeepsFiles, IfTold, IsGoodNetwork, vehicle_named, trip_in, IsGoodTrip, IsTimed};
-ghost use Rattle.front_desk.specs.Words.{contents_fault, network_in_files, first_folder_fault, network_held, bytes_at};
-ghost use Rattle.front_desk.specs.Words.{check_in, check_fault, certificate_held, StopsReading, StopsStating, IsTripNet};
+ghost use Rattle.front_desk.specs.Words.{contents_fault, network_in_files, first_folder_fault, first_fault_with, network_held, bytes_at};
+ghost use Rattle.ban_expansion.specs.ArcGroups.{AreGroups};
+ghost use Rattle.front_desk.specs.Words.{file_in, StopsReading, StopsStating, IsTripNet};
 
-use crate::command_line::Check;
-use crate::files::{read_files_to_check, read_network_files};
+use crate::file_to_read::FileToRead;
+use crate::files::{read_files_with, read_network_files};
 use crate::outcome::Halt;
 use crate::requests::Trip;
-use ban_expansion::expand_plain;
+use ban_expansion::{ArcGroups, expand_groups};
 use network_tables::{Files, Network, NetworkFault, read_network};
 use plan_report::Refusal;
 use route_base::{FileBytes, Folder, OutOfMemory, Run, TimedNet, settings_agree};
@@ -43,34 +44,39 @@ pub fn load_network<F: Folder>(alloc: Global, folder: &mut F, dir: &str) -> Resu
     Ok(network)
 }
 
-/// The network of the files of a check's folder, and the bytes of the certificate.
-pub fn load_to_check<F: Folder>(
+/// The network of the folder's files, and the bytes of one more file, which is read behind them.
+pub fn load_with<F: Folder>(
     alloc: Global,
     folder: &mut F,
-    check: Check<'_>,
+    dir: &str,
+    last: FileToRead<'_>,
 ) -> Result<(Network, FileBytes), Halt>
     ensures faultless { OnOk result (IfTold (F.state folder.old)
-        (λ held. check_fault (check_in check.entry) held ≡ None)) }
-    ensures found { IfOk result (λ loaded. IfTold (F.state folder.old)
-        (λ held. loaded.0 ≡ network_held held check.entry.dir.now)) }
-    ensures certificate { IfOk result (λ loaded. IfTold (F.state folder.old)
-        (λ held. loaded.1 ≡ certificate_held (check_in check.entry) held)) }
-    ensures halted { IfErr result (StopsReading (check_fault (check_in check.entry))
+        (λ held. first_fault_with (file_in last.entry) held dir.now ≡ None)) }
+    ensures found { IfOk result (λ loaded.
+        IfTold (F.state folder.old) (λ held. loaded.0 ≡ network_held held dir.now)) }
+    ensures last { IfOk result (λ loaded. IfTold (F.state folder.old)
+        (λ held. loaded.1 ≡ bytes_at held dir.now (file_in last.entry))) }
+    ensures halted { IfErr result (StopsReading
+        (λ held. first_fault_with (file_in last.entry) held dir.now)
         (F.state folder.old) (F.state folder.new)) }
     ensures kept { KeepsFiles (F.state folder.old) (F.state folder.new) }
 {
-    let (files, bytes) = read_files_to_check(alloc, folder, check.dir, check.name)?;
+    let (files, bytes) = read_files_with(alloc, folder, dir, last)?;
     let network = network_of(alloc, &files)?;
     Ok((network, bytes))
 }
 
-/// The net of a trip that passes the checks, for its vehicle: it stands for the network's roads in the trip's minutes.
+/// The net of a trip that passes the checks, for its vehicle, over groups of arcs that are found once for a network: it stands for the
+/// network's roads in the trip's minutes.
 pub fn net_of_trip(
     alloc: Global,
     network: &Network,
+    groups: &ArcGroups,
     vehicle: &Vehicle,
     trip: Trip<'_>,
 ) -> Result<TimedNet, OutOfMemory>
+    requires groups { AreGroups network.now groups.now }
     requires network { IsGoodNetwork network.now }
     requires vehicle { vehicle.now ≡ vehicle_named network.now (trip_in trip).vehicle }
     requires good { IsGoodTrip network.now.graph.nodes (trip_in trip) }
@@ -83,7 +89,7 @@ pub fn net_of_trip(
     };
     let graph = network.graph();
     let _nodes = graph.node_count();
-    let net = expand_plain(alloc, network, vehicle, window)?;
+    let net = expand_groups(alloc, network, groups, vehicle, window)?;
     settings_agree();
     Ok(net)
 }

@@ -3,24 +3,24 @@ ghost use Rattle.std.specs.Prelude.{◌≡◌, Some, IfOk, OnOk, IfErr, IfSome, 
 ghost use Rattle.front_desk.specs.Words.{CountsRise, IsGoodNetwork, trip_setting, vehicle_named, plan_in, to_plan, IsTimed};
 ghost use Rattle.front_desk.specs.Words.{request_of, IsGoodTrip, IsCertificateOf, IsPlannable, IsFileFor, IsReady};
 ghost use Rattle.front_desk.specs.Words.{StopsCommand, ReportsOn, LeavesPlan, IfTold, status_of_halt, HandsOver, IsWritten, IsUnwritten};
+ghost use Rattle.ban_expansion.specs.ArcGroups.{AreGroups};
 ghost use Rattle.route_base.specs.Front.{IsRight};
 ghost use Rattle.route_base.specs.Net.{setting_of};
 ghost use Rattle.route_base.specs.declared.status.Status.TheVariants.{Done};
 
 use crate::command_line::Plan;
-use crate::files::path_to;
 use crate::networks::{load_network, net_of_trip};
 use crate::outcome::{Halt, Report};
 use crate::requests::{request_of, vehicle_of_trip};
+use crate::writing::{FileToWrite, put_file};
+use ban_expansion::{ArcGroups, group_arcs};
 use certificate::write;
 use certificate_check::verdicts_agree;
 use itinerary_unpack::FunctionEngine;
 use network_tables::Network;
 use plan_certificate::{certificates_agree, certify};
 use plan_report::{Refusal, plan_text, reports_agree};
-use route_base::{
-    Folder, FrontSearch, OutOfMemory, Request, Routes, TimedNet, WriteError, settings_agree,
-};
+use route_base::{Folder, FrontSearch, OutOfMemory, Request, Routes, TimedNet, settings_agree};
 use std::alloc::Global;
 use vehicle_classes::Vehicle;
 
@@ -70,13 +70,15 @@ fn planned_over<'a>(
     }
 }
 
-// The text of the plan of a trip that passes the checks, and its certificate where one is asked for, for its vehicle.
-fn planned_trip<'a>(
+/// The text of the plan of a trip that passes the checks, and its certificate where one is asked for, for its vehicle.
+pub fn planned_trip<'a>(
     alloc: Global,
     network: &Network,
+    groups: &ArcGroups,
     vehicle: &Vehicle,
     plan: Plan<'a>,
 ) -> Result<Planned<'a>, OutOfMemory>
+    requires groups { AreGroups network.now groups.now }
     requires network { IsGoodNetwork network.now }
     requires vehicle { vehicle.now ≡ vehicle_named network.now (plan_in plan).trip.vehicle }
     requires good { IsGoodTrip network.now.graph.nodes (plan_in plan).trip }
@@ -84,7 +86,7 @@ fn planned_trip<'a>(
     ensures { IfOk result
         (IsReady (trip_setting network.now (plan_in plan.entry).trip) (plan_in plan.entry)) }
 {
-    let net = net_of_trip(alloc, network, vehicle, plan.trip)?;
+    let net = net_of_trip(alloc, network, groups, vehicle, plan.trip)?;
     settings_agree();
     verdicts_agree();
     certificates_agree();
@@ -94,7 +96,7 @@ fn planned_trip<'a>(
 }
 
 // Writes the certificate's file below dir, if there is one.
-fn put_file<F: Folder>(
+fn put_certificate<F: Folder>(
     alloc: Global,
     folder: &mut F,
     dir: &str,
@@ -108,12 +110,11 @@ fn put_file<F: Folder>(
     let Some(file) = certificate else {
         return Ok(());
     };
-    let path = path_to(alloc, dir, file.name)?;
-    match folder.write_file(path.as_str(), file.bytes.as_slice()) {
-        Ok(()) => Ok(()),
-        Err(WriteError::Failed) => Err(Halt::WriteFault),
-        Err(WriteError::OutOfMemory) => Err(Halt::NoMemory),
-    }
+    let file = FileToWrite {
+        name: file.name,
+        bytes: file.bytes.as_slice(),
+    };
+    put_file(alloc, folder, dir, file)
 }
 
 // Writes the certificate of a plan, if there is one, and hands over the text.
@@ -126,7 +127,7 @@ fn hand_over<F: Folder>(
     ensures { HandsOver (F.state folder.old) (F.state folder.new) dir.now planned.entry result }
 {
     let Planned { text, certificate } = planned;
-    put_file(alloc, folder, dir, certificate)?;
+    put_certificate(alloc, folder, dir, certificate)?;
     Ok(Report {
         text,
         rejects: false,
@@ -151,7 +152,8 @@ pub fn report_plan<F: Folder>(alloc: Global, folder: &mut F, plan: Plan<'_>) -> 
     let network = load_network(alloc, folder, plan.dir)?;
     match vehicle_of_trip(&network, plan.trip) {
         Ok(vehicle) => {
-            let planned = planned_trip(alloc, &network, vehicle, plan)?;
+            let groups = group_arcs(alloc, &network)?;
+            let planned = planned_trip(alloc, &network, &groups, vehicle, plan)?;
             hand_over(alloc, folder, plan.dir, planned)
         }
         Err(fault) => Err(Halt::Refused(Refusal::Request(fault))),

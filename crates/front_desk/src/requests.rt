@@ -16,7 +16,7 @@ use vehicle_classes::Vehicle;
 /// nodes may be no nodes of the network, and `until` may come before `depart`.
 #[derive(Clone, Copy)]
 pub struct Trip<'a> {
-    pub vehicle: &'a str,
+    pub vehicle: &'a [u8],
     pub origin: u32,
     pub goal: u32,
     pub depart: Minute,
@@ -60,11 +60,11 @@ fn failed_over(count: u32, trip: Trip<'_>) -> Option<RequestFault>
 }
 
 // The vehicle of a name.
-fn vehicle_of<'a>(network: &'a Network, name: &str) -> Option<&'a Vehicle>
+fn vehicle_of<'a>(network: &'a Network, name: &[u8]) -> Option<&'a Vehicle>
     ensures found { IfSome result (λ vehicle. vehicle.now ≡ vehicle_named network.now name.now) }
     ensures known { is_some result ≡ is_vehicle network.now name.now }
 {
-    let place = network.vehicles().find(name.as_bytes())?;
+    let place = network.vehicles().find(name)?;
     Some(network.vehicles().vehicle(place))
 }
 
@@ -101,7 +101,7 @@ pub fn vehicle_of_bans<'a>(
     ensures low { OnOk result (1 ≤ bans.entry.arc) }
     ensures high { OnOk result (bans.entry.arc ≤ length network.now.graph.arcs) }
 {
-    let Some(vehicle) = vehicle_of(network, bans.vehicle) else {
+    let Some(vehicle) = vehicle_of(network, bans.vehicle.as_bytes()) else {
         return Err(RequestFault::UnknownVehicle);
     };
     if !is_known(network.graph().arc_count(), bans.arc) {

@@ -1,9 +1,12 @@
-use Rattle.std.proofs.Common.{inr, List, ℕ, sym, subst, ◌∙◌}
+use Rattle.std.proofs.Common.{◌≡◌, ◌⊎◌, inr, List, ℕ, sym, subst, ◌∙◌}
 use Rattle.route_base.specs.SinkState.{AppendsPrefix}
+use Rattle.route_base.specs.declared.status.Status.{Status}
+use Rattle.route_base.specs.declared.status.Status.TheVariants.{WriteFault, NoMemory}
 use Rattle.plan_report.specs.Refusals.{refusal_text_of}
+use Rattle.front_desk.specs.CommandLine.{command_of}
 use Rattle.front_desk.specs.Inside.Halting.{status_of_report}
 use Rattle.front_desk.specs.Run.{status_of}
-use Rattle.front_desk.proofs.Leaving.{never_fault}
+use Rattle.front_desk.proofs.Leaving.{never_fault, never_memory, still_left}
 use Rattle.front_desk.proofs.RefusalTexts.{refusal_due, no_write_fault}
 use Rattle.front_desk.proofs.desk.run.Goals as goal
 
@@ -27,3 +30,10 @@ returns-in-Err-Refused-clause-write_fault g c = λ failed.
       is_due = refusal_due _ _ _ c.in-Err-Refused.refusal cause;
       gained = c.refuse.ensures.part failed (no_write_fault c.in-Err-Refused.refusal);
     })
+
+pub returns-in-Ok-clause-left : goal.returns-in-Ok-clause-left
+returns-in-Ok-clause-left g c =
+    still_left (g.F.Folder.state c.args.folder.now) (g.F.Folder.state c.answer.new.folder) (command_of c.args.words.now) _ _
+    (never_fault c.in-Ok.report) (never_memory c.in-Ok.report)
+    (subst (λ (due : Status). (c.put.result ≡ due) ⊎ ((c.put.result ≡ WriteFault) ⊎ (c.put.result ≡ NoMemory))) c.status.ensures c.put.ensures.others)
+    c.in-Ok.ensures.left

@@ -1,4 +1,4 @@
-use Rattle.std.proofs.Common.{◌≡◌, ℕ, List, Some, map, sym, ◌∙◌, ap}
+use Rattle.std.proofs.Common.{◌≡◌, List, Some, map, sym, ◌∙◌, ap}
 use Rattle.std.specs.Prelude.{slice_get}
 use Rattle.table_reader.specs.NameIndex.{names_of, place_among}
 use Rattle.vehicle_classes.specs.Vehicles.{VehicleEntry}
@@ -12,6 +12,6 @@ returns-clause-found c =
     let i = c.in_ok-place.place in
     let at : place_among (names_of vs) name ≡ Some i =
     sym (ap (λ (l : List VehicleEntry). place_among (names_of l) name) c.vehicles.ensures)
-    ∙ ap (λ (n : List ℕ). place_among (names_of c.vehicles.result.now) n) (sym c.as_bytes.ensures.value) ∙ sym c.in_ok-place.ensures.place in
+    ∙ sym c.in_ok-place.ensures.place in
     let is = sym (ap (λ (l : List VehicleEntry). slice_get (map (λ (x : VehicleEntry). x.1) l) i) c.vehicles-2.ensures) ∙ c.vehicle.ensures in
     vehicle_there vs name i c.vehicle.result.now at is

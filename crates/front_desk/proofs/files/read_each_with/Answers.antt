@@ -2,15 +2,15 @@ use Rattle.std.proofs.Common.{List, subst}
 use Rattle.std.specs.Prelude.{IfOk, IfErr}
 use Rattle.front_desk.specs.Files.{FileToRead, first_unreadable, AreRead}
 use Rattle.front_desk.specs.Inside.Halting.{StopsReading}
-use Rattle.front_desk.proofs.files.read_each_to_check.Goals as goal
+use Rattle.front_desk.proofs.files.read_each_with.Goals as goal
 
 pub returns-clause-read : goal.returns-clause-read
 returns-clause-read g c =
     subst (λ (files : List FileToRead). IfOk c.read_each.result (λ read. AreRead (g.F.Folder.state c.args.folder.now) c.args.dir.now files read.items))
-    c.files_to_check-files.ensures c.read_each.ensures.read
+    c.files_with-files.ensures c.read_each.ensures.read
 
 pub returns-clause-halted : goal.returns-clause-halted
 returns-clause-halted g c =
     subst (λ (files : List FileToRead). IfErr c.read_each.result (StopsReading (λ held. first_unreadable held c.args.dir.now files)
     (g.F.Folder.state c.args.folder.now) (g.F.Folder.state c.read_each.new.folder)))
-    c.files_to_check-files.ensures c.read_each.ensures.halted
+    c.files_with-files.ensures c.read_each.ensures.halted
