@@ -1,10 +1,12 @@
 //! The tests that cross crates, by subject: whole runs, the objects in memory, and the edge to the system.
 
 mod bans;
+mod batches;
 mod certificates;
 mod faults;
 mod forms;
 mod fronts;
+mod generation;
 mod graph;
 mod itineraries;
 mod limits;
