@@ -1,9 +1,8 @@
 -- Places of keys, one key after another.
-use Rattle.std.proofs.Common.{◌≡◌, ◌≤◌, length, arith, ℕ, zero, suc, ◌+◌, Bool, true, false, Option, Some, None, unwrap_or, List, [], ◌∷◌, ◌++◌, take, slice_get, refl, sym, ◌∙◌, ap}
+use Rattle.std.proofs.Common.{◌≡◌, ◌≤◌, length, arith, ℕ, zero, suc, ◌+◌, Bool, true, Option, Some, None, unwrap_or, List, [], ◌∷◌, ◌++◌, take, slice_get, refl, sym, ◌∙◌, ap}
 use Rattle.std.specs.List.{list_any}
 use Rattle.std.specs.Option.{option_or, option_map}
 use Rattle.std.proofs.lemmas.Bool.{or_left, or_right}
-use Rattle.std.proofs.lemmas.List.Folds.{list_any-append}
 use Rattle.std.proofs.lemmas.List.{take_more}
 use Rattle.std.proofs.lemmas.Option.{get_or_from_slice_get, slice_get_within}
 use Rattle.vehicle_classes.specs.declared.classes.Key.{Key}
@@ -56,9 +55,3 @@ pub past_all : {A : Type 0} (xs : List A) (k : ℕ) → slice_get xs k ≡ None 
 past_all [] k none = omega arith
 past_all (x ∷ xs) zero none = absurd (cc)
 past_all (x ∷ xs) (suc k) none = omega (arith, past_all xs k none)
-
--- no item up to the next passes
-pub any_next : {A : Type 0} (p : A → Bool) (xs : List A) (k : ℕ) (x : A) → slice_get xs k ≡ Some x
-    → list_any p (take k xs) ≡ false → p x ≡ false → list_any p (take (k + 1) xs) ≡ false
-any_next p xs k x is none fails =
-    ap (list_any p) (take_next xs k x is) ∙ list_any-append p (take k xs) (x ∷ []) ∙ rw (none, fails) refl
