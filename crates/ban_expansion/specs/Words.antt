@@ -4,8 +4,6 @@ pub use Rattle.route_base.specs.Net.{setting_of}
 pub use Rattle.route_base.specs.Runs.{any_has, has_minute, AreRuns}
 pub use Rattle.route_base.specs.Time.{IsInstant}
 pub use Rattle.dimacs_reader.specs.GraphModel.{IsGoodGraph}
-pub use Rattle.vehicle_classes.specs.Classes.{keys_of}
-pub use Rattle.vehicle_classes.specs.VehicleModel.{VehicleModel}
 pub use Rattle.conditional_rules.specs.Decisions.{decision, last_given}
 pub use Rattle.network_tables.specs.Access.{access_at, area_at, decision_at, given_at, is_closed, is_let_in, places_of_key}
 pub use Rattle.network_tables.specs.NetworkModel.{NetworkModel, closures_of}

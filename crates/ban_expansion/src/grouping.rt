@@ -11,6 +11,7 @@ use std::alloc::Global;
 use std::marker::Model;
 use vehicle_classes::Key;
 
+// All keys of access, from general to special.
 const EVERY_KEY: [Key; 7] = [
     Key::Access,
     Key::Vehicle,

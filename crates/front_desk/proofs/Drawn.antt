@@ -11,7 +11,7 @@ use Rattle.net_generator.specs.Sizes.{IsDrawable}
 use Rattle.drawn_network.specs.DrawnNetwork.{network_drawn}
 use Rattle.front_desk.specs.CommandLine.{Gen, to_gen}
 use Rattle.front_desk.specs.Commands.{LeavesGen}
-use Rattle.front_desk.specs.Gen.{FileToWrite, HoldsEach, IsSummary, drawn_trip, files_drawn, stated_network}
+use Rattle.front_desk.specs.Gen.{FileToWrite, HoldsEach, IsSummary, drawn_trip, files_written, stated_network}
 use Rattle.front_desk.specs.Inside.Halting.{ReportsOn, StopsCommand, status_of_halt}
 use Rattle.front_desk.specs.Inside.Writing.{FailsToPutEach}
 use Rattle.front_desk.specs.Trips.{failed_check, failed_check_over, is_node}
@@ -35,7 +35,7 @@ drawn_passes g drawable same =
     subst (λ (network : NetworkModel). failed_check network (drawn_trip g) ≡ None) (sym same)
     (last_passes (g.rows * g.columns) (omega (arith, drawable.rows_low, mul-le-mul_left g.rows drawable.columns_low)))
 
-module _ (g : Gen) (old new : FolderState) (files : List FileToWrite) (same : files ≡ files_drawn g) where
+module _ (g : Gen) (old new : FolderState) (files : List FileToWrite) (same : files ≡ files_written g) where
   -- a report that sums up the drawn network is that of its command, where the files were written
   pub reports_drawn : (report : Report) → report.rejects ≡ false → IsSummary g report.text.items
       → HoldsEach g.dir files old.contents new.contents → ReportsOn (to_gen g) old new report
@@ -45,7 +45,7 @@ module _ (g : Gen) (old new : FolderState) (files : List FileToWrite) (same : fi
       good = refl;
       answer = record {
         summary = summary;
-        written = subst (λ (o : Option Contents). HoldsEach g.dir (files_drawn g) o new.contents) is
+        written = subst (λ (o : Option Contents). HoldsEach g.dir (files_written g) o new.contents) is
             (subst (λ (fs : List FileToWrite). HoldsEach g.dir fs old.contents new.contents) same written);
       };
     };

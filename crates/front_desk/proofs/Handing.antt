@@ -7,6 +7,7 @@ use Rattle.route_base.specs.Counts.{HasRisen}
 use Rattle.route_base.specs.FolderState.{FolderState, CountsRise, KeepsFiles, FailedToWrite}
 use Rattle.route_base.specs.Front.{IsRight}
 use Rattle.route_base.specs.Setting.{Setting}
+use Rattle.route_base.proofs.FolderStates.{keeps_more}
 use Rattle.route_base.specs.declared.status.Status.TheVariants.{Done}
 use Rattle.network_tables.specs.NetworkModel.{NetworkModel}
 use Rattle.plan_report.specs.declared.outcomes.Refusal.TheVariants.{Usage, Input, Request}
@@ -30,14 +31,6 @@ opened None None path bytes holds = tt
 opened None (Some new) path bytes holds = holds
 opened (Some old) None path bytes holds = holds
 opened (Some old) (Some new) path bytes holds = holds.1
-
-kept_more : (old mid new : FolderState) → KeepsFiles old mid → KeepsFiles mid new → KeepsFiles old new
-kept_more old mid new a b = record {
-  contents = b.contents ∙ a.contents;
-  missing = omega (arith, a.missing, b.missing);
-  read_faults = omega (arith, a.read_faults, b.read_faults);
-  write_faults = b.write_faults ∙ a.write_faults;
-}
 
 rise_more : (old mid new : FolderState) → KeepsFiles old mid → CountsRise mid new → CountsRise old new
 rise_more old mid new a b = record {
@@ -90,7 +83,7 @@ module _ (p : Plan) (old mid new : FolderState) (kept : KeepsFiles old mid) (net
   certified s (Some name) (Some file) held is for written = holds s name file held is for written.1
 
   rises : (file : Option CertificateFile) → IsWritten mid new p.dir file → CountsRise old new
-  rises None written = kept_rises old new (kept_more old mid new kept written)
+  rises None written = kept_rises old new (keeps_more old mid new kept written)
   rises (Some file) written = rise_more old mid new kept written.0
 
   unwritten_rises : (file : Option CertificateFile) (halt : Halt) → IsUnwritten mid new p.dir file halt → CountsRise old new
@@ -103,7 +96,7 @@ module _ (p : Plan) (old mid new : FolderState) (kept : KeepsFiles old mid) (net
   leaves : (asked : Option (List ℕ)) (file : Option CertificateFile)
       → IsFileFor (trip_setting network p.trip) (request_of p.trip) ready.routes asked file → IsWritten mid new p.dir file
       → LeavesPlan p asked old new Done
-  leaves None None for written = kept_more old mid new kept written
+  leaves None None for written = keeps_more old mid new kept written
   leaves None (Some file) for written = absurd for
   leaves (Some name) None for written = absurd for
   leaves (Some name) (Some file) for written = record {

@@ -5,7 +5,7 @@ use Rattle.route_base.specs.declared.status.Status.{Status}
 use Rattle.route_base.specs.declared.status.Status.TheVariants.{Done, Rejected, Usage, BadInput, ReadFault, WriteFault, NoMemory, BadRequest}
 use Rattle.front_desk.specs.CommandLine.{Command, Plan, Gen, to_plan, to_check, to_bans, to_batch, to_gen, command_of}
 use Rattle.front_desk.specs.Commands.{Judges, LeavesCertificate, LeavesPlan, LeavesGen, LeavesFiles}
-use Rattle.front_desk.specs.Gen.{files_drawn}
+use Rattle.front_desk.specs.Gen.{files_written}
 use Rattle.front_desk.specs.Files.{IfTold}
 use Rattle.front_desk.specs.Inside.Halting.{ReportsOn, status_of_report}
 use Rattle.front_desk.specs.Run.{IsAnsweredBy, IsRejectedBy, IsDue}
@@ -72,7 +72,7 @@ module _ (old new : FolderState) where
   gen_fault g BadRequest not left = absurd left
 
   gen_memory : (g : Gen) (due : Status) → (due ≡ WriteFault → ⊥) → LeavesGen g old new due → LeavesGen g old new NoMemory
-  gen_memory g Done not left = record { written = files_drawn g; others = []; parts = refl; held = left }
+  gen_memory g Done not left = record { written = files_written g; others = []; parts = refl; held = left }
   gen_memory g WriteFault not left = absurd (not refl)
   gen_memory g NoMemory not left = left
   gen_memory g Rejected not left = absurd left

@@ -16,7 +16,7 @@ use Rattle.front_desk.specs.declared.outcome.Halt.{Halt}
 use Rattle.front_desk.specs.declared.outcome.Halt.TheVariants.{Refused, ReadFault, WriteFault, NoMemory}
 
 -- a count that has risen since later has risen since before
-risen_before : (a b c : ℕ) → a ≤ b → HasRisen b c → HasRisen a c
+pub risen_before : (a b c : ℕ) → a ≤ b → HasRisen b c → HasRisen a c
 risen_before a b c before risen = omega arith
 
 or_assoc : (o p q : Option BadInput) → option_or o (option_or p q) ≡ option_or (option_or o p) q

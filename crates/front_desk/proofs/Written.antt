@@ -1,13 +1,13 @@
 -- Files that are written one after another.
-use Rattle.std.proofs.Common.{◌≡◌, ℕ, ◌≤◌, Option, List, [], ◌∷◌, ◌++◌, refl, sym, subst, arith}
+use Rattle.std.proofs.Common.{◌≡◌, ℕ, Option, List, [], ◌∷◌, ◌++◌, refl, sym, subst, arith}
 use Rattle.route_base.specs.Contents.{Contents, Holds}
-use Rattle.route_base.specs.Counts.{HasRisen}
 use Rattle.route_base.specs.FolderState.{FolderState, CountsRise}
 use Rattle.front_desk.specs.Files.{path_of}
 use Rattle.front_desk.specs.Gen.{FileToWrite, HoldsEach}
 use Rattle.front_desk.specs.Inside.Writing.{FailsToPut, FailsToPutEach}
 use Rattle.front_desk.specs.declared.outcome.Halt.{Halt}
 use Rattle.front_desk.specs.declared.outcome.Halt.TheVariants.{Refused, ReadFault, WriteFault, NoMemory}
+use Rattle.front_desk.proofs.ReadFiles.{risen_before}
 
 -- no count falls in two calls
 pub rise_on : (old mid new : FolderState) → CountsRise old mid → CountsRise mid new → CountsRise old new
@@ -16,9 +16,6 @@ rise_on old mid new a b = record {
   read_faults = omega (arith, a.read_faults, b.read_faults);
   write_faults = omega (arith, a.write_faults, b.write_faults);
 }
-
-risen_from : (a b c : ℕ) → a ≤ b → HasRisen b c → HasRisen a c
-risen_from a b c before risen = omega arith
 
 module _ (dir : List ℕ) where
   -- one file more is held
@@ -36,7 +33,7 @@ module _ (dir : List ℕ) where
   stops_putting written file others files old mid new parts counts held (Refused refusal) why = absurd why
   stops_putting written file others files old mid new parts counts held ReadFault why = absurd why
   stops_putting written file others files old mid new parts counts held WriteFault why = (
-    risen_from old.write_faults mid.write_faults new.write_faults counts.write_faults why.0,
+    risen_before old.write_faults mid.write_faults new.write_faults counts.write_faults why.0,
     record {
       written = written;
       next = file;

@@ -13,7 +13,7 @@ use Rattle.front_desk.specs.Batch.{IsBatchReport, batch_fault}
 use Rattle.front_desk.specs.Check.{AcceptsCertificate, RejectsCertificate, check_fault, check_check}
 use Rattle.front_desk.specs.CommandLine.{Command, Plan, Gen, to_plan, to_check, to_bans, to_batch, to_gen}
 use Rattle.front_desk.specs.Files.{IfTold, path_of}
-use Rattle.front_desk.specs.Gen.{IsGenReport, HoldsEach, HoldsFirst, SpoilsNext, files_drawn}
+use Rattle.front_desk.specs.Gen.{IsGenReport, HoldsEach, HoldsFirst, SpoilsNext, files_written}
 use Rattle.front_desk.specs.Plan.{IsPlanReport, IsCertified, plan_fault, plan_check}
 
 -- the first fault of the files that the command reads
@@ -117,15 +117,15 @@ LeavesPlan p (Some name) old new status = LeavesCertificate p name old new statu
 -- how the making of a network leaves the folder, by its status: the drawn files are written one after another. It ends with no other
 -- status than these three
 abbrev pub LeavesGen : Gen → FolderState → FolderState → Status → Type 0
-LeavesGen g old new Done = HoldsEach g.dir (files_drawn g) old.contents new.contents
+LeavesGen g old new Done = HoldsEach g.dir (files_written g) old.contents new.contents
 LeavesGen g old new Rejected = ⊥
 LeavesGen g old new Usage = ⊥
 LeavesGen g old new BadInputStatus = ⊥
 LeavesGen g old new ReadFault = ⊥
 LeavesGen g old new WriteFault =
-    HoldsEach g.dir (files_drawn g) old.contents new.contents
-    ⊎ (FailedToWrite old new × SpoilsNext g.dir (files_drawn g) old.contents new.contents)
-LeavesGen g old new NoMemory = HoldsFirst g.dir (files_drawn g) old.contents new.contents
+    HoldsEach g.dir (files_written g) old.contents new.contents
+    ⊎ (FailedToWrite old new × SpoilsNext g.dir (files_written g) old.contents new.contents)
+LeavesGen g old new NoMemory = HoldsFirst g.dir (files_written g) old.contents new.contents
 LeavesGen g old new BadRequest = ⊥
 
 -- the state in which the words leave the folder

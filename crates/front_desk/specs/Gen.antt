@@ -44,8 +44,8 @@ files_to_write graph closures parking ratings =
     ∷ []
 
 -- the files that are drawn
-abbrev pub files_drawn : Gen → List FileToWrite
-files_drawn g =
+abbrev pub files_written : Gen → List FileToWrite
+files_written g =
     files_to_write (graph_file g.number g.rows g.columns) (closures_file g.number g.rows g.columns)
     (parking_file g.number g.rows g.columns) ratings_file
 
@@ -81,4 +81,4 @@ pub record IsSummary (g : Gen) (text : List ℕ) : Type 0 where
 -- the folder holds the drawn files, and the text sums up the front of the trip over them
 pub record IsGenReport (g : Gen) (held : Contents) (after : Option Contents) (text : List ℕ) : Type 0 where
   pub summary : IsSummary g text
-  pub written : HoldsEach g.dir (files_drawn g) (Some held) after
+  pub written : HoldsEach g.dir (files_written g) (Some held) after

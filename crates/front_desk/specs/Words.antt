@@ -17,7 +17,7 @@ pub use Rattle.front_desk.specs.CommandLine.{AsksSupported, IsTimed}
 pub use Rattle.front_desk.specs.Check.{certificate_file, check_fault, certificate_held, check_setting, IsAccepted, IsRejected}
 pub use Rattle.front_desk.specs.Commands.{first_fault_for, failed_check_for, IsFinished, IsUndisturbed, ReadsNothing, LeavesFiles, LeavesPlan, LeavesGen, WritesFiles}
 pub use Rattle.front_desk.specs.Files.{IfTold, path_of, whole_fault, fault_of_file, first_unreadable, bytes_at, file_in, IsRead, AreRead}
-pub use Rattle.front_desk.specs.Gen.{drawn_trip, stated_network, written_in, files_to_write, files_drawn, HoldsEach, IsSummary}
+pub use Rattle.front_desk.specs.Gen.{drawn_trip, stated_network, written_in, files_to_write, files_written, HoldsEach, IsSummary}
 pub use Rattle.front_desk.specs.ReadingOrder.{network_files, files_from, files_of, first_folder_fault, first_fault_with, network_held}
 pub use Rattle.front_desk.specs.Plan.{IsCertificateOf, IsPlanned, trip_setting}
 pub use Rattle.front_desk.specs.Run.{IsAnsweredBy, IsAnswer, IsDue, IsRefused, Prints, FailsToWrite, HasFailed, status_of}

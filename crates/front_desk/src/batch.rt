@@ -1,10 +1,9 @@
 // The command that plans a table of jobs.
-ghost use Rattle.std.specs.Prelude.{◌≡◌, ◌<◌, ◌≤◌, None, Some, false, length, All, IfOk, OnOk, IfErr};
-ghost use Rattle.front_desk.specs.Words.{KeepsFiles, IfTold, network_held, StopsReading, StopsStating, StopsCommand, ReportsOn, failed_check};
-ghost use Rattle.front_desk.specs.Words.{batch_in, to_batch, batch_fault, jobs_fault, jobs_held, IsTextAt, IsBatchText};
+ghost use Rattle.std.specs.Prelude.{◌≡◌, ◌≤◌, None, false, All, IfOk, OnOk, IfErr};
+ghost use Rattle.front_desk.specs.Words.{KeepsFiles, IfTold, network_held, StopsReading, StopsStating, StopsCommand, ReportsOn};
+ghost use Rattle.front_desk.specs.Words.{batch_in, to_batch, batch_fault, jobs_fault, jobs_held, trip_in, IsBatchText};
 ghost use Rattle.front_desk.specs.Batch.{IsJobText, trip_of_job};
 ghost use Rattle.front_desk.specs.Inside.Grouping.{KeepsGroups};
-ghost use Rattle.front_desk.specs.Words.{trip_in, IsTimed};
 ghost use Rattle.ban_expansion.specs.ArcGroups.{AreGroups};
 ghost use Rattle.network_tables.specs.Jobs.{IsTimedJob, jobs_in};
 ghost use Rattle.table_reader.specs.Records.{rows_of};

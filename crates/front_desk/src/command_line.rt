@@ -1,6 +1,6 @@
 // The commands, borrowed from the words that they hold.
 ghost use Rattle.std.specs.Prelude.{◌≡◌, option_map};
-ghost use Rattle.front_desk.specs.Words.{bans_in, command_in, trip_in};
+ghost use Rattle.front_desk.specs.Words.{plan_in, check_in, bans_in, batch_in, gen_in, command_in, trip_in};
 ghost use Rattle.front_words.specs.Commands.{command_in as command_held, trip_to};
 
 use crate::requests::Trip;
@@ -111,6 +111,66 @@ fn bans_of<'a>(
     }
 }
 
+// A plan, its texts borrowed.
+fn plan_of<'a>(dir: &'a Text, trip: Trip<'a>, form: Form, certificate: &'a Option<Text>) -> Plan<'a>
+    ensures { plan_in result ≡ record {
+      dir = dir.now;
+      trip = trip_in trip.entry;
+      form = form;
+      certificate = certificate.now;
+    } }
+{
+    Plan {
+        dir: dir.as_str(),
+        trip,
+        form,
+        certificate: borrowed(certificate),
+    }
+}
+
+// A check, its texts borrowed.
+fn check_of<'a>(dir: &'a Text, trip: Trip<'a>, name: &'a Text) -> Check<'a>
+    ensures { check_in result ≡ record {
+      dir = dir.now;
+      trip = trip_in trip.entry;
+      name = name.now;
+    } }
+{
+    Check {
+        dir: dir.as_str(),
+        trip,
+        name: name.as_str(),
+    }
+}
+
+// A batch, its texts borrowed.
+fn batch_of<'a>(dir: &'a Text, jobs: &'a Text, workers: u32) -> Batch<'a>
+    ensures { batch_in result ≡ record { dir = dir.now; jobs = jobs.now; workers = workers } }
+{
+    Batch {
+        dir: dir.as_str(),
+        jobs: jobs.as_str(),
+        workers,
+    }
+}
+
+// A network to make, the name of its folder borrowed.
+fn gen_of(dir: &Text, number: u64, rows: u32, columns: u32) -> Gen<'_>
+    ensures { gen_in result ≡ record {
+      dir = dir.now;
+      number = number;
+      rows = rows;
+      columns = columns;
+    } }
+{
+    Gen {
+        dir: dir.as_str(),
+        number,
+        rows,
+        columns,
+    }
+}
+
 /// The command that owned words are, borrowed from them. In constant time.
 pub fn command_of(owned: &OwnedCommand) -> Command<'_>
     ensures { command_in result ≡ command_held owned.now }
@@ -125,12 +185,10 @@ pub fn command_of(owned: &OwnedCommand) -> Command<'_>
             until,
             form,
             certificate,
-        } => Command::Plan(Plan {
-            dir: dir.as_str(),
-            trip: trip_of(vehicle, *from, *to, *depart, *until),
-            form: *form,
-            certificate: borrowed(certificate),
-        }),
+        } => {
+            let trip = trip_of(vehicle, *from, *to, *depart, *until);
+            Command::Plan(plan_of(dir, trip, *form, certificate))
+        }
         OwnedCommand::Check {
             dir,
             vehicle,
@@ -139,11 +197,10 @@ pub fn command_of(owned: &OwnedCommand) -> Command<'_>
             depart,
             until,
             name,
-        } => Command::Check(Check {
-            dir: dir.as_str(),
-            trip: trip_of(vehicle, *from, *to, *depart, *until),
-            name: name.as_str(),
-        }),
+        } => {
+            let trip = trip_of(vehicle, *from, *to, *depart, *until);
+            Command::Check(check_of(dir, trip, name))
+        }
         OwnedCommand::Bans {
             dir,
             vehicle,
@@ -151,21 +208,14 @@ pub fn command_of(owned: &OwnedCommand) -> Command<'_>
             depart,
             until,
         } => Command::Bans(bans_of(dir, vehicle, *arc, *depart, *until)),
-        OwnedCommand::Batch { dir, jobs, workers } => Command::Batch(Batch {
-            dir: dir.as_str(),
-            jobs: jobs.as_str(),
-            workers: *workers,
-        }),
+        OwnedCommand::Batch { dir, jobs, workers } => {
+            Command::Batch(batch_of(dir, jobs, *workers))
+        }
         OwnedCommand::Gen {
             dir,
             number,
             rows,
             columns,
-        } => Command::Gen(Gen {
-            dir: dir.as_str(),
-            number: *number,
-            rows: *rows,
-            columns: *columns,
-        }),
+        } => Command::Gen(gen_of(dir, *number, *rows, *columns)),
     }
 }

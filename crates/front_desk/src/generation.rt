@@ -1,7 +1,7 @@
 // The command that makes a network.
 ghost use Rattle.std.specs.Prelude.{◌≡◌, ◌≢◌, false, map, IfOk, OnOk, IfErr};
 ghost use Rattle.front_desk.specs.Words.{CountsRise, IsGoodNetwork, trip_setting, vehicle_named, request_of, trip_in, IsGoodTrip, IsTimed};
-ghost use Rattle.front_desk.specs.Words.{gen_in, to_gen, drawn_trip, stated_network, written_in, files_to_write, files_drawn, IsSummary};
+ghost use Rattle.front_desk.specs.Words.{gen_in, to_gen, drawn_trip, stated_network, written_in, files_to_write, files_written, IsSummary};
 ghost use Rattle.front_desk.specs.Words.{StopsCommand, ReportsOn, LeavesGen, status_of_halt};
 ghost use Rattle.net_generator.specs.Sizes.{IsDrawable};
 ghost use Rattle.route_base.specs.Front.{IsRight};
@@ -78,7 +78,7 @@ fn summary_of(alloc: Global, network: &Network, grid: Gen<'_>) -> Result<Vec<u8>
 fn drawn(alloc: Global, grid: Gen<'_>) -> Result<(Generated, Vec<u8>), OutOfMemory>
     requires { IsDrawable grid.number grid.rows grid.columns }
     ensures files { IfOk result (λ made. files_to_write made.0.graph made.0.closures
-        made.0.parking made.0.ratings ≡ files_drawn (gen_in grid.entry)) }
+        made.0.parking made.0.ratings ≡ files_written (gen_in grid.entry)) }
     ensures summary { IfOk result (λ made. IsSummary (gen_in grid.entry) made.1.items) }
 {
     let drawn = draw_network(alloc, grid.number, grid.rows, grid.columns)?;

@@ -12,7 +12,7 @@ use Rattle.network_tables.specs.declared.limits.TheConstants.{MOST_JOBS}
 use Rattle.table_reader.specs.Schema.{Schema}
 use Rattle.table_reader.specs.Records.{Record}
 
--- the job of a vehicle's name, two nodes and two instants
+-- the job of a vehicle's name, two nodes and two minutes
 abbrev pub job_from : List ℕ → ℕ → ℕ → ℕ → ℕ → Job
 job_from vehicle origin goal depart until = record {
   vehicle = vehicle;

@@ -30,7 +30,7 @@ pub struct Job {
 /// Jobs in the order of their rows.
 pub type Jobs = Listing<Job>;
 
-/// Jobs while the table is being read, each between two instants. Contracts see their list.
+/// Jobs while the table is being read, whose minutes are instants. Contracts see their list.
 #[derive(Drop)]
 struct JobTable {
     jobs: Jobs,
@@ -152,7 +152,7 @@ impl Table for JobTable {
     }
 }
 
-/// The jobs of a table, each between two instants. Linear in the bytes, in time and memory. No vehicle and no node is looked up, and
+/// The jobs of a table, whose minutes are instants. Linear in the bytes, in time and memory. No vehicle and no node is looked up, and
 /// `until` may be before `depart`.
 ///
 /// `BadRow` names the first record that has a fault, from 1, and its cause: `BadHeader`, `FieldCount`, `SizeLimit` beyond 10,000

@@ -11,6 +11,7 @@ use Rattle.network_tables.specs.Rules.{plain_at, conditional_at}
 use Rattle.network_tables.specs.declared.rules.place.Scope.TheVariants as scopes
 use Rattle.ban_expansion.specs.ArcGroups.{GroupsModel, IsInGroup, AreGroupsOf}
 
+-- all keys of access, from general to special
 abbrev pub every_key : List Key
 every_key = keys.Access ∷ keys.Vehicle ∷ keys.MotorVehicle ∷ keys.Hgv ∷ keys.HgvArticulated ∷ keys.Goods ∷ keys.Bus ∷ []
 
