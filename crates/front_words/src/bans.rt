@@ -8,7 +8,7 @@ ghost use Rattle.route_base.specs.Time.{IsInstant};
 ghost use Rattle.front_words.specs.Usages.{made_by, places_read};
 
 use crate::clap_words::{line_of, text_of, with_place};
-use crate::forms::{instant_word, is_folder_word, is_vehicle_word, number_word};
+use crate::forms::{instant_word, is_folder_word, is_name_word, number_word};
 use crate::splitting::split_words;
 use crate::{Command as FrontCommand, WordsFault};
 use clap::error::ErrorKind;
@@ -35,7 +35,7 @@ fn bans_of<'a>(places: &[&'a str]) -> Option<Bans<'a>>
     let [dir, vehicle, arc, depart, until] = places else {
         return None;
     };
-    if !is_folder_word(dir) || !is_vehicle_word(vehicle) {
+    if !is_folder_word(dir) || !is_name_word(vehicle) {
         return None;
     }
     Some(Bans {

@@ -9,7 +9,7 @@ ghost use Rattle.front_words.specs.Usages.{made_by, options_read, places_read, v
 ghost use Rattle.front_words.specs.declared.limits.TheConstants.{MOST_WORKERS};
 
 use crate::clap_words::{line_of, push_option, text_of, with_choice, with_place};
-use crate::forms::{is_folder_word, is_jobs_word, small_count_word};
+use crate::forms::{is_folder_word, is_name_word, small_count_word};
 use crate::limits::{MOST_WORKERS, USUAL_WORKERS};
 use crate::options::value_of_option;
 use crate::splitting::{Given, split_words};
@@ -41,7 +41,7 @@ fn batch_of<'a>(places: &[&'a str]) -> Option<Batch<'a>>
     let [dir, jobs] = places else {
         return None;
     };
-    if !is_folder_word(dir) || !is_jobs_word(jobs) {
+    if !is_folder_word(dir) || !is_name_word(jobs) {
         return None;
     }
     Some(Batch { dir, jobs })

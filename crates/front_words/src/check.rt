@@ -8,9 +8,7 @@ ghost use Rattle.route_base.specs.Time.{IsInstant};
 ghost use Rattle.front_words.specs.Usages.{made_by, places_read};
 
 use crate::clap_words::{line_of, text_of, with_place};
-use crate::forms::{
-    instant_word, is_certificate_word, is_folder_word, is_vehicle_word, number_word,
-};
+use crate::forms::{instant_word, is_certificate_word, is_folder_word, is_name_word, number_word};
 use crate::splitting::split_words;
 use crate::{Command as FrontCommand, WordsFault};
 use clap::error::ErrorKind;
@@ -39,7 +37,7 @@ fn check_of<'a>(places: &[&'a str]) -> Option<Check<'a>>
     let [dir, vehicle, from, to, depart, until, name] = places else {
         return None;
     };
-    if !is_folder_word(dir) || !is_vehicle_word(vehicle) {
+    if !is_folder_word(dir) || !is_name_word(vehicle) {
         return None;
     }
     let from = number_word(from)?;

@@ -20,15 +20,8 @@ pub fn is_folder_word(word: &str) -> bool
     }
 }
 
-// Whether a word names a vehicle.
-pub fn is_vehicle_word(word: &str) -> bool
-    ensures { result ≡ is_name word.now }
-{
-    is_name_field(word.as_bytes())
-}
-
-// Whether a word names a file of jobs.
-pub fn is_jobs_word(word: &str) -> bool
+// Whether a word is a name, as those of vehicles and of tables of jobs are.
+pub fn is_name_word(word: &str) -> bool
     ensures { result ≡ is_name word.now }
 {
     is_name_field(word.as_bytes())

@@ -10,7 +10,7 @@ ghost use Rattle.front_words.specs.Usages.{made_by, options_read, places_read, v
 
 use crate::clap_words::{line_of, push_option, text_if, text_of, with_choice, with_place};
 use crate::forms::{
-    instant_word, is_certificate_word, is_folder_word, is_vehicle_word, number_word, report_word,
+    instant_word, is_certificate_word, is_folder_word, is_name_word, number_word, report_word,
 };
 use crate::options::value_of_option;
 use crate::splitting::{Given, split_words};
@@ -73,7 +73,7 @@ fn trip_of<'a>(places: &[&'a str]) -> Option<Trip<'a>>
     let [dir, vehicle, from, to, depart, until] = places else {
         return None;
     };
-    if !is_folder_word(dir) || !is_vehicle_word(vehicle) {
+    if !is_folder_word(dir) || !is_name_word(vehicle) {
         return None;
     }
     Some(Trip {
