@@ -2,8 +2,9 @@
 """Runs the commands that the documents show, and compares what they print.
 
 A document shows a command in a fenced block of the kind `console`: a line that begins with `$ ` is a command, and the
-lines below it, up to the next command or the block's end, are its whole standard output. A last line `[status N]` says
-that it ends with status N, otherwise it ends with 0. Each command runs at the top of the repository."""
+lines below it, up to the next command or the block's end, are its whole standard output. A command with `<<'EOF'` goes on
+to the line `EOF`. A last line `[status N]` says that it ends with status N, otherwise it ends with 0. Each command runs at
+the top of the repository, in the order of the document."""
 import glob
 import os
 import re
@@ -12,6 +13,7 @@ import sys
 
 TOP = os.path.dirname(os.path.dirname(os.path.abspath(__file__)))
 BLOCK = re.compile(r"^```console\n(.*?)^```$", re.M | re.S)
+HERE_DOCUMENT = re.compile(r".*<<'EOF'\n(?s:.*?)^EOF\n", re.M)
 STATUS = re.compile(r"^\[status (\d+)\]\n", re.M)
 
 
@@ -26,7 +28,9 @@ def commands(text):
     """The commands of a document, each with the output and the status that it shows."""
     for block in BLOCK.findall(text):
         for part in re.split(r"^\$ ", block, flags=re.M)[1:]:
-            command, shown = part.split("\n", 1)
+            here = HERE_DOCUMENT.match(part)
+            end = here.end() if here else part.index("\n") + 1
+            command, shown = part[:end], part[end:]
             status = STATUS.search(shown)
             yield command, STATUS.sub("", shown), int(status.group(1)) if status else 0
 
@@ -50,7 +54,7 @@ def main():
                     passed += 1
                 else:
                     failed += 1
-                    print(f"{name}: {command}: {difference}")
+                    print(f"{name}: {command.splitlines()[0]}: {difference}")
     print(f"documents: {passed} passed, {failed} failed")
     return 1 if failed or not passed else 0
 
