@@ -1,4 +1,5 @@
 pub mod Climbing
 pub mod Rooting
+pub mod Winning
 pub mod Viewing
 pub mod Places

@@ -1,60 +1,9 @@
 -- The root is no worse than any leaf, and comes from one.
-use Rattle.std.proofs.Common.{◌≡◌, ◌⊎◌, inl, inr, ⊎_elim, ℕ, zero, suc, ◌+◌, ◌-◌, ◌*◌, ◌/◌, ◌≤◌, ◌<◌, Bool, true, false, Option, Some, None, List, refl, sym}
-use Rattle.std.proofs.Common.{◌∙◌, ap, subst, arith}
-use Rattle.std.specs.Prelude.{if◌then◌else◌}
+use Rattle.std.proofs.Common.{◌≡◌, ⊎_elim, ℕ, zero, suc, ◌+◌, ◌-◌, ◌*◌, ◌/◌, ◌≤◌, ◌<◌, Option, Some, List, sym, ◌∙◌, ap, subst, arith}
 use Rattle.std.proofs.lemmas.Bool.{cases_eq, cases_lt}
-use Rattle.std.proofs.lemmas.Bool.Decides.{nat_tests}
-use Rattle.label_queue.specs.Inside.Winners.{is_before, winner, label_at, IsWon, IsTree, IsNotAfter}
+use Rattle.label_queue.specs.Inside.Winners.{winner, label_at, IsWon, IsTree, IsNotAfter}
 use Rattle.label_queue.specs.declared.winners.Label.{Label}
-
-before_true : (a b : Label) → is_before a b ≡ true → (a.key < b.key) ⊎ ((a.key ≡ b.key) × (a.node ≤ b.node))
-before_true a b h = ⊎_elim
-    (λ (less : a.key < b.key). inl less)
-    (λ (more : b.key ≤ a.key). inr (grind (arith, nat_tests)))
-    (cases_lt a.key b.key)
-
-before_false : (a b : Label) → is_before a b ≡ false → (b.key < a.key) ⊎ ((b.key ≡ a.key) × (b.node ≤ a.node))
-before_false a b h = ⊎_elim
-    (λ (less : b.key < a.key). inl less)
-    (λ (more : a.key ≤ b.key). inr (grind (arith, nat_tests)))
-    (cases_lt b.key a.key)
-
-same_not_after : (a : Option Label) → IsNotAfter a a
-same_not_after None = tt
-same_not_after (Some a) = inr (refl, omega arith)
-
-not_after_on : (a b c : Option Label) → IsNotAfter a b → IsNotAfter b c → IsNotAfter a c
-not_after_on a b None one two = tt
-not_after_on a None (Some c) one two = absurd two
-not_after_on None (Some b) (Some c) one two = absurd one
-not_after_on (Some a) (Some b) (Some c) one two = grind arith
-
-better_left : (a b : Option Label) → IsNotAfter (winner a b) a
-better_left None b = tt
-better_left (Some a) None = inr (refl, omega arith)
-better_left (Some a) (Some b) = by (is_before a b) refl
-  where
-    by : (t : Bool) → is_before a b ≡ t → IsNotAfter (if t then Some a else Some b) (Some a)
-    by true h = inr (refl, omega arith)
-    by false h = before_false a b h
-
-better_right : (a b : Option Label) → IsNotAfter (winner a b) b
-better_right None b = same_not_after b
-better_right (Some a) None = tt
-better_right (Some a) (Some b) = by (is_before a b) refl
-  where
-    by : (t : Bool) → is_before a b ≡ t → IsNotAfter (if t then Some a else Some b) (Some b)
-    by true h = before_true a b h
-    by false h = inr (refl, omega arith)
-
-better_cases : (a b : Option Label) → (winner a b ≡ a) ⊎ (winner a b ≡ b)
-better_cases None b = inr refl
-better_cases (Some a) None = inl refl
-better_cases (Some a) (Some b) = by (is_before a b)
-  where
-    by : (t : Bool) → ((if t then Some a else Some b) ≡ Some a) ⊎ ((if t then Some a else Some b) ≡ Some b)
-    by true = inl refl
-    by false = inr refl
+use Rattle.label_queue.proofs.Winning.{same_not_after, not_after_on, better_left, better_right, better_cases}
 
 module _ (n : ℕ) (tree : List (Option Label)) (whole : IsTree n tree) where
   -- each place is no worse than the two below it

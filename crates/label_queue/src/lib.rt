@@ -5,8 +5,10 @@
 //! them at equal keys. It is proved at the methods of `LabelQueue`.
 //!
 //! The keys are the leaves of a tree of winners (`winners`): each place holds the label that comes first of the two below it, so
-//! the first of all stands at the root. A change writes one leaf and goes up only as far as a winner changes. All memory is made
-//! by `new`. `specs/Inside` is no law: it says what the tree keeps.
+//! the first of all stands at the root. A key that is put or lowered is written into its leaf and goes up as long as it wins
+//! against what stands there. A node that is taken out stood at each place from its leaf to the root, and these are won again on
+//! the way up, each by what has just been won below it and the place beside that. All memory is made by `new`. `specs/Inside` is
+//! no law: it says what the tree keeps.
 #![tactic(auto)]
 
 mod queue;

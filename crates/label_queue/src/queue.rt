@@ -3,7 +3,7 @@ ghost use Rattle.std.specs.Prelude.{◌≡◌, ◌⊎◌, ◌<◌, ◌≤◌, �
 ghost use Rattle.std.specs.Option.{IsSomeAnd, option_map};
 ghost use Rattle.label_queue.specs.Keys.{key_at, IsSet, IsTaken};
 
-use crate::winners::{Label, set_leaf};
+use crate::winners::{Label, clear, set_earlier};
 use route_base::{NodeId, OutOfMemory};
 use std::alloc::Global;
 use std::marker::Model;
@@ -57,7 +57,7 @@ impl LabelQueue {
         ensures { IsSet self.old self.new v.0 (Some key) }
     {
         let label = Label { key, node: v.0 };
-        set_leaf(&mut self.tree, self.nodes, v.0, Some(label));
+        set_earlier(&mut self.tree, self.nodes, label);
     }
 
     /// Gives a node that has a key one that is no larger. Logarithmic in n.
@@ -68,7 +68,7 @@ impl LabelQueue {
         ensures { IsSet self.old self.new v.0 (Some key) }
     {
         let lowered = Label { key, node: v.0 };
-        set_leaf(&mut self.tree, self.nodes, v.0, Some(lowered));
+        set_earlier(&mut self.tree, self.nodes, lowered);
     }
 
     /// Takes out the node with the least key, the smallest of them at equal keys, and answers it with its key; `None` exactly
@@ -82,7 +82,7 @@ impl LabelQueue {
             return None;
         }
         let label = self.tree[1]?;
-        set_leaf(&mut self.tree, self.nodes, label.node, None);
+        clear(&mut self.tree, self.nodes, label.node);
         Some((NodeId(label.node), label.key))
     }
 }

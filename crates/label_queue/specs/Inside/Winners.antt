@@ -1,5 +1,5 @@
 -- A tree of winners: the leaves are the nodes' labels, and each place above has the winner of the two below it (source: Knuth 5.4.1).
-use Rattle.std.specs.Prelude.{◌≡◌, ◌⊎◌, ℕ, ◌+◌, ◌-◌, ◌*◌, ◌≤◌, ◌<◌, ◌&&◌, ◌||◌, ◌==◌, Bool, nat_lt, nat_le, if◌then◌else◌, ⊤, Option, Some, None, List, length, get_or, map, drop}
+use Rattle.std.specs.Prelude.{◌≡◌, ◌⊎◌, ℕ, ◌+◌, ◌-◌, ◌*◌, ◌%◌, ◌≤◌, ◌<◌, ◌&&◌, ◌||◌, ◌==◌, Bool, nat_lt, nat_le, if◌then◌else◌, ⊤, Option, Some, None, List, length, get_or, map, drop}
 use Rattle.std.specs.Option.{option_map}
 use Rattle.label_queue.specs.declared.winners.Label.{Label}
 
@@ -32,6 +32,14 @@ pub record IsTreeBut (hole n : ℕ) (tree : List (Option Label)) : Type 0 where
   pub long : length tree ≡ 2 * n
   pub leaves : (v : ℕ) (label : Label) → 1 ≤ v → v ≤ n → label_at tree (n + v - 1) ≡ Some label → label.node ≡ v
   pub won : (i : ℕ) → 1 ≤ i → i < n → (i ≡ hole → ⊥) → IsWon tree i
+
+-- the winner of the two below the place is that of the label and of what stands there
+abbrev pub IsPassed : ℕ → ℕ → Option Label → List (Option Label) → Type 0
+IsPassed i n x tree = 1 ≤ i → i < n → winner (label_at tree (2 * i)) (label_at tree (2 * i + 1)) ≡ winner x (label_at tree i)
+
+-- the other of the two places below the same one
+abbrev pub beside : ℕ → ℕ
+beside i = if i % 2 == 0 then i + 1 else i - 1
 
 -- the keys of nodes 1 to n
 abbrev pub keys_in_leaves : ℕ → List (Option Label) → List (Option ℕ)

@@ -20,16 +20,16 @@ returns-in_err-label-clause-none c none v =
     ∙ c.in_err-label.was in
     subst (λ (w : List (Option ℕ)). key_at w v ≡ None) c.self.view_is (none_is c.self.inside.nodes tree c.self.invariant.0 root v)
 
-pub set_leaf-requires-clause-low : goal.set_leaf-requires-clause-low
-set_leaf-requires-clause-low c =
+pub clear-requires-clause-low : goal.clear-requires-clause-low
+clear-requires-clause-low c =
     let tree = c.self.inside.tree.items in
     let root : ◌≡◌ {A = Option Label} (label_at tree 1) (Some c.in_ok-label.label) =
     sym (c.index.ensures ∙ get_or_default tree 1 c.index.result.now None (omega (arith, c.self.invariant.0.long, c.if-self-eq0.false)))
     ∙ c.in_ok-label.was in
     (root_leaf c.self.inside.nodes tree c.self.invariant.0 c.in_ok-label.label (omega (arith, c.if-self-eq0.false)) root).0
 
-pub set_leaf-requires-clause-high : goal.set_leaf-requires-clause-high
-set_leaf-requires-clause-high c =
+pub clear-requires-clause-high : goal.clear-requires-clause-high
+clear-requires-clause-high c =
     let tree = c.self.inside.tree.items in
     let root : ◌≡◌ {A = Option Label} (label_at tree 1) (Some c.in_ok-label.label) =
     sym (c.index.ensures ∙ get_or_default tree 1 c.index.result.now None (omega (arith, c.self.invariant.0.long, c.if-self-eq0.false)))
@@ -42,7 +42,7 @@ returns-clause-some c =
     let root : ◌≡◌ {A = Option Label} (label_at tree 1) (Some c.in_ok-label.label) =
     sym (c.index.ensures ∙ get_or_default tree 1 c.index.result.now None (omega (arith, c.self.invariant.0.long, c.if-self-eq0.false)))
     ∙ c.in_ok-label.was in
-    subst (λ (w : List (Option ℕ)). IsTaken w (keys_in_leaves c.self.inside.nodes c.set_leaf.new.tree.items) c.in_ok-label.label.node c.in_ok-label.label.key)
+    subst (λ (w : List (Option ℕ)). IsTaken w (keys_in_leaves c.self.inside.nodes c.clear.new.tree.items) c.in_ok-label.label.node c.in_ok-label.label.key)
     c.self.view_is
-    (taken_is c.self.inside.nodes tree c.set_leaf.new.tree.items c.self.invariant.0
-    (omega (arith, c.if-self-eq0.false)) c.in_ok-label.label root c.set_leaf.ensures)
+    (taken_is c.self.inside.nodes tree c.clear.new.tree.items c.self.invariant.0
+    (omega (arith, c.if-self-eq0.false)) c.in_ok-label.label root c.clear.ensures)
