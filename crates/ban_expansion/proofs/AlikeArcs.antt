@@ -1,6 +1,6 @@
 -- Arcs of one area with the same closures and the same rules of their own are closed at the same minutes.
 use Rattle.std.proofs.Common.{◌≡◌, ℕ, ◌||◌, Bool, false, not, Option, Some, None, unwrap_or, is_some, option_and_then, ltb}
-use Rattle.std.proofs.Common.{List, [], ◌∷◌, length, refl, sym, ◌∙◌, ap, arith}
+use Rattle.std.proofs.Common.{List, [], ◌∷◌, All, length, refl, sym, ◌∙◌, ap, arith}
 use Rattle.std.specs.List.{list_any}
 use Rattle.std.specs.Option.{option_or}
 use Rattle.route_base.specs.Runs.{any_has}
@@ -18,7 +18,7 @@ use Rattle.network_tables.specs.NetworkModel.{NetworkModel, closures_of}
 use Rattle.network_tables.specs.Rules.{plain_at, conditional_at}
 use Rattle.network_tables.specs.declared.rules.place.RulePlace.{RulePlace}
 use Rattle.network_tables.specs.declared.rules.place.Scope.TheVariants as scopes
-use Rattle.ban_expansion.specs.Inside.Grouping.{AreAlike, every_key, has_own, has_own_rule}
+use Rattle.ban_expansion.specs.Inside.Grouping.{AreAlike, HaveSameRules, every_key, has_own, has_own_rule}
 use Rattle.ban_expansion.proofs.ItemLists.{got_fails, or_none}
 
 nothing_there : {A : Type 0} (o : Option A) → is_some o ≡ false → o ≡ None
@@ -38,6 +38,25 @@ no_key p none keys.Hgv = got_fails p every_key 3 keys.Hgv refl none
 no_key p none keys.HgvArticulated = got_fails p every_key 4 keys.HgvArticulated refl none
 no_key p none keys.Goods = got_fails p every_key 5 keys.Goods refl none
 no_key p none keys.Bus = got_fails p every_key 6 keys.Bus refl none
+
+-- what holds of the list of all keys holds of each key
+of_key : (P : Key → Type 0) → All P every_key → (key : Key) → P key
+of_key P all keys.Access = all 0 keys.Access (omega arith)
+of_key P all keys.Vehicle = all 1 keys.Access (omega arith)
+of_key P all keys.MotorVehicle = all 2 keys.Access (omega arith)
+of_key P all keys.Hgv = all 3 keys.Access (omega arith)
+of_key P all keys.HgvArticulated = all 4 keys.Access (omega arith)
+of_key P all keys.Goods = all 5 keys.Access (omega arith)
+of_key P all keys.Bus = all 6 keys.Access (omega arith)
+
+pub alike_by_keys : (net : NetworkModel) (a b : ℕ) → area_place net a ≡ area_place net b → closures_of net a ≡ closures_of net b
+    → All (HaveSameRules net a b) every_key → AreAlike net a b
+alike_by_keys net a b area closures rules = record {
+  area = area;
+  closures = closures;
+  plain = λ key. (of_key (HaveSameRules net a b) rules key).plain;
+  conditional = λ key. (of_key (HaveSameRules net a b) rules key).conditional;
+}
 
 module _ (net : NetworkModel) (vehicle : VehicleModel) (a b t : ℕ) where
   abbrev given : ℕ → RulePlace → Option Access

@@ -1,5 +1,5 @@
 -- Items of lists that grow, and of two lists side by side.
-use Rattle.std.proofs.Common.{◌≡◌, ℕ, zero, suc, ◌||◌, Bool, true, false, Some, List, [], ◌∷◌, ◌++◌, All, length, get_or, slice_get}
+use Rattle.std.proofs.Common.{◌≡◌, ℕ, zero, suc, ◌||◌, Bool, true, false, Some, List, [], ◌∷◌, ◌++◌, All, length, map, get_or, slice_get}
 use Rattle.std.proofs.Common.{refl, sym, ◌∙◌, ap, subst}
 use Rattle.std.specs.List.{AllZip, list_any}
 use Rattle.std.proofs.Math.ListN.{set}
@@ -72,3 +72,11 @@ module _ {A B : Type 0} (R : A → B → Type 0) where
   zip_all P each [] (b ∷ ys) all = absurd all
   zip_all P each (a ∷ xs) [] all = absurd all
   zip_all P each (a ∷ xs) (b ∷ ys) all = All-cons P b ys (each a b all.0) (zip_all P each xs ys all.1)
+
+-- two lists side by side, the second made from another, and two more behind them
+pub zip_append : {A B C : Type 0} (R : A → B → Type 0) (f : C → B) (xs ys : List A) (us vs : List C) → AllZip R xs (map f us)
+    → AllZip R ys (map f vs) → AllZip R (xs ++ ys) (map f (us ++ vs))
+zip_append R f [] ys [] vs all more = more
+zip_append R f [] ys (u ∷ us) vs all more = absurd all
+zip_append R f (x ∷ xs) ys [] vs all more = absurd all
+zip_append R f (x ∷ xs) ys (u ∷ us) vs all more = (all.0, zip_append R f xs ys us vs all.1 more)

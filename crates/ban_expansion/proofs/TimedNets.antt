@@ -130,3 +130,20 @@ module _ (net : NetworkModel) (vehicle : VehicleModel) (window : Run) (all : Gro
         closed_minutes a t (some_inside road_over (at_number net.graph.arcs a) there)
         ∙ ap (λ (b : Bool). b && is_closed net vehicle a t) (and_from _ _ (le-leb window.lo t from) (lt-ltb t window.hi to));
   }
+
+-- a net of these parts, with nodes and weights that are the network's
+abbrev pub net_with : ℕ → List TimedArc → List (List Run) → List (Option ℕ) → Net
+net_with n arcs closed weights = record { nodes = n; arcs = arcs; closed = closed; weights = weights }
+
+pub net_made : (net : NetworkModel) (vehicle : VehicleModel) (window : Run) (all : GroupsModel) (arcs : List TimedArc) (lists : List (List Run))
+    → IsGoodNetwork net → IsGoodGraph net.graph → AreGroups net all
+    → AreTimed net all.groups (length net.graph.arcs) arcs → AreClosedLists net vehicle window all.firsts lists
+    → {n : ℕ} {weights : List (Option ℕ)} → n ≡ net.graph.nodes → weights ≡ net.weights
+    → IsGoodNet (net_with n arcs lists weights) × StandsFor (setting_of (net_with n arcs lists weights)) (road_setting net vehicle) window
+net_made net vehicle window all arcs lists good graph groups timed sets nodes weights =
+    let same : net_with net.graph.nodes arcs lists net.weights ≡ net_with _ arcs lists _ =
+    λ i. net_with (sym nodes i) arcs lists (sym weights i) in (
+      subst IsGoodNet same (good_net net vehicle window all arcs lists good graph groups timed sets),
+      subst (λ (n : Net). StandsFor (setting_of n) (road_setting net vehicle) window) same
+          (net_stands net vehicle window all arcs lists good graph groups timed sets),
+    )

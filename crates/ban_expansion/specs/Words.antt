@@ -8,8 +8,9 @@ pub use Rattle.conditional_rules.specs.Decisions.{decision, last_given}
 pub use Rattle.network_tables.specs.Access.{access_at, area_at, decision_at, given_at, is_closed, is_let_in, places_of_key}
 pub use Rattle.network_tables.specs.NetworkModel.{NetworkModel, closures_of}
 pub use Rattle.network_tables.specs.RoadSetting.{road_setting}
-pub use Rattle.ban_expansion.specs.ArcGroups.{AreGroups}
+pub use Rattle.ban_expansion.specs.ArcGroups.{AreGroups, IsArc, IsInGroup}
 pub use Rattle.ban_expansion.specs.Bans.{HasThose, Lays, part_holds_at, clause_holds_at, clause_gives}
 pub use Rattle.ban_expansion.specs.Coverage.{IsWindow}
 pub use Rattle.ban_expansion.specs.Inside.GroupedNets.{AreClosedLists, AreTimed, IsTimed, timed_over}
-pub use Rattle.ban_expansion.specs.Inside.Grouping.{AreGrouped, AreShared, begun, begun_shared, every_key, has_own, has_own_rule, joined}
+pub use Rattle.ban_expansion.specs.Inside.Grouping.{AreAlike, AreGrouped, AreShared, HaveSameRules}
+pub use Rattle.ban_expansion.specs.Inside.Grouping.{begun, begun_shared, every_key, has_own, has_own_rule, joined}

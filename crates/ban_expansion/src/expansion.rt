@@ -1,16 +1,17 @@
 // Makes the net of a network for a vehicle, over which trips are planned.
-ghost use Rattle.std.specs.Prelude.{◌≡◌, ◌≤◌, ◌<◌, length, map, IfOk};
+ghost use Rattle.std.specs.Prelude.{◌≡◌, ◌≤◌, ◌<◌, length, IfOk};
 ghost use Rattle.ban_expansion.specs.Words.{StandsFor, setting_of, IsGoodGraph, road_setting, IsWindow};
-ghost use Rattle.ban_expansion.specs.Words.{AreGroups, AreClosedLists, AreTimed, IsTimed, timed_over};
+ghost use Rattle.ban_expansion.specs.Words.{AreGroups, AreTimed, IsTimed, timed_over};
 
 use crate::arc_groups::ArcGroups;
-use crate::closed_sets::closed_set;
 use crate::grouping::group_arcs;
+use crate::parts::{closed_lists, closed_lists_at_once};
 use dimacs_reader::GraphArc;
 use network_tables::Network;
 use route_base::limits::COST_OF_MINUTE;
-use route_base::{ArcId, Cost, NodeId, OutOfMemory, Run, TimedArc, TimedNet};
+use route_base::{ArcId, Cost, Gate, NodeId, OutOfMemory, Run, TimedArc, TimedNet};
 use std::alloc::Global;
+use std::thread::Threads;
 use vehicle_classes::Vehicle;
 
 // The arc of the net, with its closed runs at this place.
@@ -56,28 +57,6 @@ fn timed_arcs(
     Ok(arcs)
 }
 
-// For each group the closed minutes of its first arc.
-fn closed_lists(
-    alloc: Global,
-    network: &Network,
-    groups: &ArcGroups,
-    vehicle: &Vehicle,
-    window: Run,
-) -> Result<Vec<Vec<Run>>, OutOfMemory>
-    requires groups { AreGroups network.now groups.now }
-    requires window { IsWindow window }
-    ensures { IfOk result (λ lists. AreClosedLists network.now vehicle.now window groups.now.firsts
-        (map (λ v. v.items) lists.items)) }
-{
-    let firsts = groups.firsts();
-    let mut lists = Vec::with_capacity(alloc, firsts.len())?;
-    for first in firsts {
-        let set = closed_set(alloc, network, vehicle, *first, window)?;
-        lists.push(set.into_runs())?;
-    }
-    Ok(lists)
-}
-
 // The weight of each node where one may wait.
 fn weights_of(alloc: Global, network: &Network) -> Result<Vec<Option<Cost>>, OutOfMemory>
     ensures { IfOk result (λ weights. weights.items ≡ network.now.weights) }
@@ -106,7 +85,7 @@ pub fn expand_groups(
 {
     let nodes = network.graph().node_count();
     let arcs = timed_arcs(alloc, network, groups)?;
-    let closed = closed_lists(alloc, network, groups, vehicle, window)?;
+    let closed = closed_lists(alloc, network, groups.firsts(), vehicle, window)?;
     let weights = weights_of(alloc, network)?;
     Ok(TimedNet::new(nodes, arcs, closed, weights))
 }
@@ -128,4 +107,30 @@ pub fn expand_plain(
 {
     let groups = group_arcs(alloc, network)?;
     expand_groups(alloc, network, &groups, vehicle, window)
+}
+
+/// The net that `expand_plain` makes, with the closed minutes of its groups made by several workers at once, each in its part of the
+/// groups; a worker goes through the gate before it begins a part.
+///
+/// It takes the time of `group_arcs` and of the longest of at most eight parts, and beside that of `expand_plain` no memory but the
+/// workers'.
+pub fn expand<R: Threads + Sync, G: Gate>(
+    rt: &R,
+    alloc: Global,
+    network: &Network,
+    vehicle: &Vehicle,
+    window: Run,
+    gate: &G,
+) -> Result<TimedNet, OutOfMemory>
+    requires { IsWindow window }
+    ensures { IfOk result (λ net.
+        StandsFor (setting_of net) (road_setting network.now vehicle.now) window) }
+{
+    let groups = group_arcs(alloc, network)?;
+    let nodes = network.graph().node_count();
+    let arcs = timed_arcs(alloc, network, &groups)?;
+    let firsts = groups.firsts();
+    let closed = closed_lists_at_once(rt, alloc, network, firsts, vehicle, window, gate)?;
+    let weights = weights_of(alloc, network)?;
+    Ok(TimedNet::new(nodes, arcs, closed, weights))
 }

@@ -1,32 +1,26 @@
 // Finds the arcs of a network that are closed at the same minutes.
-ghost use Rattle.std.specs.Prelude.{◌≡◌, ◌+◌, ◌≤◌, ◌<◌, ◌^◌, Some, [], length, slice_get, IfOk, OnOk};
+ghost use Rattle.std.specs.Prelude.{◌≡◌, ◌+◌, ◌≤◌, ◌<◌, ◌^◌, All, Some, [], length, slice_get, IfOk, IfSome, OnOk};
 ghost use Rattle.std.specs.List.{list_any};
 ghost use Rattle.ban_expansion.specs.Words.{AreGroups, AreGrouped, AreShared, begun_shared, every_key, has_own, has_own_rule};
-ghost use Rattle.ban_expansion.specs.Words.{IsGoodGraph, NetworkModel};
+ghost use Rattle.ban_expansion.specs.Words.{IsArc, IsInGroup, IsGoodGraph, NetworkModel};
 
+use crate::arc_comparison::{EVERY_KEY, are_alike};
+use crate::arc_digests::arc_digest;
 use crate::arc_groups::ArcGroups;
+use indexmap::IndexMap;
 use network_tables::Network;
 use route_base::{ArcId, OutOfMemory};
 use std::alloc::Global;
 use std::marker::Model;
 use vehicle_classes::Key;
 
-// All keys of access, from general to special.
-const EVERY_KEY: [Key; 7] = [
-    Key::Access,
-    Key::Vehicle,
-    Key::MotorVehicle,
-    Key::Hgv,
-    Key::HgvArticulated,
-    Key::Goods,
-    Key::Bus,
-];
-
-// Groups so far, and for each area the group of its arcs that have nothing of their own, if there is one yet.
+// Groups so far, and for each area the group of its arcs that have nothing of their own, if there is one yet. The groups of the other
+// arcs are found by the digests of their first arcs.
 #[derive(Drop)]
 struct Grouping {
     all: ArcGroups,
     shared: Vec<Option<u32>>,
+    by_digest: IndexMap<u64, u32>,
 }
 
 impl Model for Grouping {
@@ -77,7 +71,12 @@ impl Grouping {
     {
         let shared = none_shared(alloc, areas)?;
         let all = ArcGroups::new(alloc);
-        Ok(Grouping { all, shared })
+        let by_digest = IndexMap::new(alloc);
+        Ok(Grouping {
+            all,
+            shared,
+            by_digest,
+        })
     }
 
     // The group that the area at this place shares, if there is one yet.
@@ -99,9 +98,66 @@ impl Grouping {
         Ok(())
     }
 
-    // Groups the arc at place k from 0. An arc with closures or rules of its own begins a group; the others share the group of
-    // their area.
-    fn add(&mut self, network: &Network, k: u32) -> Result<(), OutOfMemory>
+    // The group that this digest finds, with its first arc.
+    fn candidate(&self, digest: u64) -> Option<(u32, ArcId)>
+        ensures { IfSome result (λ found. slice_get self.now.all.firsts found.0 ≡ Some found.1) }
+    {
+        let group = *self.by_digest.get(&digest)?;
+        let first = *self.all.firsts().get(group as usize)?;
+        Some((group, first))
+    }
+
+    // The group that this digest finds, if its first arc is like this one.
+    fn group_of_alike(
+        &self,
+        alloc: Global,
+        network: &Network,
+        a: ArcId,
+        digest: u64,
+    ) -> Result<Option<u32>, OutOfMemory>
+        requires arc { IsArc network.now a }
+        requires firsts { All (IsArc network.now) self.now.all.firsts }
+        ensures { IfOk result (λ found. IfSome found (λ group.
+            IsInGroup network.now self.now.all.firsts a.0 group)) }
+    {
+        if let Some((group, first)) = self.candidate(digest) {
+            if are_alike(alloc, network, a, first)? {
+                return Ok(Some(group));
+            }
+        }
+        Ok(None)
+    }
+
+    // Lets the digest find this group, where it finds none yet.
+    fn note(&mut self, digest: u64, group: u32) -> Result<(), OutOfMemory>
+        ensures { self.new ≡ self.old }
+    {
+        if !self.by_digest.contains_key(&digest) {
+            self.by_digest.insert(digest, group)?;
+        }
+        Ok(())
+    }
+
+    // Groups the arc at place k from 0, which has something of its own. It shares the group of an arc like it, or begins a group.
+    fn add_own(&mut self, alloc: Global, network: &Network, k: u32) -> Result<(), OutOfMemory>
+        requires within { k < length network.now.graph.arcs }
+        requires graph { IsGoodGraph network.now.graph }
+        requires grouped { AreGrouped network.now k self.old }
+        ensures { OnOk result (AreGrouped network.now (k + 1) self.new) }
+    {
+        let a = ArcId(k + 1);
+        let digest = arc_digest(alloc, network, a)?;
+        if let Some(group) = self.group_of_alike(alloc, network, a, digest)? {
+            self.all.join(group)?;
+            return Ok(());
+        }
+        let begun = self.all.begin(a)?;
+        self.note(digest, begun)?;
+        Ok(())
+    }
+
+    // Groups the arc at place k from 0. An arc without closures or rules of its own shares the group of its area.
+    fn add(&mut self, alloc: Global, network: &Network, k: u32) -> Result<(), OutOfMemory>
         requires within { k < length network.now.graph.arcs }
         requires graph { IsGoodGraph network.now.graph }
         requires grouped { AreGrouped network.now k self.old }
@@ -109,8 +165,7 @@ impl Grouping {
     {
         let a = ArcId(k + 1);
         if has_any(network, a) {
-            self.all.begin(a)?;
-            return Ok(());
+            return self.add_own(alloc, network, k);
         }
         let area = network.area_of(a);
         if let Some(group) = self.shared_by(area) {
@@ -130,15 +185,18 @@ impl Grouping {
 }
 
 /// The arcs of the network in groups, so that one `closed_set` for each group serves all its arcs, for every vehicle and every
-/// window. Arcs of one area that have no closures and no rules of their own share a group; each other arc has one of its own.
+/// window. Arcs of one area that have the same closures and the same rules of their own, or none, share a group. They are found by
+/// digests, so where arcs that differ have one digest there may be more groups than that.
 ///
-/// It takes fourteen look-ups of rules for an arc, and is linear in arcs and areas, in time and memory.
+/// It takes fourteen look-ups of rules for an arc, and some more for an arc that has closures or rules of its own. It is linear in
+/// areas, arcs, the closures of single arcs, and the bytes of the canonical texts of their conditional values, in time; in memory in
+/// areas and arcs, and in two of these texts.
 pub fn group_arcs(alloc: Global, network: &Network) -> Result<ArcGroups, OutOfMemory>
     ensures { IfOk result (AreGroups network.now) }
 {
     let mut grouping = Grouping::new(alloc, network.area_count())?;
     for k in 0..network.graph().arc_count() {
-        grouping.add(network, k)?;
+        grouping.add(alloc, network, k)?;
     }
     Ok(grouping.into_groups())
 }

@@ -5,10 +5,12 @@
 //! closed to it. `closed_at` meets it for one instant, `closed_set` for all minutes of a window at once, and `expand_plain` makes
 //! a net of all arcs that stands for `road_setting` within the window.
 //!
-//! Arcs of an area share a set where they can. The grouping serves all vehicles and windows: `group_arcs` finds it once for a
-//! network, and `expand_groups` makes the net of a vehicle and a window over these groups. Where many nets of one network are made,
-//! call these two in place of `expand_plain`; threads may share the groups. `ArcGroups` is their law: to every vehicle, an arc is
-//! closed at exactly the minutes at which the first arc of its group is.
+//! Arcs of one area with the same closures and the same rules of their own share a set. `arc_digests` finds arcs that may be
+//! alike, and `arc_comparison` compares them exactly. The grouping serves all vehicles and windows: `group_arcs` finds it once
+//! for a network, and `expand_groups` makes the net of a vehicle and a window over these groups. Where many nets of one network
+//! are made, call these two in place of `expand_plain`; threads may share the groups. `expand` is `expand_plain` on several
+//! workers. `ArcGroups` is their law: to every vehicle, an arc is closed at exactly the minutes at which the first arc of its
+//! group is.
 //!
 //! The law of the parts is in `specs/`. `Coverage` says as a test which minutes of UTC hours cover: local time is read in the
 //! zone, and the spans that began on the local day or up to seven days before it count. The law `covered_exactly` says that this
@@ -23,6 +25,8 @@
 #![tactic(auto)]
 
 mod access;
+mod arc_comparison;
+mod arc_digests;
 mod arc_groups;
 mod closed_sets;
 mod coverage;
@@ -31,13 +35,14 @@ mod grouping;
 mod laws;
 mod layers;
 mod local_days;
+mod parts;
 mod threads;
 
 pub use access::closed_at;
 pub use arc_groups::ArcGroups;
 pub use closed_sets::closed_set;
 pub use coverage::covered_minutes;
-pub use expansion::{expand_groups, expand_plain};
+pub use expansion::{expand, expand_groups, expand_plain};
 pub use grouping::group_arcs;
 pub use laws::{covered_exactly, last_of_all};
 pub use layers::{Layer, closed_by, common, overlaid};

@@ -18,12 +18,12 @@ use Rattle.conditional_rules.specs.Conditions as conditions
 use Rattle.conditional_rules.specs.Cutting.{trimmed, is_within, semicolon_from, first_semicolon, first_and}
 use Rattle.conditional_rules.proofs.Joined.{Each, IsPiece, pieces, each_of, each_map, joined_cut}
 use Rattle.conditional_rules.proofs.Over.{IsOver, empty_over, both_over}
-use Rattle.conditional_rules.proofs.Tight.{IsTight, IsGap, step, starts_before, ends_within, trimmed_same}
+use Rattle.conditional_rules.proofs.Tight.{IsCompact, IsGap, step, starts_before, ends_within, trimmed_same}
 use Rattle.conditional_rules.proofs.PartsAgain.{part_again}
 
 -- the printed text of a part is tight, and it is the same part
 abbrev IsAgain : Part → Type 0
-IsAgain part = IsTight (part_text part) × IsPart (part_text part) part
+IsAgain part = IsCompact (part_text part) × IsPart (part_text part) part
 
 abbrev mark_of_parts : List ℕ
 mark_of_parts = codes " AND "

@@ -21,7 +21,7 @@ use Rattle.conditional_rules.specs.Conditions as conditions
 use Rattle.conditional_rules.specs.Cutting.{is_and, starts_with_and}
 use Rattle.conditional_rules.proofs.PrintedComparisons.{comparison_again}
 use Rattle.conditional_rules.proofs.ComparisonBytes.{comparison_no_blank, comparison_no_parenthesis, comparison_has_sign}
-use Rattle.conditional_rules.proofs.Tight.{IsTight, IsGap, IsDark, dark_passes, none_of}
+use Rattle.conditional_rules.proofs.Tight.{IsCompact, IsGap, IsDark, dark_passes, none_of}
 use Rattle.conditional_rules.proofs.TightHours.{hours_again}
 
 dark_ends : (b : ℕ) (bs : List ℕ) → IsDark (b ∷ bs) → EndsFilled (b ∷ bs)
@@ -30,7 +30,7 @@ dark_ends b (c ∷ cs) h = dark_ends c cs (or_parts (is_blank b) (list_any is_bl
 
 -- a word that is no AND is tight
 word_tight : (b : ℕ) (bs : List ℕ) → IsDark (b ∷ bs) → has_parenthesis (b ∷ bs) ≡ false
-    → ((rest : List ℕ) → IsGap rest → starts_with_and (32 ∷ b ∷ (bs ++ rest)) ≡ false) → IsTight (b ∷ bs)
+    → ((rest : List ℕ) → IsGap rest → starts_with_and (32 ∷ b ∷ (bs ++ rest)) ≡ false) → IsCompact (b ∷ bs)
 word_tight b bs dark plain behind = record {
   starts = (or_parts (is_blank b) (list_any is_blank bs) dark).0;
   ends = dark_ends b bs dark;
@@ -78,7 +78,7 @@ flag_behind b (c ∷ d ∷ e ∷ es) rest letter dark other gap =
     let later = or_parts (is_blank d) (list_any is_blank (e ∷ es)) (or_parts (is_blank c) (list_any is_blank (d ∷ e ∷ es)) dark).1 in
     no_blank_fourth b c d e (es ++ rest) (or_parts (is_blank e) (list_any is_blank es) later.1).0
 
-flag_tight : (w : List ℕ) → is_flag w ≡ true → IsTight w
+flag_tight : (w : List ℕ) → is_flag w ≡ true → IsCompact w
 unfolding is_flag
 flag_tight [] h = absurd cc
 flag_tight (b ∷ bs) h =
@@ -91,11 +91,11 @@ flag_tight (b ∷ bs) h =
     (none_of is_flag_byte (λ c. c == 40 || c == 41) flag_plain (b ∷ bs) bytes)
     (λ rest gap. flag_behind b bs rest first.0 dark (not-true reserved later.1) gap)
 
-comparison_tight : (text : List ℕ) (q : Quantity) (c : Comparison) (v : ℕ) → IsComparison text q c v → IsTight (part_text (Compare q c v))
+comparison_tight : (text : List ℕ) (q : Quantity) (c : Comparison) (v : ℕ) → IsComparison text q c v → IsCompact (part_text (Compare q c v))
 comparison_tight text q c v h = by q (comparison_no_blank text q c v h) (comparison_no_parenthesis text q c v h)
   where
     by : (q : Quantity) → IsDark (part_text (Compare q c v)) → has_parenthesis (part_text (Compare q c v)) ≡ false
-        → IsTight (part_text (Compare q c v))
+        → IsCompact (part_text (Compare q c v))
     by Weight d p = word_tight 119 (codes "eight" ++ (sign_text c ++ measure_text 3 v)) d p (λ rest gap. refl)
     by Axleload d p = word_tight 97 (codes "xleload" ++ (sign_text c ++ measure_text 3 v)) d p (λ rest gap. refl)
     by Height d p = word_tight 104 (codes "eight" ++ (sign_text c ++ measure_text 2 v)) d p (λ rest gap. refl)
@@ -104,7 +104,7 @@ comparison_tight text q c v h = by q (comparison_no_blank text q c v h) (compari
     by Axles d p = word_tight 97 (codes "xles" ++ (sign_text c ++ measure_text 0 v)) d p (λ rest gap. refl)
 
 -- The printed text of a part is tight, and it is the same part.
-pub part_again : (text : List ℕ) (part : Part) → IsPart text part → IsTight (part_text part) × IsPart (part_text part) part
+pub part_again : (text : List ℕ) (part : Part) → IsPart text part → IsCompact (part_text part) × IsPart (part_text part) part
 part_again text part (conditions.compared {quantity = q} {comparison = c} {value = v} sign h) =
     (comparison_tight text q c v h, conditions.compared (comparison_has_sign q c v) (comparison_again text q c v h))
 part_again text part (conditions.flagged sign h) = (flag_tight text h, conditions.flagged sign h)

@@ -24,7 +24,7 @@ abbrev pub Passes : List ℕ → List ℕ → Type 0
 Passes text rest = IsOver first_and first_and text rest
 
 -- no blank at the ends, no parenthesis, and no word AND where a gap is behind the text
-pub record IsTight (text : List ℕ) : Type 0 where
+pub record IsCompact (text : List ℕ) : Type 0 where
   pub starts : StartsFilled text
   pub ends : EndsFilled text
   pub plain : has_parenthesis text ≡ false

@@ -32,7 +32,7 @@ use Rattle.conditional_rules.specs.declared.conditional.Part.TheVariants.{Times}
 use Rattle.route_base.specs.Forms.{is_blank}
 use Rattle.conditional_rules.specs.Cutting.{is_and, starts_with_and, first_and}
 use Rattle.conditional_rules.proofs.Over.{both_over}
-use Rattle.conditional_rules.proofs.Tight.{IsTight, IsDark, Passes, step, dark_passes, none_of}
+use Rattle.conditional_rules.proofs.Tight.{IsCompact, IsDark, Passes, step, dark_passes, none_of}
 
 -- a digit is no blank
 digit_dark : (n : ℕ) → is_blank (48 + n % 10) ≡ false
@@ -197,7 +197,7 @@ hours_no_flag (b ∷ bs) h =
           | inr closed ↦ let known : true ≡ false = ap (is_among reserved_words) (sym closed) ∙ g in absurd cc
         ]
 
-tokens_tight : (ts : List Token) → AllSpell ts → IsPlain (spell ts) → IsTight (spell ts)
+tokens_tight : (ts : List Token) → AllSpell ts → IsPlain (spell ts) → IsCompact (spell ts)
 unfolding spell
 tokens_tight [] h plain = absurd plain.starts
 tokens_tight (t ∷ ts) h plain = record {
@@ -210,7 +210,7 @@ tokens_tight (t ∷ ts) h plain = record {
 
 -- The canonical text of hours is tight, and it is a part.
 pub hours_again : (text : List ℕ) (rules : List HoursRule) → IsHours text rules
-    → IsTight (hours_text rules) × IsPart (hours_text rules) (Times rules)
+    → IsCompact (hours_text rules) × IsPart (hours_text rules) (Times rules)
 hours_again text rules h =
     let read = print_read rules (text, h) in
     let plain = hours_plain (hours_text rules) rules read in

@@ -1,15 +1,17 @@
 -- A plan that is ready over a net is ready over the roads that the net stands for.
-use Rattle.std.proofs.Common.{◌≡◌, ℕ, Some, None, Option, List, ◌∙◌}
+use Rattle.std.proofs.Common.{◌≡◌, ℕ, Some, None, Option, List, ◌∙◌, arith}
 use Rattle.route_base.specs.Front.{IsRight}
+use Rattle.route_base.specs.Net.{Net}
 use Rattle.route_base.specs.Setting.{Setting}
 use Rattle.route_base.specs.declared.types.Route.{Route}
+use Rattle.network_tables.specs.NetworkModel.{NetworkModel}
 use Rattle.certificate.specs.declared.Certificate.{Certificate}
 use Rattle.certificate_check.specs.Verdicts.{IsGood}
 use Rattle.plan_certificate.specs.Tight.{IsTight}
 use Rattle.plan_report.specs.Reports.{report_text}
-use Rattle.front_desk.specs.CommandLine.{Plan}
-use Rattle.front_desk.specs.Inside.Planning.{IsFileFor, IsReady}
-use Rattle.front_desk.specs.Trips.{request_of}
+use Rattle.front_desk.specs.CommandLine.{IsTimed, Plan}
+use Rattle.front_desk.specs.Inside.Planning.{IsFileFor, IsPlannable, IsReady, IsTripNet}
+use Rattle.front_desk.specs.Trips.{IsGoodTrip, Trip, request_of}
 use Rattle.front_desk.specs.declared.plan.CertificateFile.{CertificateFile}
 use Rattle.front_desk.specs.declared.plan.Planned.{Planned}
 
@@ -41,3 +43,18 @@ module _ (s z : Setting) (p : Plan)
     is_text = ready.is_text ∙ same ready.routes;
     file = file_stands ready.routes p.certificate planned.certificate ready.file;
   }
+
+-- a trip that passes the checks may be planned over its net
+pub plannable : (network : NetworkModel) (trip : Trip) (net : Net) → IsTripNet network trip net → IsGoodTrip network.graph.nodes trip → IsTimed trip
+    → IsPlannable net (request_of trip)
+plannable network trip net is good timed = record {
+  good = is.good;
+  depart = timed.depart;
+  until = timed.until;
+  in_time = good.in_order;
+  horizon = omega (arith, good.short);
+  fit = is.fit;
+  cheap = is.cheap;
+  nodes = is.nodes;
+  arcs = is.arcs;
+}

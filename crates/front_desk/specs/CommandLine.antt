@@ -37,9 +37,9 @@ abbrev pub gen_in : GenWords → Gen
 gen_in words = record { dir = words.dir.now; number = words.number; rows = words.rows; columns = words.columns }
 
 -- the command that the code holds
-abbrev pub command_in : CommandWords → Command
-command_in (held.Plan words) = to_plan (plan_in words)
-command_in (held.Check words) = to_check (check_in words)
-command_in (held.Bans words) = to_bans (bans_in words)
-command_in (held.Batch words) = to_batch (batch_in words)
-command_in (held.Gen words) = to_gen (gen_in words)
+abbrev pub command_lent : CommandWords → Command
+command_lent (held.Plan words) = to_plan (plan_in words)
+command_lent (held.Check words) = to_check (check_in words)
+command_lent (held.Bans words) = to_bans (bans_in words)
+command_lent (held.Batch words) = to_batch (batch_in words)
+command_lent (held.Gen words) = to_gen (gen_in words)

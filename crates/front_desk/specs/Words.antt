@@ -12,7 +12,7 @@ pub use Rattle.plan_report.specs.Refusals.{refusal_text_of}
 pub use Rattle.front_desk.specs.Bans.{failed_bans_check, window_of, AreBans, IsBansText}
 pub use Rattle.front_desk.specs.Batch.{jobs_file, jobs_bytes, jobs_held, jobs_fault, batch_fault, IsTextAt, IsBatchText}
 pub use Rattle.front_desk.specs.CommandLine.{Command, to_plan, to_check, to_bans, to_batch, to_gen, command_of}
-pub use Rattle.front_desk.specs.CommandLine.{plan_in, check_in, bans_in, batch_in, gen_in, command_in}
+pub use Rattle.front_desk.specs.CommandLine.{plan_in, check_in, bans_in, batch_in, gen_in, command_lent}
 pub use Rattle.front_desk.specs.CommandLine.{AsksSupported, IsTimed}
 pub use Rattle.front_desk.specs.Check.{certificate_file, check_fault, certificate_held, check_setting, IsAccepted, IsRejected}
 pub use Rattle.front_desk.specs.Commands.{first_fault_for, failed_check_for, IsFinished, IsUndisturbed, ReadsNothing, LeavesFiles, LeavesPlan, LeavesGen, WritesFiles}

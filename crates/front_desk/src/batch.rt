@@ -17,10 +17,10 @@ use crate::requests::{Trip, vehicle_of_trip};
 use ban_expansion::{ArcGroups, group_arcs};
 use network_tables::{Job, Jobs, Network, read_jobs};
 use plan_report::{Refusal, batch_text, refusal_text};
-use route_base::{BadInput, FileKind, Folder, Form, JobText, OutOfMemory, TableFault};
+use route_base::{BadInput, FileKind, Folder, Form, Gate, JobText, OutOfMemory, TableFault};
 use std::alloc::Global;
 use std::thread::Threads;
-use trip_batch::{JobPlanner, NoGate, run_batch};
+use trip_batch::{JobPlanner, run_batch};
 
 // The trips of jobs over one network, whose arcs are grouped once. Workers share it.
 #[derive(Drop)]
@@ -132,12 +132,13 @@ fn load_batch<F: Folder>(
 }
 
 // The texts of all jobs, in their order, planned on several workers.
-fn texts_of_jobs<R: Threads + Sync>(
+fn texts_of_jobs<R: Threads + Sync, G: Gate>(
     rt: &R,
     alloc: Global,
     network: &Network,
     jobs: &Jobs,
     batch: Batch<'_>,
+    gate: &G,
 ) -> Result<Vec<u8>, OutOfMemory>
     requires timed { All IsTimedJob jobs.now }
     requires workers { 1 ≤ batch.workers }
@@ -152,18 +153,19 @@ fn texts_of_jobs<R: Threads + Sync>(
         jobs,
     };
     let workers = batch.workers as usize;
-    let texts = run_batch(rt, alloc, &trips, jobs.len(), workers, &NoGate)?;
+    let texts = run_batch(rt, alloc, &trips, jobs.len(), workers, gate)?;
     let text = batch_text(alloc, texts.as_slice())?;
     Ok(text)
 }
 
 /// The texts of the jobs of a table over the files of the batch's folder, planned on several workers at once. A job takes the time and
 /// memory of a plan without reading and without grouping arcs, which are done once.
-pub fn report_batch<R: Threads + Sync, F: Folder>(
+pub fn report_batch<R: Threads + Sync, F: Folder, G: Gate>(
     rt: &R,
     alloc: Global,
     folder: &mut F,
     batch: Batch<'_>,
+    gate: &G,
 ) -> Result<Report, Halt>
     requires workers { 1 ≤ batch.workers }
     ensures reports { IfOk result (ReportsOn (to_batch (batch_in batch.entry))
@@ -175,7 +177,7 @@ pub fn report_batch<R: Threads + Sync, F: Folder>(
 {
     let (network, jobs) = load_batch(alloc, folder, batch)?;
     Ok(Report {
-        text: texts_of_jobs(rt, alloc, &network, &jobs, batch)?,
+        text: texts_of_jobs(rt, alloc, &network, &jobs, batch, gate)?,
         rejects: false,
     })
 }

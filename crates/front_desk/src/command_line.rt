@@ -1,7 +1,7 @@
 // The commands, borrowed from the words that they hold.
 ghost use Rattle.std.specs.Prelude.{◌≡◌, option_map};
-ghost use Rattle.front_desk.specs.Words.{plan_in, check_in, bans_in, batch_in, gen_in, command_in, trip_in};
-ghost use Rattle.front_words.specs.Commands.{command_in as command_held, trip_to};
+ghost use Rattle.front_desk.specs.Words.{plan_in, check_in, bans_in, batch_in, gen_in, command_lent, trip_in};
+ghost use Rattle.front_words.specs.Commands.{command_in, trip_to};
 
 use crate::requests::Trip;
 use front_words::Command as OwnedCommand;
@@ -173,7 +173,7 @@ fn gen_of(dir: &Text, number: u64, rows: u32, columns: u32) -> Gen<'_>
 
 /// The command that owned words are, borrowed from them. In constant time.
 pub fn command_of(owned: &OwnedCommand) -> Command<'_>
-    ensures { command_in result ≡ command_held owned.now }
+    ensures { command_lent result ≡ command_in owned.now }
 {
     match owned {
         OwnedCommand::Plan {

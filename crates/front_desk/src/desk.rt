@@ -8,7 +8,7 @@ ghost use Rattle.front_desk.specs.Words.{HasFailed, status_of, refusal_text_of, 
 use crate::commands::answer;
 use crate::outcome::{Halt, status_of_refusal};
 use plan_report::{Refusal, refusal_text};
-use route_base::{Folder, OutOfMemory, Sink, Status, Text, WriteError};
+use route_base::{Folder, Gate, NoGate, OutOfMemory, Sink, Status, Text, WriteError};
 use std::alloc::Global;
 use std::thread::Threads;
 
@@ -97,7 +97,53 @@ pub fn run<R: Threads + Sync, F: Folder, S: Sink>(
     ensures folder_counts { CountsRise (F.state folder.old) (F.state folder.new) }
     ensures sink_count { FaultsRise (S.state out.old) (S.state out.new) }
 {
-    match answer(rt, alloc, words, folder) {
+    run_gated(rt, alloc, words, folder, out, &NoGate)
+}
+
+/// Runs the program as `run` does, with the same contract; each worker goes through the gate before it begins a job of a batch, or its part
+/// of the closed minutes of another command. So a test can see that workers work at once.
+pub fn run_gated<R: Threads + Sync, F: Folder, S: Sink, G: Gate>(
+    rt: &R,
+    alloc: Global,
+    words: &[Text],
+    folder: &mut F,
+    out: &mut S,
+    gate: &G,
+) -> Status
+    ensures done { result ≡ Status.Done
+        → Prints (IsAnswer words.now (F.state folder.old) (F.state folder.new))
+        (S.state out.old) (S.state out.new) }
+    ensures refused { IsRefused result
+        → Prints (IsDue words.now (F.state folder.old) (F.state folder.new) result)
+        (S.state out.old) (S.state out.new) }
+    ensures write_fault { result ≡ Status.WriteFault
+        → FailsToWrite words.now (F.state folder.old) (F.state folder.new)
+        (S.state out.old) (S.state out.new) }
+    ensures silent { (result ≡ Status.ReadFault) ⊎ (result ≡ Status.NoMemory)
+        → StaysSilent (S.state out.old) (S.state out.new) }
+    ensures read_fault { result ≡ Status.ReadFault
+        → FailedToRead (F.state folder.old) (F.state folder.new) }
+    ensures nothing_read { ReadsNothing (command_of words.now) → result ≢ Status.ReadFault }
+    ensures usage_due { command_of words.now ≡ None → (result ≡ Status.Usage) ⊎ HasFailed result }
+    ensures bad_input_due { (held : Contents) (command : Command) (fault : BadInput)
+        → (F.state folder.old).contents ≡ Some held → command_of words.now ≡ Some command
+        → first_fault_for command held ≡ Some fault → (result ≡ Status.BadInput) ⊎ HasFailed result }
+    ensures bad_request_due { (held : Contents) (command : Command) (fault : RequestFault)
+        → (F.state folder.old).contents ≡ Some held → command_of words.now ≡ Some command
+        → first_fault_for command held ≡ None → failed_check_for command held ≡ Some fault
+        → (result ≡ Status.BadRequest) ⊎ HasFailed result }
+    ensures complete { (held : Contents) (command : Command)
+        → (F.state folder.old).contents ≡ Some held → command_of words.now ≡ Some command
+        → first_fault_for command held ≡ None → failed_check_for command held ≡ None
+        → IsUndisturbed command (F.state folder.old) (F.state folder.new)
+        (S.state out.old) (S.state out.new)
+        → IsFinished command result ⊎ (result ≡ Status.NoMemory) }
+    ensures left { LeavesFiles (command_of words.now)
+        (F.state folder.old) (F.state folder.new) result }
+    ensures folder_counts { CountsRise (F.state folder.old) (F.state folder.new) }
+    ensures sink_count { FaultsRise (S.state out.old) (S.state out.new) }
+{
+    match answer(rt, alloc, words, folder, gate) {
         Ok(report) => put(out, report.text.as_slice(), report.status()),
         Err(Halt::Refused(refusal)) => refuse(alloc, out, refusal),
         Err(Halt::ReadFault) => Status::ReadFault,

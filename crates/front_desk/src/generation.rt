@@ -8,18 +8,18 @@ ghost use Rattle.route_base.specs.Front.{IsRight};
 ghost use Rattle.route_base.specs.declared.status.Status.TheVariants.{Done};
 
 use crate::command_line::Gen;
-use crate::networks::net_of_trip;
+use crate::networks::net_at_once;
 use crate::outcome::{Halt, Report};
 use crate::requests::{Trip, request_of, vehicle_of_trip};
 use crate::writing::{FileToWrite, put_each};
-use ban_expansion::group_arcs;
 use drawn_network::{draw_network, drawn_files_are_good};
 use itinerary_unpack::FunctionEngine;
 use net_generator::Generated;
 use network_tables::Network;
 use plan_report::summary_text;
-use route_base::{FileKind, Folder, FrontSearch, OutOfMemory, Routes, settings_agree};
+use route_base::{FileKind, Folder, FrontSearch, Gate, OutOfMemory, Routes, settings_agree};
 use std::alloc::Global;
+use std::thread::Threads;
 use vehicle_classes::Vehicle;
 
 // The trip that is planned over a drawn network: from its first node to its last, in 60 days.
@@ -37,11 +37,13 @@ fn drawn_trip(grid: Gen<'_>) -> Trip<'static>
 }
 
 // The Pareto front of a trip that passes the checks, for its vehicle, with an itinerary for each pair.
-fn front_of_trip(
+fn front_of_trip<R: Threads + Sync, G: Gate>(
+    rt: &R,
     alloc: Global,
     network: &Network,
     vehicle: &Vehicle,
     trip: Trip<'_>,
+    gate: &G,
 ) -> Result<Routes, OutOfMemory>
     requires network { IsGoodNetwork network.now }
     requires vehicle { vehicle.now ≡ vehicle_named network.now (trip_in trip).vehicle }
@@ -50,39 +52,62 @@ fn front_of_trip(
     ensures { IfOk result (IsRight (trip_setting network.now (trip_in trip.entry))
         (request_of (trip_in trip.entry))) }
 {
-    let groups = group_arcs(alloc, network)?;
-    let net = net_of_trip(alloc, network, &groups, vehicle, trip)?;
+    let net = net_at_once(rt, alloc, network, vehicle, trip, gate)?;
     settings_agree();
     let routes = FunctionEngine.front(alloc, &net, request_of(trip))?;
     Ok(routes)
 }
 
-// The summary of the drawn network, and of the trip over it.
-fn summary_of(alloc: Global, network: &Network, grid: Gen<'_>) -> Result<Vec<u8>, OutOfMemory>
+// The vehicle of the trip over a drawn network: the trip passes all checks.
+fn vehicle_of_drawn<'a>(network: &'a Network, grid: Gen<'_>) -> &'a Vehicle
     requires drawable { IsDrawable grid.number grid.rows grid.columns }
     requires network { network.now ≡ stated_network (gen_in grid) }
-    ensures { IfOk result (λ text. IsSummary (gen_in grid.entry) text.items) }
+    ensures network { IsGoodNetwork network.now }
+    ensures vehicle { result.now ≡ vehicle_named network.now (drawn_trip (gen_in grid.entry)).vehicle }
+    ensures good { IsGoodTrip network.now.graph.nodes (drawn_trip (gen_in grid.entry)) }
 {
     drawn_files_are_good();
     let trip = drawn_trip(grid);
     let Ok(vehicle) = vehicle_of_trip(network, trip) else {
         unreachable!();
     };
-    let routes = front_of_trip(alloc, network, vehicle, trip)?;
+    vehicle
+}
+
+// The summary of the drawn network, and of the trip over it.
+fn summary_of<R: Threads + Sync, G: Gate>(
+    rt: &R,
+    alloc: Global,
+    network: &Network,
+    grid: Gen<'_>,
+    gate: &G,
+) -> Result<Vec<u8>, OutOfMemory>
+    requires drawable { IsDrawable grid.number grid.rows grid.columns }
+    requires network { network.now ≡ stated_network (gen_in grid) }
+    ensures { IfOk result (λ text. IsSummary (gen_in grid.entry) text.items) }
+{
+    let vehicle = vehicle_of_drawn(network, grid);
+    let trip = drawn_trip(grid);
+    let routes = front_of_trip(rt, alloc, network, vehicle, trip, gate)?;
     let graph = network.graph();
     let text = summary_text(alloc, graph.node_count(), graph.arc_count(), &routes)?;
     Ok(text)
 }
 
 // The drawn files, and the summary of the network that they state.
-fn drawn(alloc: Global, grid: Gen<'_>) -> Result<(Generated, Vec<u8>), OutOfMemory>
+fn drawn<R: Threads + Sync, G: Gate>(
+    rt: &R,
+    alloc: Global,
+    grid: Gen<'_>,
+    gate: &G,
+) -> Result<(Generated, Vec<u8>), OutOfMemory>
     requires { IsDrawable grid.number grid.rows grid.columns }
     ensures files { IfOk result (λ made. files_to_write made.0.graph made.0.closures
         made.0.parking made.0.ratings ≡ files_written (gen_in grid.entry)) }
     ensures summary { IfOk result (λ made. IsSummary (gen_in grid.entry) made.1.items) }
 {
     let drawn = draw_network(alloc, grid.number, grid.rows, grid.columns)?;
-    let text = summary_of(alloc, &drawn.network, grid)?;
+    let text = summary_of(rt, alloc, &drawn.network, grid, gate)?;
     Ok((drawn.files, text))
 }
 
@@ -113,7 +138,13 @@ fn files_of(drawn: &Generated) -> [FileToWrite<'_>; 4]
 
 /// The summary of the network that is drawn from a number, whose files are written into its folder before. It takes the time and memory of
 /// `net_generator::generate`, of reading the files and of planning one trip.
-pub fn report_gen<F: Folder>(alloc: Global, folder: &mut F, grid: Gen<'_>) -> Result<Report, Halt>
+pub fn report_gen<R: Threads + Sync, F: Folder, G: Gate>(
+    rt: &R,
+    alloc: Global,
+    folder: &mut F,
+    grid: Gen<'_>,
+    gate: &G,
+) -> Result<Report, Halt>
     requires drawable { IsDrawable grid.number grid.rows grid.columns }
     ensures reports { IfOk result (ReportsOn (to_gen (gen_in grid.entry))
         (F.state folder.old) (F.state folder.new)) }
@@ -127,7 +158,7 @@ pub fn report_gen<F: Folder>(alloc: Global, folder: &mut F, grid: Gen<'_>) -> Re
         (F.state folder.old) (F.state folder.new) (status_of_halt halt)) }
     ensures counts { CountsRise (F.state folder.old) (F.state folder.new) }
 {
-    let (drawn, text) = drawn(alloc, grid)?;
+    let (drawn, text) = drawn(rt, alloc, grid, gate)?;
     let files = files_of(&drawn);
     put_each(alloc, folder, grid.dir, &files)?;
     Ok(Report {

@@ -11,25 +11,27 @@ ghost use Rattle.certificate_check.specs.declared.checker.Verdict.TheVariants.{A
 
 use crate::command_line::Check;
 use crate::file_to_read::FileToRead;
-use crate::networks::{load_with, net_of_trip};
+use crate::networks::{load_with, net_at_once};
 use crate::outcome::{Halt, Report};
 use crate::requests::{Trip, request_of, vehicle_of_trip};
-use ban_expansion::group_arcs;
 use certificate::{Certificate, CertificateFault, read};
 use certificate_check::{Verdict, check, verdicts_agree};
 use network_tables::Network;
 use plan_report::{Refusal, Verdict3, check_text};
-use route_base::{FileBytes, Folder, OutOfMemory, settings_agree};
+use route_base::{FileBytes, Folder, Gate, OutOfMemory, settings_agree};
 use std::alloc::Global;
+use std::thread::Threads;
 use vehicle_classes::Vehicle;
 
 // The verdict on a certificate for a trip that passes the checks, for its vehicle.
-fn verdict_of_trip(
+fn verdict_of_trip<R: Threads + Sync, G: Gate>(
+    rt: &R,
     alloc: Global,
     network: &Network,
     vehicle: &Vehicle,
     trip: Trip<'_>,
     certificate: &Certificate,
+    gate: &G,
 ) -> Result<Verdict, OutOfMemory>
     requires network { IsGoodNetwork network.now }
     requires vehicle { vehicle.now ≡ vehicle_named network.now (trip_in trip).vehicle }
@@ -42,8 +44,7 @@ fn verdict_of_trip(
         → IsFront (trip_setting network.now (trip_in trip.entry))
         (request_of (trip_in trip.entry)) (pairs_of certificate.now.routes)) }
 {
-    let groups = group_arcs(alloc, network)?;
-    let net = net_of_trip(alloc, network, &groups, vehicle, trip)?;
+    let net = net_at_once(rt, alloc, network, vehicle, trip, gate)?;
     settings_agree();
     verdicts_agree();
     let verdict = check(alloc, &net, request_of(trip), certificate)?;
@@ -71,12 +72,14 @@ fn verdict_report(
 }
 
 // The report on the bytes of a certificate's file.
-fn judged(
+fn judged<R: Threads + Sync, G: Gate>(
+    rt: &R,
     alloc: Global,
     network: &Network,
     vehicle: &Vehicle,
     trip: Trip<'_>,
     bytes: &[u8],
+    gate: &G,
 ) -> Result<Report, OutOfMemory>
     requires network { IsGoodNetwork network.now }
     requires vehicle { vehicle.now ≡ vehicle_named network.now (trip_in trip).vehicle }
@@ -95,7 +98,7 @@ fn judged(
         }
         Err(CertificateFault::OutOfMemory) => return Err(OutOfMemory),
     };
-    let verdict = verdict_of_trip(alloc, network, vehicle, trip, &certificate)?;
+    let verdict = verdict_of_trip(rt, alloc, network, vehicle, trip, &certificate, gate)?;
     let report = verdict_report(alloc, &certificate, verdict)?;
     Ok(report)
 }
@@ -121,10 +124,12 @@ fn load_to_check<F: Folder>(
 }
 
 /// The judgement of the certificate in the check's folder for its trip over the files of that folder.
-pub fn report_check<F: Folder>(
+pub fn report_check<R: Threads + Sync, F: Folder, G: Gate>(
+    rt: &R,
     alloc: Global,
     folder: &mut F,
     check: Check<'_>,
+    gate: &G,
 ) -> Result<Report, Halt>
     requires timed { IsTimed (check_in check).trip }
     ensures reports { IfOk result (ReportsOn (to_check (check_in check.entry))
@@ -136,7 +141,15 @@ pub fn report_check<F: Folder>(
     let (network, bytes) = load_to_check(alloc, folder, check)?;
     match vehicle_of_trip(&network, check.trip) {
         Ok(vehicle) => {
-            let report = judged(alloc, &network, vehicle, check.trip, bytes.as_slice())?;
+            let report = judged(
+                rt,
+                alloc,
+                &network,
+                vehicle,
+                check.trip,
+                bytes.as_slice(),
+                gate,
+            )?;
             Ok(report)
         }
         Err(fault) => Err(Halt::Refused(Refusal::Request(fault))),

@@ -4,24 +4,31 @@ ghost use Rattle.front_desk.specs.Words.{CountsRise, IsGoodNetwork, trip_setting
 ghost use Rattle.front_desk.specs.Words.{request_of, IsGoodTrip, IsCertificateOf, IsPlannable, IsFileFor, IsReady};
 ghost use Rattle.front_desk.specs.Words.{StopsCommand, ReportsOn, LeavesPlan, IfTold, status_of_halt, HandsOver, IsWritten, IsUnwritten};
 ghost use Rattle.ban_expansion.specs.ArcGroups.{AreGroups};
+ghost use Rattle.front_desk.specs.CommandLine.{Plan as PlanModel};
+ghost use Rattle.front_desk.specs.Words.{IsTripNet};
+ghost use Rattle.front_desk.specs.declared.plan.Planned.{Planned as PlannedModel};
+ghost use Rattle.network_tables.specs.NetworkModel.{NetworkModel};
 ghost use Rattle.route_base.specs.Front.{IsRight};
-ghost use Rattle.route_base.specs.Net.{setting_of};
+ghost use Rattle.route_base.specs.Net.{Net, setting_of};
 ghost use Rattle.route_base.specs.declared.status.Status.TheVariants.{Done};
 
 use crate::command_line::Plan;
-use crate::networks::{load_network, net_of_trip};
+use crate::networks::{load_network, net_at_once, net_of_trip};
 use crate::outcome::{Halt, Report};
 use crate::requests::{request_of, vehicle_of_trip};
 use crate::writing::{FileToWrite, put_file};
-use ban_expansion::{ArcGroups, group_arcs};
+use ban_expansion::ArcGroups;
 use certificate::write;
 use certificate_check::verdicts_agree;
 use itinerary_unpack::FunctionEngine;
 use network_tables::Network;
 use plan_certificate::{certificates_agree, certify};
 use plan_report::{Refusal, plan_text, reports_agree};
-use route_base::{Folder, FrontSearch, OutOfMemory, Request, Routes, TimedNet, settings_agree};
+use route_base::{
+    Folder, FrontSearch, Gate, OutOfMemory, Request, Routes, TimedNet, settings_agree,
+};
 use std::alloc::Global;
+use std::thread::Threads;
 use vehicle_classes::Vehicle;
 
 /// The bytes of a certificate, and the name of the file that they are for.
@@ -70,7 +77,20 @@ fn planned_over<'a>(
     }
 }
 
-/// The text of the plan of a trip that passes the checks, and its certificate where one is asked for, for its vehicle.
+// The law of the net of a trip: a plan that is ready over the net is ready over the network's roads. The call does nothing.
+fn plans_agree()
+    ensures { (network : NetworkModel) (net : Net) (plan : PlanModel) (planned : PlannedModel)
+        → IsTripNet network plan.trip net
+        → IsReady (setting_of net) plan planned → IsReady (trip_setting network plan.trip) plan planned }
+{
+    settings_agree();
+    verdicts_agree();
+    certificates_agree();
+    reports_agree();
+}
+
+/// The text of the plan of a trip that passes the checks, and its certificate where one is asked for, for its vehicle, over groups of
+/// arcs that are found once for a network.
 pub fn planned_trip<'a>(
     alloc: Global,
     network: &Network,
@@ -87,10 +107,29 @@ pub fn planned_trip<'a>(
         (IsReady (trip_setting network.now (plan_in plan.entry).trip) (plan_in plan.entry)) }
 {
     let net = net_of_trip(alloc, network, groups, vehicle, plan.trip)?;
-    settings_agree();
-    verdicts_agree();
-    certificates_agree();
-    reports_agree();
+    plans_agree();
+    let planned = planned_over(alloc, &net, plan)?;
+    Ok(planned)
+}
+
+// The same text and certificate, over a net that several workers make at once.
+fn planned_at_once<'a, R: Threads + Sync, G: Gate>(
+    rt: &R,
+    alloc: Global,
+    network: &Network,
+    vehicle: &Vehicle,
+    plan: Plan<'a>,
+    gate: &G,
+) -> Result<Planned<'a>, OutOfMemory>
+    requires network { IsGoodNetwork network.now }
+    requires vehicle { vehicle.now ≡ vehicle_named network.now (plan_in plan).trip.vehicle }
+    requires good { IsGoodTrip network.now.graph.nodes (plan_in plan).trip }
+    requires timed { IsTimed (plan_in plan).trip }
+    ensures { IfOk result
+        (IsReady (trip_setting network.now (plan_in plan.entry).trip) (plan_in plan.entry)) }
+{
+    let net = net_at_once(rt, alloc, network, vehicle, plan.trip, gate)?;
+    plans_agree();
     let planned = planned_over(alloc, &net, plan)?;
     Ok(planned)
 }
@@ -135,7 +174,13 @@ fn hand_over<F: Folder>(
 }
 
 /// The report of the plan's trip over the files of its folder, into which its certificate is written where one is asked for.
-pub fn report_plan<F: Folder>(alloc: Global, folder: &mut F, plan: Plan<'_>) -> Result<Report, Halt>
+pub fn report_plan<R: Threads + Sync, F: Folder, G: Gate>(
+    rt: &R,
+    alloc: Global,
+    folder: &mut F,
+    plan: Plan<'_>,
+    gate: &G,
+) -> Result<Report, Halt>
     requires timed { IsTimed (plan_in plan).trip }
     ensures reports { IfOk result (ReportsOn (to_plan (plan_in plan.entry))
         (F.state folder.old) (F.state folder.new)) }
@@ -152,8 +197,7 @@ pub fn report_plan<F: Folder>(alloc: Global, folder: &mut F, plan: Plan<'_>) -> 
     let network = load_network(alloc, folder, plan.dir)?;
     match vehicle_of_trip(&network, plan.trip) {
         Ok(vehicle) => {
-            let groups = group_arcs(alloc, &network)?;
-            let planned = planned_trip(alloc, &network, &groups, vehicle, plan)?;
+            let planned = planned_at_once(rt, alloc, &network, vehicle, plan, gate)?;
             hand_over(alloc, folder, plan.dir, planned)
         }
         Err(fault) => Err(Halt::Refused(Refusal::Request(fault))),

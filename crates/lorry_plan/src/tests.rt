@@ -6,6 +6,7 @@ mod certificates;
 mod faults;
 mod forms;
 mod fronts;
+mod gates;
 mod generation;
 mod graph;
 mod itineraries;

@@ -29,8 +29,6 @@ mod parking;
 mod ratings;
 mod roads;
 mod rules;
-#[cfg(test)]
-mod tests;
 mod threads;
 mod vehicles;
 mod zones;

@@ -9,7 +9,7 @@ use Rattle.route_base.specs.Relaxing.{HasWithin, HasPair, IsDominatedOrLate}
 use Rattle.route_base.specs.declared.types.Pair.{Pair}
 use Rattle.route_base.specs.declared.types.Bound.{Bound}
 use Rattle.propagation.specs.Inside.Invariants.{AreStepsRelaxed, ComesBy, DrivesRelaxed, HasIn, Improves, InPart, IsLabel, IsLower, IsOffer, IsPaired}
-use Rattle.propagation.specs.Inside.Invariants.{IsPrunable, IsRelaxedIn, IsSearching, IsSound, IsTight, Progress, Reaches, TakesOffer, Task, no_part, point}
+use Rattle.propagation.specs.Inside.Invariants.{IsPrunable, IsRelaxedIn, IsSearching, IsSound, AreInReach, Progress, Reaches, TakesOffer, Task, no_part, point}
 use Rattle.propagation.specs.Found.{IsStart}
 
 option_cases : {A : Type 0} (o : Option A) → (o ≡ None) ⊎ ((x : A) × (o ≡ Some x))
@@ -240,7 +240,7 @@ module _ (k : Task) where
           (from_offer takes (point k.request.goal.0 t x) is);
     }
 
-    tight_kept : IsTight k old → IsOffer k old h offer → TakesOffer k h offer old new → IsTight k new
+    tight_kept : AreInReach k old → IsOffer k old h offer → TakesOffer k h offer old new → AreInReach k new
     tight_kept tight offers takes p is = ⊎_elim
         (λ (same : IsLabel old p). tight p same)
         (λ (low : (p.node ≡ h) × (offer p.minute ≡ Some p.cost) × IsLower (Some p.cost) (old.cost h p.minute)).

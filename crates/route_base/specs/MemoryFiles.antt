@@ -25,6 +25,11 @@ pub record FailingFiles : Type 0 where
   pub read_faults : ℕ
   pub write_faults : ℕ
 
+-- a folder that never fails, and gives at most this many bytes in a call
+pub record DrippingFiles : Type 0 where
+  pub inner : SureFiles
+  pub most : ℕ
+
 -- a sink that fails at some calls
 pub record FailingBytes : Type 0 where
   pub bytes : List ℕ
@@ -44,6 +49,10 @@ PutsUnder old new name bytes = Holds (Some (held_in old)) (Some (held_in new)) n
 -- the state of a folder that never fails
 abbrev pub sure_state : SureFiles → FolderState
 sure_state s = record { contents = Some (held_in s.files); missing = s.missing; read_faults = 0; write_faults = 0 }
+
+-- the state of a folder that gives few bytes in a call
+abbrev pub dripping_state : DrippingFiles → FolderState
+dripping_state s = sure_state s.inner
 
 -- the state of a folder that fails at some calls
 abbrev pub failing_state : FailingFiles → FolderState

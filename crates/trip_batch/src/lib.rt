@@ -7,12 +7,10 @@
 //! planned job by job. Workers share the planner by reference, without a lock and without a copy.
 #![tactic(auto)]
 
-mod gates;
 mod parts;
 mod planner;
 #[cfg(test)]
 mod tests;
 
-pub use gates::{Gate, NoGate};
 pub use parts::run_batch;
 pub use planner::{JobPlanner, JobTexts};

@@ -3,8 +3,8 @@ ghost use Rattle.std.specs.Prelude.{◌≡◌, ◌<◌, ◌≤◌, IfOk};
 ghost use Rattle.std.specs.Thread.{IsSync};
 ghost use Rattle.trip_batch.specs.Right.{AreRight};
 
-use crate::{Gate, JobPlanner, JobTexts};
-use route_base::{JobText, OutOfMemory};
+use crate::{JobPlanner, JobTexts};
+use route_base::{Gate, JobText, OutOfMemory};
 use std::alloc::Global;
 use std::thread::{Threads, join};
 

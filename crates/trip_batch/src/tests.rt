@@ -1,8 +1,8 @@
 // The texts of jobs on several numbers of workers.
 ghost use Rattle.std.specs.Prelude.{◌≡◌, length};
 
-use crate::{JobPlanner, NoGate, run_batch};
-use route_base::{JobText, OutOfMemory};
+use crate::{JobPlanner, run_batch};
+use route_base::{JobText, NoGate, OutOfMemory};
 use std::alloc::Global;
 use std::test::Fail;
 

@@ -1,4 +1,7 @@
-// One worked case for each caller.
+// One worked case for each caller, and the networks and jobs that tables state.
+mod jobs;
+mod networks;
+
 use crate::{Codes, clock_shows, is_banned, read_lockers};
 use opening_hours::{Holidays, HoursFault};
 use route_base::{Cause, TableFault};

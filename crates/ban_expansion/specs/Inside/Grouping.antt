@@ -24,6 +24,11 @@ has_own_rule net a key =
 abbrev pub has_own : NetworkModel → ℕ → Bool
 has_own net a = nat_lt 0 (length (closures_of net a)) || list_any (has_own_rule net a) every_key
 
+-- two arcs have the same rules of their own for the key
+pub record HaveSameRules (net : NetworkModel) (a b : ℕ) (key : Key) : Type 0 where
+  pub plain : plain_at net.rules (scopes.Arc a) key ≡ plain_at net.rules (scopes.Arc b) key
+  pub conditional : conditional_at net.rules (scopes.Arc a) key ≡ conditional_at net.rules (scopes.Arc b) key
+
 -- two arcs of one area that have the same closures, and the same rules of their own
 pub record AreAlike (net : NetworkModel) (a b : ℕ) : Type 0 where
   pub area : area_place net a ≡ area_place net b

@@ -33,24 +33,38 @@ fn file(alloc: Global, text: &str) -> Result<FileBytes, OutOfMemory> {
     Ok(FileBytes::from_vec(Vec::from_slice(alloc, text.as_bytes())?))
 }
 
-// Four arcs in one area. The third has a closure that ends after the day.
-fn port(alloc: Global) -> Result<Network, NetworkFault> {
+// Arcs in the areas `port` and `town`, in this zone. Those that no road names are in the first.
+fn network_of(
+    alloc: Global,
+    graph: &str,
+    roads: &str,
+    rules: &str,
+    closures: &str,
+) -> Result<Network, NetworkFault> {
     let files = Files {
-        graph: file(
-            alloc,
-            "p sp 3 4\na 1 2 60\na 2 3 60\na 1 3 300\na 3 1 300\n",
-        )?,
+        graph: file(alloc, graph)?,
         zones: file(alloc, "zone,from,offset\nHere,525600,+01:00\n")?,
-        areas: file(alloc, "area,zone\nport,Here\n")?,
-        roads: FileBytes::new(alloc),
+        areas: file(alloc, "area,zone\nport,Here\ntown,Here\n")?,
+        roads: file(alloc, roads)?,
         vehicles: file(alloc, VEHICLES)?,
-        rules: file(alloc, RULES)?,
-        closures: file(alloc, "arc,from,to\n3,26565100,26565200\n")?,
+        rules: file(alloc, rules)?,
+        closures: file(alloc, closures)?,
         ratings: FileBytes::new(alloc),
         parking: FileBytes::new(alloc),
         holidays: FileBytes::new(alloc),
     };
     read_network(alloc, &files)
+}
+
+// Four arcs in one area. The third has a closure that ends after the day.
+fn port(alloc: Global) -> Result<Network, NetworkFault> {
+    network_of(
+        alloc,
+        "p sp 3 4\na 1 2 60\na 2 3 60\na 1 3 300\na 3 1 300\n",
+        "arc,area\n",
+        RULES,
+        "arc,from,to\n3,26565100,26565200\n",
+    )
 }
 
 #[test]
@@ -107,5 +121,34 @@ fn groups_arcs_that_have_nothing_of_their_own(rt: HostRuntime) -> Result<(), Net
     let groups = group_arcs(alloc, &network)?;
     assert!(rt; groups.groups() == [0, 1, 2, 0].as_slice());
     assert!(rt; groups.firsts() == [ArcId(1), ArcId(2), ArcId(3)].as_slice());
+    Ok(())
+}
+
+// Seven arcs with a conditional value of their own: the fourth has another value, the fifth is in another area, and the last two
+// have a closure.
+fn port_with_rules_of_arcs(alloc: Global) -> Result<Network, NetworkFault> {
+    network_of(
+        alloc,
+        "p sp 2 7\na 1 2 60\na 1 2 60\na 1 2 60\na 1 2 60\na 1 2 60\na 1 2 60\na 1 2 60\n",
+        "arc,area\n5,town\n",
+        "scope,key,value\n\
+        arc:1,hgv:conditional,no @ (22:00-06:00)\n\
+        arc:2,hgv:conditional,no @ (22:00-06:00)\n\
+        arc:3,hgv:conditional,no@22:00-06:00\n\
+        arc:4,hgv:conditional,no @ (22:00-07:00)\n\
+        arc:5,hgv:conditional,no @ (22:00-06:00)\n\
+        arc:6,hgv:conditional,no @ (22:00-06:00)\n\
+        arc:7,hgv:conditional,no @ (22:00-06:00)\n",
+        "arc,from,to\n6,26565100,26565200\n7,26565100,26565200\n",
+    )
+}
+
+#[test]
+fn groups_arcs_that_have_the_same_of_their_own(rt: HostRuntime) -> Result<(), NetworkFault> {
+    let alloc = rt.alloc();
+    let network = port_with_rules_of_arcs(alloc)?;
+    let groups = group_arcs(alloc, &network)?;
+    assert!(rt; groups.groups() == [0, 0, 0, 1, 2, 3, 3].as_slice());
+    assert!(rt; groups.firsts() == [ArcId(1), ArcId(4), ArcId(5), ArcId(6)].as_slice());
     Ok(())
 }

@@ -28,11 +28,12 @@ use Rattle.front_desk.specs.declared.plan.Planned.{Planned}
 abbrev pub trip_window : Trip → Run
 trip_window trip = record { lo = trip.depart; hi = trip.until }
 
--- the net stands for the roads of the trip's vehicle in the trip's minutes, and the trip is a request over it
+-- the net stands for the roads of the trip's vehicle in the trip's minutes, none of which is dear, and the trip is a request over it
 pub record IsTripNet (network : NetworkModel) (trip : Trip) (net : Net) : Type 0 where
   pub stands : StandsFor (setting_of net) (trip_setting network trip) (trip_window trip)
   pub good : IsGoodRequest net (request_of trip)
   pub fit : CostsFit (setting_of net) (request_of trip)
+  pub cheap : HasCheapRoads (setting_of net)
   pub nodes : net.nodes ≤ MOST_NODES
   pub arcs : length net.arcs ≤ MOST_ARCS
 

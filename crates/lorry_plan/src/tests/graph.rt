@@ -1,5 +1,5 @@
 // The graph file: its lawful forms, and each cause for which it is refused.
-use super::{ONE_PAIR, expect_refusals, expect_reports};
+use super::{NETWORK, ONE_PAIR, TWO_PAIRS, expect_refusals, expect_reports};
 use std::test::Fail;
 
 #[test]
@@ -69,4 +69,29 @@ fn refuses_graphs_with_their_first_fault(rt: HostRuntime) -> Result<(), Fail> {
         ("p sp 3 3\n\n \n", "4 ArcCount"),
     ];
     expect_refusals(&rt, &[], "graph.gr", &cases)
+}
+
+#[test]
+fn answers_as_far_as_a_graph_is_cut(rt: HostRuntime) -> Result<(), Fail> {
+    let refused = [
+        ("", "1 NoProblemLine"),
+        ("p sp 3 ", "1 BadForm"),
+        ("p sp 3 3", "2 ArcCount"),
+        ("p sp 3 3\n", "2 ArcCount"),
+        ("p sp 3 3\na 1 2 6", "3 ArcCount"),
+        ("p sp 3 3\na 1 2 60", "3 ArcCount"),
+        ("p sp 3 3\na 1 2 60\n", "3 ArcCount"),
+        ("p sp 3 3\na 1 2 60\na 2 3 60\n", "4 ArcCount"),
+        ("p sp 3 3\na 1 2 60\na 2 3 60\na", "4 BadForm"),
+        ("p sp 3 3\na 1 2 60\na 2 3 60\na 1 3 ", "4 BadForm"),
+    ];
+    expect_refusals(&rt, NETWORK, "graph.gr", &refused)?;
+    let shortest = ["p sp 3 3\na 1 2 60\na 2 3 60\na 1 3 3"];
+    let three = "pairs 1\npair 26563683 3.000\ndrive 3\n";
+    expect_reports(&rt, NETWORK, "graph.gr", &shortest, three)?;
+    let shorter = ["p sp 3 3\na 1 2 60\na 2 3 60\na 1 3 30"];
+    let thirty = "pairs 1\npair 26563710 30.000\ndrive 3\n";
+    expect_reports(&rt, NETWORK, "graph.gr", &shorter, thirty)?;
+    let whole = ["p sp 3 3\na 1 2 60\na 2 3 60\na 1 3 300"];
+    expect_reports(&rt, NETWORK, "graph.gr", &whole, TWO_PAIRS)
 }

@@ -1,6 +1,9 @@
 // Whole files and the lists, each with memory to spare.
-use super::{expect_whole, sure_folder};
-use route_base::{Bound, Bounds, Folder, Listing, NodeId, ReadAllFault};
+use super::{NETWORK, TRIP, TWO_PAIRS, expect_whole, sure_folder, words_of};
+use front_desk::run;
+use route_base::{
+    Bound, Bounds, DripFolder, Folder, Listing, NodeId, ReadAllFault, Status, SureSink,
+};
 use std::test::Fail;
 
 #[test]
@@ -38,6 +41,19 @@ fn reads_files_of_several_parts(rt: HostRuntime) -> Result<(), Fail> {
         199_999,
         Err(ReadAllFault::TooLong),
     );
+    Ok(())
+}
+
+#[test]
+fn plans_over_files_that_come_in_drops(rt: HostRuntime) -> Result<(), Fail> {
+    for most in [1, 2, 7] {
+        let words = words_of(rt.alloc(), TRIP)?;
+        let mut folder = DripFolder::new(sure_folder(rt.alloc(), NETWORK)?, most);
+        let mut sink = SureSink::new(rt.alloc());
+        let ended = run(&rt, rt.alloc(), words.as_slice(), &mut folder, &mut sink);
+        assert_eq!(rt; ended, Status::Done, "{most} at once");
+        assert_eq!(rt; sink.written(), TWO_PAIRS.as_bytes(), "{most} at once");
+    }
     Ok(())
 }
 

@@ -74,8 +74,8 @@ pub record IsPaired (k : Task) (now : Progress) : Type 0 where
   pub matched : (t x : ℕ) → now.cost k.request.goal.0 t ≡ Some x → HasPair now.pairs t x
 
 -- no cost is known from which the goal is out of reach in time
-abbrev pub IsTight : Task → Progress → Type 0
-IsTight k now = (p : Position) → IsLabel now p → (b : Bound) × (k.bounds p.node ≡ Some b) × (p.minute + b.minutes ≤ k.request.until)
+abbrev pub AreInReach : Task → Progress → Type 0
+AreInReach k now = (p : Position) → IsLabel now p → (b : Bound) × (k.bounds p.node ≡ Some b) × (p.minute + b.minutes ≤ k.request.until)
 
 -- all that the search keeps
 pub record IsSearching (k : Task) (now : Progress) (v : ℕ) (part : ℕ → Option ℕ) : Type 0 where
@@ -83,7 +83,7 @@ pub record IsSearching (k : Task) (now : Progress) (v : ℕ) (part : ℕ → Opt
   pub sound : IsSound k now
   pub steps : AreStepsRelaxed k now v part
   pub paired : IsPaired k now
-  pub tight : IsTight k now
+  pub tight : AreInReach k now
   pub known : (v t : ℕ) → now.pending v t ≡ true → (x : ℕ) × (now.cost v t ≡ Some x)
 
 -- the part without a cost

@@ -9,7 +9,7 @@ use Rattle.front_desk.specs.Trips.{request_of, trip_in}
 use Rattle.front_desk.proofs.generation.front_of_trip.Goals as goal
 
 pub returns : goal.returns
-returns c =
+returns g c =
     let net = setting_of c.in_ok-net.net in
     let trip = trip_in c.args.trip in
     let request = request_of trip in

@@ -10,9 +10,9 @@ use Rattle.front_desk.specs.Trips.{Trip, request_of, trip_in}
 use Rattle.front_desk.proofs.generation.summary_of.Goals as goal
 
 pub returns : goal.returns
-returns c =
-    let g = gen_in c.args.grid in
-    let network = stated_network g in
+returns g c =
+    let grid = gen_in c.args.grid in
+    let network = stated_network grid in
     let trip = trip_in c.drawn_trip-trip.result in
     let routes = c.in_ok-routes.routes in
     let graph : c.graph-graph.result.now ≡ network.graph =

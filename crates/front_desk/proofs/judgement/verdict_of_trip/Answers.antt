@@ -11,7 +11,7 @@ use Rattle.front_desk.specs.Trips.{request_of, trip_in}
 use Rattle.front_desk.proofs.judgement.verdict_of_trip.Goals as goal
 
 pub returns-clause-verdict : goal.returns-clause-verdict
-returns-clause-verdict c =
+returns-clause-verdict g c =
     let net = setting_of c.in_ok-net.net in
     let trip = trip_in c.args.trip in
     let request = request_of trip in
@@ -21,7 +21,7 @@ returns-clause-verdict c =
     (subst (λ (r : Request). IsVerdict net r c.args.certificate.now c.in_ok-verdict.verdict) c.request_of.ensures c.in_ok-verdict.ensures.verdict)
 
 pub returns-clause-sound : goal.returns-clause-sound
-returns-clause-sound c = λ accepted.
+returns-clause-sound g c = λ accepted.
     let net = setting_of c.in_ok-net.net in
     let trip = trip_in c.args.trip in
     let request = request_of trip in

@@ -8,19 +8,6 @@ use Rattle.ban_expansion.proofs.GroupedArcs.{begun_groups, joined_groups, stays_
 use Rattle.ban_expansion.proofs.ItemLists.{got_last}
 use Rattle.ban_expansion.proofs.grouping.Grouping.add.Goals as goal
 
-pub returns-then-has_any : goal.returns-then-has_any
-returns-then-has_any c =
-    let net = c.args.network.now in
-    let k = c.args.k in
-    let a : ArcId = record { 0 = k + 1 } in
-    let all = c.self.inside.all in
-    let shared = c.self.inside.shared.items in
-    let before : AreGrouped net k (record { all = all; shared = shared }) = subst (AreGrouped net k) (sym c.self.view_is) c.requires.grouped in
-    subst (λ (g : GroupsModel). AreGrouped net (k + 1) (record { all = g; shared = shared })) (sym c.in_ok-begin.ensures.begun) (record {
-      groups = begun_groups net k a all refl c.requires.within before.groups;
-      shares = stays_shared net all.firsts a shared before.shares;
-    })
-
 pub returns-in-Some : goal.returns-in-Some
 returns-in-Some c =
     let net = c.args.network.now in

@@ -1,6 +1,6 @@
 // Tables of jobs: the worked one, a row in other forms, a fault for each cause, and the most rows.
-use crate::limits::MOST_JOBS;
-use crate::{Jobs, read_jobs};
+use network_tables::limits::MOST_JOBS;
+use network_tables::{Jobs, read_jobs};
 use route_base::{Cause, OutOfMemory, TableFault};
 use std::alloc::Global;
 use std::test::Fail;

@@ -5,7 +5,7 @@ use Rattle.route_base.specs.declared.types.ArcId.{ArcId}
 use Rattle.route_base.specs.declared.types.Run.{Run}
 use Rattle.ban_expansion.specs.Inside.GroupedNets.{HasClosed, AreClosedLists}
 use Rattle.ban_expansion.proofs.ItemLists.{zip_push}
-use Rattle.ban_expansion.proofs.expansion.closed_lists.Goals as goal
+use Rattle.ban_expansion.proofs.parts.closed_lists.Goals as goal
 
 abbrev no_arc : ArcId
 no_arc = record { 0 = 0 }
@@ -15,7 +15,7 @@ loop-first-preserved c =
     let net = c.args.network.now in
     let vehicle = c.args.vehicle.now in
     let window = c.args.window in
-    let firsts : List ArcId = c.firsts-firsts.result.now in
+    let firsts : List ArcId = c.args.firsts.now in
     let i = c.loop-first.first-index in
     let first : ArcId = get_or firsts i no_arc in
     let runs : List Run = c.into_runs.result.items in

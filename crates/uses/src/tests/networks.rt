@@ -1,9 +1,7 @@
 // A happy path for each table over a triangle of three nodes, the refusals of vehicles and rules, and the order in which files
 // are refused. The refusals of the other tables are tested in lorry_plan.
-mod jobs;
-
-use crate::{Files, Network, NetworkFault, read_network};
 use conditional_rules::{Access, Conditional};
+use network_tables::{Files, Network, NetworkFault, read_network};
 use route_base::{
     ArcId, BadInput, Cause, FileBytes, FileKind, NodeId, OutOfMemory, Run, read_number,
 };
@@ -201,14 +199,6 @@ fn ruled(alloc: Global, vehicles: &str, rules: &str) -> Result<Network, NetworkF
     read_network(alloc, &files)
 }
 
-// The number of clauses, 0 where there is no conditional value.
-fn clauses(value: Option<&Conditional>) -> usize {
-    match value {
-        Some(conditional) => conditional.len(),
-        None => 0,
-    }
-}
-
 #[test]
 fn reads_vehicles(rt: HostRuntime) -> Result<(), NetworkFault> {
     let network = ruled(rt.alloc(), TRUCK, "")?;
@@ -226,33 +216,66 @@ fn reads_vehicles(rt: HostRuntime) -> Result<(), NetworkFault> {
     Ok(())
 }
 
+// The plain values for a key, of the arc's area and of the arc itself; none where there is no such arc.
+fn plain_of(network: &Network, a: u32, key: Key) -> (Option<Access>, Option<Access>) {
+    if a == 0 || a > network.graph().arc_count() {
+        return (None, None);
+    }
+    let area = network.area_of(ArcId(a));
+    (
+        network.area_plain(area, key),
+        network.arc_plain(ArcId(a), key),
+    )
+}
+
+// The number of clauses, 0 where there is no conditional value.
+fn clauses(value: Option<&Conditional>) -> usize {
+    match value {
+        Some(conditional) => conditional.len(),
+        None => 0,
+    }
+}
+
+// The numbers of clauses for a key, of the arc's area and of the arc itself; none where there is no such arc.
+fn clauses_of(network: &Network, a: u32, key: Key) -> (usize, usize) {
+    if a == 0 || a > network.graph().arc_count() {
+        return (0, 0);
+    }
+    let area = network.area_of(ArcId(a));
+    (
+        clauses(network.area_conditional(area, key)),
+        clauses(network.arc_conditional(ArcId(a), key)),
+    )
+}
+
 #[test]
-fn reads_rules_of_areas_and_arcs(rt: HostRuntime) -> Result<(), NetworkFault> {
+fn reads_plain_rules_of_areas_and_arcs(rt: HostRuntime) -> Result<(), NetworkFault> {
     let network = ruled(rt.alloc(), "", RULES)?;
-    assert_eq!(rt; network.graph().arc_count(), 3);
-    let port = network.area_of(ArcId(1));
-    let town = network.area_of(ArcId(2));
-    assert_eq!(rt; network.vehicles().len(), 1);
-    assert_eq!(rt; network.area_plain(town, Key::Hgv), Some(Access::Barred));
-    assert_eq!(rt; network.area_plain(town, Key::Access), None);
-    assert_eq!(rt; network.area_plain(port, Key::Hgv), None);
-    assert_eq!(rt; clauses(network.area_conditional(town, Key::Hgv)), 2);
-    assert_eq!(rt; clauses(network.area_conditional(port, Key::Hgv)), 0);
-    assert_eq!(rt; clauses(network.area_conditional(town, Key::Bus)), 0);
-    assert_eq!(rt;
-        network.arc_plain(ArcId(2), Key::Access),
-        Some(Access::Purpose)
-    );
-    assert_eq!(rt;
-        network.arc_plain(ArcId(3), Key::Access),
-        Some(Access::Free)
-    );
-    assert_eq!(rt; network.arc_plain(ArcId(2), Key::Hgv), None);
-    assert_eq!(rt; network.arc_plain(ArcId(3), Key::Bus), None);
-    assert_eq!(rt; clauses(network.arc_conditional(ArcId(3), Key::Bus)), 1);
-    assert_eq!(rt; clauses(network.arc_conditional(ArcId(3), Key::Access)), 0);
-    assert_eq!(rt; clauses(network.arc_conditional(ArcId(2), Key::Bus)), 0);
+    for (a, key, area, own) in [
+        (1, Key::Hgv, None, None),
+        (2, Key::Hgv, Some(Access::Barred), None),
+        (2, Key::Access, None, Some(Access::Purpose)),
+        (3, Key::Access, None, Some(Access::Free)),
+        (3, Key::Bus, None, None),
+    ] {
+        assert_eq!(rt; plain_of(&network, a, key), (area, own), "arc {a}");
+    }
     assert_eq!(rt; network.passed_over(), 3);
+    Ok(())
+}
+
+#[test]
+fn reads_conditional_rules_of_areas_and_arcs(rt: HostRuntime) -> Result<(), NetworkFault> {
+    let network = ruled(rt.alloc(), "", RULES)?;
+    for (a, key, area, own) in [
+        (1, Key::Hgv, 0, 0),
+        (2, Key::Hgv, 2, 0),
+        (2, Key::Bus, 0, 0),
+        (3, Key::Bus, 0, 1),
+        (3, Key::Access, 0, 0),
+    ] {
+        assert_eq!(rt; clauses_of(&network, a, key), (area, own), "arc {a}");
+    }
     Ok(())
 }
 
@@ -410,7 +433,13 @@ fn long_rule(alloc: Global, key: &str, n: usize) -> Result<String, OutOfMemory> 
 fn reads_values_of_65536_bytes(rt: HostRuntime) -> Result<(), Fail> {
     let alloc = rt.alloc();
     let longest = ruled(alloc, "", &long_rule(alloc, "hgv:conditional", 65_530)?)?;
-    assert_eq!(rt; clauses(longest.arc_conditional(ArcId(1), Key::Hgv)), 1);
+    assert_eq!(rt; clauses_of(&longest, 1, Key::Hgv), (0, 1));
+    Ok(())
+}
+
+#[test]
+fn refuses_longer_values(rt: HostRuntime) -> Result<(), Fail> {
+    let alloc = rt.alloc();
     for key in ["hgv:conditional", "hgv"] {
         let longer = ruled(alloc, "", &long_rule(alloc, key, 65_531)?);
         assert!(rt;
@@ -418,6 +447,12 @@ fn reads_values_of_65536_bytes(rt: HostRuntime) -> Result<(), Fail> {
             "{key}"
         );
     }
+    Ok(())
+}
+
+#[test]
+fn passes_over_longer_values_of_other_keys(rt: HostRuntime) -> Result<(), Fail> {
+    let alloc = rt.alloc();
     let other = ruled(alloc, "", &long_rule(alloc, "maxweight", 65_531)?)?;
     assert_eq!(rt; other.passed_over(), 1);
     Ok(())

@@ -8,7 +8,7 @@ use Rattle.front_desk.specs.Inside.Halting.{status_of_report}
 use Rattle.front_desk.specs.Run.{status_of}
 use Rattle.front_desk.proofs.Leaving.{never_fault, never_memory, still_left}
 use Rattle.front_desk.proofs.RefusalTexts.{refusal_due, no_write_fault}
-use Rattle.front_desk.proofs.desk.run.Goals as goal
+use Rattle.front_desk.proofs.desk.run_gated.Goals as goal
 
 pub returns-in-Ok-clause-write_fault : goal.returns-in-Ok-clause-write_fault
 returns-in-Ok-clause-write_fault g c = λ failed. inr (record {

@@ -1,0 +1,129 @@
+// Makes the closed minutes of groups of arcs, one after another or in parts that workers make at once.
+ghost use Rattle.std.specs.Prelude.{◌≡◌, ◌<◌, ◌+◌, ◌≤◌, All, map, IfOk};
+ghost use Rattle.std.specs.Thread.{IsSync};
+ghost use Rattle.ban_expansion.specs.Words.{AreClosedLists, IsArc, IsWindow};
+
+use crate::closed_sets::closed_set;
+use network_tables::Network;
+use route_base::{ArcId, Gate, OutOfMemory, Run};
+use std::alloc::Global;
+use std::thread::{Threads, join};
+use vehicle_classes::Vehicle;
+
+// The most parts, each of which a worker makes.
+const MOST_PARTS: usize = 8;
+
+/// For each of these arcs its closed minutes of the window, one after another.
+pub fn closed_lists(
+    alloc: Global,
+    network: &Network,
+    firsts: &[ArcId],
+    vehicle: &Vehicle,
+    window: Run,
+) -> Result<Vec<Vec<Run>>, OutOfMemory>
+    requires arcs { All (IsArc network.now) firsts.now }
+    requires window { IsWindow window }
+    ensures { IfOk result (λ lists. AreClosedLists network.now vehicle.now window firsts.now
+        (map (λ v. v.items) lists.items)) }
+{
+    let mut lists = Vec::with_capacity(alloc, firsts.len())?;
+    for first in firsts {
+        let set = closed_set(alloc, network, vehicle, *first, window)?;
+        lists.push(set.into_runs())?;
+    }
+    Ok(lists)
+}
+
+// The same in so many consecutive parts, which are numbered from `part` on: half of them beside the other half.
+fn closed_parts<R: Threads + Sync, G: Gate>(
+    rt: &R,
+    alloc: Global,
+    network: &Network,
+    firsts: &[ArcId],
+    vehicle: &Vehicle,
+    window: Run,
+    part: usize,
+    parts: usize,
+    gate: &G,
+) -> Result<Vec<Vec<Run>>, OutOfMemory>
+    requires arcs { All (IsArc network.now) firsts.now }
+    requires window { IsWindow window }
+    requires some { 1 ≤ parts }
+    requires few { part + parts ≤ 8 }
+    ensures { IfOk result (λ lists. AreClosedLists network.now vehicle.now window firsts.now
+        (map (λ v. v.items) lists.items)) }
+{
+    if parts == 1 {
+        gate.enter(part);
+        return closed_lists(alloc, network, firsts, vehicle, window);
+    }
+    let left_parts = parts / 2;
+    let share = firsts.len() / parts;
+    let longer = firsts.len() % parts;
+    let middle = left_parts * share + left_parts.min(longer);
+    let (front, back) = firsts.split_at(middle);
+    let (left, right) = join(
+        rt,
+        || -> Result<Vec<Vec<Run>>, OutOfMemory>
+            requires shared { IsSync R.row × IsSync G.row }
+            requires arcs { All (IsArc network.now) front.now }
+            requires window { IsWindow window }
+            requires some { 1 ≤ left_parts }
+            requires few { part + left_parts ≤ 8 }
+            ensures { IfOk result (λ lists. AreClosedLists network.entry.now vehicle.entry.now window front.entry.now
+                (map (λ v. v.items) lists.items)) }
+        {
+            closed_parts(
+                rt, alloc, network, front, vehicle, window, part, left_parts, gate,
+            )
+        },
+        || -> Result<Vec<Vec<Run>>, OutOfMemory>
+            requires shared { IsSync R.row × IsSync G.row }
+            requires arcs { All (IsArc network.now) back.now }
+            requires window { IsWindow window }
+            requires some { 1 ≤ left_parts }
+            requires rest { left_parts < parts }
+            requires few { part + parts ≤ 8 }
+            ensures { IfOk result (λ lists. AreClosedLists network.entry.now vehicle.entry.now window back.entry.now
+                (map (λ v. v.items) lists.items)) }
+        {
+            closed_parts(
+                rt,
+                alloc,
+                network,
+                back,
+                vehicle,
+                window,
+                part + left_parts,
+                parts - left_parts,
+                gate,
+            )
+        },
+    );
+    let mut lists = left?;
+    lists.append(&mut right?)?;
+    Ok(lists)
+}
+
+/// The same in as many parts as there are arcs, but at most eight, which workers make at once; a worker goes through the gate before it
+/// begins a part.
+pub fn closed_lists_at_once<R: Threads + Sync, G: Gate>(
+    rt: &R,
+    alloc: Global,
+    network: &Network,
+    firsts: &[ArcId],
+    vehicle: &Vehicle,
+    window: Run,
+    gate: &G,
+) -> Result<Vec<Vec<Run>>, OutOfMemory>
+    requires arcs { All (IsArc network.now) firsts.now }
+    requires window { IsWindow window }
+    ensures { IfOk result (λ lists. AreClosedLists network.now vehicle.now window firsts.now
+        (map (λ v. v.items) lists.items)) }
+{
+    let parts = firsts.len().min(MOST_PARTS);
+    if parts == 0 {
+        return Ok(Vec::new(alloc));
+    }
+    closed_parts(rt, alloc, network, firsts, vehicle, window, 0, parts, gate)
+}
