@@ -1,6 +1,6 @@
 // Whether two arcs have the same area, the same closures, and the same rules of their own.
-ghost use Rattle.std.specs.Prelude.{◌≡◌, ◌≤◌, All, IfOk, IsTrue, length, option_map};
-ghost use Rattle.ban_expansion.specs.Words.{AreAlike, HaveSameRules, IsArc, NetworkModel, closures_of, every_key};
+ghost use Rattle.std.specs.Prelude.{◌≡◌, All, IfOk, IsTrue, option_map};
+ghost use Rattle.ban_expansion.specs.Words.{AreAlike, HaveSameRules, IsArc, closures_of, every_key};
 
 use conditional_rules::{Conditional, print};
 use network_tables::Network;

@@ -34,7 +34,8 @@ pub fn closed_lists(
     Ok(lists)
 }
 
-// The same in so many consecutive parts, which are numbered from `part` on: half of them beside the other half.
+// The same in `parts` consecutive parts, numbered from `part` on, whose lengths differ by one at most: half of them are made beside the
+// other half.
 fn closed_parts<R: Threads + Sync, G: Gate>(
     rt: &R,
     alloc: Global,
@@ -105,8 +106,8 @@ fn closed_parts<R: Threads + Sync, G: Gate>(
     Ok(lists)
 }
 
-/// The same in as many parts as there are arcs, but at most eight, which workers make at once; a worker goes through the gate before it
-/// begins a part.
+/// The same in as many parts as there are arcs, but at most eight, which workers make at once. A worker goes through the gate before it
+/// begins a part. It takes the time of the longest part, and a thread for each part but one.
 pub fn closed_lists_at_once<R: Threads + Sync, G: Gate>(
     rt: &R,
     alloc: Global,
