@@ -50,7 +50,7 @@ pub stops_behind : (kind other : ℕ → Bool) (w rest : List ℕ) → ((b : ℕ
 stops_behind kind other [] rest apart h s = s
 stops_behind kind other (b ∷ bs) rest apart h s = apart b (and_parts (kind b) (list_all kind bs) h).0
 
--- the greatest number that so many further digits write
+-- the greatest number that n and k further digits write
 most : ℕ → ℕ → ℕ
 most n zero = n
 most n (suc k) = most (10 * n + 9) k

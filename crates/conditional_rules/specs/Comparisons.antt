@@ -43,7 +43,7 @@ pub data IsSign : List ℕ → Comparison → Type 0 where
   equal : IsSign (codes "=") Equal
   double_equal : IsSign (codes "==") Equal
 
--- one to six digits, alone or with a point and some of so many decimals; the value counts in the last decimal
+-- one to six digits, alone or with a point and no more decimals than this; the value counts in the last decimal
 pub data IsMeasure (decimals : ℕ) : List ℕ → ℕ → Type 0 where
   whole : (digits : List ℕ) {n : ℕ} → length digits ≤ 6 → number_of digits ≡ Some n → IsMeasure decimals digits (n * 10 ^ decimals)
   decimal : (digits behind : List ℕ) {n d : ℕ} → length digits ≤ 6 → number_of digits ≡ Some n → length behind ≤ decimals

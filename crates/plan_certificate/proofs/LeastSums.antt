@@ -74,7 +74,7 @@ module _ (net : Net) (good : IsGoodNet net) (goal : ℕ) (bounds : ℕ → Optio
   abbrev minutes_at : ℕ → Option ℕ
   minutes_at v = option_map (λ b. b.minutes) (bounds v)
 
-  -- these arcs lead to the goal in so many minutes
+  -- these arcs lead from node v to the goal in x minutes
   abbrev LeadsIn : List ℕ → ℕ → ℕ → Type 0
   LeadsIn arcs v x = Leads s.road (λ w. w.minutes) goal arcs v x
 

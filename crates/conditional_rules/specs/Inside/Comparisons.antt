@@ -46,7 +46,7 @@ sign_at (a ∷ bs) =
     else if a == 61 then Some (with_equal Equal Equal bs)
     else None
 
--- the number of at most so many digits
+-- the number of no more digits than this
 abbrev pub short_number_of : ℕ → List ℕ → Option ℕ
 short_number_of most digits = if nat_le (length digits) most then number_of digits else None
 
