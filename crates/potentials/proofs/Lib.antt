@@ -4,3 +4,4 @@ pub mod Reaching
 pub mod Ending
 pub mod LeastBounds
 pub mod Totals
+pub mod InProportion

@@ -26,3 +26,22 @@ reached_new known old_keys new_keys u sum o low high is none put =
       others = λ w ne. (s.others w ne, put.others w ne);
       here = inr ((λ h. omega (arith, h.within, none h.least (sym is ∙ h.is))), s.here, put.here);
     }
+
+-- a node without a sum has no key
+pub no_key : (known keys : List (Option ℕ)) (u : ℕ) → ((v x : ℕ) → key_at keys v ≡ Some x → key_at known v ≡ Some x) → key_at known u ≡ None
+    → key_at keys u ≡ None
+no_key known keys u waits none = by (key_at keys u) refl
+  where
+    by : (o : Option ℕ) → key_at keys u ≡ o → key_at keys u ≡ None
+    by None is = is
+    by (Some x) is = let bad : None ≡ Some x = sym none ∙ waits u x is in cc
+
+-- a node with a larger sum has it as its key
+pub larger_key : (known keys : List (Option ℕ)) (u sum y : ℕ) → ((v x : ℕ) → key_at keys v ≡ Some x → key_at known v ≡ Some x)
+    → ((x : ℕ) → key_at known u ≡ Some x → key_at keys u ≡ None → x ≤ sum) → key_at known u ≡ Some y → sum < y
+    → IsSomeAnd (key_at keys u) (λ before. sum ≤ before)
+larger_key known keys u sum y waits settled here less = by (key_at keys u) refl
+  where
+    by : (o : Option ℕ) → key_at keys u ≡ o → IsSomeAnd (key_at keys u) (λ before. sum ≤ before)
+    by None is = absurd (omega (arith, settled y here is, less))
+    by (Some x) is = let e : Some y ≡ Some x = sym here ∙ waits u x is in let f : y ≡ x = cc in some_at (key_at keys u) x sum is (omega (arith, f, less))

@@ -4,11 +4,17 @@
 //! then they are the least sum of minutes and the least sum of costs of such walks. It is proved at `to_goal`, which also says
 //! that such bounds are `AreBounds` of `route_base`, as a search needs them.
 //!
-//! Each of the two sums is found by one search from the goal over the arcs backwards, in the order of rising sums (`sums`; Dijkstra's
-//! algorithm); `bounds` puts them together. `specs/Inside` is no law: it says what the search keeps.
+//! The least costs are found by a search from the goal over the arcs backwards, in the order of rising sums (`sums`; Dijkstra's
+//! algorithm). Where every cost is in proportion to the minutes of its arc (`proportion`), the least minutes are those of the least
+//! costs; otherwise they are found by a search of their own. `bounds` puts both together. `specs/Inside` is no law: it says what the
+//! search keeps.
 #![tactic(auto)]
 
 mod bounds;
+mod proportion;
 mod sums;
 
 pub use bounds::{to_goal, to_goal_over};
+
+#[cfg(test)]
+mod tests;

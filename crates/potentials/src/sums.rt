@@ -134,17 +134,20 @@ fn reach(known: &mut Vec<Option<u64>>, queue: &mut LabelQueue, u: NodeId, sum: u
     requires high { u.0 ≤ length known.old.items }
     requires same { length queue.old ≡ length known.old.items }
     requires waits { (v x : ℕ) → key_at queue.old v ≡ Some x → key_at known.old.items v ≡ Some x }
+    requires settled { (x : ℕ) → key_at known.old.items u.0 ≡ Some x
+        → key_at queue.old u.0 ≡ None → x ≤ sum }
     ensures reached { GetsSum u.0 sum (key_at known.old.items) (key_at known.new.items)
         (key_at queue.old) (key_at queue.new) }
     ensures nodes { length known.new.items ≡ length known.old.items }
     ensures room { length queue.new ≡ length queue.old }
 {
     let place = u.0 as usize - 1;
-    if has_within(known[place], sum) {
+    let before = known[place];
+    if has_within(before, sum) {
         return;
     }
     known[place] = Some(sum);
-    match queue.key_of(u) {
+    match before {
         None => queue.put(u, sum),
         Some(_) => queue.lower(u, sum),
     }

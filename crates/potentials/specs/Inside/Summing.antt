@@ -5,7 +5,7 @@ use Rattle.route_base.specs.Net.{Net, setting_of}
 use Rattle.route_base.specs.declared.limits.TheConstants.{HIGHEST_COST}
 use Rattle.route_base.specs.declared.types.Bound.{Bound}
 use Rattle.label_queue.specs.Keys.{key_at}
-use Rattle.potentials.specs.Sums.{Leads}
+use Rattle.potentials.specs.Sums.{Leads, IsLeastSum}
 use Rattle.potentials.specs.Inside.Totals.{total}
 use Rattle.potentials.specs.declared.sums.Counted.{Counted}
 use Rattle.potentials.specs.declared.sums.Counted.TheVariants.{Minutes, Cost}
@@ -67,3 +67,7 @@ abbrev pub bound_from : Option ℕ → Option ℕ → Option Bound
 bound_from None y = None
 bound_from (Some x) None = None
 bound_from (Some x) (Some y) = Some (record { minutes = x; cost = y })
+
+-- the least sums to the goal over the net, for each node
+abbrev pub AreLeastSums : Net → Counted → ℕ → List (Option ℕ) → Type 0
+AreLeastSums net counted goal sums = (v : ℕ) → IsLeastSum (setting_of net).road (count_of counted) goal v (key_at sums v)

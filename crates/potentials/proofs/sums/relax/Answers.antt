@@ -1,4 +1,4 @@
-use Rattle.std.proofs.Common.{◌≡◌, ◌+◌, Some, refl, sym, ◌∙◌, ap, subst}
+use Rattle.std.proofs.Common.{◌≡◌, ◌+◌, Some, refl, sym, ◌∙◌, ap, subst, arith}
 use Rattle.std.specs.Option.{option_map}
 use Rattle.route_base.specs.Setting.{Road}
 use Rattle.route_base.specs.Net.{road_of, setting_of, at_number}
@@ -58,3 +58,6 @@ returns-clause-relaxed c road by =
     (cheap c.args.plan.net.now c.args.plan.counted c.in-Some.arc c.in-Some.ensures.good)
     (subst (λ n. GetsSum c.in-Some.arc.tail.0 (n + c.args.x) (key_at c.args.known.now.items) (key_at c.reach.new.known.items) (key_at c.args.queue.now)
     (key_at c.reach.new.queue)) c.of.ensures c.reach.ensures.reached)).2
+
+pub reach-requires-clause-settled : goal.reach-requires-clause-settled
+reach-requires-clause-settled c x known gone = omega (arith, c.requires.work.low c.in-Some.arc.tail.0 x known gone)
