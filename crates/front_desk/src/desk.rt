@@ -46,8 +46,9 @@ fn refuse<S: Sink>(alloc: Global, out: &mut S, refusal: Refusal) -> Status
 /// `2020-07-04T00:00Z`, or a Unix minute. Any other words are `Usage`. The text goes to the sink in one call.
 ///
 /// Reading is linear in the bytes. A plan takes the time and the memory of `propagation::search`, which are those of the cost functions'
-/// pieces and not of minutes, and for each pair what its legs take. A judgement takes n log n steps for n pieces, closed runs and arcs,
-/// and no memory beside the certificate's.
+/// pieces and not of minutes, and for each pair what its legs take. A judgement takes a few binary searches for
+/// each piece of a node's function and each arc that leaves the node, and for each closed run and each piece that such a step meets; it takes
+/// no memory beside the certificate's.
 pub fn run<R: Threads + Sync, F: Folder, S: Sink>(
     rt: &R,
     alloc: Global,
