@@ -11,8 +11,8 @@
 //! no law: it says what the tree keeps.
 #![tactic(auto)]
 
+mod heap;
 mod queue;
-mod winners;
 
 pub use queue::LabelQueue;
 
