@@ -59,7 +59,8 @@ impl LabelQueue {
         requires new { key_at self.old v.0 ≡ None }
         ensures { IsSet self.old self.new v.0 (Some key) }
     {
-        self.heap.add(Label { key, node: v.0 });
+        let label = Label { key, node: v.0 };
+        self.heap.insert(label);
     }
 
     /// Gives a node that has a key one that is no larger. Logarithmic in n.
@@ -69,7 +70,8 @@ impl LabelQueue {
         requires larger { IsSomeAnd (key_at self.old v.0) (λ before. key ≤ before) }
         ensures { IsSet self.old self.new v.0 (Some key) }
     {
-        self.heap.improve(Label { key, node: v.0 });
+        let lowered = Label { key, node: v.0 };
+        self.heap.decrease(lowered);
     }
 
     /// Takes out the node with the least key, the smallest of them at equal keys, and answers it with its key; `None` exactly

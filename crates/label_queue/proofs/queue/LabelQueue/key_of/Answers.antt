@@ -11,9 +11,9 @@ use Rattle.label_queue.proofs.queue.LabelQueue.key_of.Goals.{then-v-eq0-via-then
 
 pub returns-then-v-eq0 : goal.returns-then-v-eq0
 returns-then-v-eq0 c = sym (subst (λ (w : List (Option ℕ)). key_at w c.args.v.0 ≡ None) c.self.view_is
-    (key_outside c.self.inside.heap c.args.v.0 (λ low high. elim c.then-v-eq0.branch [
-      | then-v-eq0-via-then-v-eq0 w ↦ omega (arith, low, w.if-v-eq0.true)
-      | then-v-eq0-via-else-v-eq0+then-v-len w ↦ omega (arith, high, w.if-v-len.true, w.len.ensures)
+    (key_outside c.self.inside.heap c.args.v.0 (λ own. elim c.then-v-eq0.branch [
+      | then-v-eq0-via-then-v-eq0 w ↦ omega (arith, own.0, w.if-v-eq0.true)
+      | then-v-eq0-via-else-v-eq0+then-v-len w ↦ omega (arith, own.1, w.if-v-len.true, w.len.ensures)
     ])))
 
 pub returns-in_err-place : goal.returns-in_err-place
