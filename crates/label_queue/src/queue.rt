@@ -52,7 +52,7 @@ impl LabelQueue {
         Some(self.heap.labels[place as usize].key)
     }
 
-    /// Gives a node that has no key a key. Logarithmic in n.
+    /// Gives a node that has no key a key. Logarithmic in the number of nodes with keys.
     pub fn put(&mut self, v: NodeId, key: u64)
         requires low { 1 ≤ v.0 }
         requires high { v.0 ≤ length self.old }
@@ -63,7 +63,7 @@ impl LabelQueue {
         self.heap.insert(label);
     }
 
-    /// Gives a node that has a key one that is no larger. Logarithmic in n.
+    /// Gives a node that has a key one that is no larger. Logarithmic in the number of nodes with keys.
     pub fn lower(&mut self, v: NodeId, key: u64)
         requires low { 1 ≤ v.0 }
         requires high { v.0 ≤ length self.old }
@@ -75,7 +75,7 @@ impl LabelQueue {
     }
 
     /// Takes out the node with the least key, the smallest of them at equal keys, and answers it with its key; `None` exactly
-    /// where no node has a key. Logarithmic in n.
+    /// where no node has a key. Logarithmic in the number of nodes with keys.
     pub fn take_least(&mut self) -> Option<(NodeId, u64)>
         ensures some { IfSome result (λ r. IsTaken self.old self.new r.0.0 r.1) }
         ensures none { IsNone result → (v : ℕ) → key_at self.old v ≡ None }

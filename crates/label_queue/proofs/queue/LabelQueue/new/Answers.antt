@@ -1,4 +1,4 @@
-use Rattle.std.proofs.Common.{◌≡◌, ◌<◌, ◌^◌, Option, List, ℕ, None, length, replicate, refl, arith, rules}
+use Rattle.std.proofs.Common.{◌≡◌, Option, List, ℕ, None, replicate, refl, arith, rules}
 use Rattle.label_queue.specs.declared.heap.Heap.{Heap}
 use Rattle.label_queue.proofs.Viewing.{empty_heap, none_is}
 use Rattle.label_queue.proofs.queue.LabelQueue.new.Goals as goal

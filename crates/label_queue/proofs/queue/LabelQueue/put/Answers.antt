@@ -1,4 +1,4 @@
-use Rattle.std.proofs.Common.{◌≡◌, List, Option, ℕ, None, ap, sym, ◌∙◌}
+use Rattle.std.proofs.Common.{List, Option, ℕ, ap, sym, ◌∙◌}
 use Rattle.label_queue.specs.Keys.{key_at}
 use Rattle.label_queue.proofs.Viewing.{key_is, no_place}
 use Rattle.label_queue.proofs.queue.LabelQueue.put.Goals as goal
