@@ -1,6 +1,6 @@
 // Nodes with keys.
-ghost use Rattle.std.specs.Prelude.{◌≡◌, ◌⊎◌, ◌<◌, ◌≤◌, ◌+◌, ◌^◌, ℕ, List, Option, Some, None, length, IfOk, IfSome, IsNone};
-ghost use Rattle.std.specs.Option.{IsSomeAnd, option_map};
+ghost use Rattle.std.specs.Prelude.{◌≡◌, ◌≤◌, ℕ, Some, None, length, IfOk, IfSome, IsNone};
+ghost use Rattle.std.specs.Option.{IsSomeAnd};
 ghost use Rattle.label_queue.specs.Keys.{key_at, IsSet, IsTaken};
 
 use crate::heap::{Heap, Label};
