@@ -1,5 +1,6 @@
-pub mod Climbing
-pub mod Rooting
-pub mod Winning
+pub mod Ordering
+pub mod Fresh
+pub mod Moving
+pub mod Opening
 pub mod Viewing
 pub mod Places

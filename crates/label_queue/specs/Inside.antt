@@ -1,2 +1,2 @@
 -- Machinery of the queue, which is no law: the law is in Keys (source: own).
-pub mod Winners
+pub mod Heaps

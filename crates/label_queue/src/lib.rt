@@ -4,15 +4,14 @@
 //! `IsSet` says that one node's key changes and no other, and `IsTaken` that a node with the least key loses it, the smallest of
 //! them at equal keys. It is proved at the methods of `LabelQueue`.
 //!
-//! The keys are the leaves of a tree of winners (`winners`): each place holds the label that comes first of the two below it, so
-//! the first of all stands at the root. A key that is put or lowered is written into its leaf and goes up as long as it wins
-//! against what stands there. A node that is taken out stood at each place from its leaf to the root, and these are won again on
-//! the way up, each by what has just been won below it and the place beside that. All memory is made by `new`. `specs/Inside` is
-//! no law: it says what the tree keeps.
+//! The keys are in an indexed binary heap (`heap`): labels, each with a key and its node, in a list in which none comes after the two
+//! below it, and beside it the place of each node's label. A key that is put or lowered moves up from its place, and when the root is
+//! taken out the last label moves down from there. Each moves through a hole, so that a level costs one label and one place. All
+//! memory is made by `new`. `specs/Inside` is no law: it says what the heap keeps.
 #![tactic(auto)]
 
+mod heap;
 mod queue;
-mod winners;
 
 pub use queue::LabelQueue;
 

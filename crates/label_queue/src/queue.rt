@@ -1,9 +1,9 @@
 // Nodes with keys.
-ghost use Rattle.std.specs.Prelude.{◌≡◌, ◌⊎◌, ◌<◌, ◌≤◌, ◌+◌, ◌^◌, ℕ, List, Option, Some, None, length, IfOk, IfSome, IsNone};
-ghost use Rattle.std.specs.Option.{IsSomeAnd, option_map};
+ghost use Rattle.std.specs.Prelude.{◌≡◌, ◌≤◌, ℕ, Some, None, length, IfOk, IfSome, IsNone};
+ghost use Rattle.std.specs.Option.{IsSomeAnd};
 ghost use Rattle.label_queue.specs.Keys.{key_at, IsSet, IsTaken};
 
-use crate::winners::{Label, clear, set_earlier};
+use crate::heap::{Heap, Label};
 use route_base::{NodeId, OutOfMemory};
 use std::alloc::Global;
 use std::marker::Model;
@@ -11,19 +11,18 @@ use std::marker::Model;
 /// At most one key for each node from 1 to n, where n is fixed; contracts see the list of the n keys.
 #[derive(Drop)]
 pub struct LabelQueue {
-    nodes: usize,
-    tree: Vec<Option<Label>>,
+    heap: Heap,
 }
 
 impl Model for LabelQueue {
-    ghost use Rattle.std.specs.Prelude.{List, Option, ℕ, ◌<◌, ◌^◌};
-    ghost use Rattle.label_queue.specs.Inside.Winners.{IsTree, keys_in_leaves};
+    ghost use Rattle.std.specs.Prelude.{List, Option, ℕ};
+    ghost use Rattle.label_queue.specs.Inside.Heaps.{IsHeap, keys_of};
 
     ghost Value = { List (Option ℕ) };
 
-    ghost view = { λ a. keys_in_leaves a.nodes a.tree.items };
+    ghost view = { λ a. keys_of a.heap };
 
-    ghost invariant = { λ a. IsTree a.nodes a.tree.items × (a.nodes < 2 ^ 32) };
+    ghost invariant = { λ a. IsHeap a.heap };
 }
 
 impl LabelQueue {
@@ -34,8 +33,11 @@ impl LabelQueue {
     {
         let nodes = n as usize;
         Ok(LabelQueue {
-            nodes,
-            tree: vec![in alloc; None; 2 * nodes]?,
+            heap: Heap {
+                count: 0,
+                labels: vec![in alloc; Label { key: 0, node: 0 }; nodes]?,
+                places: vec![in alloc; None; nodes]?,
+            },
         })
     }
 
@@ -43,13 +45,14 @@ impl LabelQueue {
     pub fn key_of(&self, v: NodeId) -> Option<u64>
         ensures { result ≡ key_at self.now v.0 }
     {
-        if v.0 == 0 || v.0 as usize > self.nodes {
+        if v.0 == 0 || v.0 as usize > self.heap.places.len() {
             return None;
         }
-        key_in(self.tree[self.nodes + v.0 as usize - 1])
+        let place = self.heap.places[v.0 as usize - 1]?;
+        Some(self.heap.labels[place as usize].key)
     }
 
-    /// Gives a node that has no key a key. Logarithmic in n.
+    /// Gives a node that has no key a key. Logarithmic in the number of nodes with keys.
     pub fn put(&mut self, v: NodeId, key: u64)
         requires low { 1 ≤ v.0 }
         requires high { v.0 ≤ length self.old }
@@ -57,10 +60,10 @@ impl LabelQueue {
         ensures { IsSet self.old self.new v.0 (Some key) }
     {
         let label = Label { key, node: v.0 };
-        set_earlier(&mut self.tree, self.nodes, label);
+        self.heap.insert(label);
     }
 
-    /// Gives a node that has a key one that is no larger. Logarithmic in n.
+    /// Gives a node that has a key one that is no larger. Logarithmic in the number of nodes with keys.
     pub fn lower(&mut self, v: NodeId, key: u64)
         requires low { 1 ≤ v.0 }
         requires high { v.0 ≤ length self.old }
@@ -68,31 +71,17 @@ impl LabelQueue {
         ensures { IsSet self.old self.new v.0 (Some key) }
     {
         let lowered = Label { key, node: v.0 };
-        set_earlier(&mut self.tree, self.nodes, lowered);
+        self.heap.decrease(lowered);
     }
 
     /// Takes out the node with the least key, the smallest of them at equal keys, and answers it with its key; `None` exactly
-    /// where no node has a key. Logarithmic in n.
+    /// where no node has a key. Logarithmic in the number of nodes with keys.
     pub fn take_least(&mut self) -> Option<(NodeId, u64)>
         ensures some { IfSome result (λ r. IsTaken self.old self.new r.0.0 r.1) }
         ensures none { IsNone result → (v : ℕ) → key_at self.old v ≡ None }
         ensures same { IsNone result → self.new ≡ self.old }
     {
-        if self.nodes == 0 {
-            return None;
-        }
-        let label = self.tree[1]?;
-        clear(&mut self.tree, self.nodes, label.node);
+        let label = self.heap.take_first()?;
         Some((NodeId(label.node), label.key))
-    }
-}
-
-// The key of a label, where there is one.
-fn key_in(label: Option<Label>) -> Option<u64>
-    ensures { result ≡ option_map (λ l. l.key) label }
-{
-    match label {
-        Some(own) => Some(own.key),
-        None => None,
     }
 }
