@@ -320,7 +320,3 @@ module _ (roads : ℕ → Option Road) (count : Road → ℕ) (goal nodes most :
           λ arcs sum leads. let h = covers arcs v sum leads in let e : Some x ≡ Some h.least = sym is
               ∙ h.is in let f : x ≡ h.least = cc in omega (arith, f, h.within),
         )
-
-  -- a sum that is kept while another node is reached
-  pub sum_stays : (u sum : ℕ) (old new old_keys new_keys : ℕ → Option ℕ) (v x : ℕ) → GetsSum u sum old new old_keys new_keys → HasSum old v x → HasSum new v x
-  sum_stays = sum_kept

@@ -9,6 +9,8 @@
 //! `MemoryFiles` (the objects in memory), `Statuses`, `Causes` and `Labels` (faults and their words). Texts: `Digits` and
 //! `Forms` (numbers, names, minutes and weights).
 //!
+//! Workers say through `Gate` that they begin a piece of work; no law speaks of it.
+//!
 //! It is met here by `replay`, `read_all`, `is_free`, the readers of forms and the objects in memory; the law of a search is a
 //! clause of the trait `FrontSearch`. `Replay` says where a replay fails. `Relaxing` is no law: it is the invariant that all
 //! searches share, and `proofs/` has their common lemmas (`Walking`, `Waiting`, `Covering`, `Fronts`, `LegLists`).

@@ -27,15 +27,3 @@ right-append R from middle to xs ys left right = record {
       subst (λ (n : ℕ). R n text) same (right.each (k - length xs) text (get_right xs ys k text is above)))
       (cases_lt k (length xs));
 }
-
-pub right-push : (R : ℕ → List ℕ → Type 0) (from to : ℕ) (xs : List (List ℕ)) (x : List ℕ) → AreRight R from to xs → R to x
-    → AreRight R from (to + 1) (xs ++ x ∷ [])
-right-push R from to xs x left new = right-append R from to (to + 1) xs (x ∷ []) left (record {
-  count = omega arith;
-  each = λ k text is. one k text is;
-})
-  where
-    one : (k : ℕ) (text : List ℕ) → slice_get (x ∷ []) k ≡ Some text → R (to + k) text
-    one zero text is = let same : x ≡ text = cc in let zero_more : to ≡ to + 0 = omega arith
-        in subst (λ (n : ℕ). R n text) zero_more (subst (λ (w : List ℕ). R to w) same new)
-    one (suc k) text is = cc

@@ -4,6 +4,7 @@ ghost use Rattle.route_base.specs.Net.{IsGoodNet};
 ghost use Rattle.both_engines.specs.SmallNets.{IsCheapArc, IsRequestOver};
 
 use super::nets::{NetLists, net_of};
+use crate::have_same_pairs;
 use itinerary_unpack::FunctionEngine;
 use plain_search::TableEngine;
 use route_base::limits::{LAST_INSTANT, LONGEST_HORIZON};
@@ -20,9 +21,7 @@ pub struct Fronts {
 impl Fronts {
     /// Whether both engines found the same pairs.
     pub fn agree(&self) -> bool {
-        let table = self.table.as_slice();
-        let functions = self.functions.as_slice();
-        table.len() == functions.len() && table.iter().zip(functions).all(|(a, b)| a.pair == b.pair)
+        have_same_pairs(self.table.as_slice(), self.functions.as_slice())
     }
 
     /// Whether the pairs are these.
