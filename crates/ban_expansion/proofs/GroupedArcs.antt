@@ -7,7 +7,7 @@ use Rattle.route_base.specs.declared.types.ArcId.{ArcId}
 use Rattle.network_tables.specs.Access.{area_place}
 use Rattle.network_tables.specs.NetworkModel.{NetworkModel}
 use Rattle.ban_expansion.specs.ArcGroups.{GroupsModel, IsArc, IsInGroup, AreGroupsOf}
-use Rattle.ban_expansion.specs.Inside.Grouping.{AreAlike, AreShared, begun, has_own, joined}
+use Rattle.ban_expansion.specs.Inside.Grouping.{AreAlike, AreShared, begun, has_own, group_joined}
 use Rattle.ban_expansion.proofs.AlikeArcs.{closed_alike, nothing_own}
 use Rattle.ban_expansion.proofs.ItemLists.{got_before, got_last, got_pushed, got_set}
 
@@ -37,7 +37,7 @@ module _ (net : NetworkModel) where
   none_grouped = record { counted = refl; few = omega arith; arcs = All-nil (IsArc net); each = λ k group is. absurd (cc) }
 
   pub joined_groups : (n group : ℕ) (all : GroupsModel) → AreGroupsOf net n all → IsInGroup net all.firsts (n + 1) group
-      → AreGroupsOf net (n + 1) (joined all group)
+      → AreGroupsOf net (n + 1) (group_joined all group)
   joined_groups n group all groups is = record {
     counted = omega (arith, length_push all.groups group, groups.counted);
     few = omega (arith, groups.few);

@@ -16,10 +16,10 @@ use Rattle.dimacs_reader.specs.GraphModel.{IsGoodGraph, IsGoodGraphArc}
 use Rattle.dimacs_reader.specs.declared.graph.GraphArc.{GraphArc}
 use Rattle.vehicle_classes.specs.VehicleModel.{VehicleModel}
 use Rattle.network_tables.specs.Access.{is_closed}
-use Rattle.network_tables.specs.NetworkModel.{NetworkModel, IsGoodNetwork, IsSmall}
+use Rattle.network_tables.specs.NetworkModel.{NetworkModel, IsGoodNetwork, IsSmallWeight}
 use Rattle.network_tables.specs.RoadSetting.{road_setting, road_over}
 use Rattle.ban_expansion.specs.ArcGroups.{GroupsModel, AreGroups}
-use Rattle.ban_expansion.specs.Inside.GroupedNets.{HasClosed, AreClosedLists, IsTimed, AreTimed, timed_over}
+use Rattle.ban_expansion.specs.Inside.GroupedNets.{HasClosed, AreClosedLists, IsTimedArc, AreTimed, timed_over}
 use Rattle.ban_expansion.proofs.ItemLists.{got_pushed, zip_all, zip_at, zip_length}
 
 -- an arc that nothing has
@@ -28,13 +28,13 @@ no_timed_arc = record { tail = record { 0 = 0 }; head = record { 0 = 0 }; minute
 
 -- the next arc is timed too
 pub timed_next : (net : NetworkModel) (groups : List ℕ) (n : ℕ) (arcs : List TimedArc) (arc : TimedArc) → AreTimed net groups n arcs
-    → IsTimed net groups n arc → AreTimed net groups (n + 1) (arcs ++ arc ∷ [])
+    → IsTimedArc net groups n arc → AreTimed net groups (n + 1) (arcs ++ arc ∷ [])
 timed_next net groups n arcs arc all timed = record {
   counted = omega (arith, length_push arcs arc, all.counted);
   each = λ k other at.
-      got_pushed (IsTimed net groups k other) arcs arc k other at (all.each k other)
-      (λ last same. subst (λ (j : ℕ). IsTimed net groups j other) (sym all.counted ∙ sym last)
-      (subst (λ (a : TimedArc). IsTimed net groups n a) same timed));
+      got_pushed (IsTimedArc net groups k other) arcs arc k other at (all.each k other)
+      (λ last same. subst (λ (j : ℕ). IsTimedArc net groups j other) (sym all.counted ∙ sym last)
+      (subst (λ (a : TimedArc). IsTimedArc net groups n a) same timed));
 }
 
 -- the graph's arc that a timed arc is
@@ -44,7 +44,7 @@ graph_arc_of place None arc is = absurd (cc)
 graph_arc_of place (Some graph) arc is = (graph, refl, cc)
 
 -- the weight of a node is small
-option_flatten-small : (o : Option (Option ℕ)) (w : ℕ) → ((x : Option ℕ) → o ≡ Some x → IsSmall x) → option_flatten o ≡ Some w → w ≤ 100000
+option_flatten-small : (o : Option (Option ℕ)) (w : ℕ) → ((x : Option ℕ) → o ≡ Some x → IsSmallWeight x) → option_flatten o ≡ Some w → w ≤ 100000
 option_flatten-small None w small is = absurd (cc)
 option_flatten-small (Some x) w small is = small x refl w is
 
@@ -61,7 +61,7 @@ module _ (net : NetworkModel) (vehicle : VehicleModel) (window : Run) (all : Gro
   as_many : length lists ≡ length all.firsts
   as_many = zip_length (HasClosed net vehicle window) all.firsts lists sets
 
-  good_arc : (k : ℕ) (arc : TimedArc) → IsTimed net all.groups k arc → IsGoodArc (net_over net arcs lists) arc
+  good_arc : (k : ℕ) (arc : TimedArc) → IsTimedArc net all.groups k arc → IsGoodArc (net_over net arcs lists) arc
   good_arc k arc is =
       let found = graph_arc_of arc.closed (slice_get net.graph.arcs k) arc is.is in
       let named = at_number-all (IsGoodGraphArc net.graph.nodes) net.graph.arcs (suc k) found.0 graph.each_arc found.1 in
@@ -83,10 +83,10 @@ module _ (net : NetworkModel) (vehicle : VehicleModel) (window : Run) (all : Gro
     each_arc = λ k d within. good_arc k (get_or arcs k d) (timed.each k (get_or arcs k d) (slice_get-get_or arcs k d within));
     each_runs = zip_all (HasClosed net vehicle window) AreRuns (λ first runs has. has.runs) all.firsts lists sets;
     each_weight = λ v w is.
-        option_flatten-small (at_number net.weights v) w (λ x at. at_number-all IsSmall net.weights v x good.small at) is;
+        option_flatten-small (at_number net.weights v) w (λ x at. at_number-all IsSmallWeight net.weights v x good.small at) is;
   }
 
-  road_at : (k : ℕ) (arc : TimedArc) → IsTimed net all.groups k arc → Some (road_of arc) ≡ option_map road_over (slice_get net.graph.arcs k)
+  road_at : (k : ℕ) (arc : TimedArc) → IsTimedArc net all.groups k arc → Some (road_of arc) ≡ option_map road_over (slice_get net.graph.arcs k)
   road_at k arc is =
       let found = graph_arc_of arc.closed (slice_get net.graph.arcs k) arc is.is in
       ap (λ (a : TimedArc). Some (road_of a)) (sym found.2) ∙ sym (ap (option_map road_over) found.1)

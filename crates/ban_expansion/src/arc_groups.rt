@@ -1,6 +1,6 @@
 // Groups of arcs that are closed at the same minutes.
 ghost use Rattle.std.specs.Prelude.{◌≡◌, ◌<◌, ◌^◌, [], length, IfOk, OnOk};
-ghost use Rattle.ban_expansion.specs.Words.{begun, joined};
+ghost use Rattle.ban_expansion.specs.Words.{begun, group_joined};
 
 use route_base::{ArcId, OutOfMemory};
 use std::alloc::Global;
@@ -61,7 +61,7 @@ impl ArcGroups {
 
     // Puts the next arc into this group.
     pub(crate) fn join(&mut self, group: u32) -> Result<(), OutOfMemory>
-        ensures { OnOk result (self.new ≡ joined self.old group) }
+        ensures { OnOk result (self.new ≡ group_joined self.old group) }
     {
         self.groups.push(group)?;
         Ok(())

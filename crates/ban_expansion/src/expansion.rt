@@ -1,7 +1,7 @@
 // Makes the net of a network for a vehicle, over which trips are planned.
 ghost use Rattle.std.specs.Prelude.{◌≡◌, ◌≤◌, ◌<◌, length, IfOk};
 ghost use Rattle.ban_expansion.specs.Words.{StandsFor, setting_of, IsGoodGraph, road_setting, IsWindow};
-ghost use Rattle.ban_expansion.specs.Words.{AreGroups, AreTimed, IsTimed, timed_over};
+ghost use Rattle.ban_expansion.specs.Words.{AreGroups, AreTimed, IsTimedArc, timed_over};
 
 use crate::arc_groups::ArcGroups;
 use crate::grouping::group_arcs;
@@ -33,7 +33,7 @@ fn timed_at(network: &Network, groups: &ArcGroups, k: u32) -> TimedArc
     requires within { k < length network.now.graph.arcs }
     requires graph { IsGoodGraph network.now.graph }
     requires groups { AreGroups network.now groups.now }
-    ensures { IsTimed network.now groups.now.groups k result }
+    ensures { IsTimedArc network.now groups.now.groups k result }
 {
     let arc = network.graph().arc(ArcId(k + 1)).unwrap();
     timed(arc, groups.groups()[k as usize])

@@ -16,8 +16,8 @@ use Rattle.cost_functions.specs.declared.pieces.Piece.{Piece}
 use Rattle.certificate.specs.CertificateText.{Tokens, line_text, count_line, leg_line, pair_line, route_lines, bound_line, piece_line, function_lines}
 use Rattle.certificate.specs.CertificateText.{all_pieces, certificate_lines}
 use Rattle.certificate.specs.declared.Certificate.{Certificate}
-use Rattle.certificate.specs.Inside.LineForms.{tokens_of}
-use Rattle.certificate.specs.Inside.Reading.{lines_of}
+use Rattle.certificate.specs.Inside.LineForms.{spaced_tokens}
+use Rattle.certificate.specs.Inside.Reading.{token_lines}
 use Rattle.certificate.proofs.LineForms.{both_true}
 
 -- whether a byte is neither a space nor a line feed
@@ -54,7 +54,7 @@ no_feed (b ∷ bs) is =
     All-cons (λ c. (c == 10) ≡ false) b bs (not_true (b == 10) (both_true (not (b == 32)) (not (b == 10)) parts.0).1) (no_feed bs parts.1)
 
 -- tokens that are joined and cut again
-tokens_again : (ts : Tokens) → is_clean ts ≡ true → tokens_of (join_with_byte 32 ts) ≡ ts
+tokens_again : (ts : Tokens) → is_clean ts ≡ true → spaced_tokens (join_with_byte 32 ts) ≡ ts
 tokens_again [] clean = absurd (cc)
 tokens_again (t ∷ []) clean = slice_split_none (λ b. b == 32) t (no_space t clean)
 tokens_again (t ∷ u ∷ ts) clean =
@@ -73,14 +73,14 @@ abbrev pub AreClean : List Tokens → Type 0
 AreClean lines = All (λ l. is_clean l ≡ true) lines
 
 -- the text of clean lines has just these lines, and an empty one behind the last line feed
-pub lines_of_text : (lines : List Tokens) → AreClean lines → lines_of (flat_map line_text lines) ≡ lines ++ ([] ∷ []) ∷ []
+pub lines_of_text : (lines : List Tokens) → AreClean lines → token_lines (flat_map line_text lines) ≡ lines ++ ([] ∷ []) ∷ []
 lines_of_text [] clean = refl
 lines_of_text (l ∷ lines) clean =
     let first = All-head (λ k. is_clean k ≡ true) l lines clean in
     let others = flat_map line_text lines in
-    ap lines_of (append_assoc (join_with_byte 32 l) (10 ∷ []) others)
-    ∙ ap (map tokens_of) (slice_split_at (λ b. b == 10) (join_with_byte 32 l) 10 others (feedless l first) refl)
-    ∙ ap (λ t. t ∷ lines_of others) (tokens_again l first)
+    ap token_lines (append_assoc (join_with_byte 32 l) (10 ∷ []) others)
+    ∙ ap (map spaced_tokens) (slice_split_at (λ b. b == 10) (join_with_byte 32 l) 10 others (feedless l first) refl)
+    ∙ ap (λ t. t ∷ token_lines others) (tokens_again l first)
     ∙ ap (λ ls. l ∷ ls) (lines_of_text lines (All-tail (λ k. is_clean k ≡ true) l lines clean))
 
 -- digits are plain

@@ -5,8 +5,8 @@ use Rattle.std.specs.List.{slice_split}
 use Rattle.std.proofs.lemmas.List.{length-map}
 use Rattle.std.proofs.lemmas.List.Splits.{length-slice_split}
 use Rattle.certificate.specs.CertificateText.{Tokens}
-use Rattle.certificate.specs.Inside.LineForms.{tokens_of}
-use Rattle.certificate.specs.Inside.Reading.{lines_of, first_line}
+use Rattle.certificate.specs.Inside.LineForms.{spaced_tokens}
+use Rattle.certificate.specs.Inside.Reading.{token_lines, first_line}
 
 -- there is always a first part
 pub some_part : {X : Type 0} (p : X → Bool) (xs : List X) → 0 < length (slice_split p xs)
@@ -22,11 +22,11 @@ module _ {A : Type 0} (read : Tokens → Option A) where
 
   -- a line that was read
   pub first_read : (bytes line rest : List ℕ) (x : A) → slice_split (λ b. b == 10) bytes ≡ line ∷ slice_split (λ b. b == 10) rest
-      → read (tokens_of line) ≡ Some x
-      → first_line read (lines_of bytes) ≡ Some (x, lines_of rest)
+      → read (spaced_tokens line) ≡ Some x
+      → first_line read (token_lines bytes) ≡ Some (x, token_lines rest)
   first_read bytes line rest x parts is =
-      ap (λ ls. first_line read (map tokens_of ls)) parts
-      ∙ read_first (tokens_of line) (lines_of rest) x (omega (arith, some_part (λ b. b == 10) rest, length-map (slice_split (λ b. b == 10) rest) tokens_of)) is
+      ap (λ ls. first_line read (map spaced_tokens ls)) parts
+      ∙ read_first (spaced_tokens line) (token_lines rest) x (omega (arith, some_part (λ b. b == 10) rest, length-map (slice_split (λ b. b == 10) rest) spaced_tokens)) is
 
   -- fewer lines are left
   pub first_shorter : (lines : List Tokens) (x : A) (others : List Tokens) → first_line read lines ≡ Some (x, others) → length others < length lines

@@ -5,16 +5,16 @@ use Rattle.std.specs.List.{slice_split, join_with_byte}
 use Rattle.std.specs.Str.{bytes_eq}
 use Rattle.std.proofs.lemmas.List.Splits.{join_with_byte-slice_split}
 use Rattle.certificate.specs.CertificateText.{Tokens, line_text}
-use Rattle.certificate.specs.Inside.LineForms.{tokens_of}
-use Rattle.certificate.specs.Inside.Reading.{lines_of, is_end}
+use Rattle.certificate.specs.Inside.LineForms.{spaced_tokens}
+use Rattle.certificate.specs.Inside.Reading.{token_lines, is_end}
 use Rattle.certificate.proofs.LineForms.{equal_bytes}
 
-joined_lines : (lines : List (List ℕ)) → map (join_with_byte 32) (map tokens_of lines) ≡ lines
+joined_lines : (lines : List (List ℕ)) → map (join_with_byte 32) (map spaced_tokens lines) ≡ lines
 joined_lines [] = refl
-joined_lines (l ∷ ls) = ap (λ x. x ∷ map (join_with_byte 32) (map tokens_of ls)) (join_with_byte-slice_split 32 l) ∙ ap (λ xs. l ∷ xs) (joined_lines ls)
+joined_lines (l ∷ ls) = ap (λ x. x ∷ map (join_with_byte 32) (map spaced_tokens ls)) (join_with_byte-slice_split 32 l) ∙ ap (λ xs. l ∷ xs) (joined_lines ls)
 
 -- the lines of bytes make the bytes again
-pub bytes_again : (bytes : List ℕ) (lines : List Tokens) → lines_of bytes ≡ lines → bytes ≡ join_with_byte 10 (map (join_with_byte 32) lines)
+pub bytes_again : (bytes : List ℕ) (lines : List Tokens) → token_lines bytes ≡ lines → bytes ≡ join_with_byte 10 (map (join_with_byte 32) lines)
 bytes_again bytes lines is =
     sym (join_with_byte-slice_split 10 bytes)
     ∙ ap (join_with_byte 10) (sym (joined_lines (slice_split (λ b. b == 10) bytes)))
@@ -40,12 +40,12 @@ end_lines ((w ∷ []) ∷ ([] ∷ v ∷ tokens) ∷ lines) is = absurd (cc)
 end_lines ((w ∷ []) ∷ ((b ∷ v) ∷ tokens) ∷ lines) is = absurd (cc)
 end_lines ((w ∷ v ∷ tokens) ∷ lines) is = absurd (cc)
 
-pub end_test : (bytes : List ℕ) → bytes_eq bytes (codes "end\n") ≡ is_end (lines_of bytes)
-end_test bytes = tested (bytes_eq bytes (codes "end\n")) refl (is_end (lines_of bytes)) refl
+pub end_test : (bytes : List ℕ) → bytes_eq bytes (codes "end\n") ≡ is_end (token_lines bytes)
+end_test bytes = tested (bytes_eq bytes (codes "end\n")) refl (is_end (token_lines bytes)) refl
   where
-    tested : (b : Bool) → bytes_eq bytes (codes "end\n") ≡ b → (d : Bool) → is_end (lines_of bytes) ≡ d
-        → bytes_eq bytes (codes "end\n") ≡ is_end (lines_of bytes)
-    tested true is d end = is ∙ sym (ap (λ bs. is_end (lines_of bs)) (equal_bytes bytes (codes "end\n") is))
+    tested : (b : Bool) → bytes_eq bytes (codes "end\n") ≡ b → (d : Bool) → is_end (token_lines bytes) ≡ d
+        → bytes_eq bytes (codes "end\n") ≡ is_end (token_lines bytes)
+    tested true is d end = is ∙ sym (ap (λ bs. is_end (token_lines bs)) (equal_bytes bytes (codes "end\n") is))
     tested false is true end = ap (λ bs. bytes_eq bs (codes "end\n"))
-        (bytes_again bytes ((codes "end" ∷ []) ∷ ([] ∷ []) ∷ []) (end_lines (lines_of bytes) end)) ∙ sym end
+        (bytes_again bytes ((codes "end" ∷ []) ∷ ([] ∷ []) ∷ []) (end_lines (token_lines bytes) end)) ∙ sym end
     tested false is false end = is ∙ sym end

@@ -76,36 +76,36 @@ module _ {A : Type 0} (read : Reading A) where
   module _ (spell : A → List Tokens) where
     module _ (P : A → Type 0)
         (each : (lines : List Tokens) (x : A) (others : List Tokens) → read lines ≡ Some (x, others) → (lines ≡ spell x ++ others) × P x) where
-      abbrev Found : List Tokens → List A × List Tokens → Type 0
-      Found lines r = (lines ≡ flat_map spell r.0 ++ r.1) × All P r.0
+      abbrev FoundItems : List Tokens → List A × List Tokens → Type 0
+      FoundItems lines r = (lines ≡ flat_map spell r.0 ++ r.1) × All P r.0
 
-      up_to_found : (k : ℕ) (lines : List Tokens) → Found lines (items_up_to read k lines)
+      up_to_found : (k : ℕ) (lines : List Tokens) → FoundItems lines (items_up_to read k lines)
       up_to_found zero lines = (refl, All-nil P)
       up_to_found (suc k) lines = by (up_to_found k) (read lines) refl
         where
-          by : ((ls : List Tokens) → Found ls (items_up_to read k ls)) → (o : Option (A × List Tokens)) → read lines ≡ o
-              → Found lines (items_up_to read (suc k) lines)
-          by more None is = subst (Found lines) (sym (items_end (suc k) lines is)) (refl, All-nil P)
+          by : ((ls : List Tokens) → FoundItems ls (items_up_to read k ls)) → (o : Option (A × List Tokens)) → read lines ≡ o
+              → FoundItems lines (items_up_to read (suc k) lines)
+          by more None is = subst (FoundItems lines) (sym (items_end (suc k) lines is)) (refl, All-nil P)
           by more (Some r) is =
               let first = each lines r.0 r.1 is in
               let others = more r.1 in
               let found = items_up_to read k r.1 in
-              subst (Found lines) (sym (items_next k lines r.0 r.1 is)) (
+              subst (FoundItems lines) (sym (items_next k lines r.0 r.1 is)) (
                 first.0 ∙ ap (λ ls. spell r.0 ++ ls) others.0 ∙ sym (append_assoc (spell r.0) (flat_map spell found.0) found.1),
                 All-cons P r.0 found.0 first.1 others.1,
               )
 
       pub items_found : (lines : List Tokens) (xs : List A) (others : List Tokens) → items_in read lines ≡ (xs, others)
           → (lines ≡ flat_map spell xs ++ others) × All P xs
-      items_found lines xs others is = subst (Found lines) is (up_to_found (length lines) lines)
+      items_found lines xs others is = subst (FoundItems lines) is (up_to_found (length lines) lines)
 
     -- each item is read from its lines, and then no other
-    abbrev pub AreRead : List A → List Tokens → Type 0
-    AreRead [] others = read others ≡ None
-    AreRead (x ∷ xs) others = (0 < length (spell x)) × (read (spell x ++ (flat_map spell xs ++ others)) ≡ Some (x, flat_map spell xs ++ others))
-        × AreRead xs others
+    abbrev pub AreReadAgain : List A → List Tokens → Type 0
+    AreReadAgain [] others = read others ≡ None
+    AreReadAgain (x ∷ xs) others = (0 < length (spell x)) × (read (spell x ++ (flat_map spell xs ++ others)) ≡ Some (x, flat_map spell xs ++ others))
+        × AreReadAgain xs others
 
-    up_to_again : (xs : List A) (others : List Tokens) (k : ℕ) → length xs ≤ k → AreRead xs others
+    up_to_again : (xs : List A) (others : List Tokens) (k : ℕ) → length xs ≤ k → AreReadAgain xs others
         → items_up_to read k (flat_map spell xs ++ others) ≡ (xs, others)
     up_to_again [] others k enough end = items_end k others end
     up_to_again (x ∷ xs) others zero enough are = absurd (omega (arith, enough))
@@ -114,11 +114,11 @@ module _ {A : Type 0} (read : Reading A) where
         ∙ items_next k (spell x ++ (flat_map spell xs ++ others)) x (flat_map spell xs ++ others) are.1
         ∙ ap (λ (r : List A × List Tokens). (x ∷ r.0, r.1)) (up_to_again xs others k (omega (arith, enough)) are.2)
 
-    long : (xs : List A) (others : List Tokens) → AreRead xs others → length xs ≤ length (flat_map spell xs)
+    long : (xs : List A) (others : List Tokens) → AreReadAgain xs others → length xs ≤ length (flat_map spell xs)
     long [] others end = omega arith
     long (x ∷ xs) others are = omega (arith, are.0, long xs others are.2, length-append (spell x) (flat_map spell xs))
 
-    pub items_again : (xs : List A) (others : List Tokens) → AreRead xs others → items_in read (flat_map spell xs ++ others) ≡ (xs, others)
+    pub items_again : (xs : List A) (others : List Tokens) → AreReadAgain xs others → items_in read (flat_map spell xs ++ others) ≡ (xs, others)
     items_again xs others are =
         up_to_again xs others (length (flat_map spell xs ++ others)) (omega (arith, long xs others are, length-append (flat_map spell xs) others)) are
 
@@ -130,7 +130,7 @@ module _ {A : Type 0} (read : Tokens → Option A) (line : A → Tokens) where
       ap (λ ls. items_in (first_line read) (ls ++ others)) (sym (flat_map_single line xs))
       ∙ items_again (first_line read) (λ x. line x ∷ []) xs others (are xs all)
     where
-      are : (ys : List A) → All (λ x. read (line x) ≡ Some x) ys → AreRead (first_line read) (λ x. line x ∷ []) ys others
+      are : (ys : List A) → All (λ x. read (line x) ≡ Some x) ys → AreReadAgain (first_line read) (λ x. line x ∷ []) ys others
       are [] rest = end
       are (y ∷ ys) rest = (
         omega arith,

@@ -17,7 +17,7 @@ use Rattle.cost_functions.specs.declared.pieces.Piece.{Piece}
 use Rattle.certificate.specs.CertificateText.{Tokens, leg_line, bound_line, piece_line}
 use Rattle.certificate.specs.Writable.{IsWritableLeg, IsWritableNode}
 use Rattle.certificate.specs.declared.limits.TheConstants.{LONGEST_BOUND}
-use Rattle.certificate.specs.Inside.LineForms.{number_within, node_of, leg_in, pair_from, pair_in, bound_from, bound_in, piece_from, piece_in, piece_at}
+use Rattle.certificate.specs.Inside.LineForms.{number_within, node_from, leg_in, pair_from, pair_in, bound_from, bound_in, piece_from, piece_in, piece_at}
 use Rattle.certificate.specs.Inside.LineForms.{count_in}
 use Rattle.certificate.proofs.PlainNumbers.{plain_again, plain_found}
 
@@ -74,10 +74,10 @@ number_found least most token n is =
       high = omega (arith, le_true parts.0 most limits.1, same);
     }
 
-pub node_again : (v : NodeId) → IsWritableNode v → node_of (decimal v.0) ≡ Some v
+pub node_again : (v : NodeId) → IsWritableNode v → node_from (decimal v.0) ≡ Some v
 node_again v writable = ap (λ o. option_map (λ n. record { 0 = n }) o) (number_again 1 MOST_NODES v.0 writable.0 writable.1 (omega arith))
 
-pub node_found : (token : List ℕ) (v : NodeId) → node_of token ≡ Some v → (token ≡ decimal v.0) × IsWritableNode v
+pub node_found : (token : List ℕ) (v : NodeId) → node_from token ≡ Some v → (token ≡ decimal v.0) × IsWritableNode v
 node_found token v is =
     let parts = mapped_of (number_within 1 MOST_NODES token) (λ n. record { 0 = n }) v is in
     let number = number_found 1 MOST_NODES token parts.0 parts.1 in
@@ -199,8 +199,8 @@ bound_found (word ∷ []) e is = absurd (cc)
 bound_found (word ∷ v ∷ []) e is = absurd (cc)
 bound_found (word ∷ v ∷ m ∷ []) e is = absurd (cc)
 bound_found (word ∷ v ∷ m ∷ c ∷ []) e is =
-    let tests = if_some (bytes_eq word (codes "bound")) (option_and_then (λ u. option_map (λ b. (u, b)) (bound_from m c)) (node_of v)) e is in
-    let outer = some_of (node_of v) (λ u. option_map (λ b. (u, b)) (bound_from m c)) e tests.1 in
+    let tests = if_some (bytes_eq word (codes "bound")) (option_and_then (λ u. option_map (λ b. (u, b)) (bound_from m c)) (node_from v)) e is in
+    let outer = some_of (node_from v) (λ u. option_map (λ b. (u, b)) (bound_from m c)) e tests.1 in
     let inner = mapped_of (bound_from m c) (λ b. (outer.0, b)) e outer.2 in
     let node = node_found v outer.0 outer.1 in
     let numbers = bound_from_found m c inner.0 inner.1 in
@@ -296,8 +296,8 @@ piece_found (word ∷ n ∷ l ∷ []) v p is = absurd (cc)
 piece_found (word ∷ n ∷ l ∷ h ∷ []) v p is = absurd (cc)
 piece_found (word ∷ n ∷ l ∷ h ∷ c ∷ []) v p is = absurd (cc)
 piece_found (word ∷ n ∷ l ∷ h ∷ c ∷ s ∷ []) v p is =
-    let tests = if_some (bytes_eq word (codes "piece")) (option_and_then (λ u. option_map (λ q. (u, q)) (piece_from l h c s)) (node_of n)) (v, p) is in
-    let outer = some_of (node_of n) (λ u. option_map (λ q. (u, q)) (piece_from l h c s)) (v, p) tests.1 in
+    let tests = if_some (bytes_eq word (codes "piece")) (option_and_then (λ u. option_map (λ q. (u, q)) (piece_from l h c s)) (node_from n)) (v, p) is in
+    let outer = some_of (node_from n) (λ u. option_map (λ q. (u, q)) (piece_from l h c s)) (v, p) tests.1 in
     let inner = mapped_of (piece_from l h c s) (λ q. (outer.0, q)) (v, p) outer.2 in
     let node = node_found n outer.0 outer.1 in
     let numbers = piece_from_found l h c s inner.0 inner.1 in

@@ -12,7 +12,7 @@ use Rattle.certificate.specs.ByNode.{AreRising}
 use Rattle.certificate.specs.Writable.{IsWritable, IsWritableNode, IsCertificateText}
 use Rattle.certificate.specs.declared.Certificate.{Certificate}
 use Rattle.certificate.specs.Inside.LineForms.{bound_in, count_in, leg_in, pair_in}
-use Rattle.certificate.specs.Inside.Reading.{lines_of, first_line, neighbours_pass, may_follow_entry, route_in, function_in, routes_in, bounds_in}
+use Rattle.certificate.specs.Inside.Reading.{token_lines, first_line, neighbours_pass, may_follow_entry, route_in, function_in, routes_in, bounds_in}
 use Rattle.certificate.specs.Inside.Reading.{functions_in, behind_title, is_end, certificate_in}
 use Rattle.certificate.proofs.Blocks.{none_first, IsWritableRoute, IsWritableFunction, routes_found, routes_read, functions_found, functions_read}
 use Rattle.certificate.proofs.Blocks.{counted_found, counted_again}
@@ -205,17 +205,17 @@ certificate_found lines c is =
     )
 
 -- both ways for bytes
-pub text_found : (bytes : List ℕ) (c : Certificate) → certificate_in (lines_of bytes) ≡ Some c → IsCertificateText bytes c
+pub text_found : (bytes : List ℕ) (c : Certificate) → certificate_in (token_lines bytes) ≡ Some c → IsCertificateText bytes c
 text_found bytes c is =
-    let found = certificate_found (lines_of bytes) c is in
+    let found = certificate_found (token_lines bytes) c is in
     record {
       writable = found.1;
       text = sym (bytes_again bytes (certificate_lines c ++ ([] ∷ []) ∷ []) (found.0 ∙ sym (all_lines_are c)) ∙ text_again (certificate_lines c));
     }
 
-pub text_back : (bytes : List ℕ) (c : Certificate) → IsCertificateText bytes c → certificate_in (lines_of bytes) ≡ Some c
+pub text_back : (bytes : List ℕ) (c : Certificate) → IsCertificateText bytes c → certificate_in (token_lines bytes) ≡ Some c
 text_back bytes c is =
-    ap (λ bs. certificate_in (lines_of bs)) (sym is.text)
+    ap (λ bs. certificate_in (token_lines bs)) (sym is.text)
     ∙ ap certificate_in (lines_of_text (certificate_lines c) (certificate_clean c) ∙ all_lines_are c)
     ∙ certificate_back c is.writable
 

@@ -1,7 +1,7 @@
 // Reads lines from the front.
 ghost use Rattle.std.specs.Prelude.{◌≡◌, if◌then◌else◌, IfOk, IfSome, IfNone, MatchOption, Option};
 ghost use Rattle.certificate.specs.Inside.LineForms.{pair_in, piece_in, count_in};
-ghost use Rattle.certificate.specs.Inside.Reading.{lines_of, first_line, items_in, Takes};
+ghost use Rattle.certificate.specs.Inside.Reading.{token_lines, first_line, items_in, Takes};
 ghost use Rattle.certificate.specs.Inside.Reading.{route_in, function_in, IsFirstNode};
 ghost use Rattle.certificate.specs.Inside.Reading.{behind_title, is_end};
 
@@ -22,17 +22,17 @@ pub struct LineReader<'a> {
 
 impl<'a> Model for LineReader<'a> {
     ghost use Rattle.std.specs.Prelude.{List, ℕ};
-    ghost use Rattle.certificate.specs.Inside.Reading.{lines_of};
+    ghost use Rattle.certificate.specs.Inside.Reading.{token_lines};
 
     ghost Value = { List (List (List ℕ)) };
 
-    ghost view = { λ s. lines_of s.rest.now };
+    ghost view = { λ s. token_lines s.rest.now };
 }
 
 impl<'a> LineReader<'a> {
     /// The reader of all bytes.
     pub fn new(bytes: &'a [u8]) -> LineReader<'a>
-        ensures { result ≡ lines_of bytes.now }
+        ensures { result ≡ token_lines bytes.now }
     {
         LineReader { rest: bytes }
     }

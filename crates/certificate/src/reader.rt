@@ -1,7 +1,7 @@
 // Reads the text of a certificate.
 ghost use Rattle.std.specs.Prelude.{◌≡◌, IfOk, IfErr};
 ghost use Rattle.certificate.specs.Writable.{IsCertificateText, IsNoCertificateText};
-ghost use Rattle.certificate.specs.Inside.Reading.{lines_of, routes_in, bounds_in, functions_in};
+ghost use Rattle.certificate.specs.Inside.Reading.{token_lines, routes_in, bounds_in, functions_in};
 ghost use Rattle.certificate.specs.Inside.Reading.{certificate_in, Takes};
 ghost use Rattle.certificate.specs.declared.faults.CertificateFault.TheVariants.{NotACertificate};
 
@@ -27,7 +27,7 @@ pub fn read(alloc: Global, bytes: &[u8]) -> Result<Certificate, CertificateFault
 
 // The certificate of all lines.
 fn certificate(alloc: Global, bytes: &[u8]) -> Result<Option<Certificate>, OutOfMemory>
-    ensures { IfOk result (λ certificate. certificate ≡ certificate_in (lines_of bytes.now)) }
+    ensures { IfOk result (λ certificate. certificate ≡ certificate_in (token_lines bytes.now)) }
 {
     let mut lines = LineReader::new(bytes);
     if !lines.take_title() {

@@ -58,16 +58,16 @@ item_in_range bounds v (Some b) ranges is = (
 -- the bounds of an arc's ends, looked up or not
 module _ (o : Option TimedArc) (arc : TimedArc) (is : o ≡ Some arc) (bounds : ℕ → Option Bound) (head tail : Option Bound)
     (at_head : head ≡ bounds arc.head.0) (at_tail : tail ≡ bounds arc.tail.0) where
-  abbrev IsBounded : Road → Bound → Type 0
-  IsBounded w h = bounds w.head ≡ Some h → (b : Bound) × (bounds w.tail ≡ Some b) × IsBoundThrough w h b
+  abbrev IsHeadBounded : Road → Bound → Type 0
+  IsHeadBounded w h = bounds w.head ≡ Some h → (b : Bound) × (bounds w.tail ≡ Some b) × IsBoundThrough w h b
 
   pub bounded : ((h : Bound) → head ≡ Some h → (b : Bound) × (tail ≡ Some b) × IsBoundThrough (road_of arc) h b)
       → (road : Road) (h : Bound) → option_map road_of o ≡ Some road → bounds road.head ≡ Some h
       → (b : Bound) × (bounds road.tail ≡ Some b) × IsBoundThrough road h b
   bounded all road h mapped =
-      subst (λ (w : Road). IsBounded w h) (same_Some (road_of arc) road (sym (ap (option_map road_of) is) ∙ mapped))
+      subst (λ (w : Road). IsHeadBounded w h) (same_Some (road_of arc) road (sym (ap (option_map road_of) is) ∙ mapped))
       (λ there. let e = all h (at_head ∙ there) in (e.0, sym at_tail ∙ e.1, e.2))
 
-  pub bounding : ((road : Road) (h : Bound) → option_map road_of o ≡ Some road → IsBounded road h)
+  pub bounding : ((road : Road) (h : Bound) → option_map road_of o ≡ Some road → IsHeadBounded road h)
       → (h : Bound) → head ≡ Some h → (b : Bound) × (tail ≡ Some b) × IsBoundThrough (road_of arc) h b
   bounding each h there = let e = each (road_of arc) h (ap (option_map road_of) is) (sym at_head ∙ there) in (e.0, at_tail ∙ e.1, e.2)

@@ -12,7 +12,7 @@ use Rattle.cost_functions.specs.Pieces.{value_at}
 use Rattle.cost_functions.specs.declared.pieces.Piece.{Piece}
 use Rattle.cost_functions.proofs.Slopes.{further}
 use Rattle.certificate_check.specs.Conditions.{AreStepsRelaxed}
-use Rattle.certificate_check.specs.Inside.Passing.{point, HasValueWithin, Passes, Link}
+use Rattle.certificate_check.specs.Inside.Passing.{goal_point, HasValueWithin, Passes, Link}
 use Rattle.certificate_check.specs.Inside.Steps.{AreDrivesRelaxed, AreWaitsRelaxed}
 use Rattle.certificate_check.proofs.Dominated.{dominated_later, dominated_or_not}
 
@@ -32,25 +32,25 @@ within_shifted values p t s minutes cost from later h =
 
 module _ (until : ℕ) (pairs : List Pair) (bounds : ℕ → Option Bound) (value : ℕ → ℕ → Option ℕ) where
   -- between a position and the same at no node
-  pub at_node : (o : Option Bound) (p : Position) → o ≡ bounds p.node → IsDominatedOrLate until pairs o (point p.minute p.cost)
+  pub at_node : (o : Option Bound) (p : Position) → o ≡ bounds p.node → IsDominatedOrLate until pairs o (goal_point p.minute p.cost)
       → IsDominatedOrLate until pairs (bounds p.node) p
   at_node o p is h = subst (λ (w : Option Bound). IsDominatedOrLate until pairs w p) is
-      (dominated_later until pairs o (point p.minute p.cost) p (omega arith) (omega arith) h)
+      (dominated_later until pairs o (goal_point p.minute p.cost) p (omega arith) (omega arith) h)
 
   pub at_point : (o : Option Bound) (p : Position) → o ≡ bounds p.node → IsDominatedOrLate until pairs (bounds p.node) p
-      → IsDominatedOrLate until pairs o (point p.minute p.cost)
-  at_point o p is h = dominated_later until pairs o p (point p.minute p.cost) (omega arith) (omega arith)
+      → IsDominatedOrLate until pairs o (goal_point p.minute p.cost)
+  at_point o p is h = dominated_later until pairs o p (goal_point p.minute p.cost) (omega arith) (omega arith)
       (subst (λ (w : Option Bound). IsDominatedOrLate until pairs w p) (sym is) h)
 
   module _ (o : Option Bound) (pieces : List Piece) (p : Position) (is : o ≡ bounds p.node)
       (values : (t : ℕ) → value_at pieces t ≡ value p.node t) where
     abbrev pub IsPointRelaxed : Type 0
-    IsPointRelaxed = IsRelaxed until pairs (λ _. o) (λ _. value_at pieces) (point p.minute p.cost)
+    IsPointRelaxed = IsRelaxed until pairs (λ _. o) (λ _. value_at pieces) (goal_point p.minute p.cost)
 
     pub relaxed_at_node : IsPointRelaxed → IsRelaxed until pairs bounds value p
     relaxed_at_node h = ⊎_elim
         (λ (w : HasValueWithin pieces p.minute p.cost). inl (record { least = w.least; is = sym (values p.minute) ∙ w.is; within = w.within }))
-        (λ (e : IsDominatedOrLate until pairs o (point p.minute p.cost)). inr (at_node o p is e))
+        (λ (e : IsDominatedOrLate until pairs o (goal_point p.minute p.cost)). inr (at_node o p is e))
         h
 
     pub relaxed_at_point : IsRelaxed until pairs bounds value p → IsPointRelaxed
@@ -66,12 +66,12 @@ module _ (until : ℕ) (pairs : List Pair) (bounds : ℕ → Option Bound) (valu
         → IsDominatedOrLate until pairs (bounds p.node) p ⊎ IsRelaxed until pairs bounds value q
     relaxed_of_passes minute cost in_time free passes =
         ⊎_elim
-        (λ (e : IsDominatedOrLate until pairs link.from (point p.minute p.cost)). inl (at_node link.from p from e))
+        (λ (e : IsDominatedOrLate until pairs link.from (goal_point p.minute p.cost)). inl (at_node link.from p from e))
         (λ (rest : p.minute + link.minutes ≤ until → IsFree link.closed p.minute link.minutes
-        → IsRelaxed until pairs (λ _. link.to) (λ _. value_at link.values) (point (p.minute + link.minutes) (p.cost + link.cost))).
+        → IsRelaxed until pairs (λ _. link.to) (λ _. value_at link.values) (goal_point (p.minute + link.minutes) (p.cost + link.cost))).
         inr (relaxed_at_node link.to link.values q to values
-        (subst (λ (t : ℕ). IsRelaxed until pairs (λ _. link.to) (λ _. value_at link.values) (point t q.cost)) (sym minute)
-        (subst (λ (x : ℕ). IsRelaxed until pairs (λ _. link.to) (λ _. value_at link.values) (point (p.minute + link.minutes) x)) (sym cost)
+        (subst (λ (t : ℕ). IsRelaxed until pairs (λ _. link.to) (λ _. value_at link.values) (goal_point t q.cost)) (sym minute)
+        (subst (λ (x : ℕ). IsRelaxed until pairs (λ _. link.to) (λ _. value_at link.values) (goal_point (p.minute + link.minutes) x)) (sym cost)
         (rest (omega (arith, minute, in_time)) free)))))
         passes
 
@@ -81,16 +81,16 @@ module _ (until : ℕ) (pairs : List Pair) (bounds : ℕ → Option Bound) (valu
         → Passes until pairs link p.minute p.cost
     passes_of_relaxed minute cost here =
         ⊎_elim
-        (λ (e : IsDominatedOrLate until pairs link.from (point p.minute p.cost)). inl e)
-        (λ (not : IsDominatedOrLate until pairs link.from (point p.minute p.cost) → ⊥). inr (λ in_time free.
+        (λ (e : IsDominatedOrLate until pairs link.from (goal_point p.minute p.cost)). inl e)
+        (λ (not : IsDominatedOrLate until pairs link.from (goal_point p.minute p.cost) → ⊥). inr (λ in_time free.
         ⊎_elim
         (λ (e : IsDominatedOrLate until pairs (bounds p.node) p). absurd (not (at_point link.from p from e)))
         (λ (relaxed : IsRelaxed until pairs bounds value q).
-        subst (λ (t : ℕ). IsRelaxed until pairs (λ _. link.to) (λ _. value_at link.values) (point t (p.cost + link.cost))) minute
-        (subst (λ (x : ℕ). IsRelaxed until pairs (λ _. link.to) (λ _. value_at link.values) (point q.minute x)) cost
+        subst (λ (t : ℕ). IsRelaxed until pairs (λ _. link.to) (λ _. value_at link.values) (goal_point t (p.cost + link.cost))) minute
+        (subst (λ (x : ℕ). IsRelaxed until pairs (λ _. link.to) (λ _. value_at link.values) (goal_point q.minute x)) cost
         (relaxed_at_point link.to link.values q to values relaxed)))
         (here in_time free)))
-        (dominated_or_not until pairs link.from (point p.minute p.cost))
+        (dominated_or_not until pairs link.from (goal_point p.minute p.cost))
 
 module _ (s : Setting) (until : ℕ) (pairs : List Pair) (bounds : ℕ → Option Bound) (value : ℕ → ℕ → Option ℕ) (link : Link) (pieces : List Piece) where
   module _ (a : ℕ) (road : Road) (is : s.road a ≡ Some road) (minutes : link.minutes ≡ road.minutes) (cost : link.cost ≡ road.cost)

@@ -2,7 +2,7 @@
 ghost use Rattle.std.specs.Prelude.{◌↔◌, ◌<◌, ◌^◌, IsTrue};
 ghost use Rattle.route_base.specs.Front.{RiseAndFall};
 ghost use Rattle.route_base.specs.Relaxing.{HasPair, IsDominatedOrLate};
-ghost use Rattle.certificate_check.specs.Inside.Passing.{IsBoundInRange, point};
+ghost use Rattle.certificate_check.specs.Inside.Passing.{IsBoundInRange, goal_point};
 
 use route_base::{Bound, Cost, Minute, Pair};
 
@@ -32,7 +32,7 @@ pub fn is_dominated_or_late(
     requires bound { IsBoundInRange bound }
     requires minute { t < 2 ^ 62 }
     requires cost { x < 2 ^ 62 }
-    ensures { IsTrue result ↔ IsDominatedOrLate until pairs.now bound (point t x) }
+    ensures { IsTrue result ↔ IsDominatedOrLate until pairs.now bound (goal_point t x) }
 {
     match bound {
         None => true,

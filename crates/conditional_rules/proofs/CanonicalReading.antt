@@ -13,10 +13,10 @@ use Rattle.conditional_rules.specs.declared.conditional.Clause.{Clause}
 use Rattle.conditional_rules.specs.declared.conditional.Part.{Part}
 use Rattle.conditional_rules.specs.Accesses.{access_of}
 use Rattle.conditional_rules.specs.CanonicalText.{part_text, access_text, joined, clause_text, conditional_text}
-use Rattle.conditional_rules.specs.Conditions.{has_parenthesis, has_at, IsPart, IsSpacedPart, IsParts, IsCondition, IsClause, IsConditional, IsParsed}
+use Rattle.conditional_rules.specs.Conditions.{has_parenthesis, has_at, IsPart, IsSpacedPart, IsParts, IsCondition, IsClause, IsConditional, AreParsedClauses}
 use Rattle.conditional_rules.specs.Conditions as conditions
 use Rattle.conditional_rules.specs.Cutting.{trimmed, is_within, semicolon_from, first_semicolon, first_and}
-use Rattle.conditional_rules.proofs.Joined.{Each, IsPiece, pieces, each_of, each_map, joined_cut}
+use Rattle.conditional_rules.proofs.Joined.{Each, IsJoinedPart, pieces, each_of, each_map, joined_cut}
 use Rattle.conditional_rules.proofs.Over.{IsOver, empty_over, both_over}
 use Rattle.conditional_rules.proofs.Tight.{IsCompact, IsGap, step, starts_before, ends_within, trimmed_same}
 use Rattle.conditional_rules.proofs.PartsAgain.{part_again}
@@ -30,7 +30,7 @@ mark_of_parts = codes " AND "
 
 abbrev ArePartPieces : Part → Type 0
 ArePartPieces part =
-    IsPiece first_and mark_of_parts IsSpacedPart (part_text part) part × IsPiece first_and mark_of_parts IsSpacedPart (32 ∷ part_text part) part
+    IsJoinedPart first_and mark_of_parts IsSpacedPart (part_text part) part × IsJoinedPart first_and mark_of_parts IsSpacedPart (32 ∷ part_text part) part
 
 -- a part, alone and behind a blank
 part_pieces : (part : Part) → IsAgain part → ArePartPieces part
@@ -138,7 +138,7 @@ clause_over clause rest h =
 
 abbrev AreClausePieces : Clause → Type 0
 AreClausePieces clause =
-    IsPiece first_semicolon (codes "; ") IsClause (clause_text clause) clause × IsPiece first_semicolon (codes "; ") IsClause (32 ∷ clause_text clause) clause
+    IsJoinedPart first_semicolon (codes "; ") IsClause (clause_text clause) clause × IsJoinedPart first_semicolon (codes "; ") IsClause (32 ∷ clause_text clause) clause
 
 clause_pieces : (clause : Clause) → Each IsAgain clause.parts → AreClausePieces clause
 clause_pieces clause h =
@@ -158,6 +158,6 @@ clause_again text clause (conditions.clause value condition {access = access} {p
     clause_pieces (record { access = access; parts = parts }) (parts_again (trimmed condition) parts h)
 
 -- The canonical text of clauses that some text has is read as these clauses.
-pub canonical_again : (clauses : List Clause) → IsParsed clauses → IsConditional (conditional_text clauses) clauses
+pub canonical_again : (clauses : List Clause) → AreParsedClauses clauses → IsConditional (conditional_text clauses) clauses
 canonical_again clauses h =
     joined_cut first_semicolon (codes "; ") 1 IsClause clause_text (λ more. refl) clauses (each_of AreClausePieces clause_again h.1)

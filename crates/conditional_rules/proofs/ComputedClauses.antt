@@ -23,7 +23,7 @@ use Rattle.conditional_rules.specs.Inside.Comparisons.{comparison_of}
 use Rattle.conditional_rules.specs.Reading.{pieces_from, cut_within, part_of, parts_of, inner_of, condition_of, clause_from, clause_of}
 use Rattle.conditional_rules.specs.Reading.{conditional_of}
 use Rattle.conditional_rules.proofs.Clauses.{clause_found, clause_at, clause_parts}
-use Rattle.conditional_rules.proofs.FirstAt.{is_at, at_whole, at_before, no_at}
+use Rattle.conditional_rules.proofs.FirstAt.{is_at_sign, at_whole, at_before, no_at}
 use Rattle.conditional_rules.proofs.Parentheses.{bracketed_found}
 use Rattle.conditional_rules.proofs.ReadComparisons.{comparison_read, comparison_found}
 
@@ -129,7 +129,7 @@ condition_is text parts = (condition_found text parts, condition_computed text p
 clause_read : (text : List ℕ) (c : Clause) → clause_of text ≡ Some c → IsClause text c
 unfolding clause_of
 clause_read text c e =
-    let f = then_some (position is_at text) (λ i. clause_from (take i text) (drop (i + 1) text)) c e in
+    let f = then_some (position is_at_sign text) (λ i. clause_from (take i text) (drop (i + 1) text)) c e in
     let value = take f.0 text in
     let condition = drop (f.0 + 1) text in
     let make : Access → List Part → Clause = λ access parts. record { access = access; parts = parts } in
@@ -141,9 +141,9 @@ clause_read text c e =
 
 clause_computed : (text : List ℕ) (c : Clause) → IsClause text c → clause_of text ≡ Some c
 unfolding clause_of
-clause_computed text c h = by (position is_at text) refl
+clause_computed text c h = by (position is_at_sign text) refl
   where
-    by : (o : Option ℕ) → position is_at text ≡ o → option_and_then (λ i. clause_from (take i text) (drop (i + 1) text)) o ≡ Some c
+    by : (o : Option ℕ) → position is_at_sign text ≡ o → option_and_then (λ i. clause_from (take i text) (drop (i + 1) text)) o ≡ Some c
     by None e = let none = no_at text (sym e) in let some = clause_at h in absurd cc
     by (Some i) e =
         let condition = drop (i + 1) text in

@@ -9,8 +9,8 @@ use Rattle.std.proofs.lemmas.List.{take_all}
 use Rattle.std.proofs.lemmas.List.Sums.{split_at_first, passes_at_first}
 use Rattle.conditional_rules.specs.Conditions.{has_at}
 
-abbrev pub is_at : ℕ → Bool
-is_at b = b == 64
+abbrev pub is_at_sign : ℕ → Bool
+is_at_sign b = b == 64
 
 neither : (v w : Bool) → v ≡ false → w ≡ false → (v || w) ≡ false
 neither v w p q = rw (p, q) refl
@@ -18,43 +18,43 @@ neither v w p q = rw (p, q) refl
 one_more : (n : ℕ) → suc n ≡ 1 + n
 one_more n = omega arith
 
-none_before : (bs : List ℕ) → has_at (take (position_or_len is_at bs) bs) ≡ false
+none_before : (bs : List ℕ) → has_at (take (position_or_len is_at_sign bs) bs) ≡ false
 none_before [] = refl
 none_before (b ∷ bs) = by (b == 64) refl (none_before bs)
   where
-    by : (v : Bool) → (b == 64) ≡ v → has_at (take (position_or_len is_at bs) bs) ≡ false
-        → has_at (take (cond (not v) (1 + position_or_len is_at bs) 0) (b ∷ bs)) ≡ false
+    by : (v : Bool) → (b == 64) ≡ v → has_at (take (position_or_len is_at_sign bs) bs) ≡ false
+        → has_at (take (cond (not v) (1 + position_or_len is_at_sign bs) 0) (b ∷ bs)) ≡ false
     by true e rest = refl
-    by false e rest = subst (λ (n : ℕ). has_at (take n (b ∷ bs)) ≡ false) (one_more (position_or_len is_at bs))
-        (neither (b == 64) (has_at (take (position_or_len is_at bs) bs)) e rest)
+    by false e rest = subst (λ (n : ℕ). has_at (take n (b ∷ bs)) ≡ false) (one_more (position_or_len is_at_sign bs))
+        (neither (b == 64) (has_at (take (position_or_len is_at_sign bs) bs)) e rest)
 
-pub at_parts : (bs : List ℕ) (i : ℕ) → Some i ≡ position is_at bs → bs ≡ take i bs ++ 64 ∷ take (length bs - (i + 1)) (drop (i + 1) bs)
+pub at_parts : (bs : List ℕ) (i : ℕ) → Some i ≡ position is_at_sign bs → bs ≡ take i bs ++ 64 ∷ take (length bs - (i + 1)) (drop (i + 1) bs)
 at_parts bs i e =
-    let w = cond_some (ltb (position_or_len is_at bs) (length bs)) (position_or_len is_at bs) i (sym e) in
+    let w = cond_some (ltb (position_or_len is_at_sign bs) (length bs)) (position_or_len is_at_sign bs) i (sym e) in
     let within = ltb-true _ _ w.0 in
-    let mark = eqb-true _ _ (passes_at_first is_at bs 0 within) in
+    let mark = eqb-true _ _ (passes_at_first is_at_sign bs 0 within) in
     let whole : take (length bs - (i + 1)) (drop (i + 1) bs) ≡ drop (i + 1) bs = take_all (length bs - (i + 1)) (drop (i + 1) bs)
     (omega (arith, length-drop (i + 1) bs)) in
-    rw whole (rw w.1 at (rw mark at (split_at_first is_at bs 0 within)))
+    rw whole (rw w.1 at (rw mark at (split_at_first is_at_sign bs 0 within)))
 
-pub at_whole : (bs : List ℕ) (i : ℕ) → Some i ≡ position is_at bs → bs ≡ take i bs ++ 64 ∷ drop (i + 1) bs
+pub at_whole : (bs : List ℕ) (i : ℕ) → Some i ≡ position is_at_sign bs → bs ≡ take i bs ++ 64 ∷ drop (i + 1) bs
 at_whole bs i e =
     let all : take (length bs - (i + 1)) (drop (i + 1) bs) ≡ drop (i + 1) bs = take_all (length bs - (i + 1)) (drop (i + 1) bs)
     (omega (arith, length-drop (i + 1) bs)) in
     at_parts bs i e ∙ ap (λ (r : List ℕ). take i bs ++ 64 ∷ r) all
 
-pub at_before : (bs : List ℕ) (i : ℕ) → Some i ≡ position is_at bs → has_at (take i bs) ≡ false
+pub at_before : (bs : List ℕ) (i : ℕ) → Some i ≡ position is_at_sign bs → has_at (take i bs) ≡ false
 at_before bs i e =
-    let w = cond_some (ltb (position_or_len is_at bs) (length bs)) (position_or_len is_at bs) i (sym e) in
+    let w = cond_some (ltb (position_or_len is_at_sign bs) (length bs)) (position_or_len is_at_sign bs) i (sym e) in
     rw w.1 at (none_before bs)
 
 found_within : {A : Type 0} (a b : ℕ) (x : A) → cond (ltb a b) (Some x) None ≡ None → b ≤ a
 found_within a b x e = grind (arith, ltb-true, ltb-false)
 
-pub no_at : (bs : List ℕ) → None ≡ position is_at bs → has_at bs ≡ false
+pub no_at : (bs : List ℕ) → None ≡ position is_at_sign bs → has_at bs ≡ false
 no_at bs e =
-    let far : length bs ≤ position_or_len is_at bs = found_within (position_or_len is_at bs) (length bs) (position_or_len is_at bs) (sym e) in
-    rw (take_all (position_or_len is_at bs) bs far) at (none_before bs)
+    let far : length bs ≤ position_or_len is_at_sign bs = found_within (position_or_len is_at_sign bs) (length bs) (position_or_len is_at_sign bs) (sym e) in
+    rw (take_all (position_or_len is_at_sign bs) bs far) at (none_before bs)
 
 pub some_at : (a b : List ℕ) → has_at (a ++ 64 ∷ b) ≡ true
 some_at [] b = refl

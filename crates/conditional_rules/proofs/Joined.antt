@@ -16,14 +16,14 @@ Each P (x ∷ []) = P x
 Each P (x ∷ y ∷ ys) = P x × Each P (y ∷ ys)
 
 -- a piece without a mark
-pub record IsPiece {B : Type 0} (place : List ℕ → Option ℕ) (mark : List ℕ) (Is : List ℕ → B → Type 0) (text : List ℕ) (x : B) : Type 0 where
+pub record IsJoinedPart {B : Type 0} (place : List ℕ → Option ℕ) (mark : List ℕ) (Is : List ℕ → B → Type 0) (text : List ℕ) (x : B) : Type 0 where
   pub is : Is text x
   pub alone : place text ≡ None
   pub before : (more : List ℕ) → place (text ++ (mark ++ more)) ≡ Some (length text)
 
 piece : {B : Type 0} (place : List ℕ → Option ℕ) (mark : List ℕ) (Is : List ℕ → B → Type 0) (text : List ℕ) (x : B)
     → place [] ≡ None → ((more : List ℕ) → place (mark ++ more) ≡ Some 0)
-    → Is text x → IsOver place place text [] → ((more : List ℕ) → IsOver place place text (mark ++ more)) → IsPiece place mark Is text x
+    → Is text x → IsOver place place text [] → ((more : List ℕ) → IsOver place place text (mark ++ more)) → IsJoinedPart place mark Is text x
 piece place mark Is text x end found is last next = record {
   is = is;
   alone = ap place (sym (append-nil text)) ∙ last ∙ ap (option_map (λ i. length text + i)) end;
@@ -36,7 +36,7 @@ pub pieces : {B : Type 0} (place : List ℕ → Option ℕ) (mark : List ℕ) (I
     → (text : List ℕ) (x : B) → Is text x → Is (32 ∷ text) x
     → ((rest : List ℕ) → IsRest rest → IsOver place place text rest)
     → ((rest : List ℕ) → IsRest rest → IsOver place place (32 ∷ []) (text ++ rest))
-    → IsPiece place mark Is text x × IsPiece place mark Is (32 ∷ text) x
+    → IsJoinedPart place mark Is text x × IsJoinedPart place mark Is (32 ∷ text) x
 pieces place mark Is IsRest end found last next text x is spaced over blank =
     let both : (rest : List ℕ) → IsRest rest → IsOver place place (32 ∷ text) rest =
     λ rest r. both_over place place place (32 ∷ []) text rest (blank rest r) (over rest r) in (
@@ -61,9 +61,9 @@ each_map P Q f (x ∷ y ∷ ys) h = (f x h.0, each_map P Q f (y ∷ ys) h.1)
 module _ {B : Type 0} (place : List ℕ → Option ℕ) (mark : List ℕ) (width : ℕ) (Is : List ℕ → B → Type 0) (print : B → List ℕ)
     (cuts : (more : List ℕ) → drop width (mark ++ more) ≡ 32 ∷ more) where
   abbrev Pieces : B → Type 0
-  Pieces x = IsPiece place mark Is (print x) x × IsPiece place mark Is (32 ∷ print x) x
+  Pieces x = IsJoinedPart place mark Is (print x) x × IsJoinedPart place mark Is (32 ∷ print x) x
 
-  next_cut : (text more : List ℕ) (x : B) (xs : List B) → IsPiece place mark Is text x → Cut place width Is (32 ∷ more) xs
+  next_cut : (text more : List ℕ) (x : B) (xs : List B) → IsJoinedPart place mark Is text x → Cut place width Is (32 ∷ more) xs
       → Cut place width Is (text ++ (mark ++ more)) (x ∷ xs)
   next_cut text more x xs p later =
       let behind = drop-append-add text (mark ++ more) width ∙ cuts more in

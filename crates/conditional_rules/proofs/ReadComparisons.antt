@@ -19,7 +19,7 @@ use Rattle.conditional_rules.specs.Comparisons.{quantity_text, decimals_in, unit
 use Rattle.conditional_rules.specs.Comparisons as law
 use Rattle.conditional_rules.specs.Conditions.{is_small_letter}
 use Rattle.conditional_rules.specs.Cutting.{AreBlanks}
-use Rattle.conditional_rules.specs.Inside.Comparisons.{behind, quantity_of, with_equal, sign_at, short_number_of, decimals_at, point_at, measure_at}
+use Rattle.conditional_rules.specs.Inside.Comparisons.{behind, quantity_of, with_equal, sign_at, bounded_number_of, decimals_at, decimal_point_at, measure_at}
 use Rattle.conditional_rules.specs.Inside.Comparisons.{Compared, is_unit, measured, signed, comparison_of}
 use Rattle.conditional_rules.proofs.Runs.{Stops, drop_front, run_again, behind_again, run_whole, run_all, stops_behind, number_all, stops_number}
 
@@ -96,11 +96,11 @@ sign_again rest law.at_least s = refl
 sign_again rest law.equal s = rw (short_again Equal Equal rest s) refl
 sign_again rest law.double_equal s = refl
 
-no_point : (decimals n : ℕ) (rest : List ℕ) → Stops is_point rest → point_at decimals n rest ≡ Some (n * 10 ^ decimals, rest)
+no_point : (decimals n : ℕ) (rest : List ℕ) → Stops is_point rest → decimal_point_at decimals n rest ≡ Some (n * 10 ^ decimals, rest)
 no_point decimals n [] s = refl
 no_point decimals n (b ∷ bs) s = rw s refl
 
-short_number_again : (most : ℕ) (digits : List ℕ) (n : ℕ) → length digits ≤ most → number_of digits ≡ Some n → short_number_of most digits ≡ Some n
+short_number_again : (most : ℕ) (digits : List ℕ) (n : ℕ) → length digits ≤ most → number_of digits ≡ Some n → bounded_number_of most digits ≡ Some n
 short_number_again most digits n short e = rw (le-leb (length digits) most short) e
 
 measure_again : {decimals : ℕ} {measure : List ℕ} {v : ℕ} (rest : List ℕ) → IsMeasure decimals measure v → Stops is_digit rest → Stops is_point rest
@@ -180,21 +180,21 @@ quantity_found word q e =
     one_word word Weight q _ e (λ e. one_word word Axleload q _ e (λ e. one_word word Height q _ e
     (λ e. one_word word Width q _ e (λ e. one_word word Length q _ e (λ e. one_word word Axles q None e (λ e. absurd cc))))))
 
-abbrev Found : Type 0
-Found = Option (Comparison × List ℕ)
+abbrev FoundComparison : Type 0
+FoundComparison = Option (Comparison × List ℕ)
 
 -- a sign at the front of a text, and what is behind it
 abbrev Signed : List ℕ → Comparison → List ℕ → Type 0
 Signed text s rest = (sign : List ℕ) × (text ≡ sign ++ rest) × IsSign sign s
 
 equal_found : (a : ℕ) (long short : Comparison) (bs : List ℕ) (s : Comparison) (rest : List ℕ) → IsSign (a ∷ 61 ∷ []) long → IsSign (a ∷ []) short
-    → ◌≡◌ {A = Found} (Some (with_equal long short bs)) (Some (s, rest)) → Signed (a ∷ bs) s rest
+    → ◌≡◌ {A = FoundComparison} (Some (with_equal long short bs)) (Some (s, rest)) → Signed (a ∷ bs) s rest
 equal_found a long short [] s rest l h e =
     let p = some_pair_parts short s [] rest e in
     (a ∷ [], ap (λ (r : List ℕ). a ∷ r) p.1, subst (IsSign (a ∷ [])) p.0 h)
 equal_found a long short (b ∷ bs) s rest l h e = by (b == 61) refl e
   where
-    by : (v : Bool) → (b == 61) ≡ v → ◌≡◌ {A = Found} (Some (cond v (long, bs) (short, b ∷ bs))) (Some (s, rest)) → Signed (a ∷ b ∷ bs) s rest
+    by : (v : Bool) → (b == 61) ≡ v → ◌≡◌ {A = FoundComparison} (Some (cond v (long, bs) (short, b ∷ bs))) (Some (s, rest)) → Signed (a ∷ b ∷ bs) s rest
     by true is e =
         let p = some_pair_parts long s bs rest e in
         (a ∷ 61 ∷ [], ap (λ (c : ℕ). a ∷ c ∷ bs) (eqb-true b 61 is) ∙ ap (λ (r : List ℕ). a ∷ 61 ∷ r) p.1, subst (IsSign (a ∷ 61 ∷ [])) p.0 l)
@@ -218,7 +218,7 @@ sign_found (a ∷ bs) s rest e = by (a == 60) (a == 62) (a == 61) refl refl refl
     by false false true _ _ is e = same_first a 61 bs s rest (eqb-true a 61 is) (equal_found 61 Equal Equal bs s rest law.double_equal law.equal e)
     by false false false _ _ _ e = absurd cc
 
-short_number_found : (most : ℕ) (digits : List ℕ) (n : ℕ) → short_number_of most digits ≡ Some n
+short_number_found : (most : ℕ) (digits : List ℕ) (n : ℕ) → bounded_number_of most digits ≡ Some n
     → (length digits ≤ most) × (number_of digits ≡ Some n)
 short_number_found most digits n e = by (nat_le (length digits) most) refl e
   where
@@ -232,12 +232,12 @@ Measured decimals text v rest = (measure : List ℕ) × (text ≡ measure ++ res
 
 decimals_found : (decimals n : ℕ) (digits bs : List ℕ) (v : ℕ) (rest : List ℕ) → length digits ≤ 6 → number_of digits ≡ Some n
     → decimals_at decimals n bs ≡ Some (v, rest) → Measured decimals (digits ++ 46 ∷ bs) v rest
-decimals_found decimals n digits bs v rest short is e = by (short_number_of decimals (take_while is_digit bs)) refl e
+decimals_found decimals n digits bs v rest short is e = by (bounded_number_of decimals (take_while is_digit bs)) refl e
   where
     more : List ℕ
     more = take_while is_digit bs
 
-    by : (o : Option ℕ) → short_number_of decimals more ≡ o
+    by : (o : Option ℕ) → bounded_number_of decimals more ≡ o
         → option_map {U = ℕ × List ℕ} (λ d. (n * 10 ^ decimals + d * 10 ^ (decimals - length more), behind is_digit bs)) o ≡ Some (v, rest)
         → Measured decimals (digits ++ 46 ∷ bs) v rest
     by None f e = absurd cc
@@ -251,7 +251,7 @@ decimals_found decimals n digits bs v rest short is e = by (short_number_of deci
         )
 
 point_found : (decimals n : ℕ) (digits text : List ℕ) (v : ℕ) (rest : List ℕ) → length digits ≤ 6 → number_of digits ≡ Some n
-    → point_at decimals n text ≡ Some (v, rest) → Measured decimals (digits ++ text) v rest
+    → decimal_point_at decimals n text ≡ Some (v, rest) → Measured decimals (digits ++ text) v rest
 point_found decimals n digits [] v rest short is e =
     let p = some_pair_parts (n * 10 ^ decimals) v [] rest e in
     (digits, ap (λ (r : List ℕ). digits ++ r) p.1, subst (IsMeasure decimals digits) p.0 (law.whole digits short is))
@@ -270,7 +270,7 @@ measure_found : (decimals : ℕ) (text : List ℕ) (v : ℕ) (rest : List ℕ) �
 unfolding measure_at
 measure_found decimals text v rest e =
     let digits = take_while is_digit text in
-    option_and_then_some (λ n. point_at decimals n (behind is_digit text)) (short_number_of 6 digits) (v, rest) e
+    option_and_then_some (λ n. decimal_point_at decimals n (behind is_digit text)) (bounded_number_of 6 digits) (v, rest) e
     (λ n found after.
     let short = short_number_found 6 digits n found in
     subst (λ (t : List ℕ). Measured decimals t v rest) (sym (run_whole is_digit text))
@@ -284,8 +284,8 @@ unit_found q unit e = by (or_cases (bytes_eq unit []) (bytes_eq unit (unit_text 
     by (inr f) = inr ((bytes_eq-Decides unit (unit_text q)).0 f)
 
 -- a measure, blanks and a unit, with the three that are read
-abbrev Ends : Quantity → Comparison → List ℕ → Quantity → Comparison → ℕ → Type 0
-Ends q s text p t v =
+abbrev EndsCompared : Quantity → Comparison → List ℕ → Quantity → Comparison → ℕ → Type 0
+EndsCompared q s text p t v =
     (q ≡ p) × (s ≡ t) × (measure : List ℕ) × (c : List ℕ) × (unit : List ℕ) × (text ≡ measure ++ (c ++ unit))
     × IsMeasure (decimals_in q) measure v × AreBlanks c × ((unit ≡ []) ⊎ (unit ≡ unit_text q))
 
@@ -298,14 +298,14 @@ three q p s t w v e =
       ap (λ (x : Compared). x.2) f,
     )
 
-measured_found : (q p : Quantity) (s t : Comparison) (text : List ℕ) (v : ℕ) → measured q s text ≡ Some (p, t, v) → Ends q s text p t v
+measured_found : (q p : Quantity) (s t : Comparison) (text : List ℕ) (v : ℕ) → measured q s text ≡ Some (p, t, v) → EndsCompared q s text p t v
 unfolding measured
 measured_found q p s t text v e =
     option_and_then_some (λ f. cond (is_unit q (behind is_blank f.1)) (Some (q, s, f.0)) None) (measure_at (decimals_in q) text) (p, t, v) e
     (λ f found after. by f.0 f.1 (is_unit q (behind is_blank f.1)) refl found after)
   where
     by : (w : ℕ) (rest : List ℕ) (u : Bool) → is_unit q (behind is_blank rest) ≡ u → measure_at (decimals_in q) text ≡ Some (w, rest)
-        → ◌≡◌ {A = Option (Compared)} (cond u (Some (q, s, w)) None) (Some (p, t, v)) → Ends q s text p t v
+        → ◌≡◌ {A = Option (Compared)} (cond u (Some (q, s, w)) None) (Some (p, t, v)) → EndsCompared q s text p t v
     by w rest true unit found e =
         let same = three q p s t w v e in
         let m = measure_found (decimals_in q) text w rest found in
@@ -326,7 +326,7 @@ measured_found q p s t text v e =
 abbrev Begins : Quantity → List ℕ → Quantity → Comparison → ℕ → Type 0
 Begins q text p t v =
     (sign : List ℕ) × (b : List ℕ) × (rest : List ℕ) × (s : Comparison) × (text ≡ sign ++ (b ++ rest)) × IsSign sign s × AreBlanks b
-    × Ends q s rest p t v
+    × EndsCompared q s rest p t v
 
 signed_found : (q p : Quantity) (t : Comparison) (text : List ℕ) (v : ℕ) → signed q text ≡ Some (p, t, v) → Begins q text p t v
 unfolding signed

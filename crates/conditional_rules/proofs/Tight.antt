@@ -20,8 +20,8 @@ IsGap [] = Unit {0}
 IsGap (b ∷ bs) = is_blank b ≡ true
 
 -- no word AND begins within the text, before what follows it
-abbrev pub Passes : List ℕ → List ℕ → Type 0
-Passes text rest = IsOver first_and first_and text rest
+abbrev pub PassesOver : List ℕ → List ℕ → Type 0
+PassesOver text rest = IsOver first_and first_and text rest
 
 -- no blank at the ends, no parenthesis, and no word AND where a gap is behind the text
 pub record IsCompact (text : List ℕ) : Type 0 where
@@ -29,7 +29,7 @@ pub record IsCompact (text : List ℕ) : Type 0 where
   pub ends : EndsFilled text
   pub plain : has_parenthesis text ≡ false
   pub behind : (rest : List ℕ) → IsGap rest → starts_with_and (32 ∷ (text ++ rest)) ≡ false
-  pub passes : (rest : List ℕ) → IsGap rest → Passes text rest
+  pub passes : (rest : List ℕ) → IsGap rest → PassesOver text rest
 
 -- there is no blank
 abbrev pub IsDark : List ℕ → Type 0
@@ -51,11 +51,11 @@ no_blank_no_and b (c ∷ d ∷ []) h = refl
 no_blank_no_and b (c ∷ d ∷ e ∷ []) h = refl
 no_blank_no_and b (c ∷ d ∷ e ∷ f ∷ bs) h = rw h refl
 
-pub step : (b : ℕ) (bs : List ℕ) → starts_with_and (b ∷ bs) ≡ false → Passes (b ∷ []) bs
+pub step : (b : ℕ) (bs : List ℕ) → starts_with_and (b ∷ bs) ≡ false → PassesOver (b ∷ []) bs
 step b bs h = ap (λ v. cond v (Some 0) (option_map (λ i. 1 + i) (first_and bs))) h
 
 -- a word is passed over
-pub dark_passes : (w rest : List ℕ) → IsDark w → Passes w rest
+pub dark_passes : (w rest : List ℕ) → IsDark w → PassesOver w rest
 dark_passes [] rest h = empty_over first_and rest
 dark_passes (b ∷ bs) rest h =
     let parts = or_parts (is_blank b) (list_any is_blank bs) h in

@@ -32,7 +32,7 @@ use Rattle.conditional_rules.specs.declared.conditional.Part.TheVariants.{Times}
 use Rattle.route_base.specs.Forms.{is_blank}
 use Rattle.conditional_rules.specs.Cutting.{is_and, starts_with_and, first_and}
 use Rattle.conditional_rules.proofs.Over.{both_over}
-use Rattle.conditional_rules.proofs.Tight.{IsCompact, IsDark, Passes, step, dark_passes, none_of}
+use Rattle.conditional_rules.proofs.Tight.{IsCompact, IsDark, PassesOver, step, dark_passes, none_of}
 
 -- a digit is no blank
 digit_dark : (n : ℕ) → is_blank (48 + n % 10) ≡ false
@@ -138,11 +138,11 @@ spell_other t (u ∷ us) more h =
     ap (λ (bs : List ℕ). starts_with_and (32 ∷ bs)) (append_assoc (lexeme t) rest more) ∙ token_other t (rest ++ more) h
 
 -- a blank or none in front of a token
-gap_passes : (b : Bool) (text : List ℕ) → starts_with_and (32 ∷ text) ≡ false → Passes (cond b [] (32 ∷ [])) text
+gap_passes : (b : Bool) (text : List ℕ) → starts_with_and (32 ∷ text) ≡ false → PassesOver (cond b [] (32 ∷ [])) text
 gap_passes true text h = dark_passes [] text refl
 gap_passes false text h = step 32 text h
 
-spell_passes : (ts : List Token) (more : List ℕ) → AllSpell ts → Passes (spell ts) more
+spell_passes : (ts : List Token) (more : List ℕ) → AllSpell ts → PassesOver (spell ts) more
 unfolding spell
 spell_passes [] more h = dark_passes [] more refl
 spell_passes (t ∷ []) more h = dark_passes (lexeme t) more (token_dark t)

@@ -70,5 +70,5 @@ abbrev pub IsConditional : List ℕ → List Clause → Type 0
 IsConditional text clauses = Cut first_semicolon 1 IsClause text clauses
 
 -- clauses that some text has
-abbrev pub IsParsed : List Clause → Type 0
-IsParsed clauses = (text : List ℕ) × IsConditional text clauses
+abbrev pub AreParsedClauses : List Clause → Type 0
+AreParsedClauses clauses = (text : List ℕ) × IsConditional text clauses

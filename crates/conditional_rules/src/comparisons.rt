@@ -7,8 +7,8 @@ ghost use Rattle.vehicle_classes.specs.declared.classes.Quantity.{Quantity as Si
 ghost use Rattle.conditional_rules.specs.declared.conditional.Comparison.{Comparison as Sign};
 ghost use Rattle.conditional_rules.specs.Comparisons.{decimals_in, unit_text, IsComparison};
 ghost use Rattle.conditional_rules.specs.Conditions.{is_small_letter};
-ghost use Rattle.conditional_rules.specs.Inside.Comparisons.{behind, quantity_of, sign_at, is_unit, short_number_of};
-ghost use Rattle.conditional_rules.specs.Inside.Comparisons.{decimals_at, point_at, measure_at};
+ghost use Rattle.conditional_rules.specs.Inside.Comparisons.{behind, quantity_of, sign_at, is_unit, bounded_number_of};
+ghost use Rattle.conditional_rules.specs.Inside.Comparisons.{decimals_at, decimal_point_at, measure_at};
 ghost use Rattle.conditional_rules.specs.Inside.Comparisons.{Compared, measured, signed, comparison_of};
 
 use crate::conditional::Comparison;
@@ -130,7 +130,7 @@ fn leading_sign(text: &[u8]) -> Option<(Comparison, &[u8])>
 #[tactic(auto, using(crate::proofs::Runs::number_small))]
 fn short_number(most: usize, text: &[u8]) -> Option<u64>
     requires { most ≤ 6 }
-    ensures value { result ≡ short_number_of most text.now }
+    ensures value { result ≡ bounded_number_of most text.now }
     ensures small { IfSome result (λ n. n ≤ 999999) }
 {
     if text.len() <= most {
@@ -170,7 +170,7 @@ fn with_decimals(most: usize, whole: u64, text: &[u8]) -> Option<(u64, &[u8])>
 fn with_point(most: usize, whole: u64, text: &[u8]) -> Option<(u64, &[u8])>
     requires few { most ≤ 3 }
     requires small { whole ≤ 999999 }
-    ensures { option_map (λ f. (f.0, f.1.now)) result ≡ point_at most whole text.now }
+    ensures { option_map (λ f. (f.0, f.1.now)) result ≡ decimal_point_at most whole text.now }
 {
     match text {
         [b'.', rest @ ..] => with_decimals(most, whole, rest),

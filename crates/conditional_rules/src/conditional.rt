@@ -2,7 +2,7 @@
 ghost use Rattle.std.specs.Prelude.{◌≡◌, ◌≤◌, List, Some, None, IfOk, length, option_map, slice_get};
 ghost use Rattle.std.specs.Result.{IsErrOf};
 ghost use Rattle.conditional_rules.specs.declared.conditional.Clause.{Clause as ClauseOf};
-ghost use Rattle.conditional_rules.specs.Conditions.{IsConditional, IsParsed};
+ghost use Rattle.conditional_rules.specs.Conditions.{IsConditional, AreParsedClauses};
 ghost use Rattle.conditional_rules.specs.Reading.{conditional_of};
 
 use crate::access::Access;
@@ -54,13 +54,13 @@ pub struct Conditional {
 impl Model for Conditional {
     ghost use Rattle.std.specs.Prelude.{List};
     ghost use Rattle.conditional_rules.specs.declared.conditional.Clause.{Clause};
-    ghost use Rattle.conditional_rules.specs.Conditions.{IsParsed};
+    ghost use Rattle.conditional_rules.specs.Conditions.{AreParsedClauses};
 
     ghost Value = { List Clause };
 
     ghost view = { λ a. a.clauses };
 
-    ghost invariant = { λ a. IsParsed a.clauses };
+    ghost invariant = { λ a. AreParsedClauses a.clauses };
 }
 
 impl Conditional {
@@ -83,7 +83,7 @@ impl Conditional {
     pub fn clauses(&self) -> &[Clause]
         ensures same { result.now ≡ self.now }
         // Clauses come from a text.
-        ensures read { IsParsed self.now }
+        ensures read { AreParsedClauses self.now }
     {
         self.clauses.as_slice()
     }

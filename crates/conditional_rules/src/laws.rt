@@ -2,7 +2,7 @@
 ghost use Rattle.std.specs.Prelude.{◌≡◌, ◌↔◌, ℕ, Some, List};
 ghost use Rattle.conditional_rules.specs.declared.conditional.Clause.{Clause};
 ghost use Rattle.conditional_rules.specs.CanonicalText.{conditional_text};
-ghost use Rattle.conditional_rules.specs.Conditions.{IsConditional, IsParsed};
+ghost use Rattle.conditional_rules.specs.Conditions.{IsConditional, AreParsedClauses};
 ghost use Rattle.conditional_rules.specs.Reading.{conditional_of};
 
 /// The law that a text has at most one list of clauses. The call does nothing.
@@ -13,7 +13,7 @@ pub fn one_reading()
 
 /// The law that the canonical text of parsed clauses is read as these clauses. The call does nothing.
 pub fn canonical_reading()
-    ensures { (clauses : List Clause) → IsParsed clauses
+    ensures { (clauses : List Clause) → AreParsedClauses clauses
         → IsConditional (conditional_text clauses) clauses }
 {}
 

@@ -21,8 +21,8 @@ pub record IsPiece (p : Piece) : Type 0 where
   pub single : p.lo ≡ p.hi → p.slope ≡ 0
 
 -- no value on the piece is above the highest cost, since lines do not fall
-abbrev pub IsSmall : Piece → Type 0
-IsSmall p = line_at p p.hi ≤ HIGHEST_COST
+abbrev pub IsSmallPiece : Piece → Type 0
+IsSmallPiece p = line_at p p.hi ≤ HIGHEST_COST
 
 -- the piece is on the line of this slope that has this cost at an earlier minute or at its first
 pub record IsOnLine (from cost slope : ℕ) (p : Piece) : Type 0 where

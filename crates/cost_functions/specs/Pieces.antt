@@ -1,7 +1,7 @@
 -- Cost functions as lists of pieces (source: SEA 2020, piecewise linear cost profiles, in whole minutes).
 use Rattle.std.specs.Prelude.{ℕ, ◌<◌, ◌==◌, Option, Some, None, List, [], ◌∷◌, All, AllPairs, if◌then◌else◌}
 use Rattle.cost_functions.specs.declared.pieces.Piece.{Piece}
-use Rattle.cost_functions.specs.Lines.{is_on_piece, line_at, IsPiece, IsSmall, AreOneLine}
+use Rattle.cost_functions.specs.Lines.{is_on_piece, line_at, IsPiece, IsSmallPiece, AreOneLine}
 
 -- the value at a minute: that of the first piece that has it
 unfoldable pub value_at : List Piece → ℕ → Option ℕ
@@ -23,5 +23,5 @@ abbrev pub IsReduced : List Piece → Type 0
 IsReduced ps = AllPairs (λ p q. (slope : ℕ) → AreOneLine p q slope → ⊥) ps
 
 -- no value is above the highest cost
-abbrev pub AreSmall : List Piece → Type 0
-AreSmall ps = All IsSmall ps
+abbrev pub AreSmallPieces : List Piece → Type 0
+AreSmallPieces ps = All IsSmallPiece ps

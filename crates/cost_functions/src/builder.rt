@@ -1,7 +1,7 @@
 // Functions built from the left, reduced at every step.
 ghost use Rattle.std.specs.Prelude.{◌≡◌, ◌+◌, ◌-◌, ◌<◌, ◌≤◌, ℕ, List, [], ◌∷◌, ◌++◌, length, slice_set, All, None, OnOk, IfSome};
-ghost use Rattle.cost_functions.specs.Lines.{line_at, IsPiece, IsSmall, AreOneLine};
-ghost use Rattle.cost_functions.specs.Pieces.{value_at, ArePieces, IsReduced, AreSmall};
+ghost use Rattle.cost_functions.specs.Lines.{line_at, IsPiece, IsSmallPiece, AreOneLine};
+ghost use Rattle.cost_functions.specs.Pieces.{value_at, ArePieces, IsReduced, AreSmallPieces};
 ghost use Rattle.cost_functions.specs.Building.{AreBuilt};
 ghost use Rattle.cost_functions.specs.Inside.JoinedPieces.{IsJoined, IsExtended};
 ghost use Rattle.cost_functions.specs.declared.pieces.Piece.{Piece};
@@ -50,7 +50,7 @@ impl Builder {
     pub fn push(&mut self, piece: Piece) -> Result<(), OutOfMemory>
         requires filled { piece.lo ≤ piece.hi }
         requires minutes { piece.hi ≤ LAST_INSTANT }
-        requires small { IsSmall piece }
+        requires small { IsSmallPiece piece }
         requires later { All (λ q. q.hi < piece.lo) self.old }
         ensures values { OnOk result ((t : ℕ) →
             value_at self.new t ≡ value_at (self.old ++ piece ∷ []) t) }
@@ -110,9 +110,9 @@ fn append_all(held: &mut Vec<Piece>, others: &[Piece]) -> Result<(), OutOfMemory
 fn plain(piece: Piece) -> Piece
     requires filled { piece.lo ≤ piece.hi }
     requires minutes { piece.hi ≤ LAST_INSTANT }
-    requires small { IsSmall piece }
+    requires small { IsSmallPiece piece }
     ensures piece { IsPiece result }
-    ensures small { IsSmall result }
+    ensures small { IsSmallPiece result }
     ensures lo { result.lo ≡ piece.lo }
     ensures hi { result.hi ≡ piece.hi }
     ensures values { (t : ℕ) → value_at (result ∷ []) t ≡ value_at (piece ∷ []) t }
@@ -129,7 +129,7 @@ fn plain(piece: Piece) -> Piece
 fn joined_with_last(pieces: &[Piece], next: Piece) -> Option<Piece>
     requires built { AreBuilt pieces.now }
     requires piece { IsPiece next }
-    requires small { IsSmall next }
+    requires small { IsSmallPiece next }
     requires later { All (λ q. q.hi < next.lo) pieces.now }
     ensures some { IfSome result (λ joined.
         IsExtended pieces.now next (slice_set pieces.now (length pieces.now - 1) joined)) }
@@ -145,7 +145,7 @@ fn joined(first: Piece, second: Piece) -> Option<Piece>
     requires first { IsPiece first }
     requires second { IsPiece second }
     requires later { first.hi < second.lo }
-    requires small { IsSmall second }
+    requires small { IsSmallPiece second }
     ensures some { IfSome result (IsJoined first second) }
     ensures none { result ≡ None → (slope : ℕ) → AreOneLine first second slope → ⊥ }
 {

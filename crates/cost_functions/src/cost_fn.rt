@@ -1,6 +1,6 @@
 // Cost functions.
 ghost use Rattle.std.specs.Prelude.{◌≡◌, ◌≢◌, ◌↔◌, ◌<◌, ◌≤◌, ℕ, Some, None, List, [], All, AllPairs, IsTrue, IfOk};
-ghost use Rattle.cost_functions.specs.Pieces.{value_at, point_at, ArePieces, IsReduced, AreSmall};
+ghost use Rattle.cost_functions.specs.Pieces.{value_at, point_at, ArePieces, IsReduced, AreSmallPieces};
 ghost use Rattle.cost_functions.specs.Building.{AreBuilt};
 ghost use Rattle.route_base.specs.declared.limits.TheConstants.{LAST_INSTANT, HIGHEST_COST};
 ghost use Rattle.cost_functions.specs.declared.pieces.Piece.{Piece};
@@ -72,7 +72,7 @@ impl CostFn {
 
     /// The reduced function with the same values. Linear in the number of pieces, in time and memory.
     pub fn reduce(&self, alloc: Global) -> Result<CostFn, OutOfMemory>
-        requires { AreSmall self.now }
+        requires { AreSmallPieces self.now }
         ensures values { IfOk result (λ reduced. (t : ℕ) →
             value_at reduced t ≡ value_at self.now t) }
         ensures built { IfOk result AreBuilt }

@@ -1,6 +1,6 @@
 // Lists of pieces, reduced.
 ghost use Rattle.std.specs.Prelude.{◌≡◌, ◌↔◌, ◌<◌, ◌≤◌, ℕ, IsTrue, IfOk};
-ghost use Rattle.cost_functions.specs.Pieces.{value_at, ArePieces, IsReduced, AreSmall};
+ghost use Rattle.cost_functions.specs.Pieces.{value_at, ArePieces, IsReduced, AreSmallPieces};
 ghost use Rattle.cost_functions.specs.Building.{AreBuilt};
 
 use crate::builder::Builder;
@@ -30,7 +30,7 @@ pub fn are_reduced(pieces: &[Piece]) -> bool
 // The reduced function with the values of the pieces. Linear in the number of pieces.
 pub fn reduced(alloc: Global, pieces: &[Piece]) -> Result<CostFn, OutOfMemory>
     requires pieces { ArePieces pieces.now }
-    requires small { AreSmall pieces.now }
+    requires small { AreSmallPieces pieces.now }
     ensures values { IfOk result (λ reduced. (t : ℕ) → value_at reduced t ≡ value_at pieces.now t) }
     ensures built { IfOk result AreBuilt }
 {

@@ -7,14 +7,14 @@ use Rattle.dimacs_reader.specs.declared.builder.Sizes.{Sizes}
 use Rattle.dimacs_reader.specs.declared.graph.GraphArc.{GraphArc}
 use Rattle.dimacs_reader.specs.declared.lines.Line.{Line}
 use Rattle.dimacs_reader.specs.declared.lines.Line.TheVariants.{Ignored, Problem, Arc, Bad}
-use Rattle.dimacs_reader.specs.Inside.Builder.{after}
+use Rattle.dimacs_reader.specs.Inside.Builder.{stated_after}
 use Rattle.dimacs_reader.specs.Faults.{cause_in, end_cause_in, cause_of, cause_of_problem, cause_at_end, fault_from, first_fault, fault_of}
 use Rattle.dimacs_reader.specs.Lines.{line_of, lines_of, lines_in}
 use Rattle.dimacs_reader.specs.Stated.{Stated, stated_in, sizes_in, arcs_in, arc_with}
 use Rattle.dimacs_reader.specs.GraphModel.{graph_of, graph_in}
 
 -- the lines before, all without a fault, and what is left of the file
-pub record HasRead (bytes rest : List ℕ) (number : ℕ) (stated : Stated) : Type 0 where
+pub record HasReadLines (bytes rest : List ℕ) (number : ℕ) (stated : Stated) : Type 0 where
   pub before : List Line
   pub number_is : number ≡ length before + 1
   pub stated_is : stated ≡ stated_in before
@@ -52,7 +52,7 @@ no_sizes (Some x) n m e = absurd (cc)
 
 -- one line more, which has no cause
 stated_more : (before : List Line) (line : Line) → cause_in (stated_in before) line ≡ None
-    → after (stated_in before) line ≡ stated_in (before ++ line ∷ [])
+    → stated_after (stated_in before) line ≡ stated_in (before ++ line ∷ [])
 unfolding stated_in
 stated_more before Ignored e =
     rw (sizes_in-append, arcs_in-append, or_none, and_nothing) refl
@@ -66,7 +66,7 @@ stated_more before (Arc u v w) e =
 stated_more before Bad e = absurd (cc)
 
 -- at the start
-pub read_none : (bytes : List ℕ) → HasRead bytes bytes 1 (record { sizes = None; arcs = [] })
+pub read_none : (bytes : List ℕ) → HasReadLines bytes bytes 1 (record { sizes = None; arcs = [] })
 unfolding stated_in fault_of first_fault
 read_none bytes = record { before = []; number_is = refl; stated_is = refl; lines = refl; fault = refl; few = omega arith }
 
@@ -86,9 +86,9 @@ unfolding cause_of
 fault_here before line more cause e = ap (λ o. option_or (option_map (λ why. (length before + 1, why)) o) (fault_from (before ++ line ∷ []) more)) e
 
 -- one line more, without a fault
-pub read_more : (bytes rest text more : List ℕ) (number : ℕ) (stated : Stated) (line : Line) → HasRead bytes rest number stated
+pub read_more : (bytes rest text more : List ℕ) (number : ℕ) (stated : Stated) (line : Line) → HasReadLines bytes rest number stated
     → lines_of rest ≡ text ∷ lines_of more → length more < length rest → line ≡ line_of text → cause_in stated line ≡ None
-    → HasRead bytes more (number + 1) (after stated line)
+    → HasReadLines bytes more (number + 1) (stated_after stated line)
 read_more bytes rest text more number stated line h cuts less says none =
     let here : cause_in (stated_in h.before) line ≡ None = sym (ap (λ s. cause_in s line) h.stated_is) ∙ none in
     let next : lines_in rest ≡ line ∷ lines_in more = lines_next rest text more line cuts says in
@@ -96,7 +96,7 @@ read_more bytes rest text more number stated line h cuts less says none =
     record {
       before = h.before ++ line ∷ [];
       number_is = let e = h.number_is in omega arith;
-      stated_is = ap (λ s. after s line) h.stated_is ∙ stated_more h.before line here;
+      stated_is = ap (λ s. stated_after s line) h.stated_is ∙ stated_more h.before line here;
       lines = h.lines ∙ ap (λ ls. h.before ++ ls) next ∙ sym (append_assoc h.before (line ∷ []) (lines_in more));
       fault = h.fault ∙ ap (fault_from h.before) next ∙ fault_next h.before line (lines_in more) here;
       few = let e = h.few in omega arith;
@@ -104,7 +104,7 @@ read_more bytes rest text more number stated line h cuts less says none =
 
 -- a line with a fault
 pub line_refused : (bytes rest text more : List ℕ) (number : ℕ) (stated : Stated) (line : Line) (cause : Cause)
-    → HasRead bytes rest number stated → lines_of rest ≡ text ∷ lines_of more → line ≡ line_of text → cause_in stated line ≡ Some cause
+    → HasReadLines bytes rest number stated → lines_of rest ≡ text ∷ lines_of more → line ≡ line_of text → cause_in stated line ≡ Some cause
     → fault_of bytes ≡ Some (number, cause)
 line_refused bytes rest text more number stated line cause h cuts says why =
     let here : cause_in (stated_in h.before) line ≡ Some cause = sym (ap (λ s. cause_in s line) h.stated_is) ∙ why in
@@ -113,7 +113,7 @@ line_refused bytes rest text more number stated line cause h cuts says why =
     ∙ fault_here h.before line (lines_in more) cause here
     ∙ ap (λ n. Some (n, cause)) (sym h.number_is)
 
-end_fault : (bytes : List ℕ) (number : ℕ) (stated : Stated) → HasRead bytes [] number stated
+end_fault : (bytes : List ℕ) (number : ℕ) (stated : Stated) → HasReadLines bytes [] number stated
     → fault_of bytes ≡ option_map (λ cause. (number, cause)) (end_cause_in stated)
 unfolding lines_in cause_at_end
 end_fault bytes number stated h =
@@ -122,17 +122,17 @@ end_fault bytes number stated h =
     ∙ ap (λ n. option_map (λ cause. (n, cause)) (end_cause_in stated)) (sym h.number_is)
 
 -- the lines can't end here
-pub end_refused : (bytes rest : List ℕ) (number : ℕ) (stated : Stated) (cause : Cause) → HasRead bytes rest number stated → rest ≡ []
+pub end_refused : (bytes rest : List ℕ) (number : ℕ) (stated : Stated) (cause : Cause) → HasReadLines bytes rest number stated → rest ≡ []
     → end_cause_in stated ≡ Some cause → fault_of bytes ≡ Some (number, cause)
 end_refused bytes rest number stated cause h none why = end_fault bytes number stated
-    (subst (λ (r : List ℕ). HasRead bytes r number stated) none h) ∙ ap (option_map (λ c. (number, c))) why
+    (subst (λ (r : List ℕ). HasReadLines bytes r number stated) none h) ∙ ap (option_map (λ c. (number, c))) why
 
-pub end_faultless : (bytes rest : List ℕ) (number : ℕ) (stated : Stated) → HasRead bytes rest number stated → rest ≡ []
+pub end_faultless : (bytes rest : List ℕ) (number : ℕ) (stated : Stated) → HasReadLines bytes rest number stated → rest ≡ []
     → end_cause_in stated ≡ None → fault_of bytes ≡ None
 end_faultless bytes rest number stated h none why = end_fault bytes number stated
-    (subst (λ (r : List ℕ). HasRead bytes r number stated) none h) ∙ ap (option_map (λ c. (number, c))) why
+    (subst (λ (r : List ℕ). HasReadLines bytes r number stated) none h) ∙ ap (option_map (λ c. (number, c))) why
 
-pub end_graph : (bytes rest : List ℕ) (number : ℕ) (stated : Stated) → HasRead bytes rest number stated → rest ≡ [] → graph_in stated ≡ graph_of bytes
+pub end_graph : (bytes rest : List ℕ) (number : ℕ) (stated : Stated) → HasReadLines bytes rest number stated → rest ≡ [] → graph_in stated ≡ graph_of bytes
 unfolding graph_of lines_in
 end_graph bytes rest number stated h none =
     let all : lines_in bytes ≡ h.before = h.lines ∙ ap (λ r. h.before ++ lines_in r) none ∙ and_nothing h.before in

@@ -2,7 +2,7 @@
 ghost use Rattle.std.specs.Prelude.{◌≡◌, [], IfOk, IfErr, OnOk, OnErr, Option};
 ghost use Rattle.dimacs_reader.specs.Faults.{cause_in, cause_of_problem, cause_of_arc, end_cause_in};
 ghost use Rattle.dimacs_reader.specs.GraphModel.{graph_in};
-ghost use Rattle.dimacs_reader.specs.Inside.Builder.{after};
+ghost use Rattle.dimacs_reader.specs.Inside.Builder.{stated_after};
 
 use crate::lines::Line;
 use crate::{Graph, GraphArc, GraphFault};
@@ -64,7 +64,7 @@ impl GraphBuilder {
     /// Adds the next line. In constant time on average.
     pub fn add(&mut self, line: Line) -> Result<(), GraphFault>
         requires faultless { cause_in self.old line ≡ Option.None }
-        ensures added { OnOk result (self.new ≡ after self.old line) }
+        ensures added { OnOk result (self.new ≡ stated_after self.old line) }
         ensures kept { OnErr result (self.new ≡ self.old) }
         ensures only { IfErr result (λ e. e ≡ GraphFault.OutOfMemory) }
     {

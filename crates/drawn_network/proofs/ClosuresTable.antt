@@ -14,7 +14,7 @@ use Rattle.drawn_network.specs.DrawnRows.{closure_read}
 use Rattle.drawn_network.proofs.DecimalFields.{decimal-plain, table_number-read, instant-of_decimal}
 use Rattle.drawn_network.proofs.FaultlessRows.{row_fault-more, first_table_fault-none}
 use Rattle.drawn_network.proofs.LawfulRows.{IsLawfulClosure}
-use Rattle.drawn_network.proofs.PlainText.{IsPlainRecord, line_of, plain_text_of, plain_text-read}
+use Rattle.drawn_network.proofs.PlainText.{IsPlainRecord, row_line, plain_table_text, plain_text-read}
 
 abbrev header : Record
 header = codes "arc" ∷ codes "from" ∷ codes "to" ∷ []
@@ -22,10 +22,10 @@ header = codes "arc" ∷ codes "from" ∷ codes "to" ∷ []
 abbrev closure_record : Closure → Record
 closure_record closure = decimal closure.arc ∷ decimal closure.from ∷ decimal closure.to ∷ []
 
-row-text : (closure : Closure) → closure_text closure ≡ line_of (closure_record closure)
+row-text : (closure : Closure) → closure_text closure ≡ row_line (closure_record closure)
 row-text closure = simp append_assoc
 
-rows-text : (closures : List Closure) → flat_map closure_text closures ≡ plain_text_of (map closure_record closures)
+rows-text : (closures : List Closure) → flat_map closure_text closures ≡ plain_table_text (map closure_record closures)
 rows-text [] = refl
 rows-text (closure ∷ more) = rw (row-text closure, rows-text more) refl
 

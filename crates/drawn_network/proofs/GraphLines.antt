@@ -13,13 +13,13 @@ use Rattle.net_generator.specs.Generated.{comment_text, graph_text, road_text}
 use Rattle.net_generator.specs.declared.layout.Road.{Road}
 use Rattle.drawn_network.proofs.Decimals.{IsDigit, decimal_bytes, number_again}
 use Rattle.drawn_network.proofs.DrawnRoads.{IsGoodRoad}
-use Rattle.drawn_network.proofs.TokenLines.{IsToken, line_before, line_then}
+use Rattle.drawn_network.proofs.TokenLines.{IsVisible, line_before, line_then}
 
 has_some : (bs : List ℕ) → 0 < length bs → has_bytes bs ≡ true
 has_some [] h = absurd (omega arith)
 has_some (b ∷ bs) h = refl
 
-decimal_token : (n : ℕ) → n < 2 ^ 64 → IsToken (decimal n)
+decimal_token : (n : ℕ) → n < 2 ^ 64 → IsVisible (decimal n)
 decimal_token n small = record {
   some = has_some (decimal n) (decimal_nonempty n small);
   bytes = All-weaker IsDigit (λ b. 33 ≤ b) (λ b h. omega (arith, h.0)) (decimal n) (decimal_bytes n small);
@@ -31,7 +31,7 @@ above_blank (b ∷ bs) h =
     let parts = and_parts (nat_le 33 b) (list_all (λ b. nat_le 33 b) bs) h in (leb-true 33 b parts.0, above_blank bs parts.1)
 
 -- a word is a token, as its bytes show
-word_token : (word : List ℕ) → has_bytes word ≡ true → list_all (λ b. nat_le 33 b) word ≡ true → IsToken word
+word_token : (word : List ℕ) → has_bytes word ≡ true → list_all (λ b. nat_le 33 b) word ≡ true → IsVisible word
 word_token word some all = record { some = some; bytes = All-from_recursion (λ b. 33 ≤ b) word (above_blank word all) }
 
 -- the tokens of the comment
@@ -50,19 +50,19 @@ abbrev pub line_of_road : Road → Line
 line_of_road road = Arc road.tail road.head road.minutes
 
 pub comment_tokens : (number rows columns : ℕ) → number < 2 ^ 64 → rows < 2 ^ 64 → columns < 2 ^ 64
-    → AllByRecursion IsToken (codes "c" ∷ comment_rest number rows columns)
+    → AllByRecursion IsVisible (codes "c" ∷ comment_rest number rows columns)
 comment_tokens number rows columns h k l =
     let word = word_token (codes "c") refl refl in
     let name = word_token (codes "lorry_plan") refl refl in
     (word, (name, (decimal_token number h, (decimal_token rows k, (decimal_token columns l, tt)))))
 
-pub problem_tokens : (n m : ℕ) → n < 2 ^ 64 → m < 2 ^ 64 → AllByRecursion IsToken (codes "p" ∷ problem_rest n m)
+pub problem_tokens : (n m : ℕ) → n < 2 ^ 64 → m < 2 ^ 64 → AllByRecursion IsVisible (codes "p" ∷ problem_rest n m)
 problem_tokens n m h k =
     let word = word_token (codes "p") refl refl in
     let kind = word_token (codes "sp") refl refl in
     (word, (kind, (decimal_token n h, (decimal_token m k, tt))))
 
-pub road_tokens : (nodes : ℕ) (road : Road) → nodes ≤ MOST_NODES → IsGoodRoad nodes road → AllByRecursion IsToken (codes "a" ∷ road_rest road)
+pub road_tokens : (nodes : ℕ) (road : Road) → nodes ≤ MOST_NODES → IsGoodRoad nodes road → AllByRecursion IsVisible (codes "a" ∷ road_rest road)
 road_tokens nodes road few good =
     let word = word_token (codes "a") refl refl in
     let tail = decimal_token road.tail (omega (arith, good.tail.1, few)) in

@@ -20,6 +20,6 @@ pub record IsLawfulParking (first last : ℕ) (area : Parking) : Type 0 where
   pub rating_high : area.rating ≤ 99
 
 -- parking areas at rising nodes from one number to another
-abbrev pub AreRising : ℕ → ℕ → List Parking → Type 0
-AreRising first last [] = ⊤
-AreRising first last (area ∷ more) = IsLawfulParking first last area × AreRising (suc area.node) last more
+abbrev pub AreRisingRows : ℕ → ℕ → List Parking → Type 0
+AreRisingRows first last [] = ⊤
+AreRisingRows first last (area ∷ more) = IsLawfulParking first last area × AreRisingRows (suc area.node) last more

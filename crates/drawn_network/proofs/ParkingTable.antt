@@ -7,7 +7,7 @@ use Rattle.std.proofs.lemmas.Bool.{le-leb, ne_eqb, cases_eq}
 use Rattle.route_base.specs.Forms.{is_name}
 use Rattle.route_base.specs.declared.limits.TheConstants.{MOST_PARKING_ROWS}
 use Rattle.table_reader.specs.ByNumber.{NumberedRow, numbered_of, numbered_in, name_at, cause_of_numbered}
-use Rattle.table_reader.specs.NameIndex.{value_of}
+use Rattle.table_reader.specs.NameIndex.{value_under}
 use Rattle.table_reader.specs.Records.{Record, records_of, rows_in, rows_of}
 use Rattle.table_reader.specs.Schema.{row_fault_from, first_table_fault}
 use Rattle.table_reader.proofs.Lists.{lookup-other, filter_map-push}
@@ -18,8 +18,8 @@ use Rattle.net_generator.specs.declared.layout.Parking.{Parking}
 use Rattle.drawn_network.specs.DrawnRows.{parking_read, three_ratings}
 use Rattle.drawn_network.proofs.DecimalFields.{decimal-plain, table_number-read}
 use Rattle.drawn_network.proofs.FaultlessRows.{row_fault-more, first_table_fault-none}
-use Rattle.drawn_network.proofs.LawfulRows.{IsLawfulParking, AreRising}
-use Rattle.drawn_network.proofs.PlainText.{is_mark, IsPlainRecord, line_of, plain_text_of, plain_text-read}
+use Rattle.drawn_network.proofs.LawfulRows.{IsLawfulParking, AreRisingRows}
+use Rattle.drawn_network.proofs.PlainText.{is_mark, IsPlainRecord, row_line, plain_table_text, plain_text-read}
 use Rattle.drawn_network.proofs.RatingsTable.{ratings_file-ratings}
 
 abbrev header : Record
@@ -28,10 +28,10 @@ header = codes "node" ∷ codes "rating" ∷ []
 abbrev parking_record : Parking → Record
 parking_record area = decimal area.node ∷ (area.rating ∷ []) ∷ []
 
-row-text : (area : Parking) → parking_text area ≡ line_of (parking_record area)
+row-text : (area : Parking) → parking_text area ≡ row_line (parking_record area)
 row-text area = simp append_assoc
 
-rows-text : (areas : List Parking) → flat_map parking_text areas ≡ plain_text_of (map parking_record areas)
+rows-text : (areas : List Parking) → flat_map parking_text areas ≡ plain_table_text (map parking_record areas)
 rows-text [] = refl
 rows-text (area ∷ more) = rw (row-text area, rows-text more) refl
 
@@ -52,8 +52,8 @@ letter-plain rating low high = each_letter (λ r. list_any is_mark (r ∷ []) �
 letter-name : (rating : ℕ) → 97 ≤ rating → rating ≤ 99 → is_name (rating ∷ []) ≡ true
 letter-name rating low high = each_letter (λ r. is_name (r ∷ []) ≡ true) rating low high refl refl refl
 
-letter-known : (rating : ℕ) → 97 ≤ rating → rating ≤ 99 → is_some (value_of three_ratings (rating ∷ [])) ≡ true
-letter-known rating low high = each_letter (λ r. is_some (value_of three_ratings (r ∷ [])) ≡ true) rating low high refl refl refl
+letter-known : (rating : ℕ) → 97 ≤ rating → rating ≤ 99 → is_some (value_under three_ratings (rating ∷ [])) ≡ true
+letter-known rating low high = each_letter (λ r. is_some (value_under three_ratings (r ∷ [])) ≡ true) rating low high refl refl refl
 
 header-plain : IsPlainRecord header
 header-plain = record {
@@ -70,7 +70,7 @@ row-plain first last area few h = record {
   );
 }
 
-rows-plain : (first last : ℕ) (areas : List Parking) → last ≤ 4294967295 → AreRising first last areas
+rows-plain : (first last : ℕ) (areas : List Parking) → last ≤ 4294967295 → AreRisingRows first last areas
     → AllByRecursion IsPlainRecord (map parking_record areas)
 rows-plain first last [] few h = tt
 rows-plain first last (area ∷ more) few h = (row-plain first last area few h.0, rows-plain (suc area.node) last more few h.1)
@@ -80,7 +80,7 @@ row-read : (first last : ℕ) (area : Parking) → last ≤ 4294967295 → IsLaw
 row-read first last area few h =
     rw (letter-name area.rating h.rating_low h.rating_high, table_number-read area.node (omega (arith, h.high, few))) refl
 
-rows-read : (first last : ℕ) (areas : List Parking) → last ≤ 4294967295 → AreRising first last areas
+rows-read : (first last : ℕ) (areas : List Parking) → last ≤ 4294967295 → AreRisingRows first last areas
     → numbered_in (map parking_record areas) ≡ map parking_read areas
 rows-read first last [] few h = refl
 rows-read first last (area ∷ more) few h = rw (row-read first last area few h.0, rows-read (suc area.node) last more few h.1) refl
@@ -99,7 +99,7 @@ before-more first last before area few h none v above =
 
 no_cause : (first nodes : ℕ) (ratings : List Rating) (before : List Record) (area : Parking) → ratings ≡ three_ratings → 1 ≤ first → nodes ≤ 4294967295
     → IsLawfulParking first nodes area → AreBefore first before
-    → cause_of_numbered nodes (value_of ratings) (numbered_in before) (numbered_of (parking_record area)) ≡ None
+    → cause_of_numbered nodes (value_under ratings) (numbered_in before) (numbered_of (parking_record area)) ≡ None
 no_cause first nodes ratings before area is low few h none =
     rw (
       is,
@@ -111,7 +111,7 @@ no_cause first nodes ratings before area is low few h none =
     ) refl
 
 no_row_fault : (first nodes : ℕ) (ratings : List Rating) (before : List Record) (areas : List Parking) → ratings ≡ three_ratings → 1 ≤ first
-    → nodes ≤ 4294967295 → AreRising first nodes areas → AreBefore first before → length before + length areas ≤ MOST_PARKING_ROWS
+    → nodes ≤ 4294967295 → AreRisingRows first nodes areas → AreBefore first before → length before + length areas ≤ MOST_PARKING_ROWS
     → row_fault_from (parking_schema nodes ratings) header before (map parking_record areas) ≡ None
 no_row_fault first nodes ratings before [] is low few h none room = refl
 no_row_fault first nodes ratings before (area ∷ more) is low few h none room =
@@ -121,13 +121,13 @@ no_row_fault first nodes ratings before (area ∷ more) is low few h none room =
     (no_row_fault (suc area.node) nodes ratings (before ++ row ∷ []) more is (omega arith) few h.1 (before-more first nodes before area few h.0 none)
     (omega (arith, room, length-append before (row ∷ []))))
 
-table-records : (nodes : ℕ) (areas : List Parking) → nodes ≤ 4294967295 → AreRising 1 nodes areas
+table-records : (nodes : ℕ) (areas : List Parking) → nodes ≤ 4294967295 → AreRisingRows 1 nodes areas
     → records_of (parkings_text areas) ≡ header ∷ map parking_record areas
 table-records nodes areas few h =
     ap (λ (text : List ℕ). records_of (codes "node,rating\n" ++ text)) (rows-text areas)
     ∙ plain_text-read (header ∷ map parking_record areas) (header-plain, rows-plain 1 nodes areas few h)
 
-pub parkings_text-faultless : (nodes : ℕ) (areas : List Parking) → nodes ≤ 4294967295 → AreRising 1 nodes areas → length areas ≤ MOST_PARKING_ROWS
+pub parkings_text-faultless : (nodes : ℕ) (areas : List Parking) → nodes ≤ 4294967295 → AreRisingRows 1 nodes areas → length areas ≤ MOST_PARKING_ROWS
     → first_table_fault (parking_schema nodes (ratings_in (rows_of ratings_file))) (records_of (parkings_text areas)) ≡ None
 parkings_text-faultless nodes areas few h room =
     let schema = parking_schema nodes (ratings_in (rows_of ratings_file)) in
@@ -136,7 +136,7 @@ parkings_text-faultless nodes areas few h room =
     (no_row_fault 1 nodes (ratings_in (rows_of ratings_file)) [] areas ratings_file-ratings (omega arith) few h (λ v above. refl) (omega (arith, room)))
 
 -- the table states the parking areas
-pub parkings_text-read : (nodes : ℕ) (areas : List Parking) → nodes ≤ 4294967295 → AreRising 1 nodes areas
+pub parkings_text-read : (nodes : ℕ) (areas : List Parking) → nodes ≤ 4294967295 → AreRisingRows 1 nodes areas
     → numbered_in (rows_of (parkings_text areas)) ≡ map parking_read areas
 parkings_text-read nodes areas few h =
     ap (λ (rows : List Record). numbered_in (rows_in rows)) (table-records nodes areas few h) ∙ rows-read 1 nodes areas few h

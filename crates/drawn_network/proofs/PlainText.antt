@@ -31,13 +31,13 @@ line_end [] = codes "\n"
 line_end (field ∷ more) = codes "," ++ field ++ line_end more
 
 -- the line of a record: its fields, joined by commas
-abbrev pub line_of : Record → List ℕ
-line_of [] = codes "\n"
-line_of (field ∷ more) = field ++ line_end more
+abbrev pub row_line : Record → List ℕ
+row_line [] = codes "\n"
+row_line (field ∷ more) = field ++ line_end more
 
 -- the lines of records
-abbrev pub plain_text_of : List Record → List ℕ
-plain_text_of rows = flat_map line_of rows
+abbrev pub plain_table_text : List Record → List ℕ
+plain_table_text rows = flat_map row_line rows
 
 no_mark : (b : ℕ) → is_mark b ≡ false
     → ((b == 44) ≡ false) × ((b == 34) ≡ false) × ((b == 13) ≡ false) × ((b == 10) ≡ false) × ((b == 239) ≡ false)
@@ -72,7 +72,7 @@ not_blank (field ∷ []) h =
     rw (as_written field h.plain.0) (ne_eqb (length field) 0 (λ none. absurd (omega (arith, h.plain.0.some, none))))
 not_blank (field ∷ next ∷ more) h = refl
 
-line-written : (fields : Record) → IsPlainRecord fields → row_text default_writer fields ≡ line_of fields
+line-written : (fields : Record) → IsPlainRecord fields → row_text default_writer fields ≡ row_line fields
 line-written [] h = absurd (omega (arith, h.some))
 line-written (field ∷ more) h =
     rw (not_blank (field ∷ more) h, as_written field h.plain.0) (append_assoc field (fields_text default_writer more) (codes "\n")
@@ -84,25 +84,25 @@ back (field ∷ more) h = refl
 
 -- the first record of a text
 line-read : (fields : Record) (tail : List ℕ) → IsPlainRecord fields
-    → next_record default_config st.StartRecord [] [] (line_of fields ++ tail) ≡ Some (fields, st.StartRecord, tail)
+    → next_record default_config st.StartRecord [] [] (row_line fields ++ tail) ≡ Some (fields, st.StartRecord, tail)
 line-read fields tail h =
     ap (λ (text : List ℕ). next_record default_config st.StartRecord [] [] (text ++ tail)) (sym (line-written fields h))
     ∙ read-write fields tail
     ∙ ap (λ (read : Record). Some (read, st.StartRecord, tail)) (back fields h)
 
 reached : (rows : List Record) → AllByRecursion IsPlainRecord rows
-    → Reached default_config st.StartRecord (plain_text_of rows) rows st.StartRecord []
+    → Reached default_config st.StartRecord (plain_table_text rows) rows st.StartRecord []
 unfolding Reached
 reached [] h = (refl, refl)
-reached (row ∷ rows) h = ((row, st.StartRecord, plain_text_of rows), line-read row (plain_text_of rows) h.0, refl, reached rows h.1)
+reached (row ∷ rows) h = ((row, st.StartRecord, plain_table_text rows), line-read row (plain_table_text rows) h.0, refl, reached rows h.1)
 
 nothing_left : next_record default_config st.StartRecord [] [] [] ≡ None
 unfolding next_record
 nothing_left = refl
 
 -- the lines of plain records are read as these records
-pub plain_text-records : (rows : List Record) → AllByRecursion IsPlainRecord rows → records default_config (plain_text_of rows) ≡ rows
-plain_text-records rows h = sym (all_records default_config (plain_text_of rows) rows (st.StartRecord, [], reached rows h, nothing_left))
+pub plain_text-records : (rows : List Record) → AllByRecursion IsPlainRecord rows → records default_config (plain_table_text rows) ≡ rows
+plain_text-records rows h = sym (all_records default_config (plain_table_text rows) rows (st.StartRecord, [], reached rows h, nothing_left))
 
 unmarked : (b : ℕ) (text : List ℕ) → is_mark b ≡ false → strip_bom (b ∷ text) ≡ b ∷ text
 unfolding strip_bom
@@ -110,16 +110,16 @@ unmarked b [] h = refl
 unmarked b (c ∷ []) h = refl
 unmarked b (c ∷ d ∷ text) h = rw (no_mark b h).4 refl
 
-unmarked_text : (rows : List Record) → AllByRecursion IsPlainRecord rows → strip_bom (plain_text_of rows) ≡ plain_text_of rows
+unmarked_text : (rows : List Record) → AllByRecursion IsPlainRecord rows → strip_bom (plain_table_text rows) ≡ plain_table_text rows
 unfolding strip_bom
 unmarked_text [] h = refl
 unmarked_text ([] ∷ rows) h = absurd (omega (arith, h.0.some))
 unmarked_text (([] ∷ more) ∷ rows) h = absurd (omega (arith, h.0.plain.0.some))
 unmarked_text (((b ∷ field) ∷ more) ∷ rows) h =
-    unmarked b ((field ++ line_end more) ++ plain_text_of rows) (or_parts (is_mark b) (list_any is_mark field) h.0.plain.0.plain).0
+    unmarked b ((field ++ line_end more) ++ plain_table_text rows) (or_parts (is_mark b) (list_any is_mark field) h.0.plain.0.plain).0
 
 -- and no byte order mark is dropped
-pub plain_text-read : (rows : List Record) → AllByRecursion IsPlainRecord rows → records_of (plain_text_of rows) ≡ rows
+pub plain_text-read : (rows : List Record) → AllByRecursion IsPlainRecord rows → records_of (plain_table_text rows) ≡ rows
 unfolding records_of
 plain_text-read rows h =
     let same = unmarked_text rows h in

@@ -10,14 +10,14 @@ use Rattle.std.proofs.lemmas.List.Elements.{All-head, All-tail}
 use Rattle.route_base.specs.declared.limits.TheConstants.{LONGEST_DRIVE, MOST_ARCS, MOST_NODES}
 use Rattle.dimacs_reader.specs.Faults.{cause_in, cause_of_arc, cause_of_problem, end_cause_from, end_cause_in, fault_of}
 use Rattle.dimacs_reader.specs.GraphModel.{graph_of, graph_with, nodes_from}
-use Rattle.dimacs_reader.specs.Inside.Builder.{after}
+use Rattle.dimacs_reader.specs.Inside.Builder.{stated_after}
 use Rattle.dimacs_reader.specs.Lines.{line_of_tokens}
 use Rattle.dimacs_reader.specs.Stated.{Stated}
 use Rattle.dimacs_reader.specs.declared.builder.Sizes.{Sizes}
 use Rattle.dimacs_reader.specs.declared.graph.GraphArc.{GraphArc}
 use Rattle.dimacs_reader.specs.declared.lines.Line.{Line}
 use Rattle.dimacs_reader.specs.declared.lines.Line.TheVariants.{Ignored, Problem}
-use Rattle.dimacs_reader.proofs.ReadSoFar.{HasRead, read_none, read_more, end_faultless, end_graph}
+use Rattle.dimacs_reader.proofs.ReadSoFar.{HasReadLines, read_none, read_more, end_faultless, end_graph}
 use Rattle.net_generator.specs.Generated.{graph_file, graph_text, road_text}
 use Rattle.net_generator.specs.Layout.{roads_drawn}
 use Rattle.net_generator.specs.Sizes.{IsDrawable}
@@ -26,12 +26,12 @@ use Rattle.drawn_network.specs.DrawnGraph.{arc_of_road}
 use Rattle.drawn_network.proofs.DrawnRoads.{IsGoodRoad, roads_good, roads_few}
 use Rattle.drawn_network.proofs.GraphLines.{comment_rest, problem_rest, road_rest, line_of_road, problem_text, comment_tokens, problem_tokens, road_tokens}
 use Rattle.drawn_network.proofs.GraphLines.{comment_says, problem_says, road_says, graph_lines, road_lines}
-use Rattle.drawn_network.proofs.TokenLines.{IsToken, line_before, line_with, line_cut_off, line_means, line_shortens}
+use Rattle.drawn_network.proofs.TokenLines.{IsVisible, line_before, line_with, line_cut_off, line_means, line_shortens}
 
 -- one more line, which says something without a cause
 line_read : (bytes rest : List ℕ) (number : ℕ) (stated : Stated) (token : List ℕ) (more : List (List ℕ)) (line : Line)
-    → HasRead bytes (line_before token more rest) number stated → AllByRecursion IsToken (token ∷ more) → line_of_tokens (token ∷ more) ≡ line
-    → cause_in stated line ≡ None → HasRead bytes rest (number + 1) (after stated line)
+    → HasReadLines bytes (line_before token more rest) number stated → AllByRecursion IsVisible (token ∷ more) → line_of_tokens (token ∷ more) ≡ line
+    → cause_in stated line ≡ None → HasReadLines bytes rest (number + 1) (stated_after stated line)
 line_read bytes rest number stated token more line h tokens says none =
     read_more bytes (line_before token more rest) (line_with token more) rest number stated line h (line_cut_off token more rest tokens)
     (line_shortens token more rest) (sym (line_means token more tokens ∙ says)) none
@@ -52,8 +52,8 @@ road_passes stated sizes road is good room =
     ) refl
 
 -- a file whose arcs so far are read, and whose others are these roads
-record IsReadTo (bytes : List ℕ) (number : ℕ) (stated : Stated) (sizes : Sizes) (roads : List Road) : Type 0 where
-  read : HasRead bytes (flat_map road_text roads) number stated
+record IsGraphRead (bytes : List ℕ) (number : ℕ) (stated : Stated) (sizes : Sizes) (roads : List Road) : Type 0 where
+  read : HasReadLines bytes (flat_map road_text roads) number stated
   sizes_are : stated.sizes ≡ Some sizes
   nodes : sizes.nodes ≤ MOST_NODES
   good : All (IsGoodRoad sizes.nodes) roads
@@ -61,10 +61,10 @@ record IsReadTo (bytes : List ℕ) (number : ℕ) (stated : Stated) (sizes : Siz
 
 -- one road more
 road_read : (bytes : List ℕ) (number : ℕ) (stated : Stated) (sizes : Sizes) (road : Road) (roads : List Road)
-    → IsReadTo bytes number stated sizes (road ∷ roads) → IsReadTo bytes (number + 1) (after stated (line_of_road road)) sizes roads
+    → IsGraphRead bytes number stated sizes (road ∷ roads) → IsGraphRead bytes (number + 1) (stated_after stated (line_of_road road)) sizes roads
 road_read bytes number stated sizes road roads h =
     let good = All-head (IsGoodRoad sizes.nodes) road roads h.good in
-    let begins = subst (λ (rest : List ℕ). HasRead bytes rest number stated) (road_lines road roads) h.read in
+    let begins = subst (λ (rest : List ℕ). HasReadLines bytes rest number stated) (road_lines road roads) h.read in
     record {
       read = line_read bytes (flat_map road_text roads) number stated (codes "a") (road_rest road) (line_of_road road) begins
           (road_tokens sizes.nodes road h.nodes good) (road_says sizes.nodes road h.nodes good)
@@ -81,12 +81,12 @@ ends_well stated sizes is all =
     ap (λ o. end_cause_from o (length stated.arcs)) is ∙ rw (le-ltb (length stated.arcs) sizes.arcs all) refl
 
 -- the file has no fault, and states this graph
-pub record Reads (bytes : List ℕ) (nodes : ℕ) (arcs : List GraphArc) : Type 0 where
+pub record ReadsGraph (bytes : List ℕ) (nodes : ℕ) (arcs : List GraphArc) : Type 0 where
   pub faultless : fault_of bytes ≡ None
   pub graph : graph_of bytes ≡ graph_with nodes arcs
 
-roads_read : (bytes : List ℕ) (number : ℕ) (stated : Stated) (sizes : Sizes) (roads : List Road) → IsReadTo bytes number stated sizes roads
-    → Reads bytes sizes.nodes (stated.arcs ++ map arc_of_road roads)
+roads_read : (bytes : List ℕ) (number : ℕ) (stated : Stated) (sizes : Sizes) (roads : List Road) → IsGraphRead bytes number stated sizes roads
+    → ReadsGraph bytes sizes.nodes (stated.arcs ++ map arc_of_road roads)
 roads_read bytes number stated sizes [] h = record {
   faultless = end_faultless bytes [] number stated h.read refl (ends_well stated sizes h.sizes_are (omega (arith, h.count)));
   graph =
@@ -95,7 +95,7 @@ roads_read bytes number stated sizes [] h = record {
       ∙ ap (graph_with sizes.nodes) (sym (append-nil stated.arcs));
 }
 roads_read bytes number stated sizes (road ∷ roads) h =
-    let later = roads_read bytes (number + 1) (after stated (line_of_road road)) sizes roads (road_read bytes number stated sizes road roads h) in
+    let later = roads_read bytes (number + 1) (stated_after stated (line_of_road road)) sizes roads (road_read bytes number stated sizes road roads h) in
     record {
       faultless = later.faultless;
       graph = later.graph ∙ ap (graph_with sizes.nodes) (append_assoc stated.arcs (arc_of_road road ∷ []) (map arc_of_road roads));
@@ -110,13 +110,13 @@ nothing_stated = record { sizes = None; arcs = [] }
 
 -- the comment and the problem line are read
 begun : (number rows columns : ℕ) (roads : List Road) → IsDrawable number rows columns → length roads ≤ MOST_ARCS
-    → HasRead (graph_text number rows columns roads) (flat_map road_text roads) 3 (after nothing_stated (Problem (rows * columns) (length roads)))
+    → HasReadLines (graph_text number rows columns roads) (flat_map road_text roads) 3 (stated_after nothing_stated (Problem (rows * columns) (length roads)))
 begun number rows columns roads d few =
     let bytes = graph_text number rows columns roads in
     let n = rows * columns in
     let m = length roads in
     let some : 1 ≤ n = omega (arith, d.rows_low, mul-le-mul_left rows d.columns_low) in
-    let start = subst (λ (rest : List ℕ). HasRead bytes rest 1 nothing_stated) (graph_lines number rows columns roads) (read_none bytes) in
+    let start = subst (λ (rest : List ℕ). HasReadLines bytes rest 1 nothing_stated) (graph_lines number rows columns roads) (read_none bytes) in
     let comment = line_read bytes (problem_text n roads) 1 nothing_stated (codes "c") (comment_rest number rows columns) Ignored start
     (comment_tokens number rows columns (omega (arith, d.number_high)) (omega (arith, d.rows_high)) (omega (arith, d.columns_high)))
     (comment_says number rows columns) refl in
@@ -127,7 +127,7 @@ begun number rows columns roads d few =
 
 -- a graph file of good roads
 text_read : (number rows columns : ℕ) (roads : List Road) → IsDrawable number rows columns → All (IsGoodRoad (rows * columns)) roads
-    → length roads ≤ MOST_ARCS → Reads (graph_text number rows columns roads) (rows * columns) (map arc_of_road roads)
+    → length roads ≤ MOST_ARCS → ReadsGraph (graph_text number rows columns roads) (rows * columns) (map arc_of_road roads)
 text_read number rows columns roads d good few =
     let sizes : Sizes = record { nodes = rows * columns; arcs = length roads } in
     roads_read (graph_text number rows columns roads) 3 (record { sizes = Some sizes; arcs = [] }) sizes roads
@@ -135,7 +135,7 @@ text_read number rows columns roads d good few =
 
 -- the graph file that is drawn
 pub drawn_read : (number rows columns : ℕ) → IsDrawable number rows columns
-    → Reads (graph_file number rows columns) (rows * columns) (map arc_of_road (roads_drawn number rows columns).values)
+    → ReadsGraph (graph_file number rows columns) (rows * columns) (map arc_of_road (roads_drawn number rows columns).values)
 drawn_read number rows columns d =
     text_read number rows columns (roads_drawn number rows columns).values d (roads_good number rows columns d.columns_low)
     (omega (arith, roads_few number rows columns, d.nodes))

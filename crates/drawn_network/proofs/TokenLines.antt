@@ -12,7 +12,7 @@ use Rattle.dimacs_reader.specs.Lines.{has_bytes, line_of, line_of_tokens, lines_
 use Rattle.dimacs_reader.proofs.Cuts.{line_cut}
 
 -- a token has a byte, and no blank or control character
-pub record IsToken (token : List ℕ) : Type 0 where
+pub record IsVisible (token : List ℕ) : Type 0 where
   pub some : has_bytes token ≡ true
   pub bytes : All (λ b. 33 ≤ b) token
 
@@ -49,24 +49,24 @@ no_blanks : (token : List ℕ) → All (λ b. 33 ≤ b) token → All (λ b. is_
 no_blanks token all = All-weaker (λ b. 33 ≤ b) (λ b. is_blank b ≡ false) not_blank token all
 
 -- one token behind another
-token_next : (token rest : List ℕ) → IsToken token → tokens_of (token ++ 32 ∷ rest) ≡ token ∷ tokens_of rest
+token_next : (token rest : List ℕ) → IsVisible token → tokens_of (token ++ 32 ∷ rest) ≡ token ∷ tokens_of rest
 unfolding tokens_of
 token_next token rest h =
     ap (filter has_bytes) (slice_split_at is_blank token 32 rest (no_blanks token h.bytes) refl)
     ∙ cond-true (has_bytes token) (token ∷ tokens_of rest) (tokens_of rest) h.some
 
-token_last : (token : List ℕ) → IsToken token → tokens_of token ≡ token ∷ []
+token_last : (token : List ℕ) → IsVisible token → tokens_of token ≡ token ∷ []
 unfolding tokens_of
 token_last token h =
     ap (filter has_bytes) (slice_split_none is_blank token (no_blanks token h.bytes)) ∙ cond-true (has_bytes token) (token ∷ []) [] h.some
 
-line_tokens : (token : List ℕ) (more : List (List ℕ)) → AllByRecursion IsToken (token ∷ more) → tokens_of (line_with token more) ≡ token ∷ more
+line_tokens : (token : List ℕ) (more : List (List ℕ)) → AllByRecursion IsVisible (token ∷ more) → tokens_of (line_with token more) ≡ token ∷ more
 line_tokens token [] h = token_last token h.0
 line_tokens token (next ∷ more) h =
     token_next token (line_with next more) h.0 ∙ ap (λ ts. token ∷ ts) (line_tokens next more h.1)
 
 -- the meaning of a line is that of its tokens
-pub line_means : (token : List ℕ) (more : List (List ℕ)) → AllByRecursion IsToken (token ∷ more)
+pub line_means : (token : List ℕ) (more : List (List ℕ)) → AllByRecursion IsVisible (token ∷ more)
     → line_of (line_with token more) ≡ line_of_tokens (token ∷ more)
 unfolding line_of
 line_means token more h = ap line_of_tokens (line_tokens token more h)
@@ -74,7 +74,7 @@ line_means token more h = ap line_of_tokens (line_tokens token more h)
 from_blank : (b : ℕ) → 33 ≤ b → 32 ≤ b
 from_blank b h = omega (arith, h)
 
-line_bytes : (token : List ℕ) (more : List (List ℕ)) → AllByRecursion IsToken (token ∷ more) → All (λ b. 32 ≤ b) (line_with token more)
+line_bytes : (token : List ℕ) (more : List (List ℕ)) → AllByRecursion IsVisible (token ∷ more) → All (λ b. 32 ≤ b) (line_with token more)
 line_bytes token [] h = All-weaker (λ b. 33 ≤ b) (λ b. 32 ≤ b) from_blank token (h.0).bytes
 line_bytes token (next ∷ more) h =
     All-append (λ b. 32 ≤ b) token (32 ∷ line_with next more) (All-weaker (λ b. 33 ≤ b) (λ b. 32 ≤ b) from_blank token (h.0).bytes)
@@ -101,6 +101,6 @@ cut_at_feed line rest all =
     ∙ ap (λ l. l ∷ lines_of rest) (kept_whole line all)
 
 -- a line is cut off at its line feed
-pub line_cut_off : (token : List ℕ) (more : List (List ℕ)) (rest : List ℕ) → AllByRecursion IsToken (token ∷ more)
+pub line_cut_off : (token : List ℕ) (more : List (List ℕ)) (rest : List ℕ) → AllByRecursion IsVisible (token ∷ more)
     → lines_of (line_before token more rest) ≡ line_with token more ∷ lines_of rest
 line_cut_off token more rest h = ap lines_of (line_ends token more rest) ∙ cut_at_feed (line_with token more) rest (line_bytes token more h)

@@ -7,17 +7,17 @@ use Rattle.route_base.proofs.Numbered.{at_number-all}
 use Rattle.route_base.proofs.Costs.{IsCheap}
 use Rattle.dimacs_reader.specs.declared.graph.GraphArc.{GraphArc}
 use Rattle.vehicle_classes.specs.VehicleModel.{VehicleModel}
-use Rattle.network_tables.specs.NetworkModel.{NetworkModel, IsGoodNetwork, IsSmall}
+use Rattle.network_tables.specs.NetworkModel.{NetworkModel, IsGoodNetwork, IsSmallWeight}
 use Rattle.network_tables.specs.RoadSetting.{road_setting, road_over}
 use Rattle.plan_certificate.specs.CheapRoads.{HasCheapRoads}
 
 -- the weight of a node is small
-option_flatten-small : (o : Option (Option ℕ)) (w : ℕ) → ((x : Option ℕ) → o ≡ Some x → IsSmall x) → option_flatten o ≡ Some w → w ≤ 100000
+option_flatten-small : (o : Option (Option ℕ)) (w : ℕ) → ((x : Option ℕ) → o ≡ Some x → IsSmallWeight x) → option_flatten o ≡ Some w → w ≤ 100000
 option_flatten-small None w small is = absurd (cc)
 option_flatten-small (Some x) w small is = small x refl w is
 
 small_weight : (net : NetworkModel) → IsGoodNetwork net → (v w : ℕ) → option_flatten (at_number net.weights v) ≡ Some w → w ≤ 100000
-small_weight net good v w is = option_flatten-small (at_number net.weights v) w (λ x at. at_number-all IsSmall net.weights v x good.small at) is
+small_weight net good v w is = option_flatten-small (at_number net.weights v) w (λ x at. at_number-all IsSmallWeight net.weights v x good.small at) is
 
 -- no minute of driving or waiting is dear
 pub cheap : (net : NetworkModel) (vehicle : VehicleModel) → IsGoodNetwork net → IsCheap (road_setting net vehicle)

@@ -5,7 +5,7 @@ use Rattle.route_base.specs.declared.types.Request.{Request}
 use Rattle.route_base.specs.declared.faults.RequestFault.{RequestFault}
 use Rattle.route_base.specs.declared.faults.RequestFault.TheVariants.{UnknownVehicle, OriginRange, GoalRange, UntilBeforeDepart}
 use Rattle.route_base.specs.declared.faults.RequestFault.TheVariants.{HorizonTooLong}
-use Rattle.table_reader.specs.NameIndex.{names_of, place_among, value_of}
+use Rattle.table_reader.specs.NameIndex.{names_of, place_among, value_under}
 use Rattle.vehicle_classes.specs.VehicleModel.{VehicleModel, any_vehicle}
 use Rattle.network_tables.specs.NetworkModel.{NetworkModel}
 pub use Rattle.front_words.specs.Commands.{Trip}
@@ -35,7 +35,7 @@ is_vehicle network name = is_some (place_among (names_of network.vehicles) name)
 
 -- the vehicle of a name; `any` where the network has none of this name
 abbrev pub vehicle_named : NetworkModel → List ℕ → VehicleModel
-vehicle_named network name = unwrap_or (value_of network.vehicles name) any_vehicle
+vehicle_named network name = unwrap_or (value_under network.vehicles name) any_vehicle
 
 -- the first check that a trip over a network fails
 abbrev pub failed_check : NetworkModel → Trip → Option RequestFault

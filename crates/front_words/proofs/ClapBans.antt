@@ -10,7 +10,7 @@ use Rattle.front_words.specs.Usages.{places_read}
 use Rattle.route_base.specs.Forms.{is_name}
 use Rattle.front_words.specs.Inside.{bans_values}
 use Rattle.front_words.specs.declared.bans.Bans.{Bans as BansParts}
-use Rattle.front_words.proofs.ClapWalk.{IsLeaf, Reaches, at, finds_at, places, takes_at, then_reaches}
+use Rattle.front_words.proofs.ClapWalk.{IsLeaf, WalksOn, walk_at, finds_at, places, takes_at, then_reaches}
 use Rattle.front_words.proofs.Shown.{AllRead, AllShown, all_read, all_shown, own_text, read_length}
 
 -- the command, written out
@@ -57,7 +57,7 @@ abbrev held5 : Text → Text → Text → Text → Text → Held
 held5 a b c d e = positional_held shape.rules (rule 5) e (held4 a b c d)
 
 walks : (a b c d e : Text) → AllShown bans_usage.places (a ∷ b ∷ c ∷ d ∷ e ∷ [])
-    → Reaches shape (at 1 nothing_held) (a ∷ b ∷ c ∷ d ∷ e ∷ []) (at 6 (held5 a b c d e)) []
+    → WalksOn shape (walk_at 1 nothing_held) (a ∷ b ∷ c ∷ d ∷ e ∷ []) (walk_at 6 (held5 a b c d e)) []
 walks a b c d e s =
     then_reaches (places shape 1 nothing_held (rule 1) a (b ∷ c ∷ d ∷ e ∷ []) s.0 refl refl)
     (then_reaches (places shape 2 (held1 a) (rule 2) b (c ∷ d ∷ e ∷ []) s.1.0 refl refl)

@@ -14,7 +14,7 @@ use Rattle.front_words.specs.declared.batch.Workers.{Workers}
 use Rattle.front_words.specs.declared.limits.TheConstants.{MOST_WORKERS}
 use Rattle.front_words.specs.Usages.{places_read}
 use Rattle.route_base.specs.Forms.{is_name}
-use Rattle.front_words.proofs.ClapWalk.{IsLeaf, Reaches, at, awaiting, finds_at, gives, places, step, takes_at, then_reaches}
+use Rattle.front_words.proofs.ClapWalk.{IsLeaf, WalksOn, walk_at, awaiting, finds_at, gives, places, step, takes_at, then_reaches}
 use Rattle.front_words.proofs.Shown.{AllRead, AllShown, IsShown, all_in, all_read, all_shown, own_text, read_length}
 
 -- the command, written out
@@ -47,19 +47,19 @@ abbrev after_option : Option Text → Held
 after_option None = nothing_held
 after_option (Some word) = pushed (codes "workers") word opened
 
-option_turns : turn_passes shape [] (at 1 nothing_held) (codes "--workers") ≡ true
+option_turns : turn_passes shape [] (walk_at 1 nothing_held) (codes "--workers") ≡ true
 unfolding clap_on_literals
 option_turns = refl
 
-option_walks : walked shape.rules [] (at 1 nothing_held) (codes "--workers") ≡ awaiting (codes "workers") 1 opened
+option_walks : walked shape.rules [] (walk_at 1 nothing_held) (codes "--workers") ≡ awaiting (codes "workers") 1 opened
 unfolding clap_on_literals
 option_walks = refl
 
 walks_option : (workers : Option Text) (rest : List Text) → IfSome workers IsShown
-    → Reaches shape (at 1 nothing_held) (option_line (codes "--workers") workers ++ rest) (at 1 (after_option workers)) rest
+    → WalksOn shape (walk_at 1 nothing_held) (option_line (codes "--workers") workers ++ rest) (walk_at 1 (after_option workers)) rest
 walks_option None rest s = record { passes = refl; walks = refl }
 walks_option (Some word) rest s =
-    then_reaches (step shape (at 1 nothing_held) (awaiting (codes "workers") 1 opened) (codes "--workers") (word ∷ rest) option_turns option_walks)
+    then_reaches (step shape (walk_at 1 nothing_held) (awaiting (codes "workers") 1 opened) (codes "--workers") (word ∷ rest) option_turns option_walks)
     (gives shape (codes "workers") 1 opened (unwrap_or (arg_by_id shape.rules (codes "workers")) (new_rule [])) word rest s refl)
 
 -- what is held after the words so far
@@ -73,7 +73,7 @@ held2 h a b = positional_held shape.rules (rule 2) b (held1 h a)
 walks_places : (h : Held) (a b : Text) → AllShown batch_usage.places (a ∷ b ∷ [])
     → positional_passes shape.rules shape.args_override_self (rule 1) h ≡ true
     → positional_passes shape.rules shape.args_override_self (rule 2) (held1 h a) ≡ true
-    → Reaches shape (at 1 h) (a ∷ b ∷ []) (at 3 (held2 h a b)) []
+    → WalksOn shape (walk_at 1 h) (a ∷ b ∷ []) (walk_at 3 (held2 h a b)) []
 walks_places h a b s p q =
     then_reaches (places shape 1 h (rule 1) a (b ∷ []) s.0 refl p) (places shape 2 (held1 h a) (rule 2) b [] s.1.0 refl q)
 

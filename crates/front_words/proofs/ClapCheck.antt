@@ -10,7 +10,7 @@ use Rattle.front_words.specs.Usages.{places_read}
 use Rattle.route_base.specs.Forms.{is_name}
 use Rattle.front_words.specs.Inside.{check_values}
 use Rattle.front_words.specs.declared.check.Check.{Check as CheckParts}
-use Rattle.front_words.proofs.ClapWalk.{IsLeaf, Reaches, at, finds_at, places, takes_at, then_reaches}
+use Rattle.front_words.proofs.ClapWalk.{IsLeaf, WalksOn, walk_at, finds_at, places, takes_at, then_reaches}
 use Rattle.front_words.proofs.Shown.{AllRead, AllShown, all_read, all_shown, own_text, read_length}
 
 -- the command, written out
@@ -65,7 +65,7 @@ abbrev held7 : Text → Text → Text → Text → Text → Text → Text → He
 held7 a b c d e f g = positional_held shape.rules (rule 7) g (held6 a b c d e f)
 
 walks : (a b c d e f g : Text) → AllShown check_usage.places (a ∷ b ∷ c ∷ d ∷ e ∷ f ∷ g ∷ [])
-    → Reaches shape (at 1 nothing_held) (a ∷ b ∷ c ∷ d ∷ e ∷ f ∷ g ∷ []) (at 8 (held7 a b c d e f g)) []
+    → WalksOn shape (walk_at 1 nothing_held) (a ∷ b ∷ c ∷ d ∷ e ∷ f ∷ g ∷ []) (walk_at 8 (held7 a b c d e f g)) []
 walks a b c d e f g s =
     then_reaches (places shape 1 nothing_held (rule 1) a (b ∷ c ∷ d ∷ e ∷ f ∷ g ∷ []) s.0 refl refl)
     (then_reaches (places shape 2 (held1 a) (rule 2) b (c ∷ d ∷ e ∷ f ∷ g ∷ []) s.1.0 refl refl)

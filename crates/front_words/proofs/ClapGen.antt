@@ -11,7 +11,7 @@ use Rattle.front_words.specs.Usages.{places_read}
 use Rattle.net_generator.specs.declared.limits.TheConstants.{MOST_GENERATED_NODES}
 use Rattle.front_words.specs.Inside.{gen_values}
 use Rattle.front_words.specs.declared.generate.Gen.{Gen as GenParts}
-use Rattle.front_words.proofs.ClapWalk.{IsLeaf, Reaches, at, finds_at, places, takes_at, then_reaches}
+use Rattle.front_words.proofs.ClapWalk.{IsLeaf, WalksOn, walk_at, finds_at, places, takes_at, then_reaches}
 use Rattle.front_words.proofs.Shown.{AllRead, AllShown, all_read, all_shown, own_text, read_length}
 
 -- the command, written out
@@ -54,7 +54,7 @@ abbrev held4 : Text → Text → Text → Text → Held
 held4 a b c d = positional_held shape.rules (rule 4) d (held3 a b c)
 
 walks : (a b c d : Text) → AllShown gen_usage.places (a ∷ b ∷ c ∷ d ∷ [])
-    → Reaches shape (at 1 nothing_held) (a ∷ b ∷ c ∷ d ∷ []) (at 5 (held4 a b c d)) []
+    → WalksOn shape (walk_at 1 nothing_held) (a ∷ b ∷ c ∷ d ∷ []) (walk_at 5 (held4 a b c d)) []
 walks a b c d s =
     then_reaches (places shape 1 nothing_held (rule 1) a (b ∷ c ∷ d ∷ []) s.0 refl refl)
     (then_reaches (places shape 2 (held1 a) (rule 2) b (c ∷ d ∷ []) s.1.0 refl refl)

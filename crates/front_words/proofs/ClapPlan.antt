@@ -14,7 +14,7 @@ use Rattle.front_words.specs.declared.plan.Choices.{Choices}
 use Rattle.front_words.specs.declared.plan.Trip.{Trip}
 use Rattle.front_words.specs.Usages.{places_read}
 use Rattle.route_base.specs.Forms.{is_name}
-use Rattle.front_words.proofs.ClapWalk.{IsLeaf, Reaches, at, awaiting, finds_at, gives, places, step, takes_at, then_reaches}
+use Rattle.front_words.proofs.ClapWalk.{IsLeaf, WalksOn, walk_at, awaiting, finds_at, gives, places, step, takes_at, then_reaches}
 use Rattle.front_words.proofs.Shown.{AllRead, AllShown, IsShown, all_in, all_read, all_shown, own_text, read_length}
 
 -- the command, written out
@@ -56,49 +56,49 @@ after_form form = with_option (codes "form") form nothing_held
 abbrev after_options : Option Text → Option Text → Held
 after_options form name = with_option (codes "certificate") name (after_form form)
 
-form_turns : turn_passes shape [] (at 1 nothing_held) (codes "--form") ≡ true
+form_turns : turn_passes shape [] (walk_at 1 nothing_held) (codes "--form") ≡ true
 unfolding clap_on_literals
 form_turns = refl
 
-form_walks : walked shape.rules [] (at 1 nothing_held) (codes "--form") ≡ awaiting (codes "form") 1 (opened (codes "form") nothing_held)
+form_walks : walked shape.rules [] (walk_at 1 nothing_held) (codes "--form") ≡ awaiting (codes "form") 1 (opened (codes "form") nothing_held)
 unfolding clap_on_literals
 form_walks = refl
 
-name_turns : (form : Option Text) → turn_passes shape [] (at 1 (after_form form)) (codes "--certificate") ≡ true
+name_turns : (form : Option Text) → turn_passes shape [] (walk_at 1 (after_form form)) (codes "--certificate") ≡ true
 unfolding clap_on_literals
 name_turns None = refl
 name_turns (Some word) = refl
 
-name_walks : (form : Option Text) → walked shape.rules [] (at 1 (after_form form)) (codes "--certificate")
+name_walks : (form : Option Text) → walked shape.rules [] (walk_at 1 (after_form form)) (codes "--certificate")
     ≡ awaiting (codes "certificate") 1 (opened (codes "certificate") (after_form form))
 unfolding clap_on_literals
 name_walks None = refl
 name_walks (Some word) = refl
 
-stays : (h : Held) (rest : List Text) → Reaches shape (at 1 h) rest (at 1 h) rest
+stays : (h : Held) (rest : List Text) → WalksOn shape (walk_at 1 h) rest (walk_at 1 h) rest
 stays h rest = record { passes = refl; walks = refl }
 
 walks_form : (form : Option Text) (rest : List Text) → IfSome form IsShown
-    → Reaches shape (at 1 nothing_held) (option_line (codes "--form") form ++ rest) (at 1 (after_form form)) rest
+    → WalksOn shape (walk_at 1 nothing_held) (option_line (codes "--form") form ++ rest) (walk_at 1 (after_form form)) rest
 walks_form None rest s = stays nothing_held rest
 walks_form (Some word) rest s =
-    then_reaches (step shape (at 1 nothing_held) (awaiting (codes "form") 1 (opened (codes "form") nothing_held)) (codes "--form")
+    then_reaches (step shape (walk_at 1 nothing_held) (awaiting (codes "form") 1 (opened (codes "form") nothing_held)) (codes "--form")
     (word ∷ rest) form_turns form_walks)
     (gives shape (codes "form") 1 (opened (codes "form") nothing_held) (unwrap_or (arg_by_id shape.rules (codes "form")) (new_rule [])) word rest s refl)
 
 walks_name : (form name : Option Text) (rest : List Text) → IfSome name IsShown
-    → Reaches shape (at 1 (after_form form)) (option_line (codes "--certificate") name ++ rest) (at 1 (after_options form name)) rest
+    → WalksOn shape (walk_at 1 (after_form form)) (option_line (codes "--certificate") name ++ rest) (walk_at 1 (after_options form name)) rest
 walks_name form None rest s = stays (after_form form) rest
 walks_name form (Some word) rest s =
-    then_reaches (step shape (at 1 (after_form form)) (awaiting (codes "certificate") 1 (opened (codes "certificate") (after_form form)))
+    then_reaches (step shape (walk_at 1 (after_form form)) (awaiting (codes "certificate") 1 (opened (codes "certificate") (after_form form)))
     (codes "--certificate") (word ∷ rest) (name_turns form) (name_walks form))
     (gives shape (codes "certificate") 1 (opened (codes "certificate") (after_form form)) (unwrap_or (arg_by_id shape.rules (codes "certificate"))
     (new_rule []))
     word rest s refl)
 
 walks_options : (form name : Option Text) (rest : List Text) → IfSome form IsShown → IfSome name IsShown
-    → Reaches shape (at 1 nothing_held) (option_line (codes "--form") form ++ (option_line (codes "--certificate") name ++ rest))
-    (at 1 (after_options form name)) rest
+    → WalksOn shape (walk_at 1 nothing_held) (option_line (codes "--form") form ++ (option_line (codes "--certificate") name ++ rest))
+    (walk_at 1 (after_options form name)) rest
 walks_options form name rest s t =
     then_reaches (walks_form form (option_line (codes "--certificate") name ++ rest) s) (walks_name form name rest t)
 
@@ -133,7 +133,7 @@ walks_places : (h : Held) (a b c d e f : Text) → AllShown plan_usage.places (a
     → positional_passes shape.rules shape.args_override_self (rule 4) (held3 h a b c) ≡ true
     → positional_passes shape.rules shape.args_override_self (rule 5) (held4 h a b c d) ≡ true
     → positional_passes shape.rules shape.args_override_self (rule 6) (held5 h a b c d e) ≡ true
-    → Reaches shape (at 1 h) (a ∷ b ∷ c ∷ d ∷ e ∷ f ∷ []) (at 7 (held6 h a b c d e f)) []
+    → WalksOn shape (walk_at 1 h) (a ∷ b ∷ c ∷ d ∷ e ∷ f ∷ []) (walk_at 7 (held6 h a b c d e f)) []
 walks_places h a b c d e f s p1 p2 p3 p4 p5 p6 =
     then_reaches (places shape 1 h (rule 1) a (b ∷ c ∷ d ∷ e ∷ f ∷ []) s.0 refl p1)
     (then_reaches (places shape 2 (held1 h a) (rule 2) b (c ∷ d ∷ e ∷ f ∷ []) s.1.0 refl p2)

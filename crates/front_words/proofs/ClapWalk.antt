@@ -17,8 +17,8 @@ use Rattle.clap.specs.Walk.{finished, nothing_held, rows_after, Held, Names, Rul
 use Rattle.clap.specs.Walk.{option, value, next, arg_by_id, arg_by_index, option_word, to_positional, after_step, walked, word_met}
 
 -- between two words, with the next positional word's number
-abbrev pub at : ℕ → Held → Walk
-at p h = record { held = h; waiting = idle; position = p; is_trailing = false; stopped = None }
+abbrev pub walk_at : ℕ → Held → Walk
+walk_at p h = record { held = h; waiting = idle; position = p; is_trailing = false; stopped = None }
 
 -- between an option and its value
 abbrev pub awaiting : Text → ℕ → Held → Walk
@@ -28,16 +28,16 @@ no_names : Names
 no_names = []
 
 -- the walk over some words comes to the walk over the others
-pub record Reaches (s : Shape) (w : Walk) (words : List Text) (end : Walk) (rest : List Text) : Type 0 where
+pub record WalksOn (s : Shape) (w : Walk) (words : List Text) (end : Walk) (rest : List Text) : Type 0 where
   pub passes : walk_passes s [] w words ≡ walk_passes s [] end rest
   pub walks : fold (walked s.rules []) w words ≡ fold (walked s.rules []) end rest
 
-pub then_reaches : {s : Shape} {a b c : Walk} {xs ys zs : List Text} → Reaches s a xs b ys → Reaches s b ys c zs → Reaches s a xs c zs
+pub then_reaches : {s : Shape} {a b c : Walk} {xs ys zs : List Text} → WalksOn s a xs b ys → WalksOn s b ys c zs → WalksOn s a xs c zs
 then_reaches r q = record { passes = r.passes ∙ q.passes; walks = r.walks ∙ q.walks }
 
 -- one word after another
 pub step : (s : Shape) (w end : Walk) (word : Text) (rest : List Text) → turn_passes s [] w word ≡ true → walked s.rules [] w word ≡ end
-    → Reaches s w (word ∷ rest) end rest
+    → WalksOn s w (word ∷ rest) end rest
 unfolding walk_passes
 step s w end word rest p e = record {
   passes = ap₂ (λ (b : Bool) (v : Walk). b && walk_passes s [] v rest) p e;
@@ -48,20 +48,20 @@ met_place : (c : List Rule) (p : ℕ) (h : Held) (x : ℕ) (xs : Text) → eqb x
 met_place c p h x xs e = simp e
 
 place_turns : (s : Shape) (p : ℕ) (h : Held) (a : Rule) (x : ℕ) (xs : Text) → eqb x 45 ≡ false → arg_by_index s.rules p ≡ Some a
-    → positional_passes s.rules s.args_override_self a h ≡ true → turn_passes s [] (at p h) (x ∷ xs) ≡ true
+    → positional_passes s.rules s.args_override_self a h ≡ true → turn_passes s [] (walk_at p h) (x ∷ xs) ≡ true
 place_turns s p h a x xs e f g = simp (e, f, g)
 
 place_walks : (c : List Rule) (p : ℕ) (h : Held) (a : Rule) (x : ℕ) (xs : Text) → eqb x 45 ≡ false → arg_by_index c p ≡ Some a
-    → walked c [] (at p h) (x ∷ xs) ≡ to_positional c (Some a) (x ∷ xs) (at p h) h
+    → walked c [] (walk_at p h) (x ∷ xs) ≡ to_positional c (Some a) (x ∷ xs) (walk_at p h) h
 unfolding walked
 place_walks c p h a x xs e f = simp (e, f)
 
 -- a positional word
 pub places : (s : Shape) (p : ℕ) (h : Held) (a : Rule) (word : Text) (rest : List Text) → IsShown word → arg_by_index s.rules p ≡ Some a
     → positional_passes s.rules s.args_override_self a h ≡ true
-    → Reaches s (at p h) (word ∷ rest) (to_positional s.rules (Some a) word (at p h) h) rest
+    → WalksOn s (walk_at p h) (word ∷ rest) (to_positional s.rules (Some a) word (walk_at p h) h) rest
 places s p h a word rest w f g =
-    subst (λ (v : Text). Reaches s (at p h) (v ∷ rest) (to_positional s.rules (Some a) v (at p h) h) rest) (sym w.is)
+    subst (λ (v : Text). WalksOn s (walk_at p h) (v ∷ rest) (to_positional s.rules (Some a) v (walk_at p h) h) rest) (sym w.is)
     (step s _ _ _ rest (place_turns s p h a w.first w.rest w.plain f g) (place_walks s.rules p h a w.first w.rest w.plain f))
 
 value_turns : (s : Shape) (id : Text) (p : ℕ) (h : Held) (x : ℕ) (xs : Text) → eqb x 45 ≡ false
@@ -76,10 +76,10 @@ value_walks c id p h a x xs e f = simp (e, f)
 
 -- the value of an option
 pub gives : (s : Shape) (id : Text) (p : ℕ) (h : Held) (a : Rule) (word : Text) (rest : List Text) → IsShown word → arg_by_id s.rules id ≡ Some a
-    → Reaches s (awaiting id p h) (word ∷ rest)
+    → WalksOn s (awaiting id p h) (word ∷ rest)
     (after_step s.rules word (awaiting id p h) (option_word (Some a) id word h).0 (next (option_word (Some a) id word h).1)) rest
 gives s id p h a word rest w f =
-    subst (λ (v : Text). Reaches s (awaiting id p h) (v ∷ rest)
+    subst (λ (v : Text). WalksOn s (awaiting id p h) (v ∷ rest)
     (after_step s.rules v (awaiting id p h) (option_word (Some a) id v h).0 (next (option_word (Some a) id v h).1)) rest) (sym w.is)
     (step s _ _ _ rest (value_turns s id p h w.first w.rest w.plain) (value_walks s.rules id p h a w.first w.rest w.plain f))
 
@@ -97,21 +97,21 @@ abbrev pub passes_at : Shape → Held → Bool
 passes_at s end = settle_passes s.rules s.args_override_self end
     && (list_all default_passes s.rules && is_valid s (finished s.rules end) false)
 
-level_at : (s : Shape) (words : List Text) (p : ℕ) (end : Held) → Reaches s (at 1 nothing_held) words (at p end) []
+level_at : (s : Shape) (words : List Text) (p : ℕ) (end : Held) → WalksOn s (walk_at 1 nothing_held) words (walk_at p end) []
     → passes_at s end ≡ true → level_passes s [] nothing_held words false ≡ true
 unfolding walk_passes
 level_at s words p end r e = ap₂ (λ (b : Bool) (w : Walk). b && passes_at s w.held) r.passes r.walks ∙ e
 
 -- `clap` takes the words, by where its walk over them ends
 pub takes_at : (a : App) (name : Text) (words : List Text) (p : ℕ) (end : Held) → IsLeaf a
-    → Reaches (built a).top (at 1 nothing_held) words (at p end) [] → passes_at (built a).top end ≡ true → takes a (name ∷ words) ≡ true
+    → WalksOn (built a).top (walk_at 1 nothing_held) words (walk_at p end) [] → passes_at (built a).top end ≡ true → takes a (name ∷ words) ≡ true
 takes_at a name words p end l r e =
     ap₂ (λ (b : Bool) (ws : List Text). b && built_takes (built a) nothing_held ws) l.simple (arguments a name words l)
     ∙ leaf_takes (built a) nothing_held words l.alone (level_at (built a).top words p end r e)
 
 -- what `clap` finds
 pub finds_at : (a : App) (name : Text) (words : List Text) (p : ℕ) (end : Held) → IsLeaf a
-    → Reaches (built a).top (at 1 nothing_held) words (at p end) [] → matches_of a (name ∷ words) ≡ finished (built a).top.rules end
+    → WalksOn (built a).top (walk_at 1 nothing_held) words (walk_at p end) [] → matches_of a (name ∷ words) ≡ finished (built a).top.rules end
 finds_at a name words p end l r =
     ap₂ (λ (names : Names) (ws : List Text). rows_after (built a).top.rules names ws) (ap (map label_of) l.alone) (arguments a name words l)
     ∙ ap (λ (w : Walk). finished (built a).top.rules w.held) r.walks

@@ -4,7 +4,7 @@ use Rattle.std.proofs.Common.{ap₂}
 use Rattle.std.proofs.lemmas.List.{map-append}
 use Rattle.std.specs.Prelude.{option_map, not, ◌&&◌, if◌then◌else◌}
 use Rattle.std.specs.List.{after_first, before_first}
-use Rattle.front_words.specs.Splitting.{Given, Split, Piece, plain, named, assigned, stray, is_among, is_dashed, is_equals, joined}
+use Rattle.front_words.specs.Splitting.{Given, Split, Piece, plain, named, assigned, stray, is_among, is_dashed, is_equals, split_of_pieces}
 use Rattle.front_words.specs.Splitting.{piece_of, split_of, with_given, with_place}
 use Rattle.front_words.specs.Inside.{IsDivided, follow}
 
@@ -47,7 +47,7 @@ module _ {options words rest : List (List ℕ)} {done new : Split} where
   adds_place {word} {place} {behind} d r e p g = record {
     same = d.same
         ∙ ap (λ ws. option_map (follow done) (split_of options ws)) r
-        ∙ ap (λ p. option_map (follow done) (joined (p ∷ map (piece_of options) behind))) e
+        ∙ ap (λ p. option_map (follow done) (split_of_pieces (p ∷ map (piece_of options) behind))) e
         ∙ follow_place done place (split_of options behind)
         ∙ ap (λ s. option_map (follow s) (split_of options behind)) (sym (same_split _ _ p g));
   }
@@ -59,7 +59,7 @@ module _ {options words rest : List (List ℕ)} {done new : Split} where
   adds_assigned {word} {option} {value} {behind} d r e p g = record {
     same = d.same
         ∙ ap (λ ws. option_map (follow done) (split_of options ws)) r
-        ∙ ap (λ p. option_map (follow done) (joined (p ∷ map (piece_of options) behind))) e
+        ∙ ap (λ p. option_map (follow done) (split_of_pieces (p ∷ map (piece_of options) behind))) e
         ∙ follow_given done option value (split_of options behind)
         ∙ ap (λ s. option_map (follow s) (split_of options behind)) (sym (same_split _ _ p g));
   }
@@ -71,8 +71,8 @@ module _ {options words rest : List (List ℕ)} {done new : Split} where
   adds_named {word} {option} {value} {first} {behind} d r e f h p g = record {
     same = d.same
         ∙ ap (λ ws. option_map (follow done) (split_of options ws)) (r ∙ ap (λ ws. word ∷ ws) f)
-        ∙ ap (λ p. option_map (follow done) (joined (p ∷ piece_of options value ∷ map (piece_of options) behind))) e
-        ∙ ap (λ b. option_map (follow done) (joined (named option ∷ by_dash options value b ∷ map (piece_of options) behind))) h
+        ∙ ap (λ p. option_map (follow done) (split_of_pieces (p ∷ piece_of options value ∷ map (piece_of options) behind))) e
+        ∙ ap (λ b. option_map (follow done) (split_of_pieces (named option ∷ by_dash options value b ∷ map (piece_of options) behind))) h
         ∙ follow_given done option value (split_of options behind)
         ∙ ap (λ s. option_map (follow s) (split_of options behind)) (sym (same_split _ _ p g));
   }

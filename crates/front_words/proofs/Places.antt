@@ -1,12 +1,12 @@
 -- Positional words by their number.
 use Rattle.std.proofs.Common.{◌≡◌, ◌≢◌, ℕ, Option, Some, None, List, [], ◌∷◌, length, map, get_or, refl, sym, ap, arith, Bor, suc}
 use Rattle.std.specs.Prelude.{option_and_then, option_map}
-use Rattle.front_words.specs.Forms.{Value, WordForm, value_of}
+use Rattle.front_words.specs.Forms.{Value, WordForm, value_of_word}
 use Rattle.front_words.specs.Usages.{places_read}
 
 no_more : (form : WordForm) (word : List ℕ) (o : Option (List Value)) → o ≡ None
-    → option_and_then (λ v. option_map (λ vs. v ∷ vs) o) (value_of form word) ≡ None
-no_more form word o e = rw e (at (value_of form word))
+    → option_and_then (λ v. option_map (λ vs. v ∷ vs) o) (value_of_word form word) ≡ None
+no_more form word o e = rw e (at (value_of_word form word))
   where
     at : (v : Option Value) → option_and_then (λ v. option_map (λ vs. v ∷ vs) (let n : Option (List Value) = None in n)) v ≡ None
     at None = refl

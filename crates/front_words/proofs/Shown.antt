@@ -6,7 +6,7 @@ use Rattle.calendar_days.specs.Texts.{instant_of, day_of_text}
 use Rattle.route_base.specs.Digits.{plain_number_of}
 use Rattle.front_words.specs.Inside.{AllIn}
 use Rattle.front_words.specs.Usages.{places_read}
-use Rattle.front_words.specs.Forms.{Value, WordForm, value_of, text_if, of_text, folder, vehicle, number, instant, certificate, report}
+use Rattle.front_words.specs.Forms.{Value, WordForm, value_of_word, text_if, of_text, folder, vehicle, number, instant, certificate, report}
 use Rattle.front_words.specs.Forms.{count, is_certificate_name, jobs}
 
 -- a word that has a first byte, which is no `-`
@@ -46,7 +46,7 @@ unfolding is_certificate_name
 certificate_empty = refl
 
 -- no form has the empty word, or one that begins with a dash
-empty : (form : WordForm) → value_of form [] ≡ None
+empty : (form : WordForm) → value_of_word form [] ≡ None
 empty folder = refl
 empty vehicle = refl
 empty number = refl
@@ -56,7 +56,7 @@ empty report = refl
 empty jobs = refl
 empty (count limit) = refl
 
-dash : (form : WordForm) (xs : List ℕ) → value_of form (45 ∷ xs) ≡ None
+dash : (form : WordForm) (xs : List ℕ) → value_of_word form (45 ∷ xs) ≡ None
 dash folder xs = refl
 dash vehicle xs = refl
 dash number xs = simp number_dash
@@ -69,23 +69,23 @@ dash (count limit) xs = simp number_dash
 none_is_no_value : {A : Type 0} {o : Option A} {v : A} {P : Type 0} → o ≡ None → o ≡ Some v → P
 none_is_no_value e f = cc
 
-at_byte : (form : WordForm) (x : ℕ) (xs : List ℕ) (v : Value) (b : Bool) → eqb x 45 ≡ b → value_of form (x ∷ xs) ≡ Some v → IsShown (x ∷ xs)
+at_byte : (form : WordForm) (x : ℕ) (xs : List ℕ) (v : Value) (b : Bool) → eqb x 45 ≡ b → value_of_word form (x ∷ xs) ≡ Some v → IsShown (x ∷ xs)
 at_byte form x xs v false h e = record { first = x; rest = xs; is = refl; plain = h }
 at_byte form x xs v true h e =
-    none_is_no_value (ap (λ y. value_of form (y ∷ xs)) (eqb-true x 45 h) ∙ dash form xs) e
+    none_is_no_value (ap (λ y. value_of_word form (y ∷ xs)) (eqb-true x 45 h) ∙ dash form xs) e
 
-pub shown : (form : WordForm) (word : List ℕ) (v : Value) → value_of form word ≡ Some v → IsShown word
+pub shown : (form : WordForm) (word : List ℕ) (v : Value) → value_of_word form word ≡ Some v → IsShown word
 shown form [] v e = none_is_no_value (empty form) e
 shown form (x ∷ xs) v e = at_byte form x xs v (eqb x 45) refl e
 
-shown_in : (form : WordForm) (word : List ℕ) (o : Option Value) → value_of form word ≡ o → is_some o ≡ true → IsShown word
+shown_in : (form : WordForm) (word : List ℕ) (o : Option Value) → value_of_word form word ≡ o → is_some o ≡ true → IsShown word
 shown_in form word None e h = cc
 shown_in form word (Some v) e h = shown form word v e
 
 -- the value of an option that is in its form is shown
 pub all_in : (form : WordForm) (word : Option (List ℕ)) → AllIn form word → IfSome word IsShown
 all_in form None h = tt
-all_in form (Some word) h = shown_in form word (value_of form word) refl h
+all_in form (Some word) h = shown_in form word (value_of_word form word) refl h
 
 some_same : {A : Type 0} {x y : A} → Some x ≡ Some y → x ≡ y
 some_same e = cc
@@ -98,11 +98,11 @@ own_text false word text e = none_is_no_value refl e
 -- each word has its value in its form
 abbrev pub AllRead : List WordForm → List (List ℕ) → List Value → Type 0
 AllRead [] [] [] = Unit {0}
-AllRead (form ∷ forms) (word ∷ words) (v ∷ vs) = (value_of form word ≡ Some v) × AllRead forms words vs
+AllRead (form ∷ forms) (word ∷ words) (v ∷ vs) = (value_of_word form word ≡ Some v) × AllRead forms words vs
 AllRead forms words vs = ⊥
 
 read_front : (form : WordForm) (forms : List WordForm) (word : List ℕ) (words : List (List ℕ)) (o : Option Value) (rest : Option (List Value)) (vs : List Value)
-    → value_of form word ≡ o → places_read forms words ≡ rest → ((us : List Value) → places_read forms words ≡ Some us → AllRead forms words us)
+    → value_of_word form word ≡ o → places_read forms words ≡ rest → ((us : List Value) → places_read forms words ≡ Some us → AllRead forms words us)
     → option_and_then (λ v. option_map (λ us. v ∷ us) rest) o ≡ Some vs → AllRead (form ∷ forms) (word ∷ words) vs
 read_front form forms word words None rest vs e f go h = none_is_no_value refl h
 read_front form forms word words (Some v) None vs e f go h = none_is_no_value refl h
@@ -118,7 +118,7 @@ all_read [] [] (v ∷ vs) e = absurd (some_other (some_same e))
 all_read [] (word ∷ words) vs e = none_is_no_value refl e
 all_read (form ∷ forms) [] vs e = none_is_no_value refl e
 all_read (form ∷ forms) (word ∷ words) vs e =
-    read_front form forms word words (value_of form word) (places_read forms words) vs refl refl (all_read forms words) e
+    read_front form forms word words (value_of_word form word) (places_read forms words) vs refl refl (all_read forms words) e
 
 pub read_length : (forms : List WordForm) (words : List (List ℕ)) (vs : List Value) → AllRead forms words vs → length words ≡ length forms
 read_length [] [] [] r = refl

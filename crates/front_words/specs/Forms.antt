@@ -64,12 +64,12 @@ abbrev pub text_if : Bool → List ℕ → Option Value
 text_if fits word = if fits then Some (of_text word) else None
 
 -- the value that a word has in a form; nothing where it isn't in that form
-abbrev pub value_of : WordForm → List ℕ → Option Value
-value_of folder word = text_if (is_folder_name word) word
-value_of vehicle word = text_if (is_name word) word
-value_of number word = option_map of_number (node_of word)
-value_of instant word = option_map of_number (instant_of word)
-value_of certificate word = text_if (is_certificate_name word) word
-value_of report word = option_map of_report (report_of word)
-value_of jobs word = text_if (is_name word) word
-value_of (count limit) word = option_map of_number (count_of limit word)
+abbrev pub value_of_word : WordForm → List ℕ → Option Value
+value_of_word folder word = text_if (is_folder_name word) word
+value_of_word vehicle word = text_if (is_name word) word
+value_of_word number word = option_map of_number (node_of word)
+value_of_word instant word = option_map of_number (instant_of word)
+value_of_word certificate word = text_if (is_certificate_name word) word
+value_of_word report word = option_map of_report (report_of word)
+value_of_word jobs word = text_if (is_name word) word
+value_of_word (count limit) word = option_map of_number (count_of limit word)

@@ -3,7 +3,7 @@ use Rattle.std.specs.Prelude.{ℕ, ◌≡◌, ◌≤◌, Option, Some, None, Lis
 use Rattle.std.specs.Prelude.{[], ◌∷◌}
 use Rattle.std.specs.Borrow.{Bor}
 use Rattle.front_words.specs.Splitting.{Given, Split, split_of, Piece, plain, named, assigned, stray}
-use Rattle.front_words.specs.Forms.{Value, WordForm, value_of, of_text, of_number, of_report, report, count, certificate as certificate_form}
+use Rattle.front_words.specs.Forms.{Value, WordForm, value_of_word, of_text, of_number, of_report, report, count, certificate as certificate_form}
 use Rattle.front_words.specs.ClapCommands.{option_line}
 use Rattle.std.specs.Prelude.{codes, is_some, true, ◌∷◌}
 use Rattle.front_words.specs.declared.plan.Trip.{Trip as TripParts}
@@ -36,11 +36,11 @@ abbrev pub split_in : SplitWords → Split
 split_in s = record { places = map (λ word. word.now) s.places.items; given = map given_in s.given.items }
 
 -- the piece that the code holds
-abbrev pub piece_in : PieceWord → Piece
-piece_in (Plain word) = plain word.now
-piece_in (Named option) = named option.now
-piece_in (Assigned option value) = assigned option.now value.now
-piece_in Stray = stray
+abbrev pub piece_of_word : PieceWord → Piece
+piece_of_word (Plain word) = plain word.now
+piece_of_word (Named option) = named option.now
+piece_of_word (Assigned option value) = assigned option.now value.now
+piece_of_word Stray = stray
 
 -- the values of a plan's positional words
 abbrev pub trip_values : TripParts → List Value
@@ -83,7 +83,7 @@ choice_values c = option_map of_report c.form ∷ option_map (λ name. of_text n
 -- the word, if there is one, is in the form
 abbrev pub AllIn : WordForm → Option (List ℕ) → Type 0
 AllIn form None = Unit {0}
-AllIn form (Some word) = is_some (value_of form word) ≡ true
+AllIn form (Some word) = is_some (value_of_word form word) ≡ true
 
 -- the words of the choices are in their forms
 pub record AreFit (c : Choices) : Type 0 where
@@ -112,7 +112,7 @@ pub record IsDivided (options words : List (List ℕ)) (done : Split) (rest : Li
   pub same : split_of options words ≡ option_map (follow done) (split_of options rest)
 
 -- the answer is what is due, or out of memory
-abbrev pub Answers : {A B : Type 0} → (B → A) → Option A → Result B WordsFault → Type 0
-Answers value_in due (Ok value) = due ≡ Some (value_in value)
-Answers value_in due (Err NotACommand) = due ≡ None
-Answers value_in due (Err OutOfMemory) = Unit {0}
+abbrev pub AnswersWith : {A B : Type 0} → (B → A) → Option A → Result B WordsFault → Type 0
+AnswersWith value_in due (Ok value) = due ≡ Some (value_in value)
+AnswersWith value_in due (Err NotACommand) = due ≡ None
+AnswersWith value_in due (Err OutOfMemory) = Unit {0}

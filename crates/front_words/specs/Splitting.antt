@@ -55,16 +55,16 @@ abbrev pub with_given : List ℕ → List ℕ → Split → Split
 with_given option value s = record s { given = record { option = option; value = value } ∷ s.given }
 
 -- the pieces, put together: each option that is named alone takes the plain word behind it as its value
-abbrev pub joined : List Piece → Option Split
-joined [] = Some (record { places = []; given = [] })
-joined (plain word ∷ pieces) = option_map (with_place word) (joined pieces)
-joined (named option ∷ plain value ∷ pieces) = option_map (with_given option value) (joined pieces)
-joined (assigned option value ∷ pieces) = option_map (with_given option value) (joined pieces)
-joined pieces = None
+abbrev pub split_of_pieces : List Piece → Option Split
+split_of_pieces [] = Some (record { places = []; given = [] })
+split_of_pieces (plain word ∷ pieces) = option_map (with_place word) (split_of_pieces pieces)
+split_of_pieces (named option ∷ plain value ∷ pieces) = option_map (with_given option value) (split_of_pieces pieces)
+split_of_pieces (assigned option value ∷ pieces) = option_map (with_given option value) (split_of_pieces pieces)
+split_of_pieces pieces = None
 
 -- how words divide for a command with these options; nothing for words that don't
 abbrev pub split_of : List (List ℕ) → List (List ℕ) → Option Split
-split_of options words = joined (map (piece_of options) words)
+split_of options words = split_of_pieces (map (piece_of options) words)
 
 -- the values that are given for an option
 abbrev pub values_for : List ℕ → List Given → List (List ℕ)

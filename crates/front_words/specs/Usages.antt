@@ -1,7 +1,7 @@
 -- A command as a row of a table: its name, its positional words, its options, and what their values make (source: own).
 use Rattle.std.specs.Prelude.{ℕ, Option, Some, None, List, [], ◌∷◌, bytes_eq, map, option_and_then, option_map}
 use Rattle.std.specs.Prelude.{if◌then◌else◌}
-use Rattle.front_words.specs.Forms.{Value, WordForm, value_of}
+use Rattle.front_words.specs.Forms.{Value, WordForm, value_of_word}
 use Rattle.front_words.specs.Splitting.{Given, Split, only_value, split_of, values_for}
 
 -- an option, and the form of its value
@@ -20,13 +20,13 @@ pub record Usage (A : Type 0) : Type 0 where
 abbrev pub places_read : List WordForm → List (List ℕ) → Option (List Value)
 places_read [] [] = Some []
 places_read (form ∷ forms) (word ∷ words) =
-    option_and_then (λ v. option_map (λ vs. v ∷ vs) (places_read forms words)) (value_of form word)
+    option_and_then (λ v. option_map (λ vs. v ∷ vs) (places_read forms words)) (value_of_word form word)
 places_read forms words = None
 
 -- the value of an option in its form, where it is given
 abbrev pub value_if : WordForm → Option (List ℕ) → Option (Option Value)
 value_if form None = Some None
-value_if form (Some word) = option_map Some (value_of form word)
+value_if form (Some word) = option_map Some (value_of_word form word)
 
 -- the values of the options, in the order of the table; nothing where one is given twice or isn't in its form
 abbrev pub options_read : List OptionUsage → List Given → Option (List (Option Value))
@@ -36,8 +36,8 @@ options_read (o ∷ os) given =
     (option_and_then (value_if o.form) (only_value (values_for o.name given)))
 
 -- the names of the options
-abbrev pub names_of : List OptionUsage → List (List ℕ)
-names_of options = map (λ o. o.name) options
+abbrev pub option_names : List OptionUsage → List (List ℕ)
+option_names options = map (λ o. o.name) options
 
 module _ {A : Type 0} where
   -- what a split makes by a row
@@ -48,7 +48,7 @@ module _ {A : Type 0} where
 
   -- what the words behind the command's name make by its row
   abbrev pub made_by : Usage A → List (List ℕ) → Option A
-  made_by usage words = option_and_then (made_of usage) (split_of (names_of usage.options) words)
+  made_by usage words = option_and_then (made_of usage) (split_of (option_names usage.options) words)
 
   -- what words make by the row of a table that has their first word as its name
   abbrev pub made_in : List (Usage A) → List ℕ → List (List ℕ) → Option A

@@ -3,7 +3,7 @@ ghost use Rattle.std.specs.Prelude.{◌≡◌, ℕ, List, [], IfErr, IfOk, IfSom
 ghost use Rattle.clap.specs.Words.{first_value, found_of, kind_of};
 ghost use Rattle.front_words.specs.ClapCommands.{IsTaken, bans_app, text_found};
 ghost use Rattle.front_words.specs.Commands.{AsksSupported, bans_usage, command_in};
-ghost use Rattle.front_words.specs.Inside.{Answers, bans_values};
+ghost use Rattle.front_words.specs.Inside.{AnswersWith, bans_values};
 ghost use Rattle.route_base.specs.Time.{IsInstant};
 ghost use Rattle.front_words.specs.Usages.{made_by, places_read};
 
@@ -87,7 +87,7 @@ fn bans_by_clap(alloc: Global, bans: &Bans, places: &[&str]) -> Result<FrontComm
 
 // The bans of the words behind the command's name.
 pub fn read_bans(alloc: Global, words: &[Text]) -> Result<FrontCommand, WordsFault>
-    ensures bans { Answers command_in (made_by bans_usage words.now) result }
+    ensures bans { AnswersWith command_in (made_by bans_usage words.now) result }
     ensures supported { IfOk result (λ c. AsksSupported (command_in c)) }
 {
     let split = split_words(alloc, &[], words)?;

@@ -4,7 +4,7 @@ ghost use Rattle.clap.specs.Words.{first_value, found_of, kind_of};
 ghost use Rattle.front_words.specs.ClapCommands.{IsTaken, batch_app, text_found};
 ghost use Rattle.front_words.specs.Commands.{AsksSupported, batch_usage, command_in, workers_in};
 ghost use Rattle.front_words.specs.Forms.{count, of_number};
-ghost use Rattle.front_words.specs.Inside.{Answers, IsFit, IsUpTo, batch_values, given_in, line_of_batch, workers_values};
+ghost use Rattle.front_words.specs.Inside.{AnswersWith, IsFit, IsUpTo, batch_values, given_in, line_of_batch, workers_values};
 ghost use Rattle.front_words.specs.Usages.{made_by, options_read, places_read, value_if};
 ghost use Rattle.front_words.specs.declared.limits.TheConstants.{MOST_WORKERS};
 
@@ -139,7 +139,7 @@ fn batch_by_clap(
 
 // The batch of the words behind the command's name.
 pub fn read_batch(alloc: Global, words: &[Text]) -> Result<FrontCommand, WordsFault>
-    ensures batch { Answers command_in (made_by batch_usage words.now) result }
+    ensures batch { AnswersWith command_in (made_by batch_usage words.now) result }
     ensures supported { IfOk result (λ c. AsksSupported (command_in c)) }
 {
     let split = split_words(alloc, &["--workers"], words)?;

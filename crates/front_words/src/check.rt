@@ -3,7 +3,7 @@ ghost use Rattle.std.specs.Prelude.{◌≡◌, ℕ, List, [], IfErr, IfOk, IfSom
 ghost use Rattle.clap.specs.Words.{first_value, found_of, kind_of};
 ghost use Rattle.front_words.specs.ClapCommands.{IsTaken, check_app, text_found};
 ghost use Rattle.front_words.specs.Commands.{AsksSupported, check_usage, command_in};
-ghost use Rattle.front_words.specs.Inside.{Answers, check_values};
+ghost use Rattle.front_words.specs.Inside.{AnswersWith, check_values};
 ghost use Rattle.route_base.specs.Time.{IsInstant};
 ghost use Rattle.front_words.specs.Usages.{made_by, places_read};
 
@@ -103,7 +103,7 @@ fn check_by_clap(alloc: Global, check: &Check, places: &[&str]) -> Result<FrontC
 
 // The check of the words behind the command's name.
 pub fn read_check(alloc: Global, words: &[Text]) -> Result<FrontCommand, WordsFault>
-    ensures check { Answers command_in (made_by check_usage words.now) result }
+    ensures check { AnswersWith command_in (made_by check_usage words.now) result }
     ensures supported { IfOk result (λ c. AsksSupported (command_in c)) }
 {
     let split = split_words(alloc, &[], words)?;

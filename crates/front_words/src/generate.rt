@@ -3,7 +3,7 @@ ghost use Rattle.std.specs.Prelude.{◌≡◌, ◌*◌, ℕ, List, [], IfErr, If
 ghost use Rattle.clap.specs.Words.{first_value, found_of, kind_of};
 ghost use Rattle.front_words.specs.ClapCommands.{IsTaken, gen_app, text_found};
 ghost use Rattle.front_words.specs.Commands.{AsksSupported, gen_usage, command_in};
-ghost use Rattle.front_words.specs.Inside.{Answers, AreCounted, gen_values};
+ghost use Rattle.front_words.specs.Inside.{AnswersWith, AreCounted, gen_values};
 ghost use Rattle.front_words.specs.Usages.{made_by, places_read};
 ghost use Rattle.net_generator.specs.Sizes.{IsDrawable};
 ghost use Rattle.net_generator.specs.declared.limits.TheConstants.{MOST_GENERATED_NODES};
@@ -95,7 +95,7 @@ fn gen_by_clap(alloc: Global, network: &Gen, places: &[&str]) -> Result<FrontCom
 
 // The generation of the words behind the command's name.
 pub fn read_gen(alloc: Global, words: &[Text]) -> Result<FrontCommand, WordsFault>
-    ensures network { Answers command_in (made_by gen_usage words.now) result }
+    ensures network { AnswersWith command_in (made_by gen_usage words.now) result }
     ensures supported { IfOk result (λ c. AsksSupported (command_in c)) }
 {
     let split = split_words(alloc, &[], words)?;

@@ -4,7 +4,7 @@ ghost use Rattle.clap.specs.Words.{first_value, found_of, kind_of};
 ghost use Rattle.front_words.specs.ClapCommands.{IsTaken, plan_app, text_found};
 ghost use Rattle.front_words.specs.Commands.{AsksSupported, command_in, plan_usage, report_in};
 ghost use Rattle.front_words.specs.Forms.{certificate, of_report, of_text, report};
-ghost use Rattle.front_words.specs.Inside.{AllIn, Answers, AreFit, choice_values, given_in, line_of_plan, trip_values};
+ghost use Rattle.front_words.specs.Inside.{AllIn, AnswersWith, AreFit, choice_values, given_in, line_of_plan, trip_values};
 ghost use Rattle.route_base.specs.Time.{IsInstant};
 ghost use Rattle.front_words.specs.Usages.{made_by, options_read, places_read, value_if};
 
@@ -179,7 +179,7 @@ fn plan_by_clap(
 
 // The plan of the words behind the command's name.
 pub fn read_plan(alloc: Global, words: &[Text]) -> Result<FrontCommand, WordsFault>
-    ensures plan { Answers command_in (made_by plan_usage words.now) result }
+    ensures plan { AnswersWith command_in (made_by plan_usage words.now) result }
     ensures supported { IfOk result (λ c. AsksSupported (command_in c)) }
 {
     let split = split_words(alloc, &["--form", "--certificate"], words)?;

@@ -1,7 +1,7 @@
 // Divides the words behind a command's name into positional words and options.
 ghost use Rattle.std.specs.Prelude.{◌≡◌, map};
 ghost use Rattle.front_words.specs.Splitting.{is_dashed, is_among, piece_of, split_of};
-ghost use Rattle.front_words.specs.Inside.{Answers, piece_in, split_in};
+ghost use Rattle.front_words.specs.Inside.{AnswersWith, piece_of_word, split_in};
 
 use crate::WordsFault;
 use route_base::Text;
@@ -53,7 +53,7 @@ fn is_option(options: &[&str], word: &str) -> bool
 
 // The part of a word in a command with these options.
 fn read_piece<'a>(options: &[&str], word: &'a str) -> Piece<'a>
-    ensures { piece_in result ≡ piece_of (map (λ o. o.now) options.now) word.now }
+    ensures { piece_of_word result ≡ piece_of (map (λ o. o.now) options.now) word.now }
 {
     if !is_dashed(word) {
         return Piece::Plain(word);
@@ -75,7 +75,7 @@ pub fn split_words<'a>(
     options: &[&str],
     words: &'a [Text],
 ) -> Result<Split<'a>, WordsFault>
-    ensures { Answers split_in (split_of (map (λ o. o.now) options.now) words.now) result }
+    ensures { AnswersWith split_in (split_of (map (λ o. o.now) options.now) words.now) result }
 {
     let mut places = Vec::new(alloc);
     let mut given = Vec::new(alloc);

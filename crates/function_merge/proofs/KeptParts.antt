@@ -6,7 +6,7 @@ use Rattle.std.proofs.lemmas.Bool.{cases_lt, le-leb, lt-leb}
 use Rattle.route_base.specs.Runs.{any_has, AreRuns}
 use Rattle.route_base.specs.declared.types.Run.{Run}
 use Rattle.cost_functions.specs.Lines.{line_at}
-use Rattle.cost_functions.specs.Pieces.{value_at, ArePieces, AreSmall}
+use Rattle.cost_functions.specs.Pieces.{value_at, ArePieces, AreSmallPieces}
 use Rattle.cost_functions.specs.declared.pieces.Piece.{Piece}
 use Rattle.cost_functions.proofs.Values.{value_here, value_before, none_behind}
 use Rattle.function_merge.specs.Moves.{kept_at, moved_at, CanMove}
@@ -88,7 +88,7 @@ chosen true o v is = is
 chosen false o v is = cc
 
 -- what is kept of small values can stay where it is
-pub can_stay : (ps : List Piece) (rs : List Run) → ArePieces ps → AreSmall ps → CanMove 0 0 (kept_at ps rs)
+pub can_stay : (ps : List Piece) (rs : List Run) → ArePieces ps → AreSmallPieces ps → CanMove 0 0 (kept_at ps rs)
 can_stay ps rs are small = record {
   minutes_fit = λ t v is. (let fits = (value_within ps t v are.each small (chosen (any_has rs t) (value_at ps t) v is)).1 in omega (arith, fits));
   values_fit = λ t v is. (let fits = (value_within ps t v are.each small (chosen (any_has rs t) (value_at ps t) v is)).0 in omega (arith, fits));

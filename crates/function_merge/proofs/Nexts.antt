@@ -1,7 +1,7 @@
 -- Stretches on which one function is the lesser, from the values of both.
 use Rattle.std.proofs.Common.{◌≡◌, ⊎_elim, ℕ, ◌≤◌, ◌<◌, ◌&&◌, min, max, leb, ltb, Bool, true, false, Option, Some, None, List, All, length, refl, ◌∙◌, ap}
 use Rattle.std.proofs.Common.{sym, arith}
-use Rattle.cost_functions.specs.Lines.{line_at, IsSmall}
+use Rattle.cost_functions.specs.Lines.{line_at, IsSmallPiece}
 use Rattle.cost_functions.specs.Pieces.{value_at, ArePieces}
 use Rattle.function_merge.proofs.FirstPieces.{first_of, first_is, first_value, first_none}
 use Rattle.cost_functions.specs.declared.pieces.Piece.{Piece}
@@ -37,7 +37,7 @@ module _ (f g : List Piece) (t : ℕ) where
   better_both a b first second = ap (λ v. is_better v (value_at g t)) first ∙ ap (λ v. is_better (Some a) v) second
 
 module _ (f g : List Piece) (from : ℕ) (s : Segment) (starts : from ≤ s.piece.lo) (filled : s.piece.lo ≤ s.piece.hi) (minutes : s.piece.hi ≤ LAST_INSTANT)
-    (small : IsSmall s.piece)
+    (small : IsSmallPiece s.piece)
     (gap_f : (t : ℕ) → from ≤ t → t < s.piece.lo → value_at f t ≡ None) (gap_g : (t : ℕ) → from ≤ t → t < s.piece.lo → value_at g t ≡ None) where
   pub next_first : (p : Piece) → ((t : ℕ) → s.piece.lo ≤ t → line_at s.piece t ≡ line_at p t)
       → ((t : ℕ) → s.piece.lo ≤ t → t ≤ s.piece.hi → value_at f t ≡ Some (line_at p t)) → ((t : ℕ) → s.piece.lo ≤ t → t ≤ s.piece.hi → value_at g t ≡ None)
@@ -82,7 +82,7 @@ module _ (f g : List Piece) (from : ℕ) (s : Segment) (starts : from ≤ s.piec
     better = λ t late upto. better_both f g t (line_at p t) (line_at q t) (first t late upto) (second t late upto) ∙ lower t late upto;
   }
 
-module _ (f g : List Piece) (from : ℕ) (s : Segment) (filled : s.piece.lo ≤ s.piece.hi) (small : IsSmall s.piece) where
+module _ (f g : List Piece) (from : ℕ) (s : Segment) (filled : s.piece.lo ≤ s.piece.hi) (small : IsSmallPiece s.piece) where
   -- a part of the first piece of f, where g has nothing
   pub next_in_first : (some : 1 ≤ length f) → ArePieces f → s.piece.lo ≡ max from (first_of f).lo → s.piece.hi ≤ (first_of f).hi
       → ((t : ℕ) → s.piece.lo ≤ t → line_at s.piece t ≡ line_at (first_of f) t) → ((t : ℕ) → from ≤ t → t ≤ s.piece.hi → value_at g t ≡ None)

@@ -1,7 +1,7 @@
 // The lower envelope of two functions, segment by segment.
 ghost use Rattle.std.specs.Prelude.{◌≡◌, ◌+◌, ◌*◌, ◌-◌, ◌<◌, ◌≤◌, ℕ, min, false, nat_lt, None, All, IfSome};
-ghost use Rattle.cost_functions.specs.Lines.{line_at, IsPiece, IsSmall};
-ghost use Rattle.cost_functions.specs.Pieces.{ArePieces, AreSmall};
+ghost use Rattle.cost_functions.specs.Lines.{line_at, IsPiece, IsSmallPiece};
+ghost use Rattle.cost_functions.specs.Pieces.{ArePieces, AreSmallPieces};
 ghost use Rattle.function_merge.specs.Least.{least_at, better_at};
 ghost use Rattle.function_merge.specs.Inside.Segments.{IsNextSegment};
 
@@ -19,8 +19,8 @@ pub struct Segment {
 pub fn next_segment(f: &[Piece], g: &[Piece], from: Minute) -> Option<Segment>
     requires first { ArePieces f.now }
     requires second { ArePieces g.now }
-    requires first_small { AreSmall f.now }
-    requires second_small { AreSmall g.now }
+    requires first_small { AreSmallPieces f.now }
+    requires second_small { AreSmallPieces g.now }
     requires first_from { All (λ p. from ≤ p.hi) f.now }
     requires second_from { All (λ p. from ≤ p.hi) g.now }
     ensures some { IfSome result (IsNextSegment f.now g.now from) }
@@ -48,7 +48,7 @@ pub fn next_segment(f: &[Piece], g: &[Piece], from: Minute) -> Option<Segment>
 // The segment of a piece from one of its minutes to another.
 fn part(piece: Piece, lo: Minute, hi: Minute, improves: bool) -> Segment
     requires piece { IsPiece piece }
-    requires small { IsSmall piece }
+    requires small { IsSmallPiece piece }
     requires from { piece.lo ≤ lo }
     requires filled { lo ≤ hi }
     requires upto { hi ≤ piece.hi }
@@ -56,7 +56,7 @@ fn part(piece: Piece, lo: Minute, hi: Minute, improves: bool) -> Segment
     ensures hi { result.piece.hi ≡ hi }
     ensures improves { result.improves ≡ improves }
     ensures line { (t : ℕ) → lo ≤ t → line_at result.piece t ≡ line_at piece t }
-    ensures small { IsSmall result.piece }
+    ensures small { IsSmallPiece result.piece }
 {
     Segment {
         piece: Piece {
@@ -74,8 +74,8 @@ fn part(piece: Piece, lo: Minute, hi: Minute, improves: bool) -> Segment
 fn lesser(p: Piece, q: Piece, lo: Minute) -> Segment
     requires first { IsPiece p }
     requires second { IsPiece q }
-    requires first_small { IsSmall p }
-    requires second_small { IsSmall q }
+    requires first_small { IsSmallPiece p }
+    requires second_small { IsSmallPiece q }
     requires first_from { p.lo ≤ lo }
     requires second_from { q.lo ≤ lo }
     requires first_upto { lo ≤ p.hi }
@@ -88,7 +88,7 @@ fn lesser(p: Piece, q: Piece, lo: Minute) -> Segment
         → line_at result.piece t ≡ min (line_at p t) (line_at q t) }
     ensures better { (t : ℕ) → lo ≤ t → t ≤ result.piece.hi
         → nat_lt (line_at q t) (line_at p t) ≡ result.improves }
-    ensures small { IsSmall result.piece }
+    ensures small { IsSmallPiece result.piece }
 {
     let most = p.hi.min(q.hi) - lo;
     let first = p.value(lo);

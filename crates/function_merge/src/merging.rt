@@ -2,7 +2,7 @@
 ghost use Rattle.std.specs.Prelude.{◌≡◌, ◌+◌, ◌<◌, ◌≤◌, ◌↔◌, ◌&&◌, nat_le, ℕ, Bool, true, false, Option, All, IsTrue, IfOk, OnOk, OnErr, [], length};
 ghost use Rattle.std.specs.List.{AllWithin};
 ghost use Rattle.route_base.specs.Runs.{any_has, AreRuns};
-ghost use Rattle.cost_functions.specs.Pieces.{value_at, ArePieces, AreSmall};
+ghost use Rattle.cost_functions.specs.Pieces.{value_at, ArePieces, AreSmallPieces};
 ghost use Rattle.cost_functions.specs.Building.{AreBuilt, IsSettled};
 ghost use Rattle.route_base.specs.declared.limits.TheConstants.{LAST_INSTANT};
 ghost use Rattle.function_merge.specs.Least.{least_at, better_at};
@@ -26,8 +26,8 @@ pub struct Merged {
 /// The function that has at each minute the lesser of the values that are there; `improved` has the minutes at which g has a value
 /// and f has none or a larger one. Linear in the number of pieces of both, in time and memory.
 pub fn least(alloc: Global, f: &CostFn, g: &CostFn) -> Result<Merged, OutOfMemory>
-    requires first { AreSmall f.now }
-    requires second { AreSmall g.now }
+    requires first { AreSmallPieces f.now }
+    requires second { AreSmallPieces g.now }
     ensures values { IfOk result (λ merged. (t : ℕ) →
         value_at merged.function t ≡ least_at f.now g.now t) }
     ensures improved { IfOk result (λ merged. (t : ℕ) →
@@ -42,7 +42,7 @@ pub fn least(alloc: Global, f: &CostFn, g: &CostFn) -> Result<Merged, OutOfMemor
 /// number of pieces of both between the ends of g.
 pub fn improve(alloc: Global, f: CostFn, g: &CostFn) -> Result<Merged, OutOfMemory>
     requires first { AreBuilt f }
-    requires second { AreSmall g.now }
+    requires second { AreSmallPieces g.now }
     ensures values { IfOk result (λ merged. (t : ℕ) →
         value_at merged.function t ≡ least_at f g.now t) }
     ensures improved { IfOk result (λ merged. (t : ℕ) →
@@ -63,7 +63,7 @@ pub fn improve(alloc: Global, f: CostFn, g: &CostFn) -> Result<Merged, OutOfMemo
 /// f without a piece.
 pub fn improve_in_place(alloc: Global, f: &mut CostFn, g: &CostFn) -> Result<MinuteSet, OutOfMemory>
     requires first { AreBuilt f.old }
-    requires second { AreSmall g.now }
+    requires second { AreSmallPieces g.now }
     ensures values { OnOk result ((t : ℕ) → value_at f.new t ≡ least_at f.old g.now t) }
     ensures improved { IfOk result (λ improved. (t : ℕ) →
         any_has improved t ≡ better_at f.old g.now t) }
@@ -87,7 +87,7 @@ fn improve_within(
     requires first { AreBuilt f.items }
     requires second { ArePieces g.now }
     requires some { 1 ≤ length g.now }
-    requires small { AreSmall g.now }
+    requires small { AreSmallPieces g.now }
     requires begins { All (λ p. first ≤ p.lo) g.now }
     ensures values { IfOk result (λ merged. (t : ℕ) →
         value_at merged.function t ≡ least_at f.items g.now t) }
@@ -126,7 +126,7 @@ fn improve_from(
 ) -> Result<Merged, OutOfMemory>
     requires first { AreBuilt f.items }
     requires second { ArePieces g.now }
-    requires small { AreSmall g.now }
+    requires small { AreSmallPieces g.now }
     requires begins { All (λ p. first ≤ p.lo) g.now }
     ensures values { IfOk result (λ merged. (t : ℕ) →
         value_at merged.function t ≡ least_at f.items g.now t) }
@@ -157,8 +157,8 @@ fn first_minute(pieces: &[Piece], minute: Minute) -> Minute
 /// Whether g has a value at some minute at which f has none or a larger one. A binary search in f for the first minute of g, and
 /// linear in the number of pieces of both from there on, until such a minute is found or g ends; no memory.
 pub fn is_improved(f: &CostFn, g: &CostFn) -> bool
-    requires first { AreSmall f.now }
-    requires second { AreSmall g.now }
+    requires first { AreSmallPieces f.now }
+    requires second { AreSmallPieces g.now }
     ensures { IsTrue result ↔ ((t : ℕ) × (better_at f.now g.now t ≡ true)) }
 {
     let pieces = f.pieces();
@@ -173,8 +173,8 @@ pub fn is_improved(f: &CostFn, g: &CostFn) -> bool
 fn improves_from(f: &[Piece], g: &[Piece], start: Minute) -> bool
     requires first { ArePieces f.now }
     requires second { ArePieces g.now }
-    requires first_small { AreSmall f.now }
-    requires second_small { AreSmall g.now }
+    requires first_small { AreSmallPieces f.now }
+    requires second_small { AreSmallPieces g.now }
     requires first_from { All (λ p. start ≤ p.hi) f.now }
     requires second_from { All (λ p. start ≤ p.hi) g.now }
     ensures found { IsTrue result → (t : ℕ) × ((start ≤ t) × (better_at f.now g.now t ≡ true)) }
@@ -205,8 +205,8 @@ fn merged_from(
 ) -> Result<Merged, OutOfMemory>
     requires first { ArePieces f.now }
     requires second { ArePieces g.now }
-    requires first_small { AreSmall f.now }
-    requires second_small { AreSmall g.now }
+    requires first_small { AreSmallPieces f.now }
+    requires second_small { AreSmallPieces g.now }
     requires first_from { All (λ p. start ≤ p.hi) f.now }
     requires second_from { All (λ p. start ≤ p.hi) g.now }
     requires ended { All (λ p. p.hi < start) before }

@@ -2,8 +2,8 @@
 ghost use Rattle.std.specs.Prelude.{◌≡◌, ◌+◌, ◌-◌, ◌<◌, ◌≤◌, ℕ, All, IfOk, OnOk, length, take, slice_index_or};
 ghost use Rattle.route_base.specs.Front.{RiseAndFall};
 ghost use Rattle.route_base.specs.declared.types.Pair.{Pair};
-ghost use Rattle.cost_functions.specs.Lines.{line_at, IsPiece, IsSmall};
-ghost use Rattle.cost_functions.specs.Pieces.{value_at, ArePieces, AreSmall};
+ghost use Rattle.cost_functions.specs.Lines.{line_at, IsPiece, IsSmallPiece};
+ghost use Rattle.cost_functions.specs.Pieces.{value_at, ArePieces, AreSmallPieces};
 ghost use Rattle.cost_functions.specs.Building.{AreBuilt};
 ghost use Rattle.function_merge.specs.Pruning.{IsPruned};
 ghost use Rattle.function_merge.specs.Inside.Prefixes.{stays_cheaper, IsUndominatedUntil, IsClearUntil};
@@ -25,7 +25,7 @@ pub fn prune(
     bound: Bound,
 ) -> Result<CostFn, OutOfMemory>
     requires trade { RiseAndFall pairs.now }
-    requires small { AreSmall f.now }
+    requires small { AreSmallPieces f.now }
     ensures values { IfOk result (λ g.
         IsPruned until pairs.now bound (value_at f.now) (value_at g)) }
     ensures built { IfOk result AreBuilt }
@@ -42,9 +42,9 @@ pub fn prune(
 /// minute stays can be on one line with the piece before it.
 pub fn into_pruned(f: CostFn, until: Minute, pairs: &[Pair], bound: Bound) -> CostFn
     requires trade { RiseAndFall pairs.now }
-    requires small { AreSmall f }
+    requires small { AreSmallPieces f }
     ensures values { IsPruned until pairs.now bound (value_at f) (value_at result) }
-    ensures small { AreSmall result }
+    ensures small { AreSmallPieces result }
 {
     let mut pieces = f.into_pieces();
     let kept = keep_prefixes(&mut pieces, until, pairs, bound);
@@ -56,11 +56,11 @@ pub fn into_pruned(f: CostFn, until: Minute, pairs: &[Pair], bound: Bound) -> Co
 fn keep_prefixes(pieces: &mut [Piece], until: Minute, pairs: &[Pair], bound: Bound) -> usize
     requires trade { RiseAndFall pairs.now }
     requires pieces { ArePieces pieces.old }
-    requires small { AreSmall pieces.old }
+    requires small { AreSmallPieces pieces.old }
     ensures values { IsPruned until pairs.now bound
         (value_at pieces.old) (value_at (take result pieces.new)) }
     ensures pieces { ArePieces (take result pieces.new) }
-    ensures small { AreSmall (take result pieces.new) }
+    ensures small { AreSmallPieces (take result pieces.new) }
 {
     let mut kept = 0;
     for i in 0..pieces.len() {
@@ -75,9 +75,9 @@ fn keep_prefixes(pieces: &mut [Piece], until: Minute, pairs: &[Pair], bound: Bou
 fn put_before(pieces: &mut [Piece], place: usize, piece: Piece, end: Minute) -> usize
     requires place { place < length pieces.old }
     requires pieces { ArePieces (take place pieces.old) }
-    requires small { AreSmall (take place pieces.old) }
+    requires small { AreSmallPieces (take place pieces.old) }
     requires piece { IsPiece piece }
-    requires piece_small { IsSmall piece }
+    requires piece_small { IsSmallPiece piece }
     requires upto { end ≤ piece.hi + 1 }
     requires later { All (λ q. q.hi < piece.lo) (take place pieces.old) }
     ensures within { result ≤ place + 1 }
@@ -85,7 +85,7 @@ fn put_before(pieces: &mut [Piece], place: usize, piece: Piece, end: Minute) -> 
     ensures others { (j : ℕ) (d : Piece) → place < j
         → slice_index_or pieces.new j d ≡ slice_index_or pieces.old j d }
     ensures pieces { ArePieces (take result pieces.new) }
-    ensures small { AreSmall (take result pieces.new) }
+    ensures small { AreSmallPieces (take result pieces.new) }
     ensures put { HasPrefix piece end (take place pieces.old) (take result pieces.new) }
 {
     if end <= piece.lo {
@@ -98,11 +98,11 @@ fn put_before(pieces: &mut [Piece], place: usize, piece: Piece, end: Minute) -> 
 // The piece without its minutes from this one on, of which it keeps some.
 fn cut_before(piece: Piece, end: Minute) -> Piece
     requires piece { IsPiece piece }
-    requires small { IsSmall piece }
+    requires small { IsSmallPiece piece }
     requires some { piece.lo < end }
     requires upto { end ≤ piece.hi + 1 }
     ensures piece { IsPiece result }
-    ensures small { IsSmall result }
+    ensures small { IsSmallPiece result }
     ensures lo { result.lo ≡ piece.lo }
     ensures hi { result.hi + 1 ≡ end }
     ensures line { (t : ℕ) → piece.lo ≤ t → t < end → line_at result t ≡ line_at piece t }
@@ -118,7 +118,7 @@ fn cut_before(piece: Piece, end: Minute) -> Piece
 // Adds the values of a piece before a minute.
 fn add_before(built: &mut Builder, piece: Piece, end: Minute) -> Result<(), OutOfMemory>
     requires piece { IsPiece piece }
-    requires small { IsSmall piece }
+    requires small { IsSmallPiece piece }
     requires upto { end ≤ piece.hi + 1 }
     requires later { All (λ q. q.hi < piece.lo) built.old }
     ensures { OnOk result (HasPrefix piece end built.old built.new) }

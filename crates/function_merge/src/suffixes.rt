@@ -4,7 +4,7 @@ ghost use Rattle.std.specs.List.{AllWithin};
 ghost use Rattle.route_base.specs.declared.types.Run.{Run};
 ghost use Rattle.cost_functions.specs.declared.pieces.Piece.{Piece};
 ghost use Rattle.route_base.specs.Runs.{any_has, AreRuns};
-ghost use Rattle.cost_functions.specs.Pieces.{value_at, ArePieces, AreSmall};
+ghost use Rattle.cost_functions.specs.Pieces.{value_at, ArePieces, AreSmallPieces};
 
 use cost_functions::Piece;
 use route_base::{Minute, Run};
@@ -42,9 +42,9 @@ pub fn runs_from(runs: &[Run], from: Minute) -> &[Run]
 // The pieces that do not end before the minute, where few do: they are passed one by one.
 pub fn skip_pieces(pieces: &[Piece], from: Minute) -> &[Piece]
     requires pieces { ArePieces pieces.now }
-    requires small { AreSmall pieces.now }
+    requires small { AreSmallPieces pieces.now }
     ensures pieces { ArePieces result.now }
-    ensures small { AreSmall result.now }
+    ensures small { AreSmallPieces result.now }
     ensures values { (t : ℕ) → from ≤ t → value_at result.now t ≡ value_at pieces.now t }
     ensures reach { All (λ p. from ≤ p.hi) result.now }
 {
@@ -62,7 +62,7 @@ pub fn skip_pieces(pieces: &[Piece], from: Minute) -> &[Piece]
 pub fn find_pieces(pieces: &[Piece], from: Minute) -> &[Piece]
     requires pieces { ArePieces pieces.now }
     ensures pieces { ArePieces result.now }
-    ensures small { AreSmall pieces.now → AreSmall result.now }
+    ensures small { AreSmallPieces pieces.now → AreSmallPieces result.now }
     ensures values { (t : ℕ) → from ≤ t → value_at result.now t ≡ value_at pieces.now t }
     ensures reach { All (λ p. from ≤ p.hi) result.now }
 {

@@ -1,7 +1,7 @@
 // Functions with waits.
 ghost use Rattle.std.specs.Prelude.{◌≡◌, ◌+◌, ◌*◌, ◌<◌, ◌≤◌, ℕ, Option, Some, None, min, All, IfOk, IfSome};
-ghost use Rattle.cost_functions.specs.Lines.{line_at, IsPiece, IsSmall};
-ghost use Rattle.cost_functions.specs.Pieces.{value_at, ArePieces, AreSmall};
+ghost use Rattle.cost_functions.specs.Lines.{line_at, IsPiece, IsSmallPiece};
+ghost use Rattle.cost_functions.specs.Pieces.{value_at, ArePieces, AreSmallPieces};
 ghost use Rattle.cost_functions.specs.Building.{AreBuilt};
 ghost use Rattle.route_base.specs.declared.limits.TheConstants.{LAST_INSTANT, HIGHEST_COST};
 ghost use Rattle.function_merge.specs.Waits.{IsLeastWait, waited_at, carried_to, CanWait};
@@ -15,7 +15,7 @@ use std::alloc::Global;
 /// The function that has at each minute up to `until` the least cost of a value of f at it or before and of the wait since then, at
 /// `weight` thousandths a minute, and no value afterwards. Linear in the number of pieces, in time and memory.
 pub fn wait(alloc: Global, f: &CostFn, weight: Cost, until: Minute) -> Result<CostFn, OutOfMemory>
-    requires small { AreSmall f.now }
+    requires small { AreSmallPieces f.now }
     requires weight { weight ≤ HIGHEST_COST }
     requires until { until ≤ LAST_INSTANT }
     requires fit { CanWait (value_at f.now) weight until }
@@ -40,7 +40,7 @@ pub fn wait(alloc: Global, f: &CostFn, weight: Cost, until: Minute) -> Result<Co
 // The cost at the last minute of the piece.
 fn last_value(piece: Piece) -> Cost
     requires filled { piece.lo ≤ piece.hi }
-    requires small { IsSmall piece }
+    requires small { IsSmallPiece piece }
     ensures { result ≡ line_at piece piece.hi }
 {
     piece.cost + piece.slope * (piece.hi - piece.lo)
@@ -55,7 +55,7 @@ fn next_wait(
     until: Minute,
 ) -> Option<Piece>
     requires pieces { ArePieces left.now }
-    requires small { AreSmall left.now }
+    requires small { AreSmallPieces left.now }
     requires reach { All (λ p. from ≤ p.hi) left.now }
     ensures some { IfSome result (λ piece. (values : ℕ → Option ℕ)
         → ((t : ℕ) → from ≤ t → values t ≡ value_at left.now t)
@@ -77,7 +77,7 @@ fn next_wait(
 // The same where there is no cost of waiting, since no value is before the minute.
 fn first_wait(left: &[Piece], from: Minute, weight: Cost, until: Minute) -> Option<Piece>
     requires pieces { ArePieces left.now }
-    requires small { AreSmall left.now }
+    requires small { AreSmallPieces left.now }
     requires reach { All (λ p. from ≤ p.hi) left.now }
     ensures some { IfSome result (λ piece. (values : ℕ → Option ℕ)
         → ((t : ℕ) → from ≤ t → values t ≡ value_at left.now t)
@@ -98,7 +98,7 @@ fn first_wait(left: &[Piece], from: Minute, weight: Cost, until: Minute) -> Opti
 // The same where there is a cost of waiting.
 fn wait_on(left: &[Piece], from: Minute, cost: Cost, weight: Cost, until: Minute) -> Piece
     requires pieces { ArePieces left.now }
-    requires small { AreSmall left.now }
+    requires small { AreSmallPieces left.now }
     requires reach { All (λ p. from ≤ p.hi) left.now }
     requires until { from ≤ until }
     ensures { (values : ℕ → Option ℕ) → ((t : ℕ) → from ≤ t → values t ≡ value_at left.now t)

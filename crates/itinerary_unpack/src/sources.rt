@@ -4,7 +4,7 @@ ghost use Rattle.node_arcs.specs.Stars.{EndsAt};
 ghost use Rattle.node_arcs.specs.declared.links.End.TheVariants.{Head};
 ghost use Rattle.route_base.specs.declared.types.Leg.TheVariants.{Wait};
 ghost use Rattle.itinerary_unpack.specs.Inside.Sources.{ComesFrom, HasNoDrive};
-ghost use Rattle.itinerary_unpack.specs.Inside.Requests.{IsSolved, setting_in, cost_in};
+ghost use Rattle.itinerary_unpack.specs.Inside.Requests.{IsSolved, setting_in, solved_cost};
 
 use crate::solved::Solved;
 use cost_functions::Piece;
@@ -24,10 +24,10 @@ pub fn source_of(solved: Solved<'_>, v: NodeId, t: Minute, x: Cost) -> Source
     requires low { 1 ≤ v.0 }
     requires high { v.0 ≤ solved.net.now.nodes }
     requires upto { t ≤ solved.request.until }
-    requires known { cost_in solved v.0 t ≡ Some x }
+    requires known { solved_cost solved v.0 t ≡ Some x }
     requires later { v.0 ≡ solved.request.origin.0 → t ≡ solved.request.depart → ⊥ }
     ensures { ComesFrom (setting_in solved.entry) solved.entry.request.until
-        (cost_in solved.entry) v.0 t x result }
+        (solved_cost solved.entry) v.0 t x result }
 {
     for a in solved.incoming.of(v) {
         if let Some(source) = drive_into(solved, *a, v, t, x) {
@@ -44,10 +44,10 @@ fn drive_into(solved: Solved<'_>, a: ArcId, v: NodeId, t: Minute, x: Cost) -> Op
     requires upto { t ≤ solved.request.until }
     ensures some { IfSome result
         (ComesFrom (setting_in solved.entry) solved.entry.request.until
-        (cost_in solved.entry) v.0 t x) }
+        (solved_cost solved.entry) v.0 t x) }
     ensures none { IsNone result
         → HasNoDrive (setting_in solved.entry) solved.entry.request.until
-        (cost_in solved.entry) a.0 v.0 t x }
+        (solved_cost solved.entry) a.0 v.0 t x }
 {
     let arc = solved.net.arc(a)?;
     if arc.minutes > t {
@@ -75,10 +75,10 @@ fn wait_into(solved: Solved<'_>, v: NodeId, t: Minute, x: Cost) -> Source
     requires high { v.0 ≤ solved.net.now.nodes }
     requires upto { t ≤ solved.request.until }
     requires later { 1 ≤ t }
-    requires waits { ComesFrom (setting_in solved) solved.request.until (cost_in solved) v.0 t x
+    requires waits { ComesFrom (setting_in solved) solved.request.until (solved_cost solved) v.0 t x
         (record { leg = Wait 1; node = v; minute = t - 1 }) }
     ensures { ComesFrom (setting_in solved.entry) solved.entry.request.until
-        (cost_in solved.entry) v.0 t x result }
+        (solved_cost solved.entry) v.0 t x result }
 {
     let since = begins_at(solved.found.function(v).pieces(), t);
     match wait_since(solved, v, since, t, x) {
@@ -107,7 +107,7 @@ fn wait_since(solved: Solved<'_>, v: NodeId, since: Minute, t: Minute, x: Cost) 
     requires high { v.0 ≤ solved.net.now.nodes }
     requires upto { t ≤ solved.request.until }
     ensures { IfSome result (ComesFrom (setting_in solved.entry) solved.entry.request.until
-        (cost_in solved.entry) v.0 t x) }
+        (solved_cost solved.entry) v.0 t x) }
 {
     if since >= t {
         return None;

@@ -18,7 +18,7 @@ abbrev pub IsLeastKey : List (Option ℕ) → ℕ → ℕ → Type 0
 IsLeastKey keys v key = (w other : ℕ) → key_at keys w ≡ Some other → (key < other) ⊎ ((key ≡ other) × (v ≤ w))
 
 -- node v had the least key, and has none now
-pub record IsTaken (old new : List (Option ℕ)) (v key : ℕ) : Type 0 where
+pub record IsLeastTaken (old new : List (Option ℕ)) (v key : ℕ) : Type 0 where
   pub node : (1 ≤ v) × (v ≤ length old)
   pub was : key_at old v ≡ Some key
   pub least : IsLeastKey old v key

@@ -1,7 +1,7 @@
 // Nodes with keys.
 ghost use Rattle.std.specs.Prelude.{◌≡◌, ◌≤◌, ℕ, Some, None, length, IfOk, IfSome, IsNone};
 ghost use Rattle.std.specs.Option.{IsSomeAnd};
-ghost use Rattle.label_queue.specs.Keys.{key_at, IsSet, IsTaken};
+ghost use Rattle.label_queue.specs.Keys.{key_at, IsSet, IsLeastTaken};
 
 use crate::heap::{Heap, Label};
 use route_base::{NodeId, OutOfMemory};
@@ -16,11 +16,11 @@ pub struct LabelQueue {
 
 impl Model for LabelQueue {
     ghost use Rattle.std.specs.Prelude.{List, Option, ℕ};
-    ghost use Rattle.label_queue.specs.Inside.Heaps.{IsHeap, keys_of};
+    ghost use Rattle.label_queue.specs.Inside.Heaps.{IsHeap, keys_in};
 
     ghost Value = { List (Option ℕ) };
 
-    ghost view = { λ a. keys_of a.heap };
+    ghost view = { λ a. keys_in a.heap };
 
     ghost invariant = { λ a. IsHeap a.heap };
 }
@@ -77,7 +77,7 @@ impl LabelQueue {
     /// Takes out the node with the least key, the smallest of them at equal keys, and answers it with its key; `None` exactly
     /// where no node has a key. Logarithmic in the number of nodes with keys.
     pub fn take_least(&mut self) -> Option<(NodeId, u64)>
-        ensures some { IfSome result (λ r. IsTaken self.old self.new r.0.0 r.1) }
+        ensures some { IfSome result (λ r. IsLeastTaken self.old self.new r.0.0 r.1) }
         ensures none { IsNone result → (v : ℕ) → key_at self.old v ≡ None }
         ensures same { IsNone result → self.new ≡ self.old }
     {

@@ -14,7 +14,7 @@ use Rattle.table_reader.specs.declared.faults.RowFault.{RowFault}
 use Rattle.table_reader.specs.declared.faults.RowFault.TheVariants as row
 use Rattle.table_reader.specs.Refusals.{IfBadCause}
 use Rattle.network_tables.specs.Areas.{AreaEntry, cause_of_area, areas_or_default}
-use Rattle.table_reader.specs.NameIndex.{value_of, names_of, place_among}
+use Rattle.table_reader.specs.NameIndex.{value_under, names_of, place_among}
 use Rattle.network_tables.specs.NetworkFiles.{zone_for}
 use Rattle.network_tables.specs.AreaPlaces.{HaveZones, placed_area, sought_area}
 use Rattle.network_tables.specs.Zones.{ZoneList}
@@ -22,7 +22,7 @@ use Rattle.zone_rules.specs.declared.rows.ZoneRow.{ZoneRow}
 use Rattle.table_reader.proofs.Lists.{map-map, is_some-position, position_within, value_at_place}
 
 -- a name that has a place has a value
-pub place_is_some : {V : Type 0} (es : List (List ℕ × V)) (name : List ℕ) → is_some (place_among (names_of es) name) ≡ is_some (value_of es name)
+pub place_is_some : {V : Type 0} (es : List (List ℕ × V)) (name : List ℕ) → is_some (place_among (names_of es) name) ≡ is_some (value_under es name)
 place_is_some es name = is_some-position (bytes_eq name) (names_of es) ∙ sym (is_some-lookup (bytes_eq name) es)
 
 module _ (zones : ZoneList) (areas : List AreaEntry) (placed : List (List ℕ × ℕ)) (have : HaveZones zones areas placed) where
@@ -33,7 +33,7 @@ module _ (zones : ZoneList) (areas : List AreaEntry) (placed : List (List ℕ ×
       ∙ map-map (λ (e : List ℕ × Option ℕ). e.0) (sought_area zones) areas
 
   -- an area has a place where it has a row
-  pub area_is_some : (name : List ℕ) → is_some (value_of placed name) ≡ is_some (value_of areas name)
+  pub area_is_some : (name : List ℕ) → is_some (value_under placed name) ≡ is_some (value_under areas name)
   area_is_some name =
       is_some-lookup (bytes_eq name) placed ∙ ap (λ (names : List (List ℕ)). list_any (bytes_eq name) names) names_kept
       ∙ sym (is_some-lookup (bytes_eq name) areas)
@@ -48,11 +48,11 @@ module _ (zones : ZoneList) (areas : List AreaEntry) (placed : List (List ℕ ×
   }
 
   -- why a row can't follow, once its zone is there
-  pub cause_placed : (a : AreaEntry) (i : ℕ) (b : Bool) → place_among (names_of zones) a.1 ≡ Some i → is_some (value_of placed a.0) ≡ b
-      → cause_of_area (value_of zones) areas (Some a) ≡ cond b (Some Duplicate) None
+  pub cause_placed : (a : AreaEntry) (i : ℕ) (b : Bool) → place_among (names_of zones) a.1 ≡ Some i → is_some (value_under placed a.0) ≡ b
+      → cause_of_area (value_under zones) areas (Some a) ≡ cond b (Some Duplicate) None
   cause_placed a i b is held =
-      let known : is_some (value_of zones a.1) ≡ true = sym (place_is_some zones a.1) ∙ ap (λ (o : Option ℕ). is_some o) is in
-      let taken : is_some (value_of areas a.0) ≡ b = sym (area_is_some a.0) ∙ held in
+      let known : is_some (value_under zones a.1) ≡ true = sym (place_is_some zones a.1) ∙ ap (λ (o : Option ℕ). is_some o) is in
+      let taken : is_some (value_under areas a.0) ≡ b = sym (area_is_some a.0) ∙ held in
       rw (known, taken) refl
 
 -- a cause that is refused, under a weaker claim
@@ -97,14 +97,14 @@ standing_kept zones [] (p ∷ placed) have some = absurd (differs have.each)
 standing_kept zones (a ∷ areas) placed have some = have
 
 -- the zone of a place is that of the name that has the place
-zone_at : (zones : ZoneList) (named : List ℕ → Option (List ZoneRow)) → ((name : List ℕ) → value_of zones name ≡ named name) → (a : AreaEntry)
+zone_at : (zones : ZoneList) (named : List ℕ → Option (List ZoneRow)) → ((name : List ℕ) → value_under zones name ≡ named name) → (a : AreaEntry)
     → zone_of_place (map (λ z. z.1) zones) (sought_area zones a) ≡ zone_for named a
 zone_at zones named is a =
     ap (λ (o : Option (List ZoneRow)). zone_there o) (value_at_place (bytes_eq a.1) zones ∙ is a.1)
 
 -- areas that have zones stand in those that they name
 pub zones_seen : (zones : ZoneList) (areas : List AreaEntry) (placed : List (List ℕ × ℕ)) (named : List ℕ → Option (List ZoneRow))
-    → HaveZones zones areas placed → ((name : List ℕ) → value_of zones name ≡ named name)
+    → HaveZones zones areas placed → ((name : List ℕ) → value_under zones name ≡ named name)
     → zones_at (map (λ z. z.1) zones) (map (λ p. p.1) placed) ≡ map (zone_for named) areas
 zones_seen zones areas placed named have is =
     map-map (λ (i : ℕ). zone_there (slice_get (map (λ (z : List ℕ × List ZoneRow). z.1) zones) i)) (λ (p : List ℕ × ℕ). p.1) placed

@@ -13,7 +13,7 @@ use Rattle.network_tables.specs.Areas.{areas_schema, areas_in, areas_or_default}
 use Rattle.table_reader.specs.ByNumber.{given_by_number, numbered_in, numbered_in}
 use Rattle.network_tables.specs.Parking.{parking_schema, weights_by_node}
 use Rattle.network_tables.specs.Ratings.{Rating, ratings_schema, ratings_in}
-use Rattle.table_reader.specs.NameIndex.{names_of, value_of}
+use Rattle.table_reader.specs.NameIndex.{names_of, value_under}
 use Rattle.table_reader.specs.Records.{Record, rows_in}
 use Rattle.network_tables.specs.Roads.{roads_schema, area_by_arc}
 
@@ -168,7 +168,7 @@ abbrev areas_header : Record
 areas_header = codes "area" ∷ codes "zone" ∷ []
 
 abbrev two_zones : List ℕ → Option ℕ
-two_zones name = value_of ((codes "East", 0) ∷ (codes "UTC", 1) ∷ []) name
+two_zones name = value_under ((codes "East", 0) ∷ (codes "UTC", 1) ∷ []) name
 
 areas_stated : areas_or_default (areas_in (area_row (codes "a") (codes "East") ∷ area_row (codes "b") (codes "UTC") ∷ [])) ≡
     (codes "a", codes "East") ∷ (codes "b", codes "UTC") ∷ []

@@ -11,14 +11,14 @@ use Rattle.std.proofs.lemmas.Option.{cond_some, option_and_then_some}
 use Rattle.std.specs.List.{slice_split}
 use Rattle.std.specs.Prelude.{◌==◌}
 use Rattle.route_base.specs.Forms.{at_most, is_name, weight_of, thousandths_in}
-use Rattle.table_reader.specs.NameIndex.{value_of}
+use Rattle.table_reader.specs.NameIndex.{value_under}
 use Rattle.table_reader.specs.ByNumber.{NumberedRow, name_at, given_to, given_by_number}
 use Rattle.network_tables.specs.Parking.{weights_by_node}
 use Rattle.network_tables.specs.Ratings.{Rating, rating_of, ratings_in}
 use Rattle.table_reader.specs.Records.{Record}
-use Rattle.network_tables.specs.NetworkModel.{IsSmall}
+use Rattle.network_tables.specs.NetworkModel.{IsSmallWeight}
 
-at_most-small : (o : Option ℕ) → IsSmall (at_most 100000 o)
+at_most-small : (o : Option ℕ) → IsSmallWeight (at_most 100000 o)
 at_most-small o w is = option_and_then_some (λ n. cond (leb n 100000) (Some n) None) o w is (λ n _ within.
     let e : (leb n 100000 ≡ true) × (n ≡ w) = cond_some (leb n 100000) n w within in
     omega (arith, leb-true n 100000 e.0, e.1))
@@ -30,7 +30,7 @@ rating_of-small (name ∷ weight ∷ []) r is =
     (λ no. absurd (none (sym (cond-false _ _ _ no) ∙ is)))
     (cases_Bool (is_name name))
   where
-    mapped : (o : Option ℕ) → IsSmall o → option_map (λ w. (name, w)) o ≡ Some r → r.1 ≤ 100000
+    mapped : (o : Option ℕ) → IsSmallWeight o → option_map (λ w. (name, w)) o ≡ Some r → r.1 ≤ 100000
     mapped None small same = absurd (cc)
     mapped (Some w) small same =
         let e : (name, w) ≡ r = cc in
@@ -42,11 +42,11 @@ rating_of-small [] r is = absurd (cc)
 rating_of-small (name ∷ []) r is = absurd (cc)
 rating_of-small (name ∷ weight ∷ more ∷ rest) r is = absurd (cc)
 
-value_of-small : (rows : List Record) (name : List ℕ) → IsSmall (value_of (ratings_in rows) name)
-value_of-small [] name w is = absurd (cc)
-value_of-small (row ∷ rows) name w is = by_row (value_of-small rows name w) (rating_of row) (rating_of-small row) is
+value_under-small : (rows : List Record) (name : List ℕ) → IsSmallWeight (value_under (ratings_in rows) name)
+value_under-small [] name w is = absurd (cc)
+value_under-small (row ∷ rows) name w is = by_row (value_under-small rows name w) (rating_of row) (rating_of-small row) is
   where
-    by_row : (value_of (ratings_in rows) name ≡ Some w → w ≤ 100000) → (o : Option Rating) → ((r : Rating) → o ≡ Some r → r.1 ≤ 100000)
+    by_row : (value_under (ratings_in rows) name ≡ Some w → w ≤ 100000) → (o : Option Rating) → ((r : Rating) → o ≡ Some r → r.1 ≤ 100000)
         → lookup (bytes_eq name) (cons_option o (ratings_in rows)) ≡ Some w → w ≤ 100000
     by_row more None small same = more same
     by_row more (Some r) small same =
@@ -58,11 +58,11 @@ value_of-small (row ∷ rows) name w is = by_row (value_of-small rows name w) (r
         (λ no. more (sym (cond-false _ _ _ no) ∙ same))
         (cases_Bool (bytes_eq name r.0))
 
-given_to-small : (rows : List Record) (parked : List NumberedRow) (v : ℕ) → IsSmall (given_to (value_of (ratings_in rows)) parked v)
-given_to-small rows parked v w is = option_and_then_some (value_of (ratings_in rows)) (name_at parked v) w is (λ name _ found. value_of-small rows name w found)
+given_to-small : (rows : List Record) (parked : List NumberedRow) (v : ℕ) → IsSmallWeight (given_to (value_under (ratings_in rows)) parked v)
+given_to-small rows parked v w is = option_and_then_some (value_under (ratings_in rows)) (name_at parked v) w is (λ name _ found. value_under-small rows name w found)
 
-pub weights_by_node-small : (nodes : ℕ) (rows : List Record) (parked : List NumberedRow) → All IsSmall (weights_by_node nodes (ratings_in rows) parked)
+pub weights_by_node-small : (nodes : ℕ) (rows : List Record) (parked : List NumberedRow) → All IsSmallWeight (weights_by_node nodes (ratings_in rows) parked)
 unfolding given_by_number
 weights_by_node-small nodes rows parked =
-    All-map IsSmall (given_to (value_of (ratings_in rows)) parked) (range_with_len 1 nodes)
+    All-map IsSmallWeight (given_to (value_under (ratings_in rows)) parked) (range_with_len 1 nodes)
     (λ k d _. given_to-small rows parked (get_or (range_with_len 1 nodes) k d))

@@ -43,14 +43,14 @@ no_colon : offset_of (codes "+01.00") ≡ None
 unfolding offset_of
 no_colon = refl
 
-abbrev header : Record
-header = codes "zone" ∷ codes "from" ∷ codes "offset" ∷ []
+abbrev zones_header_row : Record
+zones_header_row = codes "zone" ∷ codes "from" ∷ codes "offset" ∷ []
 
 abbrev row : List ℕ → List ℕ → List ℕ → Record
 row name from offset = name ∷ from ∷ offset ∷ []
 
 abbrev two_zones : List Record
-two_zones = header ∷ row (codes "A") (codes "525600") (codes "+01:00") ∷ row (codes "B") (codes "525600") (codes "-02:00") ∷ row (codes "A")
+two_zones = zones_header_row ∷ row (codes "A") (codes "525600") (codes "+01:00") ∷ row (codes "B") (codes "525600") (codes "-02:00") ∷ row (codes "A")
     (codes "525601") (codes "+02:00") ∷ []
 
 two_zones_faultless : first_table_fault zones_schema two_zones ≡ None
@@ -74,12 +74,12 @@ unfolding offset_of instant_of
 utc_of_the_file = refl
 
 same_start : first_table_fault zones_schema
-    (header ∷ row (codes "A") (codes "525600") (codes "+01:00") ∷ row (codes "A") (codes "525600") (codes "+02:00") ∷ []) ≡ Some (3, NotRising)
+    (zones_header_row ∷ row (codes "A") (codes "525600") (codes "+01:00") ∷ row (codes "A") (codes "525600") (codes "+02:00") ∷ []) ≡ Some (3, NotRising)
 unfolding first_table_fault offset_of instant_of
 same_start = refl
 
 -- a field that isn't in its form comes before a start that isn't above the one before
 bad_before_order : first_table_fault zones_schema
-    (header ∷ row (codes "A") (codes "525600") (codes "+01:00") ∷ row (codes "A") (codes "525600") (codes "+19:00") ∷ []) ≡ Some (3, BadField)
+    (zones_header_row ∷ row (codes "A") (codes "525600") (codes "+01:00") ∷ row (codes "A") (codes "525600") (codes "+19:00") ∷ []) ≡ Some (3, BadField)
 unfolding first_table_fault offset_of instant_of
 bad_before_order = refl

@@ -10,7 +10,7 @@ use Rattle.std.proofs.lemmas.List.{map-append}
 use Rattle.std.proofs.lemmas.List.Elements.{filter-append}
 use Rattle.std.proofs.lemmas.Slice.Eq.{bytes_eq-Decides}
 use Rattle.zone_rules.specs.declared.rows.ZoneRow.{ZoneRow}
-use Rattle.table_reader.specs.NameIndex.{value_of}
+use Rattle.table_reader.specs.NameIndex.{value_under}
 use Rattle.network_tables.specs.Zones.{ZoneEntry, ZoneList, rows_of_zone, some_rows, given_zone, zone_named, HasRows, HasZones}
 use Rattle.table_reader.proofs.HeaderLists.{same_name}
 use Rattle.table_reader.proofs.Lists.{lookup-other, lookup-new}
@@ -42,24 +42,24 @@ apart false false x y z w h e = e
 
 module _ {V : Type 0} (name other : List ℕ) (w : V) where
   -- a look-up after a write at a name that is there
-  pub lookup_written : (es : List (List ℕ × V)) → IsSome (value_of es name)
-      → value_of (set_value (bytes_eq name) es w) other ≡ cond (bytes_eq other name) (Some w) (value_of es other)
+  pub lookup_written : (es : List (List ℕ × V)) → IsSome (value_under es name)
+      → value_under (set_value (bytes_eq name) es w) other ≡ cond (bytes_eq other name) (Some w) (value_under es other)
   lookup_written [] h = absurd (cc)
   lookup_written (e ∷ es) h =
-      elim (bytes_eq name e.0) as (λ b. bytes_eq name e.0 ≡ b → IsSome (cond b (Some e.1) (value_of es name))
-      → value_of (cond b ((e.0, w) ∷ es) (e ∷ set_value (bytes_eq name) es w)) other
-      ≡ cond (bytes_eq other name) (Some w) (cond (bytes_eq other e.0) (Some e.1) (value_of es other))) [
+      elim (bytes_eq name e.0) as (λ b. bytes_eq name e.0 ≡ b → IsSome (cond b (Some e.1) (value_under es name))
+      → value_under (cond b ((e.0, w) ∷ es) (e ∷ set_value (bytes_eq name) es w)) other
+      ≡ cond (bytes_eq other name) (Some w) (cond (bytes_eq other e.0) (Some e.1) (value_under es other))) [
         | true ↦ λ is some.
-            agree (bytes_eq other name) (bytes_eq other e.0) (Some w) (Some e.1) (value_of es other) (ap (bytes_eq other) (sym (same_name name e.0 is)))
+            agree (bytes_eq other name) (bytes_eq other e.0) (Some w) (Some e.1) (value_under es other) (ap (bytes_eq other) (sym (same_name name e.0 is)))
         | false ↦ λ is some.
-            apart (bytes_eq other name) (bytes_eq other e.0) (Some w) (Some e.1) (value_of es other) (value_of (set_value (bytes_eq name) es w) other)
+            apart (bytes_eq other name) (bytes_eq other e.0) (Some w) (Some e.1) (value_under es other) (value_under (set_value (bytes_eq name) es w) other)
             (λ p q. (let e' : bytes_eq name e.0 ≡ true = name_same name e.0 (sym (same_name other name p) ∙ same_name other e.0 q) in cc))
             (lookup_written es some)
       ] refl h
 
 -- a look-up with one name more
-pub lookup_pushed : {V : Type 0} (es : List (List ℕ × V)) (name other : List ℕ) (w : V) → value_of es name ≡ None
-    → value_of (es ++ (name, w) ∷ []) other ≡ cond (bytes_eq other name) (Some w) (value_of es other)
+pub lookup_pushed : {V : Type 0} (es : List (List ℕ × V)) (name other : List ℕ) (w : V) → value_under es name ≡ None
+    → value_under (es ++ (name, w) ∷ []) other ≡ cond (bytes_eq other name) (Some w) (value_under es other)
 lookup_pushed {V} es name other w none =
     elim (bytes_eq other name) as (λ b. bytes_eq other name ≡ b
     → lookup (bytes_eq other) (es ++ (name, w) ∷ []) ≡ cond b (Some w) (lookup (bytes_eq other) es)) [
@@ -85,12 +85,12 @@ some_pushed (first ∷ rows) row = refl
 
 -- the rows by name with one row more
 pub HasRows-more : (old new : ZoneList) (entries : List ZoneEntry) (e : ZoneEntry) → HasRows old entries
-    → ((other : List ℕ) → value_of new other ≡ cond (bytes_eq other e.0) (Some (unwrap_or (value_of old e.0) [] ++ e.1 ∷ [])) (value_of old other))
+    → ((other : List ℕ) → value_under new other ≡ cond (bytes_eq other e.0) (Some (unwrap_or (value_under old e.0) [] ++ e.1 ∷ [])) (value_under old other))
     → HasRows new (entries ++ e ∷ [])
 HasRows-more old new entries e has added name =
     added name
     ∙ elim (bytes_eq name e.0) as (λ b. bytes_eq name e.0 ≡ b
-    → cond b (Some (unwrap_or (value_of old e.0) [] ++ e.1 ∷ [])) (value_of old name) ≡ some_rows
+    → cond b (Some (unwrap_or (value_under old e.0) [] ++ e.1 ∷ [])) (value_under old name) ≡ some_rows
     (rows_of_zone entries name ++ cond b (e.1 ∷ []) [])) [
       | true ↦ λ is. ap (λ (rows : List ZoneRow). Some (rows ++ e.1 ∷ []))
           (ap (λ o. unwrap_or o []) (has e.0) ∙ rows_back (rows_of_zone entries e.0) ∙ ap (rows_of_zone entries) (sym (same_name name e.0 is)))
@@ -109,28 +109,28 @@ or_some (Some x) p h = refl
 
 module _ (old : ZoneList) (entries : List ZoneEntry) (has : HasRows old entries) where
   -- a name that isn't `UTC` has its rows alone
-  named_other : (name : List ℕ) → bytes_eq name (codes "UTC") ≡ false → value_of old name ≡ zone_named entries name
+  named_other : (name : List ℕ) → bytes_eq name (codes "UTC") ≡ false → value_under old name ≡ zone_named entries name
   named_other name is = has name ∙ sym (or_none (some_rows (rows_of_zone entries name)))
       ∙ ap (λ b. option_or (some_rows (rows_of_zone entries name)) (cond b (given_zone (codes "UTC")) None)) (sym is)
 
   -- `UTC` has rows
-  pub HasZones-there : IsSome (value_of old (codes "UTC")) → HasZones old entries
+  pub HasZones-there : IsSome (value_under old (codes "UTC")) → HasZones old entries
   HasZones-there there name =
-      elim (bytes_eq name (codes "UTC")) as (λ b. bytes_eq name (codes "UTC") ≡ b → value_of old name ≡ zone_named entries name) [
+      elim (bytes_eq name (codes "UTC")) as (λ b. bytes_eq name (codes "UTC") ≡ b → value_under old name ≡ zone_named entries name) [
         | true ↦ λ is. has name ∙ sym (or_some (some_rows (rows_of_zone entries name)) (given_zone name)
-            (subst IsSome (ap (value_of old) (sym (same_name name (codes "UTC") is)) ∙ has name) there))
+            (subst IsSome (ap (value_under old) (sym (same_name name (codes "UTC") is)) ∙ has name) there))
         | false ↦ λ is. named_other name is
       ] refl
 
   -- `UTC` is given
-  pub HasZones-given : (new : ZoneList) → value_of old (codes "UTC") ≡ None
-      → ((other : List ℕ) → value_of new other ≡ cond (bytes_eq other (codes "UTC")) (given_zone (codes "UTC")) (value_of old other)) → HasZones new entries
+  pub HasZones-given : (new : ZoneList) → value_under old (codes "UTC") ≡ None
+      → ((other : List ℕ) → value_under new other ≡ cond (bytes_eq other (codes "UTC")) (given_zone (codes "UTC")) (value_under old other)) → HasZones new entries
   HasZones-given new none added name =
       added name
       ∙ elim (bytes_eq name (codes "UTC")) as (λ b. bytes_eq name (codes "UTC") ≡ b
-      → cond b (given_zone (codes "UTC")) (value_of old name) ≡ option_or (some_rows (rows_of_zone entries name))
+      → cond b (given_zone (codes "UTC")) (value_under old name) ≡ option_or (some_rows (rows_of_zone entries name))
       (cond b (given_zone (codes "UTC")) None)) [
-        | true ↦ λ is. ap (λ o. option_or o (given_zone (codes "UTC"))) (sym none ∙ ap (value_of old) (sym (same_name name (codes "UTC") is)) ∙ has name)
+        | true ↦ λ is. ap (λ o. option_or o (given_zone (codes "UTC"))) (sym none ∙ ap (value_under old) (sym (same_name name (codes "UTC") is)) ∙ has name)
         | false ↦ λ is. has name ∙ sym (or_none (some_rows (rows_of_zone entries name)))
       ] refl
 

@@ -6,7 +6,7 @@ use Rattle.route_base.specs.declared.faults.Cause.{Cause}
 use Rattle.route_base.specs.declared.faults.Cause.TheVariants.{BadField, Unknown, Duplicate}
 use Rattle.route_base.specs.declared.limits.TheConstants.{MOST_AREAS}
 use Rattle.table_reader.specs.Schema.{Schema}
-use Rattle.table_reader.specs.NameIndex.{value_of}
+use Rattle.table_reader.specs.NameIndex.{value_under}
 use Rattle.table_reader.specs.Records.{Record}
 
 -- the names of an area and of its zone
@@ -22,7 +22,7 @@ area_of_record others = None
 abbrev pub cause_of_area : {Z : Type 0} → (List ℕ → Option Z) → List AreaEntry → Option AreaEntry → Option Cause
 cause_of_area zones before None = Some BadField
 cause_of_area zones before (Some a) =
-    if is_some (zones a.1) then (if is_some (value_of before a.0) then Some Duplicate else None) else Some Unknown
+    if is_some (zones a.1) then (if is_some (value_under before a.0) then Some Duplicate else None) else Some Unknown
 
 -- the areas of these rows in their order
 abbrev pub areas_in : List Record → List AreaEntry

@@ -30,8 +30,8 @@ abbrev pub closures_of : NetworkModel → ℕ → List Run
 closures_of net a = unwrap_or (at_number net.closures a) []
 
 -- a weight is at most 100 for a minute
-abbrev pub IsSmall : Option ℕ → Type 0
-IsSmall o = (w : ℕ) → o ≡ Some w → w ≤ 100000
+abbrev pub IsSmallWeight : Option ℕ → Type 0
+IsSmallWeight o = (w : ℕ) → o ≡ Some w → w ≤ 100000
 
 -- each of these places is below n
 abbrev pub AreBelow : ℕ → List ℕ → Type 0
@@ -43,4 +43,4 @@ pub record IsGoodNetwork (net : NetworkModel) : Type 0 where
   pub placed : AreBelow (length net.areas) net.roads
   pub closures : length net.closures ≡ length net.graph.arcs
   pub weights : length net.weights ≡ net.graph.nodes
-  pub small : All IsSmall net.weights
+  pub small : All IsSmallWeight net.weights

@@ -7,7 +7,7 @@ use Rattle.route_base.specs.declared.faults.Cause.{Cause}
 use Rattle.route_base.specs.declared.faults.Cause.TheVariants.{BadField, Duplicate}
 use Rattle.route_base.specs.declared.limits.TheConstants.{MOST_RATINGS}
 use Rattle.table_reader.specs.Schema.{Schema}
-use Rattle.table_reader.specs.NameIndex.{value_of}
+use Rattle.table_reader.specs.NameIndex.{value_under}
 use Rattle.table_reader.specs.Records.{Record}
 
 -- a rating's name, and its weight in thousandths
@@ -22,7 +22,7 @@ rating_of others = None
 -- the name has no row yet
 abbrev pub cause_of_rating : List Rating → Option Rating → Option Cause
 cause_of_rating before None = Some BadField
-cause_of_rating before (Some r) = if is_some (value_of before r.0) then Some Duplicate else None
+cause_of_rating before (Some r) = if is_some (value_under before r.0) then Some Duplicate else None
 
 -- the ratings of these rows in their order
 abbrev pub ratings_in : List Record → List Rating

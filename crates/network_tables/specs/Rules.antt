@@ -112,14 +112,14 @@ abbrev pub is_at : RulePlace → RulePlace → Bool
 is_at = (same_place.ghosts).eq
 
 -- the value of the rule at a place
-abbrev pub value_at : List Rule → RulePlace → Option RuleValue
-value_at rules place = lookup (is_at place) rules
+abbrev pub rule_value_at : List Rule → RulePlace → Option RuleValue
+rule_value_at rules place = lookup (is_at place) rules
 
 -- the place has no rule yet
 abbrev pub cause_of_rule : List Rule → Result (Option Rule) Cause → Option Cause
 cause_of_rule before (Err cause) = Some cause
 cause_of_rule before (Ok None) = None
-cause_of_rule before (Ok (Some rule)) = if is_some (value_at before rule.0) then Some Duplicate else None
+cause_of_rule before (Ok (Some rule)) = if is_some (rule_value_at before rule.0) then Some Duplicate else None
 
 abbrev pub rule_stated : Result (Option Rule) Cause → Option Rule
 rule_stated (Err cause) = None
@@ -157,8 +157,8 @@ clauses_in (values.Conditional clauses) = Some clauses
 
 -- the access that the plain rule of a scope and a key gives
 abbrev pub plain_at : List Rule → Scope → Key → Option Access
-plain_at rules scope key = option_and_then access_in (value_at rules (record { scope = scope; key = key; conditional = false }))
+plain_at rules scope key = option_and_then access_in (rule_value_at rules (record { scope = scope; key = key; conditional = false }))
 
 -- the clauses of the conditional rule of a scope and a key
 abbrev pub conditional_at : List Rule → Scope → Key → Option (List Clause)
-conditional_at rules scope key = option_and_then clauses_in (value_at rules (record { scope = scope; key = key; conditional = true }))
+conditional_at rules scope key = option_and_then clauses_in (rule_value_at rules (record { scope = scope; key = key; conditional = true }))

@@ -4,7 +4,7 @@ pub use Rattle.route_base.specs.Net.{at_number}
 pub use Rattle.std.specs.List.{IsDistinct, last_or}
 pub use Rattle.std.specs.Option.{option_flatten}
 pub use Rattle.std.specs.Str.{bytes_eq}
-pub use Rattle.table_reader.specs.NameIndex.{value_of, names_of, place_among}
+pub use Rattle.table_reader.specs.NameIndex.{value_under, names_of, place_among}
 pub use Rattle.table_reader.specs.Records.{rows_of}
 pub use Rattle.table_reader.specs.Refusals.{IfBadCause}
 pub use Rattle.zone_rules.specs.Zones.{is_offset, is_later}
@@ -19,5 +19,5 @@ pub use Rattle.network_tables.specs.NetworkParts.{network_with, HoldsNetwork}
 pub use Rattle.network_tables.specs.Ratings.{rating_of, ratings_schema, ratings_in}
 pub use Rattle.network_tables.specs.Refusals.{Reads}
 pub use Rattle.network_tables.specs.Zones.{HasZones, zone_entries_in, ZoneEntry, zone_entry_of, zones_schema, HasRows}
-pub use Rattle.network_tables.specs.Rules.{rules_schema, value_at, plain_at, conditional_at}
+pub use Rattle.network_tables.specs.Rules.{rules_schema, rule_value_at, plain_at, conditional_at}
 pub use Rattle.network_tables.specs.RuleLists.{HaveRules, with_rule, with_passed_row}

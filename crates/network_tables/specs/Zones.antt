@@ -11,7 +11,7 @@ use Rattle.route_base.specs.declared.faults.Cause.TheVariants.{BadField, NotRisi
 use Rattle.calendar_days.specs.Texts.{instant_of}
 use Rattle.zone_rules.specs.Zones.{is_later}
 use Rattle.zone_rules.specs.declared.rows.ZoneRow.{ZoneRow}
-use Rattle.table_reader.specs.NameIndex.{value_of}
+use Rattle.table_reader.specs.NameIndex.{value_under}
 use Rattle.route_base.specs.declared.limits.TheConstants.{MOST_ZONE_ROWS}
 use Rattle.table_reader.specs.Schema.{Schema}
 use Rattle.table_reader.specs.Records.{Record}
@@ -92,8 +92,8 @@ ZoneList = List (List ℕ × List ZoneRow)
 
 -- the zones are the rows of each name that has some
 abbrev pub HasRows : ZoneList → List ZoneEntry → Type 0
-HasRows zones entries = (name : List ℕ) → value_of zones name ≡ some_rows (rows_of_zone entries name)
+HasRows zones entries = (name : List ℕ) → value_under zones name ≡ some_rows (rows_of_zone entries name)
 
 -- the zones are those that the rows name, and `UTC`
 abbrev pub HasZones : ZoneList → List ZoneEntry → Type 0
-HasZones zones entries = (name : List ℕ) → value_of zones name ≡ zone_named entries name
+HasZones zones entries = (name : List ℕ) → value_under zones name ≡ zone_named entries name

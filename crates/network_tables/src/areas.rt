@@ -1,7 +1,7 @@
 // areas.csv: the zone of each area.
 ghost use Rattle.std.specs.Prelude.{◌≡◌, ◌<◌, [], List, ℕ, IsSome, IfOk, IfSome, codes, length, map, option_map};
 ghost use Rattle.network_tables.specs.Words.{IsDistinct, bytes_eq, fields_of, AreaEntry, area_of_record, areas_in};
-ghost use Rattle.network_tables.specs.Words.{areas_schema, areas_or_default, value_of, names_of, place_among};
+ghost use Rattle.network_tables.specs.Words.{areas_schema, areas_or_default, value_under, names_of, place_among};
 ghost use Rattle.network_tables.specs.Words.{HaveZones, areas_of, areas_fault, Reads, HasZones, zone_entries_in};
 ghost use Rattle.network_tables.specs.Words.{rows_of};
 
@@ -85,7 +85,7 @@ impl AreaTable {
 
     /// The zones and the areas; without rows the area `default` in the zone `UTC`.
     pub fn into_areas(self, alloc: Global) -> Result<(Zones, Areas), OutOfMemory>
-        requires utc { IsSome (value_of self.zones (codes "UTC")) }
+        requires utc { IsSome (value_under self.zones (codes "UTC")) }
         ensures zones { IfOk result (λ read. read.0 ≡ self.zones) }
         ensures areas { IfOk result (λ read. (rows : List AreaEntry) →
             HaveZones self.zones rows self.areas → HaveZones self.zones (areas_or_default rows) read.1) }
@@ -105,7 +105,7 @@ fn with_default(
     zones: &Zones,
     mut zone_places: NameIndex<usize>,
 ) -> Result<NameIndex<usize>, OutOfMemory>
-    requires utc { IsSome (value_of zones.now (codes "UTC")) }
+    requires utc { IsSome (value_under zones.now (codes "UTC")) }
     ensures { IfOk result (λ placed. (rows : List AreaEntry) →
         HaveZones zones.now rows zone_places → HaveZones zones.now (areas_or_default rows) placed) }
 {
@@ -132,7 +132,7 @@ fn read_area(row: &ByteRecord) -> Option<(&[u8], &[u8])>
 }
 
 impl Table for AreaTable {
-    ghost schema = { λ t. areas_schema (value_of t.zones) };
+    ghost schema = { λ t. areas_schema (value_under t.zones) };
 
     ghost becomes = { λ start t header rows. (t.zones ≡ start.zones) × HaveZones start.zones (areas_in rows) t.areas };
 

@@ -1,7 +1,7 @@
 // parking.csv: the nodes where one may wait.
 ghost use Rattle.std.specs.Prelude.{◌≡◌, codes};
 ghost use Rattle.route_base.specs.declared.limits.TheConstants.{MOST_PARKING_ROWS};
-ghost use Rattle.table_reader.specs.NameIndex.{value_of};
+ghost use Rattle.table_reader.specs.NameIndex.{value_under};
 ghost use Rattle.network_tables.specs.NetworkFiles.{node_count_of, ratings_of, weights_of, parking_fault};
 ghost use Rattle.network_tables.specs.Refusals.{Reads};
 
@@ -21,7 +21,7 @@ impl Naming<Cost> for RatingTable {
 
     ghost limit = { MOST_PARKING_ROWS };
 
-    ghost named = { value_of };
+    ghost named = { value_under };
 
     fn headers(&self) -> &'static [&'static [&'static str]] {
         &[&["node", "rating"]]

@@ -1,6 +1,6 @@
 // ratings.csv: the cost of a minute of waiting, by rating.
 ghost use Rattle.std.specs.Prelude.{◌≡◌, [], length, option_map};
-ghost use Rattle.network_tables.specs.Words.{fields_of, value_of, ratings_of, ratings_fault, Reads, rating_of};
+ghost use Rattle.network_tables.specs.Words.{fields_of, value_under, ratings_of, ratings_fault, Reads, rating_of};
 ghost use Rattle.network_tables.specs.Words.{ratings_schema, ratings_in};
 
 use crate::files::read_file;
@@ -38,7 +38,7 @@ impl RatingTable {
 
     /// The weight of the rating with this name, in constant time on average.
     pub fn weight(&self, name: &[u8]) -> Option<Cost>
-        ensures { result ≡ value_of self.now name.now }
+        ensures { result ≡ value_under self.now name.now }
     {
         self.weights.value(name)
     }

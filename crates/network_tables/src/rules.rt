@@ -1,6 +1,6 @@
 // rules.csv: access rules of areas and arcs by key.
 ghost use Rattle.std.specs.Prelude.{◌≡◌, ◌+◌, ◌++◌, ◌∷◌, [], None, OnOk, IfErr, IsSome, option_map};
-ghost use Rattle.network_tables.specs.Words.{rules_schema, value_at, plain_at, conditional_at, HaveRules, with_rule, with_passed_row, IfBadCause};
+ghost use Rattle.network_tables.specs.Words.{rules_schema, rule_value_at, plain_at, conditional_at, HaveRules, with_rule, with_passed_row, IfBadCause};
 ghost use Rattle.network_tables.specs.Words.{names_of, arc_count_of, areas_of, rules_fault, rules_of, Reads};
 
 mod place;
@@ -52,7 +52,7 @@ impl Rules {
 
     // The value at a place, in constant time on average.
     fn value(&self, place: RulePlace) -> Option<&RuleValue>
-        ensures { option_map (λ v. v.now) result ≡ value_at self.now.rules place }
+        ensures { option_map (λ v. v.now) result ≡ rule_value_at self.now.rules place }
     {
         self.values.get(&place)
     }
@@ -94,10 +94,10 @@ impl Rules {
 
     // Adds a rule; `Duplicate` where its place has one.
     fn add(&mut self, place: RulePlace, value: RuleValue) -> Result<(), RowFault>
-        ensures free { OnOk result (value_at self.old.rules place ≡ None) }
+        ensures free { OnOk result (rule_value_at self.old.rules place ≡ None) }
         ensures added { OnOk result (self.new ≡ with_rule self.old place value) }
         ensures refused { IfErr result (λ e. IfBadCause e (λ cause.
-            (cause ≡ Cause.Duplicate) × IsSome (value_at self.old.rules place))) }
+            (cause ≡ Cause.Duplicate) × IsSome (rule_value_at self.old.rules place))) }
     {
         if self.values.contains_key(&place) {
             return Err(RowFault::Bad(Cause::Duplicate));

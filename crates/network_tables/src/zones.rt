@@ -1,6 +1,6 @@
 // zones.csv: time zones.
 ghost use Rattle.std.specs.Prelude.{◌≡◌, ◌∷◌, ◌++◌, [], List, ℕ, None, Some, false, true, length, map, option_map, unwrap_or, IfOk, IfErr, OnOk, IsTrue, IfSome, if◌then◌else◌};
-ghost use Rattle.network_tables.specs.Words.{last_or, bytes_eq, fields_of, is_offset, is_later, value_of, rows_of};
+ghost use Rattle.network_tables.specs.Words.{last_or, bytes_eq, fields_of, is_offset, is_later, value_under, rows_of};
 ghost use Rattle.network_tables.specs.Words.{IfBadCause, zones_fault, Reads, ZoneEntry, zone_entry_of, zone_entries_in};
 ghost use Rattle.network_tables.specs.Words.{zones_schema, HasRows, HasZones};
 
@@ -53,13 +53,13 @@ impl ZoneTable {
     fn add_row(&mut self, alloc: Global, name: &[u8], row: ZoneRow) -> Result<(), RowFault>
         requires { IsTrue (is_offset row.offset) }
         ensures later { OnOk result
-            (is_later (last_or None (unwrap_or (value_of self.old name.now) [])) row ≡ true) }
-        ensures added { OnOk result ((other : List ℕ) → value_of self.new other ≡
+            (is_later (last_or None (unwrap_or (value_under self.old name.now) [])) row ≡ true) }
+        ensures added { OnOk result ((other : List ℕ) → value_under self.new other ≡
             (if bytes_eq other name.now
-            then Some (unwrap_or (value_of self.old name.now) [] ++ row ∷ [])
-            else value_of self.old other)) }
+            then Some (unwrap_or (value_under self.old name.now) [] ++ row ∷ [])
+            else value_under self.old other)) }
         ensures refused { IfErr result (λ e. IfBadCause e (λ cause. (cause ≡ Cause.NotRising)
-            × (is_later (last_or None (unwrap_or (value_of self.old name.now) [])) row ≡ false))) }
+            × (is_later (last_or None (unwrap_or (value_under self.old name.now) [])) row ≡ false))) }
     {
         match self.zones.value_mut(name) {
             Some(rows) => rows.push(row),
@@ -70,7 +70,7 @@ impl ZoneTable {
     // Adds a zone of one row, whose name is new. In constant time on average.
     fn start(&mut self, alloc: Global, name: &[u8], row: ZoneRow) -> Result<(), OutOfMemory>
         requires near { IsTrue (is_offset row.offset) }
-        requires fresh { value_of self.old name.now ≡ None }
+        requires fresh { value_under self.old name.now ≡ None }
         ensures { OnOk result (self.new ≡ self.old ++ (name.now, row ∷ []) ∷ []) }
     {
         let rows = ZoneRows::new(alloc, row)?;

@@ -141,11 +141,11 @@ one_cut text (t ∷ v ∷ ts) (u ∷ w ∷ us) h k =
     ap (λ (x : Token). x ∷ v ∷ ts) first ∙ ap (λ (xs : List Token). u ∷ xs) rest
 
 -- the invariant of a loop over the tokens
-pub record SoFar (text rest : List ℕ) (front : List Token) : Type 0 where
+pub record MatchedSoFar (text rest : List ℕ) (front : List Token) : Type 0 where
   pub found : (us : List Token) → IsMatched rest us → IsMatched text (front ++ us)
   pub only : (us : List Token) → IsMatched text us → (vs : List Token) × (us ≡ front ++ vs) × IsMatched rest vs
 
-pub begins : (text : List ℕ) → SoFar text text []
+pub begins : (text : List ℕ) → MatchedSoFar text text []
 begins text = record { found = λ us h. h; only = λ us h. (us, refl, h) }
 
 pub then_cut : (rest after : List ℕ) (t : Token) (us : List Token) → token_at rest ≡ Some (t, after)
@@ -164,7 +164,7 @@ cut_then rest after t (v ∷ w ∷ vs) e some h =
     (w ∷ vs, ap (λ (x : Token). x ∷ w ∷ vs) first, subst (λ (r : List ℕ). IsMatched (without_blanks r) (w ∷ vs)) same h.2)
 
 pub cut_goes_on : (text rest after : List ℕ) (front : List Token) (t : Token) → token_at rest ≡ Some (t, after) → after ≢ []
-    → SoFar text rest front → SoFar text (without_blanks after) (front ++ t ∷ [])
+    → MatchedSoFar text rest front → MatchedSoFar text (without_blanks after) (front ++ t ∷ [])
 cut_goes_on text rest after front t e some s = record {
   found = λ us h. subst (IsMatched text) (sym (append_assoc front (t ∷ []) us)) (s.found (t ∷ us) (then_cut rest after t us e h));
   only = λ us h.
@@ -174,7 +174,7 @@ cut_goes_on text rest after front t e some s = record {
 }
 
 pub cut_ends : (text rest after : List ℕ) (front : List Token) (t : Token) → token_at rest ≡ Some (t, after) → after ≡ []
-    → SoFar text rest front → IsMatched text (front ++ t ∷ [])
+    → MatchedSoFar text rest front → IsMatched text (front ++ t ∷ [])
 cut_ends text rest after front t e nil s = s.found (t ∷ []) (e ∙ ap (λ (r : List ℕ). Some (t, r)) nil)
 
 no_tokens : (rest : List ℕ) (vs : List Token) → token_at rest ≡ None → IsMatched rest vs → ⊥
@@ -182,7 +182,7 @@ no_tokens rest [] e h = h
 no_tokens rest (v ∷ []) e h = cc
 no_tokens rest (v ∷ w ∷ vs) e h = let f = h.1 in cc
 
-pub cut_fails : (text rest : List ℕ) (front : List Token) → token_at rest ≡ None → SoFar text rest front → (ts : List Token) → IsMatched text ts → ⊥
+pub cut_fails : (text rest : List ℕ) (front : List Token) → token_at rest ≡ None → MatchedSoFar text rest front → (ts : List Token) → IsMatched text ts → ⊥
 cut_fails text rest front e s ts h = let v = s.only ts h in no_tokens rest v.0 e v.2
 
 pub not_nil : (xs : List ℕ) → false ≡ (length xs == 0) → xs ≢ []

@@ -138,8 +138,8 @@ token_front text t after e =
     (or_front text (short_number_at text) (mark_at text) t after (short_number_front text t after) (mark_front text t after)))))) e
 
 -- something at least as long is found wherever a token stands in front
-abbrev pub Reaches : List ℕ → List ℕ → Type 0
-Reaches text more = (t : Token) × (rest : List ℕ) × (token_at text ≡ Some (t, rest)) × (length rest ≤ length more)
+abbrev pub ReachesAsFar : List ℕ → List ℕ → Type 0
+ReachesAsFar text more = (t : Token) × (rest : List ℕ) × (token_at text ≡ Some (t, rest)) × (length rest ≤ length more)
 
 digit_dark : (a : ℕ) → is_digit a ≡ true → is_letter a ≡ false
 digit_dark a e = grind (arith, common_steps)
@@ -155,7 +155,7 @@ prefix_more (b ∷ bs) more h =
     ap (λ v. cond v (1 + prefix_len is_letter (bs ++ more)) 0) h.0 in
     omega (arith, one, rest)
 
-word_reaches : (b : ℕ) (bs more : List ℕ) → AreLetters (b ∷ bs) → Reaches ((b ∷ bs) ++ more) more
+word_reaches : (b : ℕ) (bs more : List ℕ) → AreLetters (b ∷ bs) → ReachesAsFar ((b ∷ bs) ++ more) more
 unfolding token_at word_at
 word_reaches b bs more h =
     let text = (b ∷ bs) ++ more in
@@ -171,7 +171,7 @@ end_false : (a : Bool) → a && false ≡ false
 end_false true = refl
 end_false false = refl
 
-short_time_reaches : (a d e : ℕ) (more : List ℕ) → is_digit a ≡ true → is_digit d ≡ true → is_digit e ≡ true → Reaches (a ∷ 58 ∷ d ∷ e ∷ more) more
+short_time_reaches : (a d e : ℕ) (more : List ℕ) → is_digit a ≡ true → is_digit d ≡ true → is_digit e ≡ true → ReachesAsFar (a ∷ 58 ∷ d ∷ e ∷ more) more
 unfolding token_at
 short_time_reaches a d e [] ha hd he = (
   Time (one_digit a)
@@ -226,7 +226,7 @@ module _ (a b : ℕ) (t : Token) (after : List ℕ) where
   )
   short_time_leaves more h = absurd cc
 
-long_number_reaches : (a b : ℕ) (more : List ℕ) → is_digit a ≡ true → is_digit b ≡ true → Reaches (a ∷ b ∷ more) more
+long_number_reaches : (a b : ℕ) (more : List ℕ) → is_digit a ≡ true → is_digit b ≡ true → ReachesAsFar (a ∷ b ∷ more) more
 unfolding token_at
 long_number_reaches a b more ha hb =
     let text = a ∷ b ∷ more in
@@ -238,7 +238,7 @@ long_number_reaches a b more ha hb =
     (Number (number_of_two a b), more, number, omega arith))) in
     (found.0, found.1, rw (no_word a (b ∷ more) (digit_dark a ha)) found.2, found.3)
 
-short_number_reaches : (a : ℕ) (more : List ℕ) → is_digit a ≡ true → Reaches (a ∷ more) more
+short_number_reaches : (a : ℕ) (more : List ℕ) → is_digit a ≡ true → ReachesAsFar (a ∷ more) more
 unfolding token_at
 short_number_reaches a more ha =
     let text = a ∷ more in
@@ -249,7 +249,7 @@ short_number_reaches a more ha =
     let whole : token_at text ≡ Some (found.0.0, found.0.1) = found.1 in
     (found.0.0, found.0.1, whole, omega (arith, token_shorter text found.0.0 found.0.1 whole))
 
-reaches : (other more : List ℕ) (u : Token) → IsToken other u → Reaches (other ++ more) more
+reaches : (other more : List ℕ) (u : Token) → IsToken other u → ReachesAsFar (other ++ more) more
 reaches other more u (tokens.word {b = b} {bs = bs} h) = word_reaches b bs more h
 reaches other more u tokens.always = (Always, more, always_first more, omega arith)
 reaches other more u (tokens.long_time {a = a} {b = b} {d = d} {e = e} ha hb hd he) =

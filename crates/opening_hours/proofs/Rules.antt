@@ -19,7 +19,7 @@ use Rattle.opening_hours.specs.declared.types.HoursRule.{HoursRule}
 use Rattle.opening_hours.specs.Grammar.{IsDate, IsItem, IsSpan, IsLong, IsOpens, IsDates, IsDays, IsSpans, IsRule, IsRules, Joined, whole_day}
 use Rattle.opening_hours.specs.Grammar as grammar
 use Rattle.opening_hours.specs.Inside.Parser.{belongs, behind, read_date, read_item, read_span, read_list, read_dates, read_days}
-use Rattle.opening_hours.specs.Inside.Parser.{read_spans, is_opens, is_long, read_long, is_off, read_times, rule_of, read_after}
+use Rattle.opening_hours.specs.Inside.Parser.{read_spans, is_opens, is_long, read_long, is_off, read_times, hours_rule_of, read_after}
 use Rattle.opening_hours.specs.Inside.Parser.{without_colon, read_dated, read_rule, read_rules}
 use Rattle.opening_hours.proofs.Pieces.{some_if, date_again, date_found, item_again, item_found, span_again, span_found}
 use Rattle.opening_hours.proofs.Pieces.{opens_again, opens_found, long_again, long_found}
@@ -331,7 +331,7 @@ spans_not_long (grammar.some (grammar.one (grammar.span _ _))) o = refl
 spans_not_long (grammar.some (grammar.more (grammar.span _ _) hs)) o = refl
 
 after_again : {b : List Token} {is : List DayItem} (ds : List DateSpan) (rest : List Token) (t : RuleTimes) → IsDays b is
-    → Starts follows_days rest → is_long (b ++ rest) ≡ false → read_times rest ≡ Some t → read_after ds (b ++ rest) ≡ Some (rule_of ds is t)
+    → Starts follows_days rest → is_long (b ++ rest) ≡ false → read_times rest ≡ Some t → read_after ds (b ++ rest) ≡ Some (hours_rule_of ds is t)
 unfolding read_after
 after_again {b = b} {is = is} ds rest t d follows short times =
     let stops = Stops-starts follows_days (belongs parts.Days) not_days rest follows in
@@ -348,7 +348,7 @@ long_is_long : {b : List Token} {l : LongSpan} (os : List Token) → IsLong b l 
 long_is_long os (grammar.long _ _) = refl
 
 long_after : {b os : List Token} {l : LongSpan} (ds : List DateSpan) → IsLong b l → IsOpens os
-    → read_after ds (b ++ os) ≡ Some (rule_of ds [] (times.Long l))
+    → read_after ds (b ++ os) ≡ Some (hours_rule_of ds [] (times.Long l))
 unfolding read_after
 long_after {b = b} {os = os} {l = l} ds h o =
     let e : is_long (b ++ os) ≡ true = long_is_long os h in
@@ -415,7 +415,7 @@ open_follows_dates (t ∷ ts) h = absurd cc
 long_start : {b : List Token} {l : LongSpan} (os : List Token) → IsLong b l → Starts follows_dates (b ++ os)
 long_start os (grammar.long _ _) = refl
 
-always : (os : List Token) → IsOpens os → read_rule (Always ∷ os) ≡ Some (rule_of [] [] (times.Spans whole_day))
+always : (os : List Token) → IsOpens os → read_rule (Always ∷ os) ≡ Some (hours_rule_of [] [] (times.Spans whole_day))
 unfolding read_rule
 always os o = rw (opens_again o) refl
 
@@ -491,13 +491,13 @@ times_found ts t e =
 
 -- the tokens behind dates
 data After (ds : List DateSpan) : List Token → HoursRule → Type 0 where
-  long : {b os : List Token} {l : LongSpan} → IsLong b l → IsOpens os → After ds (b ++ os) (rule_of ds [] (times.Long l))
-  off : {b : List Token} {is : List DayItem} → IsDays b is → After ds (b ++ Off ∷ []) (rule_of ds is times.Off)
+  long : {b os : List Token} {l : LongSpan} → IsLong b l → IsOpens os → After ds (b ++ os) (hours_rule_of ds [] (times.Long l))
+  off : {b : List Token} {is : List DayItem} → IsDays b is → After ds (b ++ Off ∷ []) (hours_rule_of ds is times.Off)
   spans : {b c os : List Token} {is : List DayItem} {ss : List TimeSpan} → IsDays b is → IsSpans c ss → IsOpens os
-      → After ds (b ++ (c ++ os)) (rule_of ds is (times.Spans ss))
+      → After ds (b ++ (c ++ os)) (hours_rule_of ds is (times.Spans ss))
 
 after_times : (ds : List DateSpan) (b rest : List Token) (is : List DayItem) (t : RuleTimes) → IsDays b is → Times rest t
-    → After ds (b ++ rest) (rule_of ds is t)
+    → After ds (b ++ rest) (hours_rule_of ds is t)
 after_times ds b rest is t d off = off d
 after_times ds b rest is t d (spans s o) = spans d s o
 
@@ -505,17 +505,17 @@ after_found : (ds : List DateSpan) (ts : List Token) (r : HoursRule) → read_af
 unfolding read_after
 after_found ds ts r e =
     let p = belongs parts.Days in
-    let plain = option_and_then (λ is. option_map (λ t. rule_of ds is t) (read_times (behind p ts))) (read_days (take_while p ts)) in
-    let by : (b : Bool) → cond b (option_map (λ l. rule_of ds [] (times.Long l)) (read_long ts)) plain ≡ Some r → After ds ts r =
-    λ b. elim b as (λ v. cond v (option_map (λ l. rule_of ds [] (times.Long l)) (read_long ts)) plain ≡ Some r → After ds ts r) [
+    let plain = option_and_then (λ is. option_map (λ t. hours_rule_of ds is t) (read_times (behind p ts))) (read_days (take_while p ts)) in
+    let by : (b : Bool) → cond b (option_map (λ l. hours_rule_of ds [] (times.Long l)) (read_long ts)) plain ≡ Some r → After ds ts r =
+    λ b. elim b as (λ v. cond v (option_map (λ l. hours_rule_of ds [] (times.Long l)) (read_long ts)) plain ≡ Some r → After ds ts r) [
       | true ↦ λ f.
-          let m = map_some (read_long ts) (λ l. rule_of ds [] (times.Long l)) r f in
+          let m = map_some (read_long ts) (λ l. hours_rule_of ds [] (times.Long l)) r f in
           let h = long_found ts m.0 m.1 in
-          let found : After ds (h.span ++ h.opens) (rule_of ds [] (times.Long m.0)) = long h.is_long h.is_opens in
+          let found : After ds (h.span ++ h.opens) (hours_rule_of ds [] (times.Long m.0)) = long h.is_long h.is_opens in
           subst (λ (us : List Token). After ds us r) (sym h.parts) (subst (After ds (h.span ++ h.opens)) m.2 found)
       | false ↦ λ f.
-          let a = then_some (read_days (take_while p ts)) (λ is. option_map (λ t. rule_of ds is t) (read_times (behind p ts))) r f in
-          let m = map_some (read_times (behind p ts)) (λ t. rule_of ds a.0 t) r a.2 in
+          let a = then_some (read_days (take_while p ts)) (λ is. option_map (λ t. hours_rule_of ds is t) (read_times (behind p ts))) r f in
+          let m = map_some (read_times (behind p ts)) (λ t. hours_rule_of ds a.0 t) r a.2 in
           let found = after_times ds (take_while p ts) (behind p ts) a.0 m.0 (days_found (take_while p ts) a.0 a.1)
           (times_found (behind p ts) m.0 m.1) in
           subst (λ (us : List Token). After ds us r) (front_behind p ts) (subst (After ds (take_while p ts ++ behind p ts)) m.2 found)
@@ -569,9 +569,9 @@ dated_found ts r content e =
     ]
 
 always_found : (os : List Token) (r : HoursRule)
-    → cond (is_opens os) (Some (rule_of [] [] (times.Spans whole_day))) None ≡ Some r → IsRule (Always ∷ os) r
+    → cond (is_opens os) (Some (hours_rule_of [] [] (times.Spans whole_day))) None ≡ Some r → IsRule (Always ∷ os) r
 always_found os r e =
-    let f = some_if (is_opens os) (rule_of [] [] (times.Spans whole_day)) r e in
+    let f = some_if (is_opens os) (hours_rule_of [] [] (times.Spans whole_day)) r e in
     subst (IsRule (Always ∷ os)) f.1 (grammar.always (opens_found os f.0))
 
 unless_opens : (ts : List Token) (r : HoursRule) → cond (is_opens ts) None (read_dated ts) ≡ Some r → IsRule ts r

@@ -10,7 +10,7 @@ use Rattle.route_base.specs.Net.{Net, setting_of}
 use Rattle.route_base.specs.declared.limits.TheConstants.{HIGHEST_COST}
 use Rattle.route_base.specs.declared.types.NodeId.{NodeId}
 use Rattle.route_base.specs.declared.types.Request.{Request}
-use Rattle.plain_search.specs.Inside.Costs.{none, at, IsLabel, ComesByStep, ComesBySteps, IsRelaxedBefore}
+use Rattle.plain_search.specs.Inside.Costs.{none, at, IsKnownCost, ComesByStep, ComesBySteps, IsRelaxedBefore}
 use Rattle.plain_search.specs.Inside.CostTable.{cost_of}
 use Rattle.plain_search.specs.Inside.Soundness.{IsFinalTable}
 use Rattle.plain_search.specs.declared.cost_table.CostTable.{CostTable}
@@ -25,8 +25,8 @@ module _ (cost : ℕ → ℕ → ℕ) (v depart : ℕ) where
   pub record IsReadBefore (t : ℕ) (points : List (ℕ × ℕ)) : Type 0 where
     pub rising : AllPairs (λ p q. p.0 < q.0) points
     pub before : All (λ p. p.0 < t) points
-    pub labels : All (λ p. IsLabel cost v p.0 p.1) points
-    pub all : (k x : ℕ) → depart ≤ k → k < t → IsLabel cost v k x → Contains points (k, x)
+    pub labels : All (λ p. IsKnownCost cost v p.0 p.1) points
+    pub all : (k x : ℕ) → depart ≤ k → k < t → IsKnownCost cost v k x → Contains points (k, x)
 
   pub minute_skip : (t : ℕ) (points : List (ℕ × ℕ)) → none ≤ cost v t → IsReadBefore t points → IsReadBefore (t + 1) points
   minute_skip t points unknown read = record {
@@ -40,12 +40,12 @@ module _ (cost : ℕ → ℕ → ℕ) (v depart : ℕ) where
         (cases_lt k t);
   }
 
-  pub minute_push : (t x : ℕ) (points : List (ℕ × ℕ)) → IsLabel cost v t x → IsReadBefore t points → IsReadBefore (t + 1) (points ++ (t, x) ∷ [])
+  pub minute_push : (t x : ℕ) (points : List (ℕ × ℕ)) → IsKnownCost cost v t x → IsReadBefore t points → IsReadBefore (t + 1) (points ++ (t, x) ∷ [])
   minute_push t x points here read = record {
     rising = all_pairs_push (λ p q. p.0 < q.0) points (t, x) read.rising read.before;
     before = All-push (λ p. p.0 < t + 1) points (t, x)
         (All-weaker (λ p. p.0 < t) (λ p. p.0 < t + 1) (λ p h. omega (arith, h)) points read.before) (omega arith);
-    labels = All-push (λ p. IsLabel cost v p.0 p.1) points (t, x) read.labels here;
+    labels = All-push (λ p. IsKnownCost cost v p.0 p.1) points (t, x) read.labels here;
     all = λ k y from below label. ⊎_elim
         (λ (earlier : k < t). Contains-append_left points ((t, x) ∷ []) (k, y) (read.all k y from earlier label))
         (λ (now : t ≤ k). let minute : t ≡ k = omega (arith, now, below) in
@@ -86,7 +86,7 @@ pub record IsDone (s : Setting) (r : Request) (cost : ℕ → ℕ → ℕ) (now 
 
 module _ (s : Setting) (r : Request) (cost : ℕ → ℕ → ℕ) where
   abbrev pub HasLabels : (NodeId × List (ℕ × ℕ)) → Type 0
-  HasLabels e = All (λ p. IsLabel cost e.0.0 p.0 p.1) e.1
+  HasLabels e = All (λ p. IsKnownCost cost e.0.0 p.0 p.1) e.1
 
   -- the entries of the nodes up to n
   pub record AreReadTo (n : ℕ) (entries : List (NodeId × List (ℕ × ℕ))) : Type 0 where
@@ -94,11 +94,11 @@ module _ (s : Setting) (r : Request) (cost : ℕ → ℕ → ℕ) where
     pub before : All (λ e. e.0.0 ≤ n) entries
     pub each : All (IsNodeWithPoints s r) entries
     pub labels : All HasLabels entries
-    pub all : (v t x : ℕ) → v ≤ n → IsLabel cost v t x → HasPoint entries v t x
+    pub all : (v t x : ℕ) → v ≤ n → IsKnownCost cost v t x → HasPoint entries v t x
 
 module _ (s : Setting) (r : Request) (cost : ℕ → ℕ → ℕ) (now : ℕ) (done : IsDone s r cost now) where
   -- labels are the least costs
-  pub least_of_label : (v t x : ℕ) → IsLabel cost v t x → IsLeastCost s r v t x
+  pub least_of_label : (v t x : ℕ) → IsKnownCost cost v t x → IsLeastCost s r v t x
   least_of_label v t x label =
       let walk = walk_to s r done.takes cost now done.founded (t + 1) v t (omega arith) (omega (arith, label.is, label.reached)) in
       record {
@@ -108,7 +108,7 @@ module _ (s : Setting) (r : Request) (cost : ℕ → ℕ → ℕ) (now : ℕ) (d
             omega (arith, within, label.is);
       }
 
-  pub label_of_least : (v t x : ℕ) → IsLeastCost s r v t x → IsLabel cost v t x
+  pub label_of_least : (v t x : ℕ) → IsLeastCost s r v t x → IsKnownCost cost v t x
   label_of_least v t x best =
       let within = (bounded_at s r cost now done.fit done.founded done.relaxed best.reachable.steps _ best.reachable.walk).within in
       let cheap = done.fit best.reachable.steps _ best.reachable.walk in
@@ -117,13 +117,13 @@ module _ (s : Setting) (r : Request) (cost : ℕ → ℕ → ℕ) (now : ℕ) (d
       let least = best.least (cost v t) (record { steps = walk.0; walk = walk.1 }) in
       record { is = omega (arith, within, least); reached = omega (arith, cheap) }
 
-  label_cheap : (v t x : ℕ) → IsLabel cost v t x → x ≤ HIGHEST_COST
+  label_cheap : (v t x : ℕ) → IsKnownCost cost v t x → x ≤ HIGHEST_COST
   label_cheap v t x label = let best = least_of_label v t x label in done.fit best.reachable.steps _ best.reachable.walk
 
-  label_inside : (v t x : ℕ) → IsLabel cost v t x → IsInside s r v t
+  label_inside : (v t x : ℕ) → IsKnownCost cost v t x → IsInside s r v t
   label_inside v t x label = done.inside v t (omega (arith, label.is, label.reached))
 
-  pub node_skip : (n : ℕ) (entries : List (NodeId × List (ℕ × ℕ))) → ((t x : ℕ) → IsLabel cost (n + 1) t x → ⊥) → AreReadTo s r cost n entries
+  pub node_skip : (n : ℕ) (entries : List (NodeId × List (ℕ × ℕ))) → ((t x : ℕ) → IsKnownCost cost (n + 1) t x → ⊥) → AreReadTo s r cost n entries
       → AreReadTo s r cost (n + 1) entries
   node_skip n entries nowhere read = record {
     rising = read.rising;
@@ -133,7 +133,7 @@ module _ (s : Setting) (r : Request) (cost : ℕ → ℕ → ℕ) (now : ℕ) (d
     all = λ v t x upto label. ⊎_elim
         (λ (earlier : v < n + 1). read.all v t x (omega (arith, earlier)) label)
         (λ (here : n + 1 ≤ v). let same : v ≡ n + 1 = omega (arith, here, upto) in
-        absurd (nowhere t x (subst (λ (w : ℕ). IsLabel cost w t x) same label)))
+        absurd (nowhere t x (subst (λ (w : ℕ). IsKnownCost cost w t x) same label)))
         (cases_lt v (n + 1));
   }
 
@@ -147,7 +147,7 @@ module _ (s : Setting) (r : Request) (cost : ℕ → ℕ → ℕ) (now : ℕ) (d
   }
 
   pub node_push : (n : ℕ) (entries : List (NodeId × List (ℕ × ℕ))) (e : NodeId × List (ℕ × ℕ)) → e.0.0 ≡ n + 1 → n + 1 ≤ s.nodes → e.1 ≢ []
-      → AllPairs (λ p q. p.0 < q.0) e.1 → HasLabels s r cost e → ((t x : ℕ) → IsLabel cost (n + 1) t x → Contains e.1 (t, x))
+      → AllPairs (λ p q. p.0 < q.0) e.1 → HasLabels s r cost e → ((t x : ℕ) → IsKnownCost cost (n + 1) t x → Contains e.1 (t, x))
       → AreReadTo s r cost n entries → AreReadTo s r cost (n + 1) (entries ++ e ∷ [])
   node_push n entries e is within some rising labels all read = record {
     rising = all_pairs_push (λ d f. d.0.0 < f.0.0) entries e read.rising (λ k d in_list. let h = read.before k d in_list in omega (arith, h, is));
@@ -157,9 +157,9 @@ module _ (s : Setting) (r : Request) (cost : ℕ → ℕ → ℕ) (now : ℕ) (d
       node = (omega (arith, is), omega (arith, is, within));
       some = some;
       rising = rising;
-      minutes = All-weaker (λ p. IsLabel cost e.0.0 p.0 p.1) (λ p. (r.depart ≤ p.0) × (p.0 ≤ r.until))
+      minutes = All-weaker (λ p. IsKnownCost cost e.0.0 p.0 p.1) (λ p. (r.depart ≤ p.0) × (p.0 ≤ r.until))
           (λ p h. (label_inside e.0.0 p.0 p.1 h).minute) e.1 labels;
-      costs = All-weaker (λ p. IsLabel cost e.0.0 p.0 p.1) (λ p. p.1 ≤ HIGHEST_COST) (λ p h. label_cheap e.0.0 p.0 p.1 h) e.1 labels;
+      costs = All-weaker (λ p. IsKnownCost cost e.0.0 p.0 p.1) (λ p. p.1 ≤ HIGHEST_COST) (λ p h. label_cheap e.0.0 p.0 p.1 h) e.1 labels;
     });
     labels = All-push (HasLabels s r cost) entries e read.labels labels;
     all = λ v t x upto label. ⊎_elim
@@ -169,7 +169,7 @@ module _ (s : Setting) (r : Request) (cost : ℕ → ℕ → ℕ) (now : ℕ) (d
           entry = e;
           is_one = Contains-push entries e;
           node = omega (arith, is, same);
-          point = all t x (subst (λ (w : ℕ). IsLabel cost w t x) same label);
+          point = all t x (subst (λ (w : ℕ). IsKnownCost cost w t x) same label);
         })
         (cases_lt v (n + 1));
   }
@@ -186,7 +186,7 @@ module _ (s : Setting) (r : Request) (cost : ℕ → ℕ → ℕ) (now : ℕ) (d
     );
   }
     where
-      label_at : (v t x : ℕ) → HasPoint entries v t x → IsLabel cost v t x
-      label_at v t x h = subst (λ (w : ℕ). IsLabel cost w t x) h.node
-          (All-contains (λ p. IsLabel cost h.entry.0.0 p.0 p.1) h.entry.1 (t, x)
+      label_at : (v t x : ℕ) → HasPoint entries v t x → IsKnownCost cost v t x
+      label_at v t x h = subst (λ (w : ℕ). IsKnownCost cost w t x) h.node
+          (All-contains (λ p. IsKnownCost cost h.entry.0.0 p.0 p.1) h.entry.1 (t, x)
           (All-contains (HasLabels s r cost) entries h.entry read.labels h.is_one) h.point)

@@ -4,11 +4,11 @@ use Rattle.std.proofs.Common.{arith, get_or-set_other, get_or-set_same}
 use Rattle.std.proofs.lemmas.Bool.{lt-ltb, le-ltb, le-leb, lt-leb, cases_lt}
 use Rattle.std.proofs.lemmas.Nat.{same_from_place}
 use Rattle.plain_search.specs.Inside.Costs.{none, Lowers}
-use Rattle.plain_search.specs.Inside.CostTable.{place_of, cost_in}
+use Rattle.plain_search.specs.Inside.CostTable.{cell_of, cost_in}
 
 module _ (width depart : ℕ) where
   pub in_range : (cells : List ℕ) (v t : ℕ) → 1 ≤ v → v ≤ width → depart ≤ t
-      → cost_in width depart cells v t ≡ get_or cells (place_of width depart v t) none
+      → cost_in width depart cells v t ≡ get_or cells (cell_of width depart v t) none
   in_range cells v t low high row = rw (lt-ltb 0 v (omega arith), le-leb v width high, le-leb depart t row) refl
 
   -- the cell is one of the table
@@ -36,20 +36,20 @@ module _ (width depart : ℕ) where
       (λ (outside : (xs : List ℕ) → cost_in width depart xs v t ≡ none). absurd (omega (arith, known, outside cells)))
       (inside_cases v t)
 
-  pub lowered : (cells : List ℕ) (v t x : ℕ) → 1 ≤ v → v ≤ width → depart ≤ t → place_of width depart v t < length cells
-      → x < get_or cells (place_of width depart v t) none
-      → Lowers (cost_in width depart cells) (cost_in width depart (set cells (place_of width depart v t) x)) v t x
+  pub lowered : (cells : List ℕ) (v t x : ℕ) → 1 ≤ v → v ≤ width → depart ≤ t → cell_of width depart v t < length cells
+      → x < get_or cells (cell_of width depart v t) none
+      → Lowers (cost_in width depart cells) (cost_in width depart (set cells (cell_of width depart v t) x)) v t x
   lowered cells v t x low high row within lower = record {
-    here = in_range (set cells (place_of width depart v t) x) v t low high row
-        ∙ get_or-set_same cells (place_of width depart v t) x none within
-        ∙ least (get_or cells (place_of width depart v t) none) lower
+    here = in_range (set cells (cell_of width depart v t) x) v t low high row
+        ∙ get_or-set_same cells (cell_of width depart v t) x none within
+        ∙ least (get_or cells (cell_of width depart v t) none) lower
         ∙ ap (λ n. min n x) (sym (in_range cells v t low high row));
     others = λ w k ne. ⊎_elim
         (λ (at_hand : IsInside w k).
-        in_range (set cells (place_of width depart v t) x) w k at_hand.low at_hand.high at_hand.row
+        in_range (set cells (cell_of width depart v t) x) w k at_hand.low at_hand.high at_hand.row
         ∙ other w k at_hand ne
         ∙ sym (in_range cells w k at_hand.low at_hand.high at_hand.row))
-        (λ (outside : (xs : List ℕ) → cost_in width depart xs w k ≡ none). outside (set cells (place_of width depart v t) x) ∙ sym (outside cells))
+        (λ (outside : (xs : List ℕ) → cost_in width depart xs w k ≡ none). outside (set cells (cell_of width depart v t) x) ∙ sym (outside cells))
         (inside_cases w k);
   }
     where
@@ -57,11 +57,11 @@ module _ (width depart : ℕ) where
       least n lt = omega arith
 
       other : (w k : ℕ) → IsInside w k → (w ≡ v → k ≡ t → ⊥)
-          → get_or (set cells (place_of width depart v t) x) (place_of width depart w k) none ≡ get_or cells (place_of width depart w k) none
+          → get_or (set cells (cell_of width depart v t) x) (cell_of width depart w k) none ≡ get_or cells (cell_of width depart w k) none
       other w k inside ne =
-          let apart : place_of width depart w k ≡ place_of width depart v t → ⊥ = λ same.
+          let apart : cell_of width depart w k ≡ cell_of width depart v t → ⊥ = λ same.
           let column : w - 1 < width = omega (arith, inside.low, inside.high) in
           let column' : v - 1 < width = omega (arith, low, high) in
           let e = same_from_place (k - depart) (w - 1) (t - depart) (v - 1) width column column' same in
           ne (omega (arith, e.1, inside.low, low)) (omega (arith, e.0, row, inside.row)) in
-          get_or-set_other cells (place_of width depart v t) (place_of width depart w k) x none apart
+          get_or-set_other cells (cell_of width depart v t) (cell_of width depart w k) x none apart

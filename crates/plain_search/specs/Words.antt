@@ -5,7 +5,7 @@ pub use Rattle.route_base.specs.Net.{IsGoodNet, setting_of}
 pub use Rattle.route_base.specs.Front.{IsRight}
 pub use Rattle.node_arcs.specs.Stars.{EndsAt}
 pub use Rattle.plain_search.specs.Inside.CostTable.{cost_of}
-pub use Rattle.plain_search.specs.Inside.Costs.{none, at, IsLabel, ChangesLater, IsRelaxedFrom, IsRelaxedBefore}
+pub use Rattle.plain_search.specs.Inside.Costs.{none, at, IsKnownCost, ChangesLater, IsRelaxedFrom, IsRelaxedBefore}
 pub use Rattle.plain_search.specs.Inside.Predecessors.{LeadsTo, IsSingle}
 pub use Rattle.plain_search.specs.Inside.Routes.{IsRouteAt}
 pub use Rattle.plain_search.specs.Inside.Soundness.{IsAsked, IsSoundTable, IsFinalTable, HasSoundLabel, IsNode, IsMinute}

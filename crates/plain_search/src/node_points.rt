@@ -4,7 +4,7 @@ ghost use Rattle.route_base.specs.Legs.{CostsFit};
 ghost use Rattle.route_base.specs.Net.{IsGoodRequest, setting_of};
 ghost use Rattle.route_base.specs.declared.limits.TheConstants.{LONGEST_HORIZON};
 ghost use Rattle.plain_search.specs.Values.{AreValues};
-ghost use Rattle.plain_search.specs.Words.{cost_of, IsFinalTable, IsNode, IsLabel};
+ghost use Rattle.plain_search.specs.Words.{cost_of, IsFinalTable, IsNode, IsKnownCost};
 
 use crate::cost_table::{CostTable, NONE};
 use crate::search::Search;
@@ -29,9 +29,9 @@ impl Search<'_> {
         requires table { IsFinalTable self.now.net.now self.now.request table.now }
         ensures rising { IfOk result (λ points. AllPairs (λ p q. p.0 < q.0) points.items) }
         ensures labels { IfOk result (λ points.
-            All (λ p. IsLabel (cost_of table.now) node.0 p.0 p.1) points.items) }
+            All (λ p. IsKnownCost (cost_of table.now) node.0 p.0 p.1) points.items) }
         ensures all { IfOk result (λ points. (t x : ℕ) →
-            IsLabel (cost_of table.now) node.0 t x → Contains points.items (t, x)) }
+            IsKnownCost (cost_of table.now) node.0 t x → Contains points.items (t, x)) }
     {
         let mut points = Vec::new(alloc);
         for t in self.request.depart..self.request.until + 1 {

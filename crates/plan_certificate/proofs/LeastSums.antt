@@ -85,8 +85,8 @@ module _ (net : Net) (good : IsGoodNet net) (goal : ℕ) (bounds : ℕ → Optio
   abbrev has_fewer : ℕ → ℕ → ℕ
   has_fewer x i = lower x (minutes_at (suc i))
 
-  abbrev before : ℕ → ℕ
-  before x = total net.nodes (has_fewer x)
+  abbrev nodes_before : ℕ → ℕ
+  nodes_before x = total net.nodes (has_fewer x)
 
   -- the head of the first road of a least walk has fewer minutes
   record IsNext (v x : ℕ) : Type 0 where
@@ -112,7 +112,7 @@ module _ (net : Net) (good : IsGoodNet net) (goal : ℕ) (bounds : ℕ → Optio
       inr (next_of v x a leads.1 arcs leads.0 leads.2 leads.3 leads.4 leads.5 far.1 (minutes_at leads.0.head) refl (least leads.0.head).0)
 
   -- by induction on the minutes, each node with fewer minutes stands for one road at most
-  few : (n v x : ℕ) → minutes_at v ≡ Some x → x < n → x ≤ LONGEST_DRIVE * before x
+  few : (n v x : ℕ) → minutes_at v ≡ Some x → x < n → x ≤ LONGEST_DRIVE * nodes_before x
   few zero v x at less = absurd (omega (arith, less))
   few (suc n) v x at less =
       let far : IsLeast v (Some x) = subst (IsLeast v) at (least v).0 in
@@ -122,9 +122,9 @@ module _ (net : Net) (good : IsGoodNet net) (goal : ℕ) (bounds : ℕ → Optio
       let road = one.road in
       let fine = short net good one.arc road (at_number net.arcs one.arc) refl one.is in
       let fewer : one.rest < x = omega (arith, one.sum, fine.0) in
-      let behind : one.rest ≤ LONGEST_DRIVE * before one.rest = few n road.head one.rest one.known (omega (arith, fewer, less)) in
+      let behind : one.rest ≤ LONGEST_DRIVE * nodes_before one.rest = few n road.head one.rest one.known (omega (arith, fewer, less)) in
       let head : suc (road.head - 1) ≡ road.head = omega (arith, fine.2) in
-      let more : before one.rest + 1 ≤ before x = total_one net.nodes (road.head - 1) (has_fewer one.rest) (has_fewer x)
+      let more : nodes_before one.rest + 1 ≤ nodes_before x = total_one net.nodes (road.head - 1) (has_fewer one.rest) (has_fewer x)
       (λ i within. lower_more one.rest x (minutes_at (suc i)) (omega (arith, fewer)))
       (omega (arith, fine.2, fine.3))
       (lower_here one.rest x (minutes_at (suc (road.head - 1))) (ap minutes_at head ∙ one.known) fewer) in

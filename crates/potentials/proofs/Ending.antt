@@ -9,8 +9,8 @@ use Rattle.route_base.specs.Setting.{Road}
 use Rattle.route_base.specs.Net.{Net, IsGoodNet, IsGoodArc, road_of, setting_of, at_number}
 use Rattle.route_base.specs.declared.types.ArcId.{ArcId}
 use Rattle.route_base.specs.declared.types.TimedArc.{TimedArc}
-use Rattle.label_queue.specs.Keys.{key_at, IsTaken}
-use Rattle.potentials.specs.Inside.Summing.{IsSumming, IsSummed, unsettled, count_of, WorksAt, unsettled_at}
+use Rattle.label_queue.specs.Keys.{key_at, IsLeastTaken}
+use Rattle.potentials.specs.Inside.Summing.{IsSumming, IsSummed, unsettled, counted_on, WorksAt, unsettled_at}
 use Rattle.potentials.specs.Inside.Totals.{total}
 use Rattle.node_arcs.specs.Stars.{Star, arcs_of, EndsAt, AreIncoming}
 use Rattle.node_arcs.specs.declared.links.End.TheVariants.{Head}
@@ -19,7 +19,7 @@ use Rattle.potentials.specs.declared.sums.Counted.{Counted}
 use Rattle.potentials.specs.declared.sums.Counted.TheVariants.{Minutes, Cost}
 use Rattle.potentials.proofs.Summing.{takes_least}
 
-pub cheap : (net : Net) (counted : Counted) (arc : TimedArc) → IsGoodArc net arc → count_of counted (road_of arc) ≤ HIGHEST_COST
+pub cheap : (net : Net) (counted : Counted) (arc : TimedArc) → IsGoodArc net arc → counted_on counted (road_of arc) ≤ HIGHEST_COST
 cheap net Minutes arc good = omega (arith, good.minutes)
 cheap net Cost arc good = good.cost
 
@@ -97,10 +97,10 @@ begins roads count goal nodes most known keys here others key no_keys = record {
 
 -- the least node is taken out to work
 pub goes_to_work : (net : Net) (counted : Counted) (goal v x : ℕ) (known old_keys new_keys : List (Option ℕ)) → IsGoodNet net → length old_keys ≡ net.nodes
-    → IsSummed net counted goal 0 known old_keys → IsTaken old_keys new_keys v x
+    → IsSummed net counted goal 0 known old_keys → IsLeastTaken old_keys new_keys v x
     → IsSummed net counted goal v known new_keys × WorksAt net v x known new_keys × (unsettled_at net known new_keys + 1 ≤ unsettled_at net known old_keys)
 goes_to_work net counted goal v x known old_keys new_keys good room facts taken =
-    takes_least (setting_of net).road (count_of counted) goal net.nodes HIGHEST_COST v x (key_at known) (key_at old_keys) (key_at new_keys) (no_zero net good)
+    takes_least (setting_of net).road (counted_on counted) goal net.nodes HIGHEST_COST v x (key_at known) (key_at old_keys) (key_at new_keys) (no_zero net good)
     (omega (arith, taken.node, room)) facts taken.was
     (λ w key is. ⊎_elim (λ (less : x < key). omega (arith, less)) (λ (same : (x ≡ key) × (v ≤ w)). omega (arith, same.0)) (taken.least w key is))
     taken.now.here taken.now.others

@@ -12,7 +12,7 @@ use Rattle.route_base.specs.Setting.{Setting, Road}
 use Rattle.route_base.specs.Relaxing.{AreBounds, IsBoundThrough}
 use Rattle.route_base.specs.declared.types.Bound.{Bound}
 use Rattle.potentials.specs.Sums.{Leads, IsLeastSum, AreLeastBounds, bound_at}
-use Rattle.potentials.specs.Inside.Summing.{bound_from}
+use Rattle.potentials.specs.Inside.Summing.{bound_of_sums}
 
 -- the same arcs, with another count
 pub counted_too : (roads : ℕ → Option Road) (one two : Road → ℕ) (goal : ℕ) (arcs : List ℕ) (v sum : ℕ) → Leads roads one goal arcs v sum → (other : ℕ)
@@ -24,7 +24,7 @@ counted_too roads one two goal (a ∷ arcs) v sum leads =
 
 -- a node has both bounds or none
 pub both_least : (roads : ℕ → Option Road) (one two : Road → ℕ) (goal v : ℕ) (x y : Option ℕ) → IsLeastSum roads one goal v x → IsLeastSum roads two goal v y
-    → IsLeastSum roads one goal v (option_map (λ b. b.minutes) (bound_from x y)) × IsLeastSum roads two goal v (option_map (λ b. b.cost) (bound_from x y))
+    → IsLeastSum roads one goal v (option_map (λ b. b.minutes) (bound_of_sums x y)) × IsLeastSum roads two goal v (option_map (λ b. b.cost) (bound_of_sums x y))
 both_least roads one two goal v None y p q = (p, λ arcs sum leads. let other = counted_too roads two one goal arcs v sum leads in p arcs other.0 other.1)
 both_least roads one two goal v (Some x) None p q =
     ((λ arcs sum leads. let other = counted_too roads one two goal arcs v sum leads in q arcs other.0 other.1), q)
@@ -90,21 +90,21 @@ bound_pushed bounds b place f long each new k below = ⊎_elim
     (cases_lt k place)
 
 pub bound_all : (bounds : List (Option Bound)) (minutes costs : List (Option ℕ)) (n : ℕ) → length bounds ≡ n → length minutes ≡ n
-    → ((k : ℕ) → k < n → bound_at bounds (k + 1) ≡ bound_from (key_at minutes (k + 1)) (key_at costs (k + 1))) → (v : ℕ)
-    → bound_at bounds v ≡ bound_from (key_at minutes v) (key_at costs v)
+    → ((k : ℕ) → k < n → bound_at bounds (k + 1) ≡ bound_of_sums (key_at minutes (k + 1)) (key_at costs (k + 1))) → (v : ℕ)
+    → bound_at bounds v ≡ bound_of_sums (key_at minutes v) (key_at costs v)
 bound_all bounds minutes costs n long long' each v = ⊎_elim
     (λ (some : 0 < v). ⊎_elim
     (λ (past : n < v). ap option_flatten (number_past bounds v (omega (arith, past, long)))
-    ∙ sym (ap (λ o. bound_from o (key_at costs v)) (key_past minutes v (omega (arith, past, long')))))
+    ∙ sym (ap (λ o. bound_of_sums o (key_at costs v)) (key_past minutes v (omega (arith, past, long')))))
     (λ (within : v ≤ n). let e : v - 1 + 1 ≡ v = omega (arith, some)
-    in subst (λ u. bound_at bounds u ≡ bound_from (key_at minutes u) (key_at costs u)) e (each (v - 1) (omega (arith, some, within))))
+    in subst (λ u. bound_at bounds u ≡ bound_of_sums (key_at minutes u) (key_at costs u)) e (each (v - 1) (omega (arith, some, within))))
     (cases_lt n v))
     (λ (none : v ≤ 0). let e : 0 ≡ v = omega (arith, none)
-    in subst (λ u. bound_at bounds u ≡ bound_from (key_at minutes u) (key_at costs u)) e (sym (ap (λ o. bound_from o (key_at costs 0)) (key_zero minutes))))
+    in subst (λ u. bound_at bounds u ≡ bound_of_sums (key_at minutes u) (key_at costs u)) e (sym (ap (λ o. bound_of_sums o (key_at costs 0)) (key_zero minutes))))
     (cases_lt 0 v)
 
 pub least_all : (s : Setting) (goal : ℕ) (bounds : List (Option Bound)) (minutes costs : List (Option ℕ))
-    → ((v : ℕ) → bound_at bounds v ≡ bound_from (key_at minutes v) (key_at costs v))
+    → ((v : ℕ) → bound_at bounds v ≡ bound_of_sums (key_at minutes v) (key_at costs v))
     → ((v : ℕ) → IsLeastSum s.road (λ r. r.minutes) goal v (key_at minutes v)) → ((v : ℕ) → IsLeastSum s.road (λ r. r.cost) goal v (key_at costs v))
     → AreLeastBounds s goal (bound_at bounds)
 least_all s goal bounds minutes costs all p q v =

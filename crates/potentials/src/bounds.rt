@@ -4,7 +4,7 @@ ghost use Rattle.route_base.specs.Relaxing.{AreBounds};
 ghost use Rattle.route_base.specs.Net.{IsGoodNet, setting_of};
 ghost use Rattle.node_arcs.specs.Stars.{AreIncoming};
 ghost use Rattle.potentials.specs.Sums.{AreLeastBounds, bound_at};
-ghost use Rattle.potentials.specs.Inside.Summing.{AreLeastSums, bound_from};
+ghost use Rattle.potentials.specs.Inside.Summing.{AreLeastSums, bound_of_sums};
 ghost use Rattle.potentials.specs.declared.sums.Counted.TheVariants.{Minutes, Cost};
 
 use crate::proportion::{has_proportional_costs, minutes_of};
@@ -82,7 +82,7 @@ fn least_minutes(
 
 // Both bounds of a node, where it has them.
 fn both(minutes: Option<u64>, cost: Option<u64>) -> Option<Bound>
-    ensures { result ≡ bound_from minutes cost }
+    ensures { result ≡ bound_of_sums minutes cost }
 {
     Some(Bound {
         minutes: minutes?,

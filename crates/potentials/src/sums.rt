@@ -7,7 +7,7 @@ ghost use Rattle.label_queue.specs.Keys.{key_at};
 ghost use Rattle.node_arcs.specs.Stars.{EndsAt, AreIncoming};
 ghost use Rattle.node_arcs.specs.declared.links.End.TheVariants.{Head};
 ghost use Rattle.potentials.specs.Sums.{IsLeastSum};
-ghost use Rattle.potentials.specs.Inside.Summing.{HasSum, GetsSum, IsSummed, WorksAt, unsettled_at, count_of};
+ghost use Rattle.potentials.specs.Inside.Summing.{HasSum, GetsSum, IsSummed, WorksAt, unsettled_at, counted_on};
 
 use label_queue::LabelQueue;
 use node_arcs::NodeArcs;
@@ -23,7 +23,7 @@ pub enum Counted {
 
 impl Counted {
     fn of(self, arc: TimedArc) -> u64
-        ensures { result ≡ count_of self (road_of arc) }
+        ensures { result ≡ counted_on self (road_of arc) }
     {
         match self {
             Counted::Minutes => arc.minutes,
@@ -54,7 +54,7 @@ pub fn least_sums(
     requires high { goal.0 ≤ net.now.nodes }
     ensures nodes { IfOk result (λ sums. length sums.items ≡ net.now.nodes) }
     ensures least { IfOk result
-        (λ sums. (v : ℕ) → IsLeastSum (setting_of net.now).road (count_of counted) goal.0 v (key_at sums.items v)) }
+        (λ sums. (v : ℕ) → IsLeastSum (setting_of net.now).road (counted_on counted) goal.0 v (key_at sums.items v)) }
 {
     let nodes = net.node_count();
     let plan = Plan {
@@ -120,7 +120,7 @@ fn relax(
     ensures kept { (u sum : ℕ) → HasSum (key_at known.old.items) u sum
         → HasSum (key_at known.new.items) u sum }
     ensures relaxed { (road : Road) → (setting_of plan.entry.net.now).road a.0 ≡ Some road
-        → HasSum (key_at known.new.items) road.tail (count_of plan.entry.counted road + x) }
+        → HasSum (key_at known.new.items) road.tail (counted_on plan.entry.counted road + x) }
 {
     let Some(arc) = plan.net.arc(a) else {
         return;

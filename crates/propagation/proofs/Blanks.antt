@@ -6,7 +6,7 @@ use Rattle.std.proofs.lemmas.Option.{slice_get_within, get_or_from_slice_get}
 use Rattle.std.proofs.lemmas.Bool.{cases_eq}
 use Rattle.route_base.specs.Legs.{start_of}
 use Rattle.route_base.specs.Net.{at_number}
-use Rattle.label_queue.specs.Keys.{key_at, IsTaken}
+use Rattle.label_queue.specs.Keys.{key_at, IsLeastTaken}
 use Rattle.propagation.specs.declared.state.State.{State}
 use Rattle.cost_functions.specs.Pieces.{value_at}
 use Rattle.route_base.specs.Runs.{any_has}
@@ -70,7 +70,7 @@ module _ (k : Task) where
 
 -- the node that is taken out of the queue is at work
 pub shaped_taken : (nodes v key : ℕ) (old new : State) → IsShaped nodes 0 old → new.functions ≡ old.functions → new.pending ≡ old.pending
-    → IsTaken old.queue new.queue v key → IsShaped nodes v new
+    → IsLeastTaken old.queue new.queue v key → IsShaped nodes v new
 shaped_taken nodes v key old new shape functions pending taken = record {
   functions = ap (λ w. length w.items) functions ∙ shape.functions;
   built = subst (λ w. All AreBuilt w.items) (sym functions) shape.built;

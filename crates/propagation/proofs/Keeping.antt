@@ -8,7 +8,7 @@ use Rattle.route_base.specs.Legs.{start_of, end_of}
 use Rattle.route_base.specs.Relaxing.{HasWithin, HasPair, IsDominatedOrLate}
 use Rattle.route_base.specs.declared.types.Pair.{Pair}
 use Rattle.route_base.specs.declared.types.Bound.{Bound}
-use Rattle.propagation.specs.Inside.Invariants.{AreStepsRelaxed, ComesBy, DrivesRelaxed, HasIn, Improves, InPart, IsLabel, IsLower, IsOffer, IsPaired}
+use Rattle.propagation.specs.Inside.Invariants.{ArePartStepsRelaxed, ComesBy, DrivesRelaxed, HasIn, Improves, InPart, IsLabel, IsLower, IsOffer, IsPaired}
 use Rattle.propagation.specs.Inside.Invariants.{IsPrunable, IsRelaxedIn, IsSearching, IsSound, AreInReach, Progress, Reaches, TakesOffer, Task, no_part, point}
 use Rattle.propagation.specs.Found.{IsStart}
 
@@ -194,8 +194,8 @@ module _ (k : Task) where
           (from_offer takes p is);
     }
 
-    landing_kept : (v : ℕ) (part : ℕ → Option ℕ) → AreStepsRelaxed k old v part → IsOffer k old h offer → TakesOffer k h offer old new
-        → AreStepsRelaxed k new v part
+    landing_kept : (v : ℕ) (part : ℕ → Option ℕ) → ArePartStepsRelaxed k old v part → IsOffer k old h offer → TakesOffer k h offer old new
+        → ArePartStepsRelaxed k new v part
     landing_kept v part landing offers takes =
         let better = takes_improves takes in
         record {

@@ -2,7 +2,7 @@
 ghost use Rattle.std.specs.Prelude.{◌≡◌, ◌≤◌, ℕ, Some, length, IfOk, OnOk};
 ghost use Rattle.route_base.specs.Front.{RiseAndFall};
 ghost use Rattle.route_base.specs.Net.{at_number, IsGoodArc};
-ghost use Rattle.cost_functions.specs.Pieces.{value_at, AreSmall};
+ghost use Rattle.cost_functions.specs.Pieces.{value_at, AreSmallPieces};
 ghost use Rattle.cost_functions.specs.Building.{AreBuilt};
 ghost use Rattle.potentials.specs.Sums.{bound_at};
 ghost use Rattle.propagation.specs.Inside.Invariants.{IsOffer, Reaches, point};
@@ -62,7 +62,7 @@ fn cleared(
 ) -> Result<CostFn, OutOfMemory>
     requires is { bound_at plan.bounds.now h.0 ≡ Some bound }
     requires trade { RiseAndFall pairs.now }
-    requires small { AreSmall costs.now }
+    requires small { AreSmallPieces costs.now }
     ensures cleared { IfOk result
         (λ g. IsCleared (task_of plan.entry) pairs.now h.0 (value_at costs.now) (value_at g)) }
     ensures built { IfOk result AreBuilt }
@@ -85,7 +85,7 @@ pub fn closed(
     requires high { h.0 ≤ plan.net.now.nodes }
     requires bound { bound_at plan.bounds.now h.0 ≡ Some bound }
     requires trade { RiseAndFall state.now.pairs.items }
-    requires small { AreSmall costs.now }
+    requires small { AreSmallPieces costs.now }
     requires source { IsSource (task_of plan) (progress_of state.now) h.0 (value_at costs.now) }
     ensures offer { IfOk result
         (λ g. IsOffer (task_of plan.entry) (progress_of state.now) h.0 (value_at g)) }

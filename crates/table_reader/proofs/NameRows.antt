@@ -5,7 +5,7 @@ use Rattle.std.specs.Map.{lookup, set_value}
 use Rattle.std.specs.Option.{is_some}
 use Rattle.std.specs.Str.{bytes_eq}
 use Rattle.std.proofs.lemmas.List.{map-append}
-use Rattle.table_reader.specs.NameIndex.{value_of, names_of, place_among}
+use Rattle.table_reader.specs.NameIndex.{value_under, names_of, place_among}
 use Rattle.table_reader.proofs.Lists.{lookup-map, position-map}
 
 -- a value written at a key, in entries whose keys are seen through a function
@@ -25,8 +25,8 @@ none_from None e = refl
 none_from (Some x) e = cc
 
 module _ {K V : Type 0} (items : K → List ℕ) (es : List (K × V)) (seen : List (List ℕ × V)) (is : map (λ (e : K × V). (items e.0, e.1)) es ≡ seen) where
-  pub value_seen : (name : List ℕ) → lookup (λ k. bytes_eq name (items k)) es ≡ value_of seen name
-  value_seen name = sym (lookup-map items (bytes_eq name) es) ∙ ap (λ (ns : List (List ℕ × V)). value_of ns name) is
+  pub value_seen : (name : List ℕ) → lookup (λ k. bytes_eq name (items k)) es ≡ value_under seen name
+  value_seen name = sym (lookup-map items (bytes_eq name) es) ∙ ap (λ (ns : List (List ℕ × V)). value_under ns name) is
 
   pub place_seen : (name : List ℕ) → position (λ k. bytes_eq name (items k)) (map (λ (e : K × V). e.0) es) ≡ place_among (names_of seen) name
   place_seen name =

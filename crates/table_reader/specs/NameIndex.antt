@@ -4,8 +4,8 @@ use Rattle.std.specs.Map.{lookup}
 use Rattle.std.specs.Str.{bytes_eq}
 
 -- the value of the first pair with this name
-abbrev pub value_of : {V : Type 0} → List (List ℕ × V) → List ℕ → Option V
-value_of entries name = lookup (bytes_eq name) entries
+abbrev pub value_under : {V : Type 0} → List (List ℕ × V) → List ℕ → Option V
+value_under entries name = lookup (bytes_eq name) entries
 
 -- the names in their order
 abbrev pub names_of : {V : Type 0} → List (List ℕ × V) → List (List ℕ)

@@ -5,7 +5,7 @@ pub use Rattle.std.specs.Borrow.{sem}
 pub use Rattle.std.specs.List.{IsDistinct}
 pub use Rattle.std.specs.Option.{option_copied_mut}
 pub use Rattle.std.specs.Str.{bytes_eq}
-pub use Rattle.table_reader.specs.NameIndex.{value_of, names_of, place_among}
+pub use Rattle.table_reader.specs.NameIndex.{value_under, names_of, place_among}
 pub use Rattle.table_reader.specs.NameLends.{lends_value}
 pub use Rattle.table_reader.specs.Records.{Record, records_of, header_of, rows_of, words_of, headers_of}
 pub use Rattle.table_reader.specs.Refusals.{IfBadCause, ReadsRows}

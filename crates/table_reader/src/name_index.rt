@@ -1,6 +1,6 @@
 // Values by name.
 ghost use Rattle.std.specs.Prelude.{◌≡◌, ◌<◌, ◌∷◌, ◌++◌, [], None, length, map, is_some, IfOk, IfErr, IfSome, OnOk, IsSome};
-ghost use Rattle.table_reader.specs.Words.{sem, IsDistinct, option_copied_mut, bytes_eq, IfBadCause, value_of};
+ghost use Rattle.table_reader.specs.Words.{sem, IsDistinct, option_copied_mut, bytes_eq, IfBadCause, value_under};
 ghost use Rattle.table_reader.specs.Words.{names_of, place_among, lends_value};
 
 use crate::faults::RowFault;
@@ -43,7 +43,7 @@ impl<V> NameIndex<V> {
 
     /// Whether the name has a value, in constant time on average.
     pub fn contains(&self, name: &[u8]) -> bool
-        ensures { result ≡ is_some (value_of self.now name.now) }
+        ensures { result ≡ is_some (value_under self.now name.now) }
     {
         self.held.contains_key(name)
     }
@@ -59,7 +59,7 @@ impl<V> NameIndex<V> {
     /// The value of a name, to write. In constant time on average.
     pub fn value_mut(&mut self, name: &[u8]) -> Option<&mut V>
         ensures* writes_back { sem 𝓛 (lends_value V.row self.entry name.now result) }
-        ensures value { option_copied_mut result ≡ value_of self.old name.now }
+        ensures value { option_copied_mut result ≡ value_under self.old name.now }
     {
         match self.held.get_mut(name) {
             Some(value) => Some(value),
@@ -71,7 +71,7 @@ impl<V> NameIndex<V> {
 impl<V: Copy> NameIndex<V> {
     /// The value of a name, in constant time on average.
     pub fn value(&self, name: &[u8]) -> Option<V>
-        ensures { result ≡ value_of self.now name.now }
+        ensures { result ≡ value_under self.now name.now }
     {
         self.held.get(name).copied()
     }
@@ -80,10 +80,10 @@ impl<V: Copy> NameIndex<V> {
 impl<V: Drop> NameIndex<V> {
     /// Adds a name with its value, in constant time on average; `Duplicate` where the name has one.
     pub fn add(&mut self, alloc: Global, name: &[u8], value: V) -> Result<(), RowFault>
-        ensures free { OnOk result (value_of self.old name.now ≡ None) }
+        ensures free { OnOk result (value_under self.old name.now ≡ None) }
         ensures added { OnOk result (self.new ≡ self.old ++ (name.now, value) ∷ []) }
         ensures refused { IfErr result (λ e. IfBadCause e (λ cause.
-            (cause ≡ Cause.Duplicate) × IsSome (value_of self.old name.now))) }
+            (cause ≡ Cause.Duplicate) × IsSome (value_under self.old name.now))) }
     {
         if self.held.contains_key(name) {
             return Err(RowFault::Bad(Cause::Duplicate));

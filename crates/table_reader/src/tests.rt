@@ -12,7 +12,7 @@ struct Sizes {
 }
 
 impl Naming<u64> for Sizes {
-    ghost use Rattle.table_reader.specs.NameIndex.{value_of};
+    ghost use Rattle.table_reader.specs.NameIndex.{value_under};
 
     ghost numbers = { codes "box" };
 
@@ -20,7 +20,7 @@ impl Naming<u64> for Sizes {
 
     ghost limit = { 3 };
 
-    ghost named = { λ sizes. value_of sizes.held };
+    ghost named = { λ sizes. value_under sizes.held };
 
     fn headers(&self) -> &'static [&'static [&'static str]] {
         &[&["box", "size"]]

@@ -1,6 +1,6 @@
 // Tables: the codes of lockers, as a table of one's own.
 ghost use Rattle.std.specs.Prelude.{◌≡◌, codes, map};
-ghost use Rattle.table_reader.specs.NameIndex.{value_of};
+ghost use Rattle.table_reader.specs.NameIndex.{value_under};
 ghost use Rattle.table_reader.specs.Words.{ReadsRows, first_table_fault, records_of};
 ghost use Rattle.uses.specs.Lockers.{lockers_schema, codes_of};
 
@@ -21,7 +21,7 @@ impl Naming<u64> for Codes {
 
     ghost limit = { 100 };
 
-    ghost named = { λ held. value_of held.by_name };
+    ghost named = { λ held. value_under held.by_name };
 
     fn headers(&self) -> &'static [&'static [&'static str]] {
         &[&["locker", "colour"]]

@@ -11,7 +11,7 @@ use Rattle.route_base.specs.declared.faults.Cause.TheVariants.{Duplicate}
 use Rattle.table_reader.specs.declared.faults.RowFault.{RowFault}
 use Rattle.table_reader.specs.declared.faults.RowFault.TheVariants as row
 use Rattle.table_reader.specs.Refusals.{IfBadCause}
-use Rattle.table_reader.specs.NameIndex.{names_of, value_of}
+use Rattle.table_reader.specs.NameIndex.{names_of, value_under}
 use Rattle.table_reader.specs.Records.{Record}
 use Rattle.table_reader.proofs.Lists.{filter_map-push}
 use Rattle.vehicle_classes.specs.VehicleModel.{VehicleModel, any_vehicle}
@@ -39,9 +39,9 @@ refused_weaker (Err row.OutOfMemory) P Q weaker refused = tt
 module _ (held : NamedVehicles) (pairs : List VehicleEntry) (hold : HoldVehicles held pairs) where
   -- why a row can't follow
   pub cause_held : {V : Type 0} (names : List (List ℕ × V)) (v : VehicleEntry) (b : Bool) → names_of names ≡ held.names
-      → is_some (value_of names v.0) ≡ b → cause_of_vehicle pairs (Some v) ≡ cond b (Some Duplicate) None
+      → is_some (value_under names v.0) ≡ b → cause_of_vehicle pairs (Some v) ≡ cond b (Some Duplicate) None
   cause_held names v b is taken =
-      let same : is_some (value_of pairs v.0) ≡ b =
+      let same : is_some (value_under pairs v.0) ≡ b =
       is_some-lookup (bytes_eq v.0) pairs ∙ ap (λ (ns : List (List ℕ)). list_any (bytes_eq v.0) ns) (sym (is ∙ hold.names))
       ∙ sym (is_some-lookup (bytes_eq v.0) names) ∙ taken in
       rw same refl

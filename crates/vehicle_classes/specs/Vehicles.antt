@@ -8,7 +8,7 @@ use Rattle.route_base.specs.declared.faults.Cause.{Cause}
 use Rattle.route_base.specs.declared.faults.Cause.TheVariants.{BadField, Duplicate}
 use Rattle.route_base.specs.declared.limits.TheConstants.{LARGEST_SIZE, MOST_VEHICLES}
 use Rattle.table_reader.specs.Schema.{Schema}
-use Rattle.table_reader.specs.NameIndex.{value_of}
+use Rattle.table_reader.specs.NameIndex.{value_under}
 use Rattle.table_reader.specs.Records.{Record}
 use Rattle.vehicle_classes.specs.declared.classes.Class.{Class}
 use Rattle.vehicle_classes.specs.declared.classes.Class.TheVariants.{Hgv, HgvArticulated, Goods, Bus}
@@ -45,8 +45,8 @@ size_in [] = Some None
 size_in (b ∷ bs) = option_map Some (at_most LARGEST_SIZE (table_number_of (b ∷ bs)))
 
 -- the sizes that six fields give
-abbrev pub sizes_in : List ℕ → List ℕ → List ℕ → List ℕ → List ℕ → List ℕ → Option Sizes
-sizes_in weight axleload height width long axles =
+abbrev pub sizes_of_fields : List ℕ → List ℕ → List ℕ → List ℕ → List ℕ → List ℕ → Option Sizes
+sizes_of_fields weight axleload height width long axles =
     option_and_then (λ weight. option_and_then (λ axleload. option_and_then (λ height.
     option_and_then (λ width. option_and_then (λ long. option_map (λ axles. record {
       weight_kg = weight;
@@ -81,7 +81,7 @@ vehicle_of (name ∷ class ∷ weight ∷ axleload ∷ height ∷ width ∷ long
     if is_name name
     then option_and_then (λ class. option_and_then (λ sizes. option_and_then (λ purpose. option_map
     (λ flags. (name, vehicle_with class purpose sizes flags))
-    (flags_of flags)) (purpose_of purpose)) (sizes_in weight axleload height width long axles)) (class_of class)
+    (flags_of flags)) (purpose_of purpose)) (sizes_of_fields weight axleload height width long axles)) (class_of class)
     else None
 vehicle_of others = None
 
@@ -92,7 +92,7 @@ vehicles_in rows = (codes "any", any_vehicle) ∷ filter_map vehicle_of rows
 -- the name has no vehicle yet
 abbrev pub cause_of_vehicle : List VehicleEntry → Option VehicleEntry → Option Cause
 cause_of_vehicle before None = Some BadField
-cause_of_vehicle before (Some v) = if is_some (value_of before v.0) then Some Duplicate else None
+cause_of_vehicle before (Some v) = if is_some (value_under before v.0) then Some Duplicate else None
 
 -- a name, a class, six sizes, a purpose and flags
 abbrev pub vehicles_schema : Schema

@@ -5,7 +5,7 @@ ghost use Rattle.csv.specs.Records.{fields_of};
 ghost use Rattle.route_base.specs.Forms.{is_blank};
 ghost use Rattle.vehicle_classes.specs.VehicleModel.{IsSmall};
 ghost use Rattle.vehicle_classes.specs.VehicleParts.{AreSmall};
-ghost use Rattle.vehicle_classes.specs.Vehicles.{class_of, purpose_of, size_in, sizes_in, is_flag_byte, has_blank_end};
+ghost use Rattle.vehicle_classes.specs.Vehicles.{class_of, purpose_of, size_in, sizes_of_fields, is_flag_byte, has_blank_end};
 ghost use Rattle.vehicle_classes.specs.Vehicles.{words_in, flags_of, vehicle_of};
 
 use crate::vehicle::{Sizes, Vehicle};
@@ -158,7 +158,7 @@ fn ten_fields(row: &ByteRecord) -> RowFields<'_>
 
 // The sizes that six fields of a row give.
 fn read_sizes(row: &RowFields<'_>) -> Option<Sizes>
-    ensures value { result ≡ sizes_in row.now.weight_kg.now row.now.axleload_kg.now
+    ensures value { result ≡ sizes_of_fields row.now.weight_kg.now row.now.axleload_kg.now
         row.now.height_cm.now row.now.width_cm.now row.now.length_cm.now row.now.axles.now }
     ensures small { IfSome result AreSmall }
 {

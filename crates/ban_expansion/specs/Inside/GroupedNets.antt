@@ -18,14 +18,14 @@ abbrev pub timed_over : ℕ → GraphArc → TimedArc
 timed_over place arc = record { tail = arc.tail; head = arc.head; minutes = arc.minutes; cost = COST_OF_MINUTE * arc.minutes; closed = place }
 
 -- the timed arc is the graph's at place k, and takes its closed runs from the place of its group
-pub record IsTimed (net : NetworkModel) (groups : List ℕ) (k : ℕ) (arc : TimedArc) : Type 0 where
+pub record IsTimedArc (net : NetworkModel) (groups : List ℕ) (k : ℕ) (arc : TimedArc) : Type 0 where
   pub is : option_map (timed_over arc.closed) (slice_get net.graph.arcs k) ≡ Some arc
   pub group : slice_get groups k ≡ Some arc.closed
 
 -- the first `count` arcs of the network are timed
 pub record AreTimed (net : NetworkModel) (groups : List ℕ) (count : ℕ) (arcs : List TimedArc) : Type 0 where
   pub counted : length arcs ≡ count
-  pub each : (k : ℕ) (arc : TimedArc) → slice_get arcs k ≡ Some arc → IsTimed net groups k arc
+  pub each : (k : ℕ) (arc : TimedArc) → slice_get arcs k ≡ Some arc → IsTimedArc net groups k arc
 
 -- the runs have the minutes of the window at which the arc is closed
 pub record HasClosed (net : NetworkModel) (vehicle : VehicleModel) (window : Run) (a : ArcId) (set : List Run) : Type 0 where

@@ -45,8 +45,8 @@ pub record GroupingModel : Type 0 where
 abbrev pub begun : GroupsModel → ArcId → GroupsModel
 begun all a = record { groups = all.groups ++ length all.firsts ∷ []; firsts = all.firsts ++ a ∷ [] }
 
-abbrev pub joined : GroupsModel → ℕ → GroupsModel
-joined all group = record { groups = all.groups ++ group ∷ []; firsts = all.firsts }
+abbrev pub group_joined : GroupsModel → ℕ → GroupsModel
+group_joined all group = record { groups = all.groups ++ group ∷ []; firsts = all.firsts }
 
 -- the grouping once an arc begins a group that this area then shares
 abbrev pub begun_shared : GroupingModel → ArcId → ℕ → GroupingModel

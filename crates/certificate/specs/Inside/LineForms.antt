@@ -15,16 +15,16 @@ use Rattle.certificate.specs.CertificateText.{Tokens}
 use Rattle.certificate.specs.declared.limits.TheConstants.{LONGEST_BOUND}
 
 -- the tokens of a line without its line feed
-abbrev pub tokens_of : List ℕ → Tokens
-tokens_of line = slice_split (λ b. b == 32) line
+abbrev pub spaced_tokens : List ℕ → Tokens
+spaced_tokens line = slice_split (λ b. b == 32) line
 
 -- the plain number of a token, where it is within these limits
 abbrev pub number_within : ℕ → ℕ → List ℕ → Option ℕ
 number_within least most token = option_and_then (λ n. if nat_le least n && nat_le n most then Some n else None) (plain_number_of token)
 
 -- a node's number
-abbrev pub node_of : List ℕ → Option NodeId
-node_of token = option_map (λ n. record { 0 = n }) (number_within 1 MOST_NODES token)
+abbrev pub node_from : List ℕ → Option NodeId
+node_from token = option_map (λ n. record { 0 = n }) (number_within 1 MOST_NODES token)
 
 -- a leg of a word and a number
 abbrev pub leg_from : List ℕ → List ℕ → Option Leg
@@ -56,7 +56,7 @@ bound_from minutes cost =
 -- the node and the bounds of a line
 abbrev pub bound_in : Tokens → Option (NodeId × Bound)
 bound_in (word ∷ node ∷ minutes ∷ cost ∷ []) =
-    if bytes_eq word (codes "bound") then option_and_then (λ v. option_map (λ b. (v, b)) (bound_from minutes cost)) (node_of node) else None
+    if bytes_eq word (codes "bound") then option_and_then (λ v. option_map (λ b. (v, b)) (bound_from minutes cost)) (node_from node) else None
 bound_in tokens = None
 
 -- a piece of four numbers, where it has minutes, and no slope where it has one minute
@@ -69,7 +69,7 @@ piece_from lo hi cost slope =
 -- the node and the piece of a line
 abbrev pub piece_in : Tokens → Option (NodeId × Piece)
 piece_in (word ∷ node ∷ lo ∷ hi ∷ cost ∷ slope ∷ []) =
-    if bytes_eq word (codes "piece") then option_and_then (λ v. option_map (λ p. (v, p)) (piece_from lo hi cost slope)) (node_of node) else None
+    if bytes_eq word (codes "piece") then option_and_then (λ v. option_map (λ p. (v, p)) (piece_from lo hi cost slope)) (node_from node) else None
 piece_in tokens = None
 
 -- the piece of a line, where it is of this node

@@ -10,12 +10,12 @@ use Rattle.route_base.specs.declared.types.Pair.{Pair}
 use Rattle.route_base.specs.declared.types.Route.{Route}
 use Rattle.cost_functions.specs.declared.pieces.Piece.{Piece}
 use Rattle.certificate.specs.CertificateText.{Tokens, all_pieces}
-use Rattle.certificate.specs.Inside.LineForms.{tokens_of, leg_in, pair_in, bound_in, piece_in, piece_at, count_in}
+use Rattle.certificate.specs.Inside.LineForms.{spaced_tokens, leg_in, pair_in, bound_in, piece_in, piece_at, count_in}
 use Rattle.certificate.specs.declared.Certificate.{Certificate}
 
 -- the lines of bytes; behind the last line feed is one more
-abbrev pub lines_of : List ℕ → List Tokens
-lines_of bytes = map tokens_of (slice_split (λ b. b == 10) bytes)
+abbrev pub token_lines : List ℕ → List Tokens
+token_lines bytes = map spaced_tokens (slice_split (λ b. b == 10) bytes)
 
 -- a reader of an item from the front, which gives the lines behind it too
 abbrev pub Reading : Type 0 → Type 0

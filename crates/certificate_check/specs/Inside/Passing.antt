@@ -14,12 +14,12 @@ use Rattle.certificate.specs.declared.limits.TheConstants.{LONGEST_BOUND}
 use Rattle.certificate_check.specs.declared.sweep.Passage.{Passage}
 
 -- a position whose node does not matter, since its bounds and its values are at hand
-abbrev pub point : ℕ → ℕ → Position
-point t x = record { node = 0; minute = t; cost = x }
+abbrev pub goal_point : ℕ → ℕ → Position
+goal_point t x = record { node = 0; minute = t; cost = x }
 
 -- the pieces have a value of at most x at t
 abbrev pub HasValueWithin : List Piece → ℕ → ℕ → Type 0
-HasValueWithin pieces t x = HasWithin (λ _. value_at pieces) (point t x)
+HasValueWithin pieces t x = HasWithin (λ _. value_at pieces) (goal_point t x)
 
 -- a drive, or a wait of one minute: its minutes, its cost, when it can't be made, the bounds where it begins and ends, and the values where it ends
 pub record Link : Type 0 where
@@ -37,9 +37,9 @@ link_of p = record { minutes = p.minutes; cost = p.cost; closed = p.closed.now; 
 -- at this minute and cost the position before the step is dominated or late, or the step can't be made, or the position behind it is relaxed
 abbrev pub Passes : ℕ → List Pair → Link → ℕ → ℕ → Type 0
 Passes until pairs link t x =
-    IsDominatedOrLate until pairs link.from (point t x)
+    IsDominatedOrLate until pairs link.from (goal_point t x)
     ⊎ (t + link.minutes ≤ until → IsFree link.closed t link.minutes
-    → IsRelaxed until pairs (λ _. link.to) (λ _. value_at link.values) (point (t + link.minutes) (x + link.cost)))
+    → IsRelaxed until pairs (λ _. link.to) (λ _. value_at link.values) (goal_point (t + link.minutes) (x + link.cost)))
 
 -- the bound, if there is one, is within the limits of the format
 abbrev pub IsBoundInRange : Option Bound → Type 0

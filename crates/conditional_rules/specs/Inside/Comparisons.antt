@@ -47,25 +47,25 @@ sign_at (a ∷ bs) =
     else None
 
 -- the number of no more digits than this
-abbrev pub short_number_of : ℕ → List ℕ → Option ℕ
-short_number_of most digits = if nat_le (length digits) most then number_of digits else None
+abbrev pub bounded_number_of : ℕ → List ℕ → Option ℕ
+bounded_number_of most digits = if nat_le (length digits) most then number_of digits else None
 
 -- the value of a whole number and the decimals at the front of a text, and what is behind them
 abbrev pub decimals_at : ℕ → ℕ → List ℕ → Option (ℕ × List ℕ)
 decimals_at decimals n text =
     let digits = take_while is_digit text in
     option_map (λ d. (n * 10 ^ decimals + d * 10 ^ (decimals - length digits), behind is_digit text))
-    (short_number_of decimals digits)
+    (bounded_number_of decimals digits)
 
 -- the value of a whole number, and of a point and decimals where a point follows
-abbrev pub point_at : ℕ → ℕ → List ℕ → Option (ℕ × List ℕ)
-point_at decimals n [] = Some (n * 10 ^ decimals, [])
-point_at decimals n (b ∷ bs) = if b == 46 then decimals_at decimals n bs else Some (n * 10 ^ decimals, b ∷ bs)
+abbrev pub decimal_point_at : ℕ → ℕ → List ℕ → Option (ℕ × List ℕ)
+decimal_point_at decimals n [] = Some (n * 10 ^ decimals, [])
+decimal_point_at decimals n (b ∷ bs) = if b == 46 then decimals_at decimals n bs else Some (n * 10 ^ decimals, b ∷ bs)
 
 -- the measure at the front of a text, and what is behind it
 unfoldable pub measure_at : ℕ → List ℕ → Option (ℕ × List ℕ)
 measure_at decimals text =
-    option_and_then (λ n. point_at decimals n (behind is_digit text)) (short_number_of 6 (take_while is_digit text))
+    option_and_then (λ n. decimal_point_at decimals n (behind is_digit text)) (bounded_number_of 6 (take_while is_digit text))
 
 -- whether this is nothing or the unit of a size
 abbrev pub is_unit : Quantity → List ℕ → Bool

@@ -1,14 +1,14 @@
 -- A piece joined with the one before it (source: own; no law).
 use Rattle.std.specs.Prelude.{◌≡◌, ℕ, ◌<◌, ◌≤◌, List, [], ◌∷◌, ◌++◌, All}
 use Rattle.cost_functions.specs.declared.pieces.Piece.{Piece}
-use Rattle.cost_functions.specs.Lines.{IsPiece, IsSmall, AreOneLine}
+use Rattle.cost_functions.specs.Lines.{IsPiece, IsSmallPiece, AreOneLine}
 use Rattle.cost_functions.specs.Pieces.{value_at}
 use Rattle.cost_functions.specs.Building.{AreBuilt}
 
 -- one piece with the values of two neighbours; a piece is on one line with it only where it is with the first, or with the second
 pub record IsJoined (p q joined : Piece) : Type 0 where
   pub piece : IsPiece joined
-  pub small : IsSmall joined
+  pub small : IsSmallPiece joined
   pub lo : joined.lo ≡ p.lo
   pub hi : joined.hi ≡ q.hi
   pub value : (t : ℕ) → value_at (joined ∷ []) t ≡ value_at (p ∷ q ∷ []) t

@@ -26,8 +26,8 @@ abbrev pub IsConsistent : Stated → Type 0
 IsConsistent stated = IsConsistentFrom stated.sizes stated.arcs
 
 -- the statement with one more line
-abbrev pub after : Stated → Line → Stated
-after stated Ignored = stated
-after stated (Problem n m) = record stated { sizes = Some (record { nodes = n; arcs = m }) }
-after stated (Arc u v w) = record stated { arcs = stated.arcs ++ arc_with u v w ∷ [] }
-after stated Bad = stated
+abbrev pub stated_after : Stated → Line → Stated
+stated_after stated Ignored = stated
+stated_after stated (Problem n m) = record stated { sizes = Some (record { nodes = n; arcs = m }) }
+stated_after stated (Arc u v w) = record stated { arcs = stated.arcs ++ arc_with u v w ∷ [] }
+stated_after stated Bad = stated

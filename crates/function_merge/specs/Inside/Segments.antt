@@ -1,6 +1,6 @@
 -- The next segment of the lower envelope of two functions (source: own; no law).
 use Rattle.std.specs.Prelude.{◌≡◌, ℕ, ◌<◌, ◌≤◌, false, Some, None, List}
-use Rattle.cost_functions.specs.Lines.{line_at, IsSmall}
+use Rattle.cost_functions.specs.Lines.{line_at, IsSmallPiece}
 use Rattle.cost_functions.specs.declared.pieces.Piece.{Piece}
 use Rattle.route_base.specs.declared.limits.TheConstants.{LAST_INSTANT}
 use Rattle.function_merge.specs.Least.{least_at, better_at}
@@ -11,7 +11,7 @@ pub record IsNextSegment (f g : List Piece) (from : ℕ) (s : Segment) : Type 0 
   pub starts : from ≤ s.piece.lo
   pub filled : s.piece.lo ≤ s.piece.hi
   pub minutes : s.piece.hi ≤ LAST_INSTANT
-  pub small : IsSmall s.piece
+  pub small : IsSmallPiece s.piece
   pub gap_least : (t : ℕ) → from ≤ t → t < s.piece.lo → least_at f g t ≡ None
   pub gap_better : (t : ℕ) → from ≤ t → t < s.piece.lo → better_at f g t ≡ false
   pub least : (t : ℕ) → s.piece.lo ≤ t → t ≤ s.piece.hi → least_at f g t ≡ Some (line_at s.piece t)

@@ -1,6 +1,6 @@
 // Random functions, against lists of their values.
 ghost use Rattle.std.specs.Prelude.{◌≡◌, ◌<◌, ◌≤◌, ◌+◌, All, AllPairs, IfOk, OnOk};
-ghost use Rattle.cost_functions.specs.Pieces.{AreSmall};
+ghost use Rattle.cost_functions.specs.Pieces.{AreSmallPieces};
 ghost use Rattle.cost_functions.specs.Building.{AreBuilt};
 ghost use Rattle.route_base.specs.Front.{RiseAndFall};
 

@@ -20,5 +20,5 @@ abbrev pub setting_in : Solved → Setting
 setting_in solved = setting_of solved.net.now
 
 -- the cost at a node and minute
-abbrev pub cost_in : Solved → ℕ → ℕ → Option ℕ
-cost_in solved v t = cost_at solved.found.now.functions v t
+abbrev pub solved_cost : Solved → ℕ → ℕ → Option ℕ
+solved_cost solved v t = cost_at solved.found.now.functions v t

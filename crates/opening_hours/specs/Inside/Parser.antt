@@ -131,14 +131,14 @@ read_times ts =
     else if is_opens (behind (belongs parts.Spans) ts) then option_map (λ ss. times.Spans ss) (read_spans (take_while (belongs parts.Spans) ts))
     else None
 
-abbrev pub rule_of : List DateSpan → List DayItem → RuleTimes → HoursRule
-rule_of ds is ts = record { dates = ds; days = is; times = ts }
+abbrev pub hours_rule_of : List DateSpan → List DayItem → RuleTimes → HoursRule
+hours_rule_of ds is ts = record { dates = ds; days = is; times = ts }
 
 -- the tokens behind the dates
 unfoldable pub read_after : List DateSpan → List Token → Option HoursRule
 read_after ds ts =
-    if is_long ts then option_map (λ l. rule_of ds [] (times.Long l)) (read_long ts)
-    else option_and_then (λ is. option_map (λ t. rule_of ds is t) (read_times (behind (belongs parts.Days) ts)))
+    if is_long ts then option_map (λ l. hours_rule_of ds [] (times.Long l)) (read_long ts)
+    else option_and_then (λ is. option_map (λ t. hours_rule_of ds is t) (read_times (behind (belongs parts.Days) ts)))
     (read_days (take_while (belongs parts.Days) ts))
 
 -- a colon may stand behind dates
@@ -152,7 +152,7 @@ read_dated ts =
     option_and_then (λ ds. read_after ds (without_colon dates (behind (belongs parts.Dates) ts))) (read_dates dates)
 
 unfoldable pub read_rule : List Token → Option HoursRule
-read_rule (Always ∷ os) = if is_opens os then Some (rule_of [] [] (times.Spans whole_day)) else None
+read_rule (Always ∷ os) = if is_opens os then Some (hours_rule_of [] [] (times.Spans whole_day)) else None
 read_rule ts = if is_opens ts then None else read_dated ts
 
 unfoldable pub read_rules : List Token → Option (List HoursRule)

@@ -4,13 +4,13 @@ use Rattle.plain_search.specs.Inside.Costs.{none}
 use Rattle.plain_search.specs.declared.cost_table.CostTable.{CostTable}
 
 -- the place of the cell of node v and minute t
-abbrev pub place_of : ℕ → ℕ → ℕ → ℕ → ℕ
-place_of width depart v t = (t - depart) * width + (v - 1)
+abbrev pub cell_of : ℕ → ℕ → ℕ → ℕ → ℕ
+cell_of width depart v t = (t - depart) * width + (v - 1)
 
 -- the cost at node v and minute t, in cells of rows from minute depart on and columns from node 1 on
 abbrev pub cost_in : ℕ → ℕ → List ℕ → ℕ → ℕ → ℕ
 cost_in width depart cells v t =
-    if nat_lt 0 v && nat_le v width && nat_le depart t then slice_index_or cells (place_of width depart v t) none else none
+    if nat_lt 0 v && nat_le v width && nat_le depart t then slice_index_or cells (cell_of width depart v t) none else none
 
 -- the cost at each node and minute
 abbrev pub cost_of : CostTable → ℕ → ℕ → ℕ

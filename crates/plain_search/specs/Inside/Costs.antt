@@ -9,7 +9,7 @@ abbrev pub none : ℕ
 none = 18446744073709551615
 
 -- x is the label of node v at minute t, which is reached
-pub record IsLabel (cost : ℕ → ℕ → ℕ) (v t x : ℕ) : Type 0 where
+pub record IsKnownCost (cost : ℕ → ℕ → ℕ) (v t x : ℕ) : Type 0 where
   pub is : cost v t ≡ x
   pub reached : x < none
 

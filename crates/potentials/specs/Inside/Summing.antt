@@ -48,13 +48,13 @@ pub record GetsSum (u sum : ℕ) (old new old_keys new_keys : ℕ → Option ℕ
   pub here : (HasSum old u sum × (new u ≡ old u) × (new_keys u ≡ old_keys u)) ⊎ ((HasSum old u sum → ⊥) × (new u ≡ Some sum) × (new_keys u ≡ Some sum))
 
 -- what is counted of an arc
-abbrev pub count_of : Counted → Road → ℕ
-count_of Minutes road = road.minutes
-count_of Cost road = road.cost
+abbrev pub counted_on : Counted → Road → ℕ
+counted_on Minutes road = road.minutes
+counted_on Cost road = road.cost
 
 -- what is kept at the net, with node v at work
 abbrev pub IsSummed : Net → Counted → ℕ → ℕ → List (Option ℕ) → List (Option ℕ) → Type 0
-IsSummed net counted goal v known keys = IsSumming (setting_of net).road (count_of counted) goal net.nodes HIGHEST_COST v (key_at known) (key_at keys)
+IsSummed net counted goal v known keys = IsSumming (setting_of net).road (counted_on counted) goal net.nodes HIGHEST_COST v (key_at known) (key_at keys)
 
 abbrev pub WorksAt : Net → ℕ → ℕ → List (Option ℕ) → List (Option ℕ) → Type 0
 WorksAt net v x known keys = IsAtWork net.nodes HIGHEST_COST v x (key_at known) (key_at keys)
@@ -63,11 +63,11 @@ abbrev pub unsettled_at : Net → List (Option ℕ) → List (Option ℕ) → �
 unsettled_at net known keys = unsettled_count net.nodes (key_at known) (key_at keys)
 
 -- both bounds, where there are both
-abbrev pub bound_from : Option ℕ → Option ℕ → Option Bound
-bound_from None y = None
-bound_from (Some x) None = None
-bound_from (Some x) (Some y) = Some (record { minutes = x; cost = y })
+abbrev pub bound_of_sums : Option ℕ → Option ℕ → Option Bound
+bound_of_sums None y = None
+bound_of_sums (Some x) None = None
+bound_of_sums (Some x) (Some y) = Some (record { minutes = x; cost = y })
 
 -- the least sums to the goal over the net, for each node
 abbrev pub AreLeastSums : Net → Counted → ℕ → List (Option ℕ) → Type 0
-AreLeastSums net counted goal sums = (v : ℕ) → IsLeastSum (setting_of net).road (count_of counted) goal v (key_at sums v)
+AreLeastSums net counted goal sums = (v : ℕ) → IsLeastSum (setting_of net).road (counted_on counted) goal v (key_at sums v)

@@ -62,7 +62,7 @@ pub record IsSound (k : Task) (now : Progress) : Type 0 where
   pub comes : (p : Position) → IsLabel now p → IsStart k.request p ⊎ ComesBy k now.cost p
 
 -- where each cost goes on: waits are relaxed at once; drives are relaxed, or still pending, or those of the part at node v that is at work
-pub record AreStepsRelaxed (k : Task) (now : Progress) (v : ℕ) (part : ℕ → Option ℕ) : Type 0 where
+pub record ArePartStepsRelaxed (k : Task) (now : Progress) (v : ℕ) (part : ℕ → Option ℕ) : Type 0 where
   pub waits : (p q : Position) → IsLabel now p → Waits k.setting k.request.until p q → IsRelaxedIn k now q
   pub drives : (p : Position) → IsLabel now p
       → IsPrunable k now.pairs p ⊎ ((now.pending p.node p.minute ≡ true) ⊎ (InPart v part p ⊎ DrivesRelaxed k now p))
@@ -81,7 +81,7 @@ AreInReach k now = (p : Position) → IsLabel now p → (b : Bound) × (k.bounds
 pub record IsSearching (k : Task) (now : Progress) (v : ℕ) (part : ℕ → Option ℕ) : Type 0 where
   pub start : IsRelaxedIn k now (start_of k.request)
   pub sound : IsSound k now
-  pub steps : AreStepsRelaxed k now v part
+  pub steps : ArePartStepsRelaxed k now v part
   pub paired : IsPaired k now
   pub tight : AreInReach k now
   pub known : (v t : ℕ) → now.pending v t ≡ true → (x : ℕ) × (now.cost v t ≡ Some x)

@@ -1,14 +1,14 @@
 use Rattle.std.proofs.Common.{◌∙◌, ◌+◌, sym, subst, arith}
 use Rattle.dimacs_reader.specs.Stated.{Stated}
-use Rattle.dimacs_reader.proofs.ReadSoFar.{HasRead, read_none, read_more, line_refused, end_refused, end_faultless, end_graph}
+use Rattle.dimacs_reader.proofs.ReadSoFar.{HasReadLines, read_none, read_more, line_refused, end_refused, end_faultless, end_graph}
 use Rattle.dimacs_reader.proofs.graph_file.read_graph.Goals as goal
 
 pub lines-init : goal.lines-init
-lines-init c = subst (λ (s : Stated). HasRead c.args.bytes.now c.args.bytes.now 1 s) (sym c.new-builder.ensures) (read_none c.args.bytes.now)
+lines-init c = subst (λ (s : Stated). HasReadLines c.args.bytes.now c.args.bytes.now 1 s) (sym c.new-builder.ensures) (read_none c.args.bytes.now)
 
 pub lines-preserved : goal.lines-preserved
 lines-preserved c =
-    subst (λ (s : Stated). HasRead c.args.bytes.now c.in-Some.more.now (c.lines.number + 1) s) (sym c.in_ok-add.ensures.added)
+    subst (λ (s : Stated). HasReadLines c.args.bytes.now c.in-Some.more.now (c.lines.number + 1) s) (sym c.in_ok-add.ensures.added)
     (read_more c.args.bytes.now c.lines.rest.now c.in-Some.text.now c.in-Some.more.now c.lines.number c.lines.builder
     c.read_line-line.result c.lines.invariant c.in-Some.ensures.cut c.in-Some.ensures.less c.read_line-line.ensures
     (sym c.cause.ensures ∙ c.in_default-cause.is))

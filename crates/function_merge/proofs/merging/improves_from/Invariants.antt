@@ -1,5 +1,5 @@
 use Rattle.std.proofs.Common.{◌≡◌, ◌≤◌, ◌<◌, ◌+◌, ◌-◌, false, ℕ, All}
-use Rattle.cost_functions.specs.Pieces.{value_at, ArePieces, AreSmall}
+use Rattle.cost_functions.specs.Pieces.{value_at, ArePieces, AreSmallPieces}
 use Rattle.route_base.specs.declared.limits.TheConstants.{LAST_INSTANT}
 use Rattle.function_merge.specs.Least.{better_at}
 use Rattle.function_merge.proofs.merging.improves_from.Given as goal
@@ -10,8 +10,8 @@ invariant-sweep l = record {
   none : (t : ℕ) → l.start ≤ t → t < l.from → better_at l.f l.g t ≡ false;
   first : ArePieces l.left;
   second : ArePieces l.other;
-  first_small : AreSmall l.left;
-  second_small : AreSmall l.other;
+  first_small : AreSmallPieces l.left;
+  second_small : AreSmallPieces l.other;
   first_from : All (λ p. l.from ≤ p.hi) l.left;
   second_from : All (λ p. l.from ≤ p.hi) l.other;
   first_values : (t : ℕ) → l.from ≤ t → value_at l.left t ≡ value_at l.f t;

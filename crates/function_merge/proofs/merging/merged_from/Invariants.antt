@@ -1,6 +1,6 @@
 use Rattle.std.proofs.Common.{◌≡◌, ◌≤◌, ◌<◌, ◌+◌, ◌-◌, ◌&&◌, leb, Option, ℕ, All}
 use Rattle.route_base.specs.Runs.{AreRuns}
-use Rattle.cost_functions.specs.Pieces.{value_at, ArePieces, AreSmall}
+use Rattle.cost_functions.specs.Pieces.{value_at, ArePieces, AreSmallPieces}
 use Rattle.cost_functions.specs.Building.{IsSettled}
 use Rattle.route_base.specs.declared.limits.TheConstants.{LAST_INSTANT}
 use Rattle.function_merge.specs.Least.{least_at, better_at}
@@ -17,8 +17,8 @@ invariant-sweep l = record {
   runs : AreRuns l.improved;
   first : ArePieces l.left;
   second : ArePieces l.other;
-  first_small : AreSmall l.left;
-  second_small : AreSmall l.other;
+  first_small : AreSmallPieces l.left;
+  second_small : AreSmallPieces l.other;
   first_from : All (λ p. l.from ≤ p.hi) l.left;
   second_from : All (λ p. l.from ≤ p.hi) l.other;
   first_values : (t : ℕ) → l.from ≤ t → value_at l.left t ≡ value_at l.f t;

@@ -2,8 +2,8 @@ use Rattle.std.proofs.Common.{◌≤◌, ◌<◌, All, take, ap, sym, subst, ari
 use Rattle.std.proofs.lemmas.List.{take_more_set}
 use Rattle.std.proofs.lemmas.List.Elements.{All-push}
 use Rattle.std.proofs.lemmas.List.Quantifiers.{all_pairs_push}
-use Rattle.cost_functions.specs.Lines.{IsPiece, IsSmall}
-use Rattle.cost_functions.specs.Pieces.{value_at, ArePieces, AreSmall}
+use Rattle.cost_functions.specs.Lines.{IsPiece, IsSmallPiece}
+use Rattle.cost_functions.specs.Pieces.{value_at, ArePieces, AreSmallPieces}
 use Rattle.function_merge.proofs.PrunedPieces.{put_none, put_some}
 use Rattle.function_merge.proofs.pruning.put_before.Goals as goal
 
@@ -25,8 +25,8 @@ returns-clause-pieces c =
 pub returns-clause-small : goal.returns-clause-small
 returns-clause-small c =
     let cut = c.cut_before in
-    subst AreSmall (sym (take_more_set c.args.pieces.now c.args.place cut.result c.requires.place))
-    (All-push IsSmall (take c.args.place c.args.pieces.now) cut.result c.requires.small cut.ensures.small)
+    subst AreSmallPieces (sym (take_more_set c.args.pieces.now c.args.place cut.result c.requires.place))
+    (All-push IsSmallPiece (take c.args.place c.args.pieces.now) cut.result c.requires.small cut.ensures.small)
 
 pub returns-clause-put : goal.returns-clause-put
 returns-clause-put c =

@@ -1,5 +1,5 @@
 use Rattle.std.proofs.Common.{◌∙◌, arith}
-use Rattle.cost_functions.specs.Lines.{IsSmall}
+use Rattle.cost_functions.specs.Lines.{IsSmallPiece}
 use Rattle.function_merge.proofs.FirstPieces.{rest_are, rest_every, rest_values, reach_all}
 use Rattle.function_merge.proofs.suffixes.skip_pieces.Goals as goal
 
@@ -10,7 +10,7 @@ skip-preserved c =
     let some = c.in-len1-up.len_at_least in
     record {
       pieces = rest_are left some inv.pieces;
-      small = rest_every left some inv.pieces IsSmall inv.small;
+      small = rest_every left some inv.pieces IsSmallPiece inv.small;
       values = λ t late. rest_values left some inv.pieces t (omega (arith, late, c.if-from-first.false)) ∙ inv.values t late;
     }
 

@@ -4,7 +4,7 @@ use Rattle.route_base.specs.Itinerary.{Step}
 use Rattle.route_base.specs.Legs.{steps_of, steps_of_leg}
 use Rattle.route_base.specs.declared.types.Leg.{Leg}
 use Rattle.propagation.specs.Inside.Invariants.{point}
-use Rattle.itinerary_unpack.specs.Inside.Requests.{setting_in, cost_in}
+use Rattle.itinerary_unpack.specs.Inside.Requests.{setting_in, solved_cost}
 use Rattle.itinerary_unpack.specs.Inside.Ways.{LeadsToPair, IsTidyBack}
 use Rattle.itinerary_unpack.proofs.Backwards.{at_pair, whole_walk, leads_before, node_within, cost_is}
 use Rattle.itinerary_unpack.proofs.back.legs_back.Goals as goal
@@ -15,7 +15,7 @@ back-init c =
     let found = c.args.solved.found.now in
     let good = c.requires.solved.found in
     let s = setting_in c.args.solved in
-    let cost = cost_in c.args.solved in
+    let cost = solved_cost c.args.solved in
     let start = at_pair c.args.solved.net.now r found good c.args.pair c.requires.one in
     let tight = good.justified.tight (point r.goal.0 c.args.pair.arrival start.here) start.known in
     let none : [] ≡ c.new-legs.result.items = sym c.new-legs.ensures.items in
@@ -39,7 +39,7 @@ pub back-preserved : goal.back-preserved
 back-preserved c =
     let r = c.args.solved.request in
     let s = setting_in c.args.solved in
-    let cost = cost_in c.args.solved in
+    let cost = solved_cost c.args.solved in
     let from = c.source_of-source.result in
     let comes = c.source_of-source.ensures in
     let leads = c.back.invariant.leads in
@@ -69,7 +69,7 @@ pub returns-clause-walk : goal.returns-clause-walk
 returns-clause-walk c =
     let r = c.args.solved.request in
     let s = setting_in c.args.solved in
-    let cost = cost_in c.args.solved in
+    let cost = solved_cost c.args.solved in
     let steps = steps_of (reverse c.back.legs.items) in
     whole_walk c.args.solved.net.now r c.args.solved.found.now c.requires.solved.found c.args.pair c.requires.one c.requires.solved.in_time steps
     (subst (λ n. LeadsToPair s r cost c.args.pair n r.depart steps) c.if-node-solved.false

@@ -1,7 +1,7 @@
 use Rattle.std.proofs.Common.{◌+◌, ◌≤◌, length}
 use Rattle.std.specs.Prelude.{reverse}
 use Rattle.route_base.specs.Legs.{steps_of}
-use Rattle.itinerary_unpack.specs.Inside.Requests.{setting_in, cost_in}
+use Rattle.itinerary_unpack.specs.Inside.Requests.{setting_in, solved_cost}
 use Rattle.itinerary_unpack.specs.Inside.Ways.{LeadsToPair, IsTidyBack}
 use Rattle.itinerary_unpack.proofs.back.legs_back.Given as goal
 
@@ -11,7 +11,7 @@ invariant-back l = record {
   high : l.node.0 ≤ l.solved.net.now.nodes;
   size : length (steps_of (reverse l.legs.items)) + l.minute ≤ l.solved.request.until;
   tidy : IsTidyBack l.legs.items;
-  leads : LeadsToPair (setting_in l.solved) l.solved.request (cost_in l.solved) l.fn.pair l.node.0 l.minute (steps_of (reverse l.legs.items));
+  leads : LeadsToPair (setting_in l.solved) l.solved.request (solved_cost l.solved) l.fn.pair l.node.0 l.minute (steps_of (reverse l.legs.items));
 }
 
 abbrev pub decreases-back : goal.decreases-back

@@ -7,7 +7,7 @@ use Rattle.route_base.specs.declared.types.Leg.TheVariants.{Wait}
 use Rattle.potentials.proofs.Ending.{place_ends, ends_place, ends_of}
 use Rattle.propagation.specs.Found.{IsStart, HasPredecessor}
 use Rattle.propagation.specs.Inside.Invariants.{point}
-use Rattle.itinerary_unpack.specs.Inside.Requests.{setting_in, cost_in}
+use Rattle.itinerary_unpack.specs.Inside.Requests.{setting_in, solved_cost}
 use Rattle.itinerary_unpack.specs.Inside.Sources.{ComesFrom, HasNoDrive}
 use Rattle.itinerary_unpack.proofs.Sourcing.{waits_in}
 use Rattle.itinerary_unpack.proofs.sources.source_of.Goals as goal
@@ -29,17 +29,17 @@ loop-a-preserved c i a below is = ⊎_elim
     let e : Some a ≡ Some (get_or arcs c.loop-a.a-index none) = sym is
     ∙ (ap (λ n. slice_get arcs n) same ∙ slice_get-get_or arcs c.loop-a.a-index none c.loop-a-test.true) in
     let arc : get_or arcs c.loop-a.a-index none ≡ a = cc in
-    subst (λ (w : ArcId). HasNoDrive (setting_in c.args.solved) c.args.solved.request.until (cost_in c.args.solved) w.0 c.args.v.0 c.args.t c.args.x) arc
+    subst (λ (w : ArcId). HasNoDrive (setting_in c.args.solved) c.args.solved.request.until (solved_cost c.args.solved) w.0 c.args.v.0 c.args.t c.args.x) arc
     (c.in_default.ensures.none refl))
     (cases_lt i c.loop-a.a-index)
 
 by_wait : (c : goal.After-loop-a) → (1 ≤ c.args.t)
-    × ComesFrom (setting_in c.args.solved) c.args.solved.request.until (cost_in c.args.solved) c.args.v.0 c.args.t c.args.x
+    × ComesFrom (setting_in c.args.solved) c.args.solved.request.until (solved_cost c.args.solved) c.args.v.0 c.args.t c.args.x
     (record { leg = Wait 1; node = c.args.v; minute = c.args.t - 1 })
 by_wait c =
     let s = setting_in c.args.solved in
     let until = c.args.solved.request.until in
-    let cost = cost_in c.args.solved in
+    let cost = solved_cost c.args.solved in
     let none : (a : ℕ) → HasNoDrive s until cost a c.args.v.0 c.args.t c.args.x = λ a u from before end there within step.
     let place = ends_place c.args.solved.net.now c.args.solved.incoming.now c.args.v.0 c.of-a-items.result.now a c.requires.solved.incoming
     c.of-a-items.ensures (ends_of c.args.solved.net.now a c.args.v.0 step.road step.is (sym step.node)) in

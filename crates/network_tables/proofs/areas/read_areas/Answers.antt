@@ -1,7 +1,7 @@
 use Rattle.std.proofs.Common.{◌≡◌, List, ℕ, None, Option, subst, ap, sym, ◌∙◌}
 use Rattle.zone_rules.specs.declared.rows.ZoneRow.{ZoneRow}
 use Rattle.route_base.specs.declared.faults.FileKind.TheVariants as file
-use Rattle.table_reader.specs.NameIndex.{value_of}
+use Rattle.table_reader.specs.NameIndex.{value_under}
 use Rattle.network_tables.specs.AreaPlaces.{HaveZones}
 use Rattle.network_tables.specs.Areas.{areas_schema, areas_in, areas_or_default}
 use Rattle.network_tables.specs.NetworkFiles.{table_fault}
@@ -19,7 +19,7 @@ returns c =
     record {
       faultless =
           subst (λ (named : List ℕ → Option (List ZoneRow)). table_fault file.Areas (areas_schema named) bytes ≡ None)
-          (λ i name. (ap (λ (z : ZoneList). value_of z name) c.new.ensures.zones ∙ c.requires name) i) read.faultless;
+          (λ i name. (ap (λ (z : ZoneList). value_under z name) c.new.ensures.zones ∙ c.requires name) i) read.faultless;
       stated = (
         c.in_ok-into_areas.ensures.zones ∙ zones,
         subst (λ (z : ZoneList). HaveZones z (areas_or_default rows) c.in_ok-into_areas.field-0.1) zones (c.in_ok-into_areas.ensures.areas rows have),

@@ -15,7 +15,7 @@ use Rattle.network_tables.specs.Areas.{AreaEntry, areas_in}
 use Rattle.network_tables.specs.Holidays.{holidays_named}
 use Rattle.network_tables.specs.NetworkFiles.{arc_count_of, node_count_of, zones_of, areas_of, holidays_of, zone_for}
 use Rattle.network_tables.specs.NetworkFiles.{network_in_files}
-use Rattle.network_tables.specs.NetworkModel.{AreBelow, IsSmall}
+use Rattle.network_tables.specs.NetworkModel.{AreBelow, IsSmallWeight}
 use Rattle.network_tables.specs.NetworkParts.{zones_at, areas_with}
 use Rattle.network_tables.specs.Zones.{ZoneList}
 use Rattle.network_tables.proofs.AreaLists.{areas_each, size_at}
@@ -137,7 +137,7 @@ new-requires c =
             ∙ length-given_by_number _ _ _
             ∙ ap (λ (g : GraphModel). g.nodes) (sym graph);
         small =
-            subst (λ (list : List (Option ℕ)). All IsSmall list) (sym c.in_ok-weights.ensures.stated)
+            subst (λ (list : List (Option ℕ)). All IsSmallWeight list) (sym c.in_ok-weights.ensures.stated)
             (weights_by_node-small (node_count_of files) (rows_of files.ratings) (numbered_in (rows_of files.parking)));
       };
       zoned =

@@ -4,7 +4,7 @@ use Rattle.route_base.specs.Net.{setting_of}
 use Rattle.label_queue.specs.Keys.{key_at}
 use Rattle.label_queue.proofs.Places.{key_read}
 use Rattle.potentials.specs.Sums.{bound_at}
-use Rattle.potentials.specs.Inside.Summing.{bound_from}
+use Rattle.potentials.specs.Inside.Summing.{bound_of_sums}
 use Rattle.potentials.proofs.LeastBounds.{bound_pushed, bound_all, least_all, bounds_hold}
 use Rattle.potentials.proofs.bounds.to_goal_over.Goals as goal
 
@@ -21,15 +21,15 @@ loop-place-preserved c =
     let m = read_at c.in_ok-minutes.minutes.items place c.index.result.now (omega (arith, below, c.in_ok-minutes.ensures.nodes)) c.index.ensures in
     let x = read_at c.in_ok-costs.costs.items place c.index-in-loop-place.result.now
     (omega (arith, below, c.in_ok-costs.ensures.nodes)) c.index-in-loop-place.ensures in
-    let new = c.both.ensures ∙ (ap (λ o. bound_from o c.index-in-loop-place.result.now) (sym m)
-    ∙ ap (λ o. bound_from (key_at c.in_ok-minutes.minutes.items (place + 1)) o) (sym x)) in
+    let new = c.both.ensures ∙ (ap (λ o. bound_of_sums o c.index-in-loop-place.result.now) (sym m)
+    ∙ ap (λ o. bound_of_sums (key_at c.in_ok-minutes.minutes.items (place + 1)) o) (sym x)) in
     record {
       long = ap (λ (w : List (Option Bound)). length w) c.in_ok-push.ensures.ok
           ∙ omega (arith, length-append c.loop-place.bounds (c.both.result ∷ []), c.loop-place.invariant.long);
-      each = λ k lt. subst (λ w. bound_at w (k + 1) ≡ bound_from (key_at c.in_ok-minutes.minutes.items (k + 1)) (key_at c.in_ok-costs.costs.items (k + 1)))
+      each = λ k lt. subst (λ w. bound_at w (k + 1) ≡ bound_of_sums (key_at c.in_ok-minutes.minutes.items (k + 1)) (key_at c.in_ok-costs.costs.items (k + 1)))
           (sym c.in_ok-push.ensures.ok)
           (bound_pushed c.loop-place.bounds c.both.result place
-          (λ n. bound_from (key_at c.in_ok-minutes.minutes.items (n + 1)) (key_at c.in_ok-costs.costs.items (n + 1))) c.loop-place.invariant.long
+          (λ n. bound_of_sums (key_at c.in_ok-minutes.minutes.items (n + 1)) (key_at c.in_ok-costs.costs.items (n + 1))) c.loop-place.invariant.long
           c.loop-place.invariant.each new k lt);
     }
 

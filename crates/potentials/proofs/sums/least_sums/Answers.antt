@@ -2,7 +2,7 @@ use Rattle.std.proofs.Common.{◌≡◌, ◌+◌, ◌≤◌, ◌-◌, Option, �
 use Rattle.route_base.specs.Net.{setting_of}
 use Rattle.label_queue.specs.Keys.{key_at}
 use Rattle.label_queue.proofs.Places.{is_set, key_none}
-use Rattle.potentials.specs.Inside.Summing.{count_of, unsettled_at}
+use Rattle.potentials.specs.Inside.Summing.{counted_on, unsettled_at}
 use Rattle.route_base.specs.declared.limits.TheConstants.{HIGHEST_COST}
 use Rattle.potentials.proofs.Ending.{begins, goes_to_work, no_zero}
 use Rattle.potentials.proofs.Summing.{least_sums}
@@ -16,7 +16,7 @@ turns-init c =
     record {
       nodes = s.room ∙ long;
       room = search rules;
-      facts = begins (setting_of c.args.net.now).road (count_of c.args.counted) c.args.goal.0 c.args.net.now.nodes HIGHEST_COST
+      facts = begins (setting_of c.args.net.now).road (counted_on c.args.counted) c.args.goal.0 c.args.net.now.nodes HIGHEST_COST
           (key_at (set c.in_ok-known.known.items (c.args.goal.0 - 1) (Some 0))) (key_at c.put.new.self)
           s.here (λ v ne. s.others v ne ∙ (ap (λ (w : List (Option ℕ)). key_at w v) none ∙ key_none c.node_count-nodes.result v))
           c.put.ensures.here (λ v ne. c.put.ensures.others v ne ∙ c.in_ok-queue.ensures.empty v);
@@ -39,6 +39,6 @@ turns-smaller c =
     omega (arith, more)
 
 pub returns-clause-least : goal.returns-clause-least
-returns-clause-least c v = least_sums (setting_of c.args.net.now).road (count_of c.args.counted) c.args.goal.0 c.args.net.now.nodes HIGHEST_COST
+returns-clause-least c v = least_sums (setting_of c.args.net.now).road (counted_on c.args.counted) c.args.goal.0 c.args.net.now.nodes HIGHEST_COST
     (key_at c.turns.known.items) (key_at c.turns.queue) (no_zero c.args.net.now c.node_count-nodes.ensures.good) c.turns.invariant.facts
     (c.in_default.ensures.none refl) v

@@ -5,7 +5,7 @@ use Rattle.std.proofs.lemmas.Option.{slice_get-get_or}
 use Rattle.route_base.specs.Net.{setting_of}
 use Rattle.route_base.specs.declared.types.ArcId.{ArcId}
 use Rattle.label_queue.specs.Keys.{key_at}
-use Rattle.potentials.specs.Inside.Summing.{count_of}
+use Rattle.potentials.specs.Inside.Summing.{counted_on}
 use Rattle.route_base.specs.declared.limits.TheConstants.{HIGHEST_COST}
 use Rattle.potentials.proofs.Ending.{place_ends, ends_place, ends_of}
 use Rattle.potentials.proofs.Summing.{settles}
@@ -28,7 +28,7 @@ loop-a-preserved c =
       work = c.relax.ensures.work;
       less = omega (arith, c.relax.ensures.less, c.loop-a.invariant.less);
       relaxed = λ i a below is road by. ⊎_elim
-          (λ (before : i < c.loop-a.a-index). c.relax.ensures.kept road.tail (count_of c.args.plan.counted road + c.args.x)
+          (λ (before : i < c.loop-a.a-index). c.relax.ensures.kept road.tail (counted_on c.args.plan.counted road + c.args.x)
           (c.loop-a.invariant.relaxed i a before is road by))
           (λ (here : c.loop-a.a-index ≤ i).
           let same : i ≡ c.loop-a.a-index = omega (arith, here, below) in
@@ -41,7 +41,7 @@ loop-a-preserved c =
 
 pub returns-clause-facts : goal.returns-clause-facts
 returns-clause-facts c = settles (setting_of c.args.plan.net.now).road
-    (count_of c.args.plan.counted) c.args.plan.goal.0 c.args.plan.net.now.nodes HIGHEST_COST c.args.v.0 c.args.x (key_at c.loop-a.known.items)
+    (counted_on c.args.plan.counted) c.args.plan.goal.0 c.args.plan.net.now.nodes HIGHEST_COST c.args.v.0 c.args.x (key_at c.loop-a.known.items)
     (key_at c.loop-a.queue)
     c.loop-a.invariant.facts c.loop-a.invariant.work
     (λ a road by head.

@@ -4,7 +4,7 @@ use Rattle.route_base.specs.Setting.{Road}
 use Rattle.route_base.specs.Net.{setting_of}
 use Rattle.route_base.specs.declared.types.ArcId.{ArcId}
 use Rattle.label_queue.specs.Keys.{key_at}
-use Rattle.potentials.specs.Inside.Summing.{HasSum, IsSummed, WorksAt, unsettled_at, count_of}
+use Rattle.potentials.specs.Inside.Summing.{HasSum, IsSummed, WorksAt, unsettled_at, counted_on}
 use Rattle.potentials.proofs.sums.settle.Given as goal
 
 abbrev pub invariant-loop-a : goal.invariant-loop-a
@@ -15,5 +15,5 @@ invariant-loop-a l = record {
   work : WorksAt l.plan.net.now l.v.0 l.x l.known.items l.queue;
   less : unsettled_at l.plan.net.now l.known.items l.queue ≤ unsettled_at l.plan.net.now l.fn.known.items l.fn.queue;
   relaxed : (i : ℕ) (a : ArcId) → i < l.a-index → slice_get l.a-items i ≡ Some a → (road : Road) → (setting_of l.plan.net.now).road a.0 ≡ Some road
-      → HasSum (key_at l.known.items) road.tail (count_of l.plan.counted road + l.x);
+      → HasSum (key_at l.known.items) road.tail (counted_on l.plan.counted road + l.x);
 }

@@ -5,8 +5,8 @@ use Rattle.zone_rules.proofs.LastRows.{row_found}
 use Rattle.zone_rules.proofs.SoundZones.{starts_rise, some_there}
 use Rattle.zone_rules.proofs.zone.current_row.Goals as goal
 
-abbrev none : ZoneRow
-none = record { start = 0; offset = pos 0 }
+abbrev missing_row : ZoneRow
+missing_row = record { start = 0; offset = pos 0 }
 
 pub bounds-rows-saturating_sub : goal.bounds-rows-saturating_sub
 bounds-rows-saturating_sub c = let some = some_there c.args.rows.now c.requires.some in omega arith
@@ -18,10 +18,10 @@ returns-clause-value c =
     let parts = IsPartitionPoint-from_clause (λ r.
     leb r.start c.args.t) rows c.partition_point-started.result c.partition_point-started.ensures.partitioned
     (IsPartitionedBy-leb (λ r. r.start) rows c.args.t (starts_rise rows c.requires)) (λ a r f called. search rules) in
-    row_found rows c.args.t c.partition_point-started.result none some (omega arith) parts.0 parts.1
-    ∙ ap (λ i. Some (get_or rows i none)) (sym c.saturating_sub.ensures)
+    row_found rows c.args.t c.partition_point-started.result missing_row some (omega arith) parts.0 parts.1
+    ∙ ap (λ i. Some (get_or rows i missing_row)) (sym c.saturating_sub.ensures)
 
 pub returns-clause-offset : goal.returns-clause-offset
 returns-clause-offset c =
     let some = some_there c.args.rows.now c.requires.some in
-    c.requires.offsets c.saturating_sub.result none (omega arith)
+    c.requires.offsets c.saturating_sub.result missing_row (omega arith)

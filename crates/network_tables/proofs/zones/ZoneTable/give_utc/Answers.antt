@@ -1,7 +1,7 @@
 use Rattle.std.proofs.Common.{ap, sym, ◌∙◌}
 use Rattle.std.specs.Prelude.{codes}
 use Rattle.std.specs.Option.{is_some}
-use Rattle.table_reader.specs.NameIndex.{value_of}
+use Rattle.table_reader.specs.NameIndex.{value_under}
 use Rattle.table_reader.proofs.NameRows.{none_from}
 use Rattle.network_tables.specs.Zones.{ZoneList}
 use Rattle.network_tables.proofs.ZoneRows.{HasZones-there, HasZones-given, lookup_pushed, on_ok}
@@ -10,18 +10,18 @@ use Rattle.network_tables.proofs.zones.ZoneTable.give_utc.Goals as goal
 pub returns-then-contains : goal.returns-then-contains
 returns-then-contains c = λ entries has.
     HasZones-there c.args.self.now entries has
-    (sym (ap (λ (zones : ZoneList). is_some (value_of zones (codes "UTC"))) c.self.view_is) ∙ sym c.contains.ensures ∙ c.if-contains.true)
+    (sym (ap (λ (zones : ZoneList). is_some (value_under zones (codes "UTC"))) c.self.view_is) ∙ sym c.contains.ensures ∙ c.if-contains.true)
 
 pub start-requires-clause-fresh : goal.start-requires-clause-fresh
 start-requires-clause-fresh c =
-    none_from _ (sym (ap (λ (zones : ZoneList). is_some (value_of zones (codes "UTC"))) c.self.view_is) ∙ sym c.contains.ensures ∙ c.if-contains.false)
+    none_from _ (sym (ap (λ (zones : ZoneList). is_some (value_under zones (codes "UTC"))) c.self.view_is) ∙ sym c.contains.ensures ∙ c.if-contains.false)
 
 pub returns : goal.returns
 returns c =
     let zones = c.args.self.now in
     let none =
-    none_from (value_of zones (codes "UTC"))
-    (sym (ap (λ (z : ZoneList). is_some (value_of z (codes "UTC"))) c.self.view_is) ∙ sym c.contains.ensures ∙ c.if-contains.false) in
+    none_from (value_under zones (codes "UTC"))
+    (sym (ap (λ (z : ZoneList). is_some (value_under z (codes "UTC"))) c.self.view_is) ∙ sym c.contains.ensures ∙ c.if-contains.false) in
     on_ok c.start.result (λ added entries has.
     HasZones-given zones entries has c.start.new.self none (λ other.
-    ap (λ (z : ZoneList). value_of z other) added ∙ lookup_pushed zones (codes "UTC") other _ none)) c.start.ensures
+    ap (λ (z : ZoneList). value_under z other) added ∙ lookup_pushed zones (codes "UTC") other _ none)) c.start.ensures
