@@ -20,7 +20,7 @@ STATUS = re.compile(r"^\[status (\d+)\]\n", re.M)
 def documents():
     names = ["README.md"]
     for pattern in ("docs/*.md", "examples/**/*.md"):
-        names += glob.glob(pattern, root_dir=TOP, recursive=True)
+        names += [os.path.relpath(path, TOP) for path in glob.glob(os.path.join(TOP, pattern), recursive=True)]
     return sorted(names)
 
 
