@@ -34,7 +34,7 @@ pub record Check : Type 0 where
   pub trip : Trip
   pub name : List ℕ
 
--- the command that prints the minutes from an instant up to, but not with, another at which an arc is closed to a vehicle
+-- the command that prints the minutes from an instant up to, but not including, another at which an arc is closed to a vehicle
 pub record Bans : Type 0 where
   pub dir : List ℕ
   pub vehicle : List ℕ

@@ -47,7 +47,7 @@ fn bans_of<'a>(places: &[&'a str]) -> Option<Bans<'a>>
     })
 }
 
-// The matches of a line of bans, which `clap` refuses for want of memory alone.
+// The matches of a line of bans, which `clap` refuses only when it is out of memory.
 fn bans_matches<'a>(alloc: Global, line: &'a [&'a str]) -> Result<ArgMatches<'a>, Error>
     requires { IsTaken bans_app (map (λ w. w.now) line.now) }
     ensures found { IfOk result (λ m. (id : List ℕ) → first_value (found_of m) id

@@ -80,7 +80,7 @@ fn number_or_usual(number: Option<u32>) -> u32
     number.unwrap_or(USUAL_WORKERS)
 }
 
-// The matches of a line of a batch, which `clap` refuses for want of memory alone.
+// The matches of a line of a batch, which `clap` refuses only when it is out of memory.
 fn batch_matches<'a>(alloc: Global, line: &'a [&'a str]) -> Result<ArgMatches<'a>, Error>
     requires { IsTaken batch_app (map (λ w. w.now) line.now) }
     ensures found { IfOk result (λ m. (id : List ℕ) → first_value (found_of m) id

@@ -58,7 +58,7 @@ fn check_of<'a>(places: &[&'a str]) -> Option<Check<'a>>
     })
 }
 
-// The matches of a line of a check, which `clap` refuses for want of memory alone.
+// The matches of a line of a check, which `clap` refuses only when it is out of memory.
 fn check_matches<'a>(alloc: Global, line: &'a [&'a str]) -> Result<ArgMatches<'a>, Error>
     requires { IsTaken check_app (map (λ w. w.now) line.now) }
     ensures found { IfOk result (λ m. (id : List ℕ) → first_value (found_of m) id

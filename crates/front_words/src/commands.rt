@@ -29,7 +29,7 @@ pub enum Command {
         until: Minute,
         name: Text,
     },
-    /// Prints the minutes from `depart` up to, but not with, `until` at which an arc is closed to a vehicle, over the files of the folder
+    /// Prints the minutes from `depart` up to, but not including, `until` at which an arc is closed to a vehicle, over the files of the folder
     /// `dir`.
     Bans {
         dir: Text,
@@ -58,7 +58,7 @@ pub enum Command {
 pub enum WordsFault {
     /// The words are no command.
     NotACommand,
-    /// There isn't memory enough.
+    /// Out of memory.
     OutOfMemory,
 }
 

@@ -55,7 +55,7 @@ fn has_few_nodes(network: &Gen) -> bool
     network.rows * network.columns <= MOST_GENERATED_NODES
 }
 
-// The matches of a line of a generation, which `clap` refuses for want of memory alone.
+// The matches of a line of a generation, which `clap` refuses only when it is out of memory.
 fn gen_matches<'a>(alloc: Global, line: &'a [&'a str]) -> Result<ArgMatches<'a>, Error>
     requires { IsTaken gen_app (map (λ w. w.now) line.now) }
     ensures found { IfOk result (λ m. (id : List ℕ) → first_value (found_of m) id

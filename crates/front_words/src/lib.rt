@@ -5,10 +5,10 @@
 //! the commands and their table, and `command_of`, the command that words are.
 //!
 //! `read_words` answers exactly this. Its own tests decide: `splitting` divides the words, `options` finds the value of an option, `forms`
-//! has the forms. `plan`, `check`, `bans`, `batch` and `gen` have one row of the table each, in its order. The words that pass go to one
-//! simple command of `clap` each, in one order: the options with their values, then the positional words. `clap` then refuses them for want
-//! of memory alone (`refused` of `plan_matches`, `check_matches`, `bans_matches`, `batch_matches` and `gen_matches`), and the texts of a
-//! command are those that it gives back.
+//! has the forms. `plan`, `check`, `bans`, `batch` and `generate` have one row of the table each, in its order. The words that pass go to
+//! one simple command of `clap` each, in one order: the options with their values, then the positional words. `clap` then fails only when
+//! it is out of memory (`refused` of `plan_matches`, `check_matches`, `bans_matches`, `batch_matches` and `gen_matches`), and the texts of
+//! a command are those that it gives back.
 //!
 //! `limits` bounds the workers of a batch; a number, rows and columns are those from which `net_generator` draws a network (`IsDrawable`).
 //!

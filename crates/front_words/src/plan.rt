@@ -110,7 +110,7 @@ fn form_or_plain(form: Option<Form>) -> Form
     }
 }
 
-// The matches of a line of a plan, which `clap` refuses for want of memory alone.
+// The matches of a line of a plan, which `clap` refuses only when it is out of memory.
 fn plan_matches<'a>(alloc: Global, line: &'a [&'a str]) -> Result<ArgMatches<'a>, Error>
     requires { IsTaken plan_app (map (λ w. w.now) line.now) }
     ensures found { IfOk result (λ m. (id : List ℕ) → first_value (found_of m) id

@@ -12,7 +12,7 @@ use route_base::Text;
 use std::alloc::Global;
 
 /// The command that the words are: the command's name first, without the name of the program. NotACommand exactly where they are none,
-/// unless there isn't memory enough. Linear in the length of the words.
+/// unless memory runs out. Linear in the length of the words.
 ///
 /// The commands are `plan DIR VEHICLE FROM TO DEPART UNTIL [--form F] [--certificate NAME]`, `check DIR VEHICLE FROM TO DEPART UNTIL
 /// NAME`, `bans DIR VEHICLE ARC DEPART UNTIL`, `batch DIR JOBS [--workers N]` and `gen DIR NUMBER ROWS COLUMNS`. An option stands

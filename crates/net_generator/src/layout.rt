@@ -17,7 +17,7 @@ pub struct Road {
     pub minutes: u64,
 }
 
-/// The minutes from `from` up to, but not with, `to` at which an arc is closed.
+/// The minutes from `from` up to, but not including, `to` at which an arc is closed.
 #[derive(Clone, Copy)]
 pub struct Closure {
     pub arc: u64,

@@ -14,7 +14,7 @@ use node_arcs::NodeArcs;
 use route_base::{ArcId, NodeId, OutOfMemory, TimedArc, TimedNet};
 use std::alloc::Global;
 
-/// What is summed over a walk.
+/// The quantity that is summed over a walk.
 #[derive(Clone, Copy)]
 pub enum Counted {
     Minutes,

@@ -1,7 +1,7 @@
 //! Vehicles: the classes that traffic rules speak of, and the table that lists vehicles by name (csv, RFC 4180).
 //!
 //! A rule names a key of OpenStreetMap's access tags, and a vehicle goes by the keys of its class, from `access` for all to
-//! the key of its own kind. A limit names a quantity, as the height, and a vehicle has a size for each quantity that is
+//! the key of its own kind. A limit names a quantity, such as the height, and a vehicle has a size for each quantity that is
 //! known of it.
 //!
 //! The law is in `specs/`: `Classes` (the keys of each class) is met by `chain_at`; `VehicleModel` (a vehicle's class,
