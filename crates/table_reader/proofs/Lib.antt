@@ -4,3 +4,4 @@ pub mod HeaderLists
 pub mod Lists
 pub mod NameRows
 pub mod NumberedRows
+pub mod RecordSteps

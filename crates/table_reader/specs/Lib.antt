@@ -1,4 +1,5 @@
 pub mod ByNumber
+pub mod Inside
 pub mod NameIndex
 pub mod NameLends
 pub mod Records

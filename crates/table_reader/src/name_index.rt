@@ -1,5 +1,5 @@
 // Values by name.
-ghost use Rattle.std.specs.Prelude.{◌≡◌, ◌<◌, ◌∷◌, ◌++◌, [], None, length, map, is_some, IfOk, IfErr, IfSome, OnOk, IsSome};
+ghost use Rattle.std.specs.Prelude.{◌≡◌, ◌<◌, ◌∷◌, ◌++◌, [], None, length, map, is_some, IfOk, IfErr, IfSome, OnOk, OnErr, IsSome};
 ghost use Rattle.table_reader.specs.Words.{sem, IsDistinct, option_copied_mut, bytes_eq, IfBadCause, value_under};
 ghost use Rattle.table_reader.specs.Words.{names_of, place_among, lends_value};
 
@@ -84,6 +84,7 @@ impl<V: Drop> NameIndex<V> {
         ensures added { OnOk result (self.new ≡ self.old ++ (name.now, value) ∷ []) }
         ensures refused { IfErr result (λ e. IfBadCause e (λ cause.
             (cause ≡ Cause.Duplicate) × IsSome (value_under self.old name.now))) }
+        ensures kept { OnErr result (self.new ≡ self.old) }
     {
         if self.held.contains_key(name) {
             return Err(RowFault::Bad(Cause::Duplicate));

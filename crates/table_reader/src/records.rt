@@ -1,10 +1,10 @@
-// The records of a file, as csv reads them.
-ghost use Rattle.std.specs.Prelude.{◌≡◌, IfOk, map};
-ghost use Rattle.csv.specs.Reading.{records, default_config, strip_bom};
-ghost use Rattle.csv.specs.Records.{fields_of};
-ghost use Rattle.table_reader.specs.Records.{records_of};
+// The records of a file, as csv reads them one after another.
+ghost use Rattle.std.specs.Prelude.{◌≡◌, ◌∷◌, [], IfOk, true, false};
+ghost use Rattle.csv.specs.Reading.{strip_bom};
+ghost use Rattle.table_reader.specs.Inside.RecordReader.{records_left, IsRecordReader};
+ghost use Rattle.table_reader.specs.Words.{fields_of, records_of};
 
-use csv::{ByteRecord, ReaderBuilder};
+use csv::{ByteRecord, Reader, ReaderBuilder};
 use route_base::OutOfMemory;
 use std::alloc::Global;
 
@@ -21,33 +21,29 @@ fn without_mark(bytes: &[u8]) -> &[u8]
     }
 }
 
-// Every record of the bytes. Over bytes in memory csv fails only where memory runs out.
-fn rows_of(alloc: Global, bytes: &[u8]) -> Result<Vec<ByteRecord>, OutOfMemory>
-    ensures { IfOk result (λ v.
-        map fields_of v.items ≡ records default_config (strip_bom bytes.now)) }
+/// A reader of the records of a file, behind a byte order mark at its start. Rows may differ in length.
+#[tactic(auto, unfolding(crate::specs::Records::records_of, crate::specs::Inside::RecordReader::records_left))]
+pub fn record_reader(alloc: Global, bytes: &[u8]) -> Reader<&[u8]>
+    ensures ready { IsRecordReader result }
+    ensures left { records_left result ≡ records_of bytes.now }
 {
-    let rdr = ReaderBuilder::new()
+    ReaderBuilder::new()
         .has_headers(false)
         .flexible(true)
-        .from_reader(alloc, bytes);
-    let mut rows = Vec::new(alloc);
-    for row in rdr.into_byte_records() {
-        match row {
-            Ok(row) => {
-                if rows.push(row).is_err() {
-                    return Err(OutOfMemory);
-                }
-            }
-            Err(_) => return Err(OutOfMemory),
-        }
-    }
-    Ok(rows)
+        .from_reader(alloc, without_mark(bytes))
 }
 
-/// The records of a file, behind a byte order mark at its start. Rows may differ in length. Linear in the bytes.
-#[tactic(auto, unfolding(crate::specs::Records::records_of))]
-pub fn records_in(alloc: Global, bytes: &[u8]) -> Result<Vec<ByteRecord>, OutOfMemory>
-    ensures { IfOk result (λ v. map fields_of v.items ≡ records_of bytes.now) }
+/// Reads the next record into `row`, and answers whether there was one. Linear in its bytes. Over bytes in memory csv fails only
+/// where memory runs out.
+pub fn read_record(reader: &mut Reader<&[u8]>, row: &mut ByteRecord) -> Result<bool, OutOfMemory>
+    requires { IsRecordReader reader.old }
+    ensures ready { IfOk result (λ found. found ≡ true → IsRecordReader reader.new) }
+    ensures next { IfOk result (λ found. found ≡ true →
+        records_left reader.old ≡ fields_of row.new ∷ records_left reader.new) }
+    ensures end { IfOk result (λ found. found ≡ false → records_left reader.old ≡ []) }
 {
-    rows_of(alloc, without_mark(bytes))
+    let Ok(found) = reader.read_byte_record(row) else {
+        return Err(OutOfMemory);
+    };
+    Ok(found)
 }

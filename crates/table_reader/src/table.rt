@@ -1,13 +1,14 @@
 // Reading a table: the part common to all tables.
-ghost use Rattle.std.specs.Prelude.{◌≡◌, ◌<◌, ◌∷◌, ◌++◌, [], None, Some, List, length, map, is_some, IfSome, IfErr, OnOk, ◌^◌};
+ghost use Rattle.std.specs.Prelude.{◌≡◌, ◌<◌, ◌∷◌, ◌++◌, [], None, Some, List, length, is_some, IfSome, IfErr, OnOk, ◌^◌};
+ghost use Rattle.table_reader.specs.Inside.RecordReader.{records_left, IsRecordReader};
 ghost use Rattle.table_reader.specs.Words.{fields_of, IsOfContents, Schema, IsHeader, is_header, cause_after};
 ghost use Rattle.table_reader.specs.Words.{row_fault_from, first_table_fault, Record, records_of, header_of, rows_of};
 ghost use Rattle.table_reader.specs.Words.{words_of, headers_of, IfBadCause, ReadsRows};
 
 use crate::faults::RowFault;
 use crate::fields::has_fields;
-use crate::records::records_in;
-use csv::ByteRecord;
+use crate::records::{read_record, record_reader};
+use csv::{ByteRecord, Reader};
 use route_base::{Cause, TableFault};
 use std::alloc::Global;
 
@@ -77,22 +78,25 @@ fn add_row<T: Table>(
     table.add(alloc, header, row)
 }
 
-// Adds all data rows of a file with this header.
+// Adds all data rows of a file with this header, of which one is in memory at a time.
 fn add_rows<T: Table>(
     alloc: Global,
     mut table: T,
     header: &[&str],
-    rows: &[ByteRecord],
+    mut reader: Reader<&[u8]>,
 ) -> Result<T, TableFault>
     requires start { T.becomes table table (words_of header.now) [] }
     requires known { IsHeader (T.schema table).headers (words_of header.now) }
+    requires ready { IsRecordReader reader }
     ensures { ReadsRows result
-        (row_fault_from (T.schema table) (words_of header.now) [] (map fields_of rows.now))
-        (λ read. T.becomes table read (words_of header.now) (map fields_of rows.now)) }
+        (row_fault_from (T.schema table) (words_of header.now) [] (records_left reader.entry))
+        (λ read. T.becomes table read (words_of header.now) (records_left reader.entry)) }
 {
-    for (count, row) in rows.iter().enumerate() {
-        match add_row(alloc, &mut table, header, count, row) {
-            Ok(()) => {}
+    let mut row = ByteRecord::new(alloc);
+    let mut count = 0;
+    'rows: while read_record(&mut reader, &mut row)? {
+        match add_row(alloc, &mut table, header, count, &row) {
+            Ok(()) => count += 1,
             Err(RowFault::Bad(cause)) => {
                 return Err(TableFault::BadRow {
                     row: count as u64 + 2,
@@ -130,15 +134,16 @@ pub fn read_table<T: Table>(alloc: Global, bytes: &[u8], table: T) -> Result<T, 
     ensures { ReadsRows result (first_table_fault (T.schema table) (records_of bytes.now))
         (λ read. T.becomes table read (header_of bytes.now) (rows_of bytes.now)) }
 {
-    let records = records_in(alloc, bytes)?;
-    match records.as_slice() {
-        [] => Ok(table),
-        [first, rows @ ..] => match header_among(first, table.headers()) {
-            Some(header) => add_rows(alloc, table, header, rows),
-            None => Err(TableFault::BadRow {
-                row: 1,
-                cause: Cause::BadHeader,
-            }),
-        },
+    let mut reader = record_reader(alloc, bytes);
+    let mut first = ByteRecord::new(alloc);
+    if !read_record(&mut reader, &mut first)? {
+        return Ok(table);
+    }
+    match header_among(&first, table.headers()) {
+        Some(header) => add_rows(alloc, table, header, reader),
+        None => Err(TableFault::BadRow {
+            row: 1,
+            cause: Cause::BadHeader,
+        }),
     }
 }

@@ -1,0 +1,2 @@
+-- Machinery of the reader, which is no law (source: own).
+pub mod RecordReader
