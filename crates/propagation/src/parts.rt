@@ -9,6 +9,7 @@ ghost use Rattle.label_queue.specs.Keys.{key_at};
 ghost use Rattle.potentials.specs.Sums.{bound_at};
 ghost use Rattle.propagation.specs.Inside.Invariants.{TakesPart};
 ghost use Rattle.propagation.specs.Inside.States.{progress_of, task_of, is_pending, IsShaped, IsSplit, IsRequeued};
+ghost use Rattle.propagation.specs.declared.parts.TheConstants.{SPAN_AFTER_PAIRS};
 
 use crate::plan::Plan;
 use crate::state::{State, first_of};
@@ -16,12 +17,14 @@ use cost_functions::{CostFn, Piece};
 use function_merge::{cut, prune};
 use label_queue::LabelQueue;
 use minute_sets::MinuteSet;
-use route_base::{Bound, Minute, NodeId, OutOfMemory, Run};
+use route_base::{Bound, Minute, NodeId, OutOfMemory, Pair, Run};
 use std::alloc::Global;
-use std::mem;
 
-// A turn takes the pieces that begin within this many minutes of the first pending one.
-const SPAN: u64 = 20;
+// A turn takes the pieces that begin within an hour of the first pending minute while no pair is found, since later costs still fall.
+const SPAN_BEFORE_PAIRS: u64 = 60;
+
+// Once pairs prune most labels, it takes those that begin within two days, and so reaches over a day's ban.
+const SPAN_AFTER_PAIRS: u64 = 2_880;
 
 // What is taken, and the first minute that is left.
 #[derive(Drop)]
@@ -65,6 +68,7 @@ pub fn part_of(
         state.functions[place].pieces(),
         state.pending[place].runs(),
         first,
+        span_for(&state.pairs),
     );
     let split = split_at(alloc, &mut state.pending, v, first, end)?;
     let whole = cut(alloc, &state.functions[place], &split.taken)?;
@@ -73,12 +77,24 @@ pub fn part_of(
     Ok(part)
 }
 
+// The span of a turn beside these pairs.
+fn span_for(pairs: &[Pair]) -> u64
+    ensures { result ≤ SPAN_AFTER_PAIRS }
+{
+    if pairs.is_empty() {
+        SPAN_BEFORE_PAIRS
+    } else {
+        SPAN_AFTER_PAIRS
+    }
+}
+
 // The end of the last piece of what is pending that begins within the span, so that no piece is split.
-fn end_of_turn(pieces: &[Piece], pending: &[Run], first: Minute) -> Minute
-    requires { first ≤ LAST_INSTANT }
+fn end_of_turn(pieces: &[Piece], pending: &[Run], first: Minute, span: u64) -> Minute
+    requires first { first ≤ LAST_INSTANT }
+    requires span { span ≤ SPAN_AFTER_PAIRS }
     ensures { first < result }
 {
-    let limit = first + SPAN;
+    let limit = first + span;
     let Some(run) = last_run_by(pending, limit) else {
         return first + 1;
     };

@@ -83,6 +83,9 @@ fn drive_all(
     ensures better { OnOk result
         (Improves (task_of plan.entry) (progress_of state.old) (progress_of state.new)) }
 {
+    if part.pieces().is_empty() {
+        return Ok(());
+    }
     for a in plan.outgoing.of(v) {
         drive_one(alloc, plan, sets, state, v, part, *a)?;
     }
