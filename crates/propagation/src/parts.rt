@@ -19,6 +19,7 @@ use label_queue::LabelQueue;
 use minute_sets::MinuteSet;
 use route_base::{Bound, Minute, NodeId, OutOfMemory, Pair, Run};
 use std::alloc::Global;
+use std::mem;
 
 // A turn takes the pieces that begin within an hour of the first pending minute while no pair is found, since later costs still fall.
 const SPAN_BEFORE_PAIRS: u64 = 60;
@@ -116,7 +117,7 @@ fn last_piece_by(pieces: &[Piece], minute: Minute) -> Option<Piece> {
     pieces[..count].last().copied()
 }
 
-// Takes the minutes before an end from what is pending at a node.
+// Takes the minutes before an end from what is pending at a node. Where these are all, the set itself is handed over.
 fn split_at(
     alloc: Global,
     pending: &mut Vec<MinuteSet>,
@@ -134,6 +135,10 @@ fn split_at(
     ensures nodes { OnOk result (length pending.new.items ≡ length pending.old.items) }
 {
     let place = v.0 as usize - 1;
+    if ends_by(&pending[place], end) {
+        let taken = mem::replace(&mut pending[place], MinuteSet::empty(alloc));
+        return Ok(Split { taken, next: None });
+    }
     let halves = halves_at(alloc, &pending[place], end)?;
     let next = first_of(&halves.after);
     pending[place] = halves.after;
@@ -141,6 +146,14 @@ fn split_at(
         taken: halves.before,
         next,
     })
+}
+
+// Whether a set has no minute at an end or later.
+fn ends_by(set: &MinuteSet, end: Minute) -> bool {
+    match set.runs().last() {
+        Some(run) => run.hi <= end,
+        None => true,
+    }
 }
 
 // The minutes of a set before an end, and the others.
