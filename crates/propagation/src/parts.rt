@@ -3,8 +3,7 @@ ghost use Rattle.std.specs.Prelude.{◌≡◌, ◌≤◌, ◌<◌, ◌&&◌, not
 ghost use Rattle.route_base.specs.Front.{RiseAndFall};
 ghost use Rattle.route_base.specs.Runs.{any_has};
 ghost use Rattle.route_base.specs.declared.limits.TheConstants.{LAST_INSTANT};
-ghost use Rattle.cost_functions.specs.Pieces.{value_at};
-ghost use Rattle.cost_functions.specs.Building.{AreBuilt};
+ghost use Rattle.cost_functions.specs.Pieces.{value_at, AreSmallPieces};
 ghost use Rattle.label_queue.specs.Keys.{key_at};
 ghost use Rattle.potentials.specs.Sums.{bound_at};
 ghost use Rattle.propagation.specs.Inside.Invariants.{TakesPart};
@@ -14,7 +13,7 @@ ghost use Rattle.propagation.specs.declared.parts.TheConstants.{SPAN_AFTER_PAIRS
 use crate::plan::Plan;
 use crate::state::{State, first_of};
 use cost_functions::{CostFn, Piece};
-use function_merge::{cut, prune};
+use function_merge::{cut, into_pruned};
 use label_queue::LabelQueue;
 use minute_sets::MinuteSet;
 use route_base::{Bound, Minute, NodeId, OutOfMemory, Pair, Run};
@@ -61,7 +60,7 @@ pub fn part_of(
     ensures parts { IfOk result
         (λ part. TakesPart (task_of plan.entry) v.0 (value_at part) (progress_of state.old)
         (progress_of state.new)) }
-    ensures built { IfOk result AreBuilt }
+    ensures small { IfOk result AreSmallPieces }
     ensures shape { OnOk result (IsShaped plan.entry.net.now.nodes 0 state.new) }
 {
     let place = v.0 as usize - 1;
@@ -73,7 +72,7 @@ pub fn part_of(
     );
     let split = split_at(alloc, &mut state.pending, v, first, end)?;
     let whole = cut(alloc, &state.functions[place], &split.taken)?;
-    let part = prune(alloc, &whole, plan.request.until, &state.pairs, bound)?;
+    let part = into_pruned(whole, plan.request.until, &state.pairs, bound);
     requeue(&mut state.queue, v, split.next, bound);
     Ok(part)
 }

@@ -90,7 +90,7 @@ fn begun(alloc: Global, plan: Plan<'_>) -> Result<State, OutOfMemory>
         return Ok(state);
     };
     let first = CostFn::single(alloc, plan.request.depart, 0)?;
-    let offer = closed(alloc, plan, &state, origin, bound, &first)?;
+    let offer = closed(alloc, plan, &state, origin, bound, first)?;
     take_at(alloc, plan, &mut state, origin, bound, &offer)?;
     Ok(state)
 }

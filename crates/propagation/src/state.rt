@@ -1,7 +1,7 @@
 // What the search has found so far.
 ghost use Rattle.std.specs.Prelude.{◌≡◌, ◌≤◌, ◌||◌, ℕ, true, false, All, length, IfOk, OnOk, IfSome, IsNone};
 ghost use Rattle.route_base.specs.Runs.{any_has};
-ghost use Rattle.cost_functions.specs.Pieces.{value_at};
+ghost use Rattle.cost_functions.specs.Pieces.{value_at, AreSmallPieces};
 ghost use Rattle.cost_functions.specs.Building.{AreBuilt};
 ghost use Rattle.label_queue.specs.Keys.{IsSet};
 ghost use Rattle.propagation.specs.Found.{cost_at};
@@ -33,7 +33,7 @@ pub fn lower_at(
     requires low { 1 ≤ h.0 }
     requires high { h.0 ≤ length functions.old.items }
     requires built { All AreBuilt functions.old.items }
-    requires offer { AreBuilt offer.now }
+    requires offer { AreSmallPieces offer.now }
     ensures lowered { IfOk result (λ improved. IsLowered h.0 (value_at offer.now) (any_has improved)
         (cost_at functions.old.items) (cost_at functions.new.items)) }
     ensures built { OnOk result (All AreBuilt functions.new.items) }
