@@ -1,5 +1,5 @@
 -- What is taken of the pending minutes of a node.
-use Rattle.std.proofs.Common.{◌≡◌, ◌⊎◌, inl, inr, ⊎_elim, ℕ, ◌-◌, ◌≤◌, ◌<◌, Bool, true, false, ◌&&◌, ◌||◌, not, Option, Some, None, List, length, get_or, set}
+use Rattle.std.proofs.Common.{◌≡◌, ◌⊎◌, inl, inr, ⊎_elim, ℕ, ◌-◌, ◌≤◌, ◌<◌, Bool, true, false, ◌&&◌, ◌||◌, not, Option, Some, None, List, [], length, get_or, set}
 use Rattle.std.proofs.Common.{refl, sym, ◌∙◌, ap, subst}
 use Rattle.cost_functions.specs.Building.{AreBuilt}
 use Rattle.std.specs.Prelude.{All, nat_lt, if◌then◌else◌, IfSome, IsNone}
@@ -33,6 +33,26 @@ pub pending_is : (sets : List (List Run)) (v : ℕ) (own : List Run) → 1 ≤ v
     → is_pending sets v t ≡ any_has own t
 pending_is sets v own low high is t = ap (λ o. set_has o t) (number_read sets v own low high) ∙ ap (λ w. any_has w t) (sym is)
 
+set_is : (sets : List (List Run)) (v : ℕ) (own : List Run) → 1 ≤ v → v ≤ length sets → (t : ℕ)
+    → is_pending (set sets (v - 1) own) v t ≡ any_has own t
+set_is sets v own low high t = ap (λ o. set_has o t) (number_set sets v own low high)
+
+-- all that is pending is taken, and nothing is left
+pub split_whole : (sets : List (List Run)) (v first : ℕ) (own taken rest : List Run) → 1 ≤ v → v ≤ length sets → own ≡ get_or sets (v - 1) own
+    → is_pending sets v first ≡ true → taken ≡ own → rest ≡ []
+    → IsSplit v (any_has taken) None (is_pending sets) (is_pending (set sets (v - 1) rest))
+split_whole sets v first own taken rest low high is begins took empty = record {
+  others = λ u t ne. ap (λ o. set_has o t) (number_set_other sets v u rest low high ne);
+  pending = λ t there. inr (ap (λ (w : List Run). any_has w t) took ∙ (sym (pending_is sets v own low high is t) ∙ there));
+  less = λ t there. let bad : true ≡ false = sym there ∙ none t in cc;
+  some = (first, begins, none first);
+  left = tt;
+  none = λ nothing t. none t;
+}
+  where
+    none : (t : ℕ) → is_pending (set sets (v - 1) rest) v t ≡ false
+    none t = set_is sets v rest low high t ∙ ap (λ (w : List Run). any_has w t) empty
+
 pub split_is : (sets : List (List Run)) (v first last : ℕ) (own taken rest : List Run) (next : Option ℕ) → 1 ≤ v → v ≤ length sets
     → own ≡ get_or sets (v - 1) own
     → is_pending sets v first ≡ true → first < last
@@ -55,7 +75,7 @@ split_is sets v first last own taken rest next low high is begins le took left s
     was t = pending_is sets v own low high is t
 
     now : (t : ℕ) → is_pending (set sets (v - 1) rest) v t ≡ any_has rest t
-    now t = ap (λ o. set_has o t) (number_set sets v rest low high)
+    now t = set_is sets v rest low high t
 
     by_some : (o : Option ℕ) → IfSome o (λ t. any_has rest t ≡ true) → IfSome o (λ t. is_pending (set sets (v - 1) rest) v t ≡ true)
     by_some None h = h

@@ -14,7 +14,7 @@ use crate::entry_sets::{EntrySets, make_room, place_of};
 use crate::plan::Plan;
 use crate::state::State;
 use cost_functions::CostFn;
-use function_merge::{prune, shift, wait};
+use function_merge::{into_pruned, shift, wait};
 use route_base::{ArcId, Bound, NodeId, OutOfMemory, Pair, TimedArc};
 use std::alloc::Global;
 
@@ -52,23 +52,15 @@ fn driven(
 }
 
 // The costs at a node from which the goal is still worth reaching.
-fn cleared(
-    alloc: Global,
-    plan: Plan<'_>,
-    pairs: &[Pair],
-    h: NodeId,
-    bound: Bound,
-    costs: &CostFn,
-) -> Result<CostFn, OutOfMemory>
+fn cleared(plan: Plan<'_>, pairs: &[Pair], h: NodeId, bound: Bound, costs: CostFn) -> CostFn
     requires is { bound_at plan.bounds.now h.0 ≡ Some bound }
     requires trade { RiseAndFall pairs.now }
-    requires small { AreSmallPieces costs.now }
-    ensures cleared { IfOk result
-        (λ g. IsCleared (task_of plan.entry) pairs.now h.0 (value_at costs.now) (value_at g)) }
-    ensures built { IfOk result AreBuilt }
+    requires small { AreSmallPieces costs }
+    ensures cleared { IsCleared (task_of plan.entry) pairs.now h.0 (value_at costs)
+        (value_at result) }
+    ensures small { AreSmallPieces result }
 {
-    let clear = prune(alloc, costs, plan.request.until, pairs, bound)?;
-    Ok(clear)
+    into_pruned(costs, plan.request.until, pairs, bound)
 }
 
 // These costs, and where the node is rated those of waiting there.
@@ -78,29 +70,29 @@ pub fn closed(
     state: &State,
     h: NodeId,
     bound: Bound,
-    costs: &CostFn,
+    costs: CostFn,
 ) -> Result<CostFn, OutOfMemory>
     requires asked { IsGoodPlan plan }
     requires low { 1 ≤ h.0 }
     requires high { h.0 ≤ plan.net.now.nodes }
     requires bound { bound_at plan.bounds.now h.0 ≡ Some bound }
     requires trade { RiseAndFall state.now.pairs.items }
-    requires small { AreSmallPieces costs.now }
-    requires source { IsSource (task_of plan) (progress_of state.now) h.0 (value_at costs.now) }
+    requires small { AreSmallPieces costs }
+    requires source { IsSource (task_of plan) (progress_of state.now) h.0 (value_at costs) }
     ensures offer { IfOk result
         (λ g. IsOffer (task_of plan.entry) (progress_of state.now) h.0 (value_at g)) }
     ensures covers { IfOk result
-        (λ g. Covers (task_of plan.entry) state.now.pairs.items h.0 (value_at costs.now)
+        (λ g. Covers (task_of plan.entry) state.now.pairs.items h.0 (value_at costs)
         (value_at g)) }
-    ensures built { IfOk result AreBuilt }
+    ensures small { IfOk result AreSmallPieces }
 {
-    let clear = cleared(alloc, plan, &state.pairs, h, bound, costs)?;
+    let clear = cleared(plan, &state.pairs, h, bound, costs);
     let Some(weight) = plan.net.weight(h) else {
         return Ok(clear);
     };
     let last = plan.request.until.saturating_sub(bound.minutes);
     let waited = wait(alloc, &clear, weight, last)?;
-    let offer = cleared(alloc, plan, &state.pairs, h, bound, &waited)?;
+    let offer = cleared(plan, &state.pairs, h, bound, waited);
     Ok(offer)
 }
 
@@ -129,11 +121,11 @@ pub fn offered(
     ensures covers { IfOk result
         (λ g. CoversDrives (task_of plan.entry) state.now.pairs.items a.0 v.0
         (value_at part.now) arc.head.0 (value_at g)) }
-    ensures built { IfOk result AreBuilt }
+    ensures small { IfOk result AreSmallPieces }
     ensures entries { OnOk result
         (AreEntrySets plan.entry.net.now plan.entry.request.until sets.new) }
 {
     let ends = driven(alloc, plan, sets, v, part, a, arc)?;
-    let offer = closed(alloc, plan, state, arc.head, bound, &ends)?;
+    let offer = closed(alloc, plan, state, arc.head, bound, ends)?;
     Ok(offer)
 }

@@ -23,8 +23,8 @@ impl Model for Found {
 }
 
 impl Found {
-    // These parts, at no cost.
-    pub fn new(pairs: Vec<Pair>, functions: Vec<CostFn>, bounds: Bounds) -> Found
+    // What a search has found, of these parts.
+    pub(crate) fn new(pairs: Vec<Pair>, functions: Vec<CostFn>, bounds: Bounds) -> Found
         ensures { result ≡ record {
           pairs = pairs.items;
           functions = functions.items;

@@ -3,25 +3,28 @@ ghost use Rattle.std.specs.Prelude.{◌≡◌, ◌≤◌, ◌<◌, ◌&&◌, not
 ghost use Rattle.route_base.specs.Front.{RiseAndFall};
 ghost use Rattle.route_base.specs.Runs.{any_has};
 ghost use Rattle.route_base.specs.declared.limits.TheConstants.{LAST_INSTANT};
-ghost use Rattle.cost_functions.specs.Pieces.{value_at};
-ghost use Rattle.cost_functions.specs.Building.{AreBuilt};
+ghost use Rattle.cost_functions.specs.Pieces.{value_at, AreSmallPieces};
 ghost use Rattle.label_queue.specs.Keys.{key_at};
 ghost use Rattle.potentials.specs.Sums.{bound_at};
 ghost use Rattle.propagation.specs.Inside.Invariants.{TakesPart};
 ghost use Rattle.propagation.specs.Inside.States.{progress_of, task_of, is_pending, IsShaped, IsSplit, IsRequeued};
+ghost use Rattle.propagation.specs.declared.parts.TheConstants.{SPAN_AFTER_PAIRS};
 
 use crate::plan::Plan;
 use crate::state::{State, first_of};
 use cost_functions::{CostFn, Piece};
-use function_merge::{cut, prune};
+use function_merge::{cut, into_pruned};
 use label_queue::LabelQueue;
 use minute_sets::MinuteSet;
-use route_base::{Bound, Minute, NodeId, OutOfMemory, Run};
+use route_base::{Bound, Minute, NodeId, OutOfMemory, Pair, Run};
 use std::alloc::Global;
 use std::mem;
 
-// A turn takes the pieces that begin within this many minutes of the first pending one.
-const SPAN: u64 = 20;
+// A turn takes the pieces that begin within an hour of the first pending minute while no pair is found, since later costs still fall.
+const SPAN_BEFORE_PAIRS: u64 = 60;
+
+// Once pairs prune most labels, it takes those that begin within two days, and so reaches over a day's ban.
+const SPAN_AFTER_PAIRS: u64 = 2_880;
 
 // What is taken, and the first minute that is left.
 #[derive(Drop)]
@@ -57,7 +60,7 @@ pub fn part_of(
     ensures parts { IfOk result
         (λ part. TakesPart (task_of plan.entry) v.0 (value_at part) (progress_of state.old)
         (progress_of state.new)) }
-    ensures built { IfOk result AreBuilt }
+    ensures small { IfOk result AreSmallPieces }
     ensures shape { OnOk result (IsShaped plan.entry.net.now.nodes 0 state.new) }
 {
     let place = v.0 as usize - 1;
@@ -65,20 +68,33 @@ pub fn part_of(
         state.functions[place].pieces(),
         state.pending[place].runs(),
         first,
+        span_for(&state.pairs),
     );
     let split = split_at(alloc, &mut state.pending, v, first, end)?;
     let whole = cut(alloc, &state.functions[place], &split.taken)?;
-    let part = prune(alloc, &whole, plan.request.until, &state.pairs, bound)?;
+    let part = into_pruned(whole, plan.request.until, &state.pairs, bound);
     requeue(&mut state.queue, v, split.next, bound);
     Ok(part)
 }
 
+// The span of a turn beside these pairs.
+fn span_for(pairs: &[Pair]) -> u64
+    ensures { result ≤ SPAN_AFTER_PAIRS }
+{
+    if pairs.is_empty() {
+        SPAN_BEFORE_PAIRS
+    } else {
+        SPAN_AFTER_PAIRS
+    }
+}
+
 // The end of the last piece of what is pending that begins within the span, so that no piece is split.
-fn end_of_turn(pieces: &[Piece], pending: &[Run], first: Minute) -> Minute
-    requires { first ≤ LAST_INSTANT }
+fn end_of_turn(pieces: &[Piece], pending: &[Run], first: Minute, span: u64) -> Minute
+    requires first { first ≤ LAST_INSTANT }
+    requires span { span ≤ SPAN_AFTER_PAIRS }
     ensures { first < result }
 {
-    let limit = first + SPAN;
+    let limit = first + span;
     let Some(run) = last_run_by(pending, limit) else {
         return first + 1;
     };
@@ -100,7 +116,7 @@ fn last_piece_by(pieces: &[Piece], minute: Minute) -> Option<Piece> {
     pieces[..count].last().copied()
 }
 
-// Takes the minutes before an end from what is pending at a node.
+// Takes the minutes before an end from what is pending at a node. Where these are all, the set itself is handed over.
 fn split_at(
     alloc: Global,
     pending: &mut Vec<MinuteSet>,
@@ -118,6 +134,10 @@ fn split_at(
     ensures nodes { OnOk result (length pending.new.items ≡ length pending.old.items) }
 {
     let place = v.0 as usize - 1;
+    if ends_by(&pending[place], end) {
+        let taken = mem::replace(&mut pending[place], MinuteSet::empty(alloc));
+        return Ok(Split { taken, next: None });
+    }
     let halves = halves_at(alloc, &pending[place], end)?;
     let next = first_of(&halves.after);
     pending[place] = halves.after;
@@ -125,6 +145,14 @@ fn split_at(
         taken: halves.before,
         next,
     })
+}
+
+// Whether a set has no minute at an end or later.
+fn ends_by(set: &MinuteSet, end: Minute) -> bool {
+    match set.runs().last() {
+        Some(run) => run.hi <= end,
+        None => true,
+    }
 }
 
 // The minutes of a set before an end, and the others.

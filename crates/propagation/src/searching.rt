@@ -22,7 +22,10 @@ use potentials::to_goal_over;
 use route_base::{OutOfMemory, Request, TimedNet};
 use std::alloc::Global;
 
-/// The Pareto front of the net and the request, and the bounds and functions that show it.
+/// The Pareto front of arrival (Unix minutes) and cost (thousandths), with the bounds and functions that show it. For each turn and
+/// arc it takes time linear in the pieces of the part and of the head's function after the part's first minute, and no step per
+/// minute. Memory for 96 bytes a node and the arcs by node, 32 bytes a piece of the functions, 16 a pending run, and one entry set
+/// for each list of closed runs and length of an arc that is met. The only error is out of memory.
 pub fn search(alloc: Global, net: &TimedNet, request: Request) -> Result<Found, OutOfMemory>
     requires good { IsGoodRequest net.now request }
     requires in_time { request.depart ≤ request.until }
@@ -33,7 +36,8 @@ pub fn search(alloc: Global, net: &TimedNet, request: Request) -> Result<Found, 
     search_over(alloc, net, &incoming, request)
 }
 
-/// The same for arcs that were put in order already.
+/// The same for arcs that were put in order already, in the same units and at the same cost but for their order. The only error is
+/// out of memory.
 pub fn search_over(
     alloc: Global,
     net: &TimedNet,
@@ -86,7 +90,7 @@ fn begun(alloc: Global, plan: Plan<'_>) -> Result<State, OutOfMemory>
         return Ok(state);
     };
     let first = CostFn::single(alloc, plan.request.depart, 0)?;
-    let offer = closed(alloc, plan, &state, origin, bound, &first)?;
+    let offer = closed(alloc, plan, &state, origin, bound, first)?;
     take_at(alloc, plan, &mut state, origin, bound, &offer)?;
     Ok(state)
 }

@@ -1,7 +1,7 @@
 // What the search has found so far.
 ghost use Rattle.std.specs.Prelude.{◌≡◌, ◌≤◌, ◌||◌, ℕ, true, false, All, length, IfOk, OnOk, IfSome, IsNone};
 ghost use Rattle.route_base.specs.Runs.{any_has};
-ghost use Rattle.cost_functions.specs.Pieces.{value_at};
+ghost use Rattle.cost_functions.specs.Pieces.{value_at, AreSmallPieces};
 ghost use Rattle.cost_functions.specs.Building.{AreBuilt};
 ghost use Rattle.label_queue.specs.Keys.{IsSet};
 ghost use Rattle.propagation.specs.Found.{cost_at};
@@ -33,7 +33,7 @@ pub fn lower_at(
     requires low { 1 ≤ h.0 }
     requires high { h.0 ≤ length functions.old.items }
     requires built { All AreBuilt functions.old.items }
-    requires offer { AreBuilt offer.now }
+    requires offer { AreSmallPieces offer.now }
     ensures lowered { IfOk result (λ improved. IsLowered h.0 (value_at offer.now) (any_has improved)
         (cost_at functions.old.items) (cost_at functions.new.items)) }
     ensures built { OnOk result (All AreBuilt functions.new.items) }
@@ -62,8 +62,7 @@ pub fn await_at(
     ensures nodes { OnOk result (length pending.new.items ≡ length pending.old.items) }
 {
     let place = h.0 as usize - 1;
-    let joined = joined_with(alloc, &pending[place], improved)?;
-    pending[place] = joined;
+    add_improved(alloc, &mut pending[place], improved)?;
     match queue.key_of(h) {
         None => queue.put(h, key),
         Some(before) => queue.lower(h, key.min(before)),
@@ -71,14 +70,15 @@ pub fn await_at(
     Ok(())
 }
 
-// The minutes of either set; the second is handed on where the first has none.
-fn joined_with(alloc: Global, own: &MinuteSet, more: MinuteSet) -> Result<MinuteSet, OutOfMemory>
-    ensures { IfOk result (λ set. (t : ℕ) → any_has set t ≡ (any_has own.now t || any_has more t)) }
+// Adds the minutes of the second set to the first, which becomes the second where it has none.
+fn add_improved(alloc: Global, own: &mut MinuteSet, more: MinuteSet) -> Result<(), OutOfMemory>
+    ensures { OnOk result ((t : ℕ) → any_has own.new t ≡ (any_has own.old t || any_has more t)) }
 {
     if let None = first_of(own) {
-        return Ok(more);
+        *own = more;
+        return Ok(());
     }
-    own.union(alloc, &more)
+    own.add_all(alloc, &more)
 }
 
 // The first minute of a set.

@@ -3,8 +3,7 @@ ghost use Rattle.std.specs.Prelude.{◌≡◌, ◌≤◌, ◌<◌, ℕ, Some, No
 ghost use Rattle.route_base.specs.Front.{RiseAndFall};
 ghost use Rattle.route_base.specs.Itinerary.{Position, Drives};
 ghost use Rattle.route_base.specs.Net.{setting_of};
-ghost use Rattle.cost_functions.specs.Pieces.{value_at};
-ghost use Rattle.cost_functions.specs.Building.{AreBuilt};
+ghost use Rattle.cost_functions.specs.Pieces.{value_at, AreSmallPieces};
 ghost use Rattle.label_queue.specs.Keys.{key_at};
 ghost use Rattle.node_arcs.specs.Stars.{EndsAt};
 ghost use Rattle.node_arcs.specs.declared.links.End.TheVariants.{Tail};
@@ -83,6 +82,9 @@ fn drive_all(
     ensures better { OnOk result
         (Improves (task_of plan.entry) (progress_of state.old) (progress_of state.new)) }
 {
+    if part.pieces().is_empty() {
+        return Ok(());
+    }
     for a in plan.outgoing.of(v) {
         drive_one(alloc, plan, sets, state, v, part, *a)?;
     }
@@ -141,7 +143,7 @@ pub fn take_at(
     requires high { h.0 ≤ plan.net.now.nodes }
     requires shape { IsShaped plan.net.now.nodes 0 state.old }
     requires trade { RiseAndFall state.old.pairs.items }
-    requires offer { AreBuilt offer.now }
+    requires offer { AreSmallPieces offer.now }
     ensures takes { OnOk result
         (TakesOffer (task_of plan.entry) h.0 (value_at offer.now) (progress_of state.old)
         (progress_of state.new)) }

@@ -1,4 +1,4 @@
-use Rattle.std.proofs.Common.{◌≡◌, ⊎_elim, ◌≤◌, ◌<◌, Some, get_or, sym, ◌∙◌, ap, subst, arith}
+use Rattle.std.proofs.Common.{◌≡◌, ⊎_elim, ◌≤◌, ◌<◌, Some, length, get_or, sym, ◌∙◌, ap, subst, arith, rules}
 use Rattle.std.specs.Prelude.{slice_get}
 use Rattle.std.proofs.lemmas.Bool.{cases_lt}
 use Rattle.std.proofs.lemmas.Option.{slice_get-get_or}
@@ -8,6 +8,7 @@ use Rattle.route_base.specs.declared.types.ArcId.{ArcId}
 use Rattle.propagation.proofs.Fitting.{part_kept, drive_begins, place_begins, begins_place}
 use Rattle.propagation.proofs.Keeping.{relaxed_kept, improves-append}
 use Rattle.propagation.proofs.Parting.{settle}
+use Rattle.propagation.proofs.PieceStarts.{piece_of}
 use Rattle.propagation.proofs.turns.drive_all.Goals as goal
 use Rattle.cost_functions.specs.Pieces.{value_at}
 use Rattle.propagation.specs.Inside.Invariants.{point}
@@ -47,6 +48,14 @@ loop-a-preserved c =
           (subst (λ (w : ArcId). Drives (setting_of c.args.plan.net.now) c.args.plan.request.until w.0 (point c.args.v.0 t x) q) arc step))
           (cases_lt i c.loop-a.a-index);
     }
+
+pub returns-then-is_empty-clause-facts : goal.returns-then-is_empty-clause-facts
+returns-then-is_empty-clause-facts c =
+    let none : length c.pieces.result.now ≡ 0 = search rules in
+    settle (task_of c.args.plan) (progress_of c.args.state.now) c.args.v.0 (value_at c.args.part.now) c.requires.facts
+    (λ t x there a q step.
+    let piece = piece_of c.pieces.result.now t x (subst (λ w. value_at w t ≡ Some x) (sym c.pieces.ensures.items) there) in
+    absurd (omega (arith, piece.1, none)))
 
 pub returns-clause-facts : goal.returns-clause-facts
 returns-clause-facts c =
