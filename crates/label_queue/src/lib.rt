@@ -7,7 +7,7 @@
 //! The keys are in an indexed binary heap (`heap`): labels, each with a key and its node, in a list in which none comes after the two
 //! below it, and beside it the place of each node's label. A key that is put or lowered moves up from its place, and when the root is
 //! taken out the last label moves down from there. Each moves through a hole, so that a level costs one label and one place. All
-//! memory is made by `new`. `specs/Inside` is no law: it says what the heap keeps.
+//! memory is reserved by `new`, and a label is written only where one comes. `specs/Inside` is no law: it says what the heap keeps.
 #![tactic(auto)]
 
 mod heap;
