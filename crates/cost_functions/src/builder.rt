@@ -1,5 +1,5 @@
 // Functions built from the left, reduced at every step.
-ghost use Rattle.std.specs.Prelude.{◌≡◌, ◌+◌, ◌-◌, ◌<◌, ◌≤◌, ℕ, List, [], ◌∷◌, ◌++◌, length, slice_set, All, None, OnOk, IfSome};
+ghost use Rattle.std.specs.Prelude.{◌≡◌, ◌+◌, ◌-◌, ◌<◌, ◌≤◌, ℕ, List, [], ◌∷◌, ◌++◌, length, slice_set, All, None, OnOk, OnErr, IfSome};
 ghost use Rattle.cost_functions.specs.Lines.{line_at, IsPiece, IsSmallPiece, AreOneLine};
 ghost use Rattle.cost_functions.specs.Pieces.{value_at, ArePieces, IsReduced, AreSmallPieces};
 ghost use Rattle.cost_functions.specs.Building.{AreBuilt};
@@ -46,7 +46,7 @@ impl Builder {
     }
 
     /// Adds the values of a piece behind all others. A piece of one minute may have any slope. Constant time on average. Out of
-    /// memory leaves a reduced function.
+    /// memory leaves the function as it was.
     pub fn push(&mut self, piece: Piece) -> Result<(), OutOfMemory>
         requires filled { piece.lo ≤ piece.hi }
         requires minutes { piece.hi ≤ LAST_INSTANT }
@@ -58,6 +58,7 @@ impl Builder {
         ensures apart { OnOk result ((z : Piece) → piece.hi < z.lo
             → ((slope : ℕ) → AreOneLine piece z slope → ⊥)
             → All (λ q. (slope : ℕ) → AreOneLine q z slope → ⊥) self.new) }
+        ensures kept { OnErr result (self.new ≡ self.old) }
     {
         let next = plain(piece);
         match joined_with_last(&self.held, next) {
@@ -71,7 +72,7 @@ impl Builder {
     }
 
     /// Adds the values of built pieces behind all others: the first by `push`, the others in one copy. Out of memory leaves a
-    /// reduced function.
+    /// reduced function, to which the first may be added already.
     pub fn extend(&mut self, pieces: &[Piece]) -> Result<(), OutOfMemory>
         requires built { AreBuilt pieces.now }
         requires later { All (λ p. All (λ q. q.hi < p.lo) self.old) pieces.now }

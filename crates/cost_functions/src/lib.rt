@@ -3,8 +3,8 @@
 //! The law is in `specs/`. A piece is a line over some minutes that does not fall (`IsPiece`, `line_at` in `Lines`). A function is
 //! a list of pieces that rise and do not overlap (`ArePieces` in `Pieces`); its value at a minute is that of the piece that has
 //! the minute, and it has none elsewhere (`value_at`). It is reduced where no two pieces that touch are on one line (`IsReduced`),
-//! and small where no value is above `HIGHEST_COST` (`AreSmall`). Each call that makes a function says of every minute which value
-//! it has, or that it has none.
+//! and small where no value is above `HIGHEST_COST` (`AreSmallPieces`). Each call that makes a function says of every minute which
+//! value it has, or that it has none.
 //!
 //! A `Builder` makes functions from the left: `push` adds a piece behind the others, or joins it with the last. So what is built
 //! is always reduced and small, which is one word, `AreBuilt` in `Building`, and a clause `built` of all calls that make a

@@ -51,7 +51,10 @@ pub fn improve(alloc: Global, f: CostFn, g: &CostFn) -> Result<Merged, OutOfMemo
 {
     let other = g.pieces();
     match other {
-        [first, ..] => improve_within(alloc, f.into_pieces(), other, first.lo),
+        [first, ..] => {
+            let own = with_room(f.into_pieces(), other.len())?;
+            improve_within(alloc, own, other, first.lo)
+        }
         [] => Ok(Merged {
             function: f,
             improved: MinuteSet::empty(alloc),
@@ -75,6 +78,17 @@ pub fn improve_in_place(alloc: Global, f: &mut CostFn, g: &CostFn) -> Result<Min
     let Merged { function, improved } = merged;
     *f = function;
     Ok(improved)
+}
+
+// The pieces; where there are none yet, with room for exactly so many, since most functions stay as short as they begin.
+fn with_room(pieces: Vec<Piece>, count: usize) -> Result<Vec<Piece>, OutOfMemory>
+    ensures { IfOk result (λ own. own.items ≡ pieces.items) }
+{
+    let mut own = pieces;
+    if own.is_empty() {
+        own.reserve_exact(count)?;
+    }
+    Ok(own)
 }
 
 // The same for pieces, where g begins at `first`; those that begin behind g are put back in one copy.

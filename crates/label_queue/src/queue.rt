@@ -35,7 +35,7 @@ impl LabelQueue {
         Ok(LabelQueue {
             heap: Heap {
                 count: 0,
-                labels: vec![in alloc; Label { key: 0, node: 0 }; nodes]?,
+                labels: Vec::with_capacity(alloc, nodes)?,
                 places: vec![in alloc; None; nodes]?,
             },
         })

@@ -1,5 +1,5 @@
 // Merges runs in the order in which they begin.
-ghost use Rattle.std.specs.Prelude.{◌≡◌, ◌<◌, ◌≤◌, ℕ, ◌||◌, All, IfOk, OnOk};
+ghost use Rattle.std.specs.Prelude.{◌≡◌, ◌<◌, ◌≤◌, ℕ, ◌||◌, All, IfOk, OnOk, OnErr};
 ghost use Rattle.std.specs.List.Sorted.{IsNonDecreasingBy};
 ghost use Rattle.route_base.specs.Runs.{has_minute, any_has, AreRuns};
 
@@ -27,6 +27,7 @@ pub fn add(merged: &mut Vec<Run>, run: Run) -> Result<(), OutOfMemory>
         any_has merged.new.items t ≡ (any_has merged.old.items t || has_minute t run)) }
     ensures runs { AreRuns merged.new.items }
     ensures begins { OnOk result (All (λ r. r.lo ≤ run.lo) merged.new.items) }
+    ensures kept { OnErr result (merged.new.items ≡ merged.old.items) }
 {
     if run.hi <= run.lo {
         return Ok(());

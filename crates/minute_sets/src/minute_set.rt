@@ -1,5 +1,5 @@
 // Sets of minutes.
-ghost use Rattle.std.specs.Prelude.{◌≡◌, ◌≤◌, ◌||◌, ◌&&◌, ◌↔◌, IsTrue, not, ℕ, List, [], All, OnOk, IfOk};
+ghost use Rattle.std.specs.Prelude.{◌≡◌, ◌≤◌, ◌||◌, ◌&&◌, ◌↔◌, IsTrue, not, ℕ, List, [], All, OnOk, OnErr, IfOk};
 ghost use Rattle.route_base.specs.Runs.{any_has, has_minute, AreRuns};
 ghost use Rattle.minute_sets.specs.Entries.{IsEntry};
 ghost use Rattle.route_base.specs.declared.types.Run.{Run};
@@ -60,19 +60,21 @@ impl MinuteSet {
     }
 
     /// Adds the minutes of a run that begins where the last run of the set does or later; an empty run adds none. Constant time
-    /// on average. Out of memory leaves a set.
+    /// on average. Out of memory leaves the set as it was.
     pub fn append(&mut self, run: Run) -> Result<(), OutOfMemory>
         requires later { All (λ r. r.lo ≤ run.lo) self.old }
         ensures minutes { OnOk result ((t : ℕ) →
             any_has self.new t ≡ (any_has self.old t || has_minute t run)) }
         ensures runs { AreRuns self.new }
         ensures begins { OnOk result (All (λ r. r.lo ≤ run.lo) self.new) }
+        ensures kept { OnErr result (self.new ≡ self.old) }
     {
         add(&mut self.held, run)
     }
 
-    /// Adds the minutes of another set. Runs that end before the other set begins stay where they are. Linear in the number of
-    /// the other runs of both, which a binary search finds. Out of memory leaves a set.
+    /// Adds the minutes of another set, in time linear in the other set's runs and in those runs that don't end before it begins;
+    /// a binary search finds the first of these, and the runs before it stay where they are. Out of memory leaves a set, which
+    /// may have lost minutes.
     pub fn add_all(&mut self, alloc: Global, other: &MinuteSet) -> Result<(), OutOfMemory>
         ensures minutes { OnOk result ((t : ℕ) →
             any_has self.new t ≡ (any_has self.old t || any_has other.now t)) }
