@@ -1,5 +1,5 @@
 -- Arcs of one area with the same closures and the same rules of their own are closed at the same minutes.
-use Rattle.std.proofs.Common.{◌≡◌, ℕ, ◌||◌, Bool, false, not, Option, Some, None, unwrap_or, is_some, option_and_then, ltb}
+use Rattle.std.proofs.Common.{◌≡◌, ℕ, ◌||◌, Bool, true, false, not, Option, Some, None, unwrap_or, is_some, option_and_then, ltb}
 use Rattle.std.proofs.Common.{List, [], ◌∷◌, All, length, refl, sym, ◌∙◌, ap, arith}
 use Rattle.std.specs.List.{list_any}
 use Rattle.std.specs.Option.{option_or}
@@ -15,9 +15,10 @@ use Rattle.conditional_rules.specs.declared.access.Access.TheVariants.{Free}
 use Rattle.conditional_rules.specs.declared.conditional.Clause.{Clause}
 use Rattle.network_tables.specs.Access.{access_given, area_at, area_place, decision_at, given_at, is_closed, places_of}
 use Rattle.network_tables.specs.NetworkModel.{NetworkModel, closures_of}
-use Rattle.network_tables.specs.Rules.{plain_at, conditional_at}
+use Rattle.network_tables.specs.Rules.{access_in, clauses_in, conditional_at, has_arc_rules, plain_at}
 use Rattle.network_tables.specs.declared.rules.place.RulePlace.{RulePlace}
 use Rattle.network_tables.specs.declared.rules.place.Scope.TheVariants as scopes
+use Rattle.network_tables.proofs.ArcRules.{no_arc_value}
 use Rattle.ban_expansion.specs.Inside.Grouping.{AreAlike, HaveSameRules, every_key, has_own, has_own_rule}
 use Rattle.ban_expansion.proofs.ItemLists.{got_fails, or_none}
 
@@ -38,6 +39,15 @@ no_key p none keys.Hgv = got_fails p every_key 3 keys.Hgv refl none
 no_key p none keys.HgvArticulated = got_fails p every_key 4 keys.HgvArticulated refl none
 no_key p none keys.Goods = got_fails p every_key 5 keys.Goods refl none
 no_key p none keys.Bus = got_fails p every_key 6 keys.Bus refl none
+
+-- where no arc has a rule of its own, this one has none
+no_own_rule : (net : NetworkModel) (a : ℕ) → has_arc_rules net.rules ≡ false → (key : Key) → has_own_rule net a key ≡ false
+no_own_rule net a none key = λ i.
+    is_some (option_and_then access_in (no_arc_value net.rules a key false none i))
+    || is_some (option_and_then clauses_in (no_arc_value net.rules a key true none i))
+
+pub no_own_rules : (net : NetworkModel) (a : ℕ) → has_arc_rules net.rules ≡ false → list_any (has_own_rule net a) every_key ≡ false
+no_own_rules net a none = λ i. list_any (λ key. no_own_rule net a none key i) every_key
 
 -- what holds of the list of all keys holds of each key
 of_key : (P : Key → Type 0) → All P every_key → (key : Key) → P key

@@ -49,7 +49,7 @@ fn part_minutes(
     }
 }
 
-// The minutes of the window at which all parts of a clause hold.
+// The minutes of the window at which all parts of a clause hold. Parts behind one that leaves no minute aren't laid out.
 fn clause_minutes(
     alloc: Global,
     clause: &Clause,
@@ -65,6 +65,9 @@ fn clause_minutes(
     let mut common = MinuteSet::whole(alloc, window)?;
     let mut left = clause.parts.as_slice();
     'parts: while let [part, rest @ ..] = left {
+        if common.runs().is_empty() {
+            return Ok(common);
+        }
         let set = part_minutes(alloc, part, vehicle, zone, holidays, window)?;
         common = common.intersection(alloc, &set)?;
         left = rest;
@@ -236,8 +239,8 @@ fn closure_set(
 /// The minutes of the window at which the arc is closed to the vehicle.
 ///
 /// For each conditional value of the keys of the vehicle's class it takes the time and memory of `covered_minutes` for each of
-/// its hours, and for each clause time linear in the runs of its parts and of what is closed so far; beside, n log n for n
-/// closures of the arc. It takes memory for a few such sets.
+/// its hours, except those in a clause behind parts that leave no minute of the window; and for each clause time linear in the
+/// runs of its parts and of what is closed so far; beside, n log n for n closures of the arc. It takes memory for a few such sets.
 pub fn closed_set(
     alloc: Global,
     network: &Network,

@@ -42,7 +42,7 @@ fn has_rule(network: &Network, a: ArcId, key: Key) -> bool
 fn has_rules(network: &Network, a: ArcId) -> bool
     ensures { result ≡ list_any (has_own_rule network.now a.0) every_key }
 {
-    EVERY_KEY.iter().any(|key| has_rule(network, a, *key))
+    network.has_arc_rules() && EVERY_KEY.iter().any(|key| has_rule(network, a, *key))
 }
 
 // Whether the arc has closures, or a rule of its own for any key.
@@ -188,9 +188,9 @@ impl Grouping {
 /// window. Arcs of one area that have the same closures and the same rules of their own, or none, share a group. They are found by
 /// digests, so where arcs that differ have one digest there may be more groups than that.
 ///
-/// It takes fourteen look-ups of rules for an arc, and some more for an arc that has closures or rules of its own. It is linear in
-/// areas, arcs, the closures of single arcs, and the bytes of the canonical texts of their conditional values, in time; in memory in
-/// areas and arcs, and in two of these texts.
+/// Where some arc has rules of its own, it takes fourteen look-ups of rules for an arc; and some more for an arc that has closures or
+/// rules of its own. It is linear in areas, arcs, the closures of single arcs, and the bytes of the canonical texts of their
+/// conditional values, in time; in memory in areas and arcs, and in two of these texts.
 pub fn group_arcs(alloc: Global, network: &Network) -> Result<ArcGroups, OutOfMemory>
     ensures { IfOk result (AreGroups network.now) }
 {

@@ -1,3 +1,4 @@
+pub mod ArcRules
 pub mod AreaLists
 pub mod AreaRows
 pub mod ClosureRows
@@ -8,6 +9,7 @@ mod JobRows
 pub mod NetLists
 pub mod RoadRows
 pub mod RuleRows
+pub mod SamePlaces
 mod Rows
 mod WorkedJobs
 mod WorkedZones

@@ -1,6 +1,6 @@
 -- rules.csv: access rules of areas and arcs by key (source: OpenStreetMap wiki, access keys; the table is own).
-use Rattle.std.specs.Prelude.{ℕ, ◌-◌, nat_lt, Bool, true, false, is_some, Option, Some, None, Result, Ok, Err, List, [], ◌∷◌, length, take, drop, codes, if◌then◌else◌}
-use Rattle.std.specs.List.{filter_map, filter}
+use Rattle.std.specs.Prelude.{ℕ, ◌-◌, nat_lt, nat_eq, ◌&&◌, not, Bool, true, false, is_some, Option, Some, None, Result, Ok, Err, List, [], ◌∷◌, length, take, drop, codes, if◌then◌else◌}
+use Rattle.std.specs.List.{filter_map, filter, list_any}
 use Rattle.std.specs.Map.{lookup}
 use Rattle.std.specs.Option.{option_map, option_and_then}
 use Rattle.std.specs.Str.{bytes_eq}
@@ -22,7 +22,6 @@ use Rattle.network_tables.specs.declared.rules.place.Scope.TheVariants as scopes
 use Rattle.network_tables.specs.declared.rules.place.RulePlace.{RulePlace}
 use Rattle.network_tables.specs.declared.rules.value.RuleValue.{RuleValue}
 use Rattle.network_tables.specs.declared.rules.value.RuleValue.TheVariants as values
-use Rattle.network_tables.specs.contracts.rules.place.RulePlacePartialEq.TheImpl as same_place
 
 -- the bytes after a mark at the start of a text, and before one at its end
 abbrev pub after : List ℕ → List ℕ → Option (List ℕ)
@@ -107,9 +106,31 @@ abbrev pub rule_of : ℕ → List (List ℕ) → Record → Result (Option Rule)
 rule_of arcs areas (scope ∷ key ∷ value ∷ []) = rule_in (scope_of arcs areas scope) (key_field_of key) value
 rule_of arcs areas others = Err BadField
 
+-- whether two scopes are the same: one area, or one arc
+abbrev pub is_same_scope : Scope → Scope → Bool
+is_same_scope (scopes.Area place) (scopes.Area other) = nat_eq place other
+is_same_scope (scopes.Arc number) (scopes.Arc other) = nat_eq number other
+is_same_scope scope other = false
+
+-- whether two keys are the same
+abbrev pub is_same_key : Key → Key → Bool
+is_same_key keys.Access keys.Access = true
+is_same_key keys.Vehicle keys.Vehicle = true
+is_same_key keys.MotorVehicle keys.MotorVehicle = true
+is_same_key keys.Hgv keys.Hgv = true
+is_same_key keys.HgvArticulated keys.HgvArticulated = true
+is_same_key keys.Goods keys.Goods = true
+is_same_key keys.Bus keys.Bus = true
+is_same_key key other = false
+
+-- whether two kinds are the same
+abbrev pub is_same_kind : Bool → Bool → Bool
+is_same_kind conditional other = if conditional then other else not other
+
 -- whether two places are the same: the same scope, key and kind
 abbrev pub is_at : RulePlace → RulePlace → Bool
-is_at = (same_place.ghosts).eq
+is_at place other =
+    is_same_scope place.scope other.scope && is_same_key place.key other.key && is_same_kind place.conditional other.conditional
 
 -- the value of the rule at a place
 abbrev pub rule_value_at : List Rule → RulePlace → Option RuleValue
@@ -162,3 +183,11 @@ plain_at rules scope key = option_and_then access_in (rule_value_at rules (recor
 -- the clauses of the conditional rule of a scope and a key
 abbrev pub conditional_at : List Rule → Scope → Key → Option (List Clause)
 conditional_at rules scope key = option_and_then clauses_in (rule_value_at rules (record { scope = scope; key = key; conditional = true }))
+
+-- whether a scope is one arc, and whether some rule is an arc's own
+abbrev pub is_arc : Scope → Bool
+is_arc (scopes.Area place) = false
+is_arc (scopes.Arc number) = true
+
+abbrev pub has_arc_rules : List Rule → Bool
+has_arc_rules rules = list_any (λ rule. is_arc rule.0.scope) rules

@@ -19,5 +19,5 @@ pub use Rattle.network_tables.specs.NetworkParts.{network_with, HoldsNetwork}
 pub use Rattle.network_tables.specs.Ratings.{rating_of, ratings_schema, ratings_in}
 pub use Rattle.network_tables.specs.Refusals.{Reads}
 pub use Rattle.network_tables.specs.Zones.{HasZones, zone_entries_in, ZoneEntry, zone_entry_of, zones_schema, HasRows}
-pub use Rattle.network_tables.specs.Rules.{rules_schema, rule_value_at, plain_at, conditional_at}
+pub use Rattle.network_tables.specs.Rules.{rules_schema, rule_value_at, plain_at, conditional_at, is_arc, has_arc_rules}
 pub use Rattle.network_tables.specs.RuleLists.{HaveRules, with_rule, with_passed_row}

@@ -1,7 +1,7 @@
 // The network that files state.
 ghost use Rattle.std.specs.Prelude.{◌≡◌, ◌≤◌, ◌<◌, Some, length, option_map, slice_get};
 ghost use Rattle.network_tables.specs.Words.{option_flatten, at_number, closures_of, IsGoodNetwork, network_with};
-ghost use Rattle.network_tables.specs.Words.{HoldsNetwork, plain_at, conditional_at};
+ghost use Rattle.network_tables.specs.Words.{HoldsNetwork, plain_at, conditional_at, has_arc_rules};
 
 use crate::rules::{Rules, Scope};
 use conditional_rules::{Access, Conditional};
@@ -133,6 +133,13 @@ impl Network {
         ensures { option_map (λ c. c.now) result ≡ conditional_at self.now.rules (Scope.Arc a.0) key }
     {
         self.parts.rules.conditional(Scope::Arc(a.0), key)
+    }
+
+    /// Whether some arc has a rule of its own. In constant time.
+    pub fn has_arc_rules(&self) -> bool
+        ensures { result ≡ has_arc_rules self.now.rules }
+    {
+        self.parts.rules.has_arc_rules()
     }
 
     /// The number of rows of rules whose key is passed over. In constant time.

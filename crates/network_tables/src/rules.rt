@@ -1,6 +1,6 @@
 // rules.csv: access rules of areas and arcs by key.
 ghost use Rattle.std.specs.Prelude.{◌≡◌, ◌+◌, ◌++◌, ◌∷◌, [], None, OnOk, IfErr, IsSome, option_map};
-ghost use Rattle.network_tables.specs.Words.{rules_schema, rule_value_at, plain_at, conditional_at, HaveRules, with_rule, with_passed_row, IfBadCause};
+ghost use Rattle.network_tables.specs.Words.{rules_schema, rule_value_at, plain_at, conditional_at, has_arc_rules, HaveRules, with_rule, with_passed_row, IfBadCause};
 ghost use Rattle.network_tables.specs.Words.{names_of, arc_count_of, areas_of, rules_fault, rules_of, Reads};
 
 mod place;
@@ -24,19 +24,24 @@ use table_reader::{RowFault, Table};
 use value::RuleValue;
 use vehicle_classes::Key;
 
-/// Rules by their places, and the number of rows that were passed over.
+/// Rules by their places, whether some are an arc's own, and the number of rows that were passed over.
 #[derive(Drop)]
 pub struct Rules {
     values: IndexMap<RulePlace, RuleValue>,
+    of_arcs: bool,
     passed_over: u64,
 }
 
 impl Model for Rules {
+    ghost use Rattle.std.specs.Prelude.{◌≡◌};
     ghost use Rattle.network_tables.specs.RuleLists.{RuleList};
+    ghost use Rattle.network_tables.specs.Rules.{has_arc_rules};
 
     ghost Value = { RuleList };
 
     ghost view = { λ r. record { rules = r.values.entries; passed_over = r.passed_over } };
+
+    ghost invariant = { λ r. r.of_arcs ≡ has_arc_rules r.values.entries };
 }
 
 impl Rules {
@@ -46,6 +51,7 @@ impl Rules {
     {
         Rules {
             values: IndexMap::new(alloc),
+            of_arcs: false,
             passed_over: 0,
         }
     }
@@ -85,6 +91,13 @@ impl Rules {
         }
     }
 
+    /// Whether some arc has a rule of its own, at no cost.
+    pub fn has_arc_rules(&self) -> bool
+        ensures { result ≡ has_arc_rules self.now.rules }
+    {
+        self.of_arcs
+    }
+
     /// The number of rows whose key is passed over, at no cost.
     pub fn passed_over(&self) -> u64
         ensures { result ≡ self.now.passed_over }
@@ -99,10 +112,11 @@ impl Rules {
         ensures refused { IfErr result (λ e. IfBadCause e (λ cause.
             (cause ≡ Cause.Duplicate) × IsSome (rule_value_at self.old.rules place))) }
     {
-        if self.values.contains_key(&place) {
+        if self.value(place).is_some() {
             return Err(RowFault::Bad(Cause::Duplicate));
         }
         self.values.insert(place, value)?;
+        self.of_arcs |= place.scope.is_arc();
         Ok(())
     }
 

@@ -1,5 +1,6 @@
 // The place of a rule: its scope and its key.
 ghost use Rattle.std.specs.Prelude.{◌≡◌};
+ghost use Rattle.network_tables.specs.Words.{is_arc};
 
 use vehicle_classes::Key;
 
@@ -8,6 +9,18 @@ use vehicle_classes::Key;
 pub enum Scope {
     Area(usize),
     Arc(u32),
+}
+
+impl Scope {
+    // Whether it is one arc.
+    pub(crate) fn is_arc(self) -> bool
+        ensures { result ≡ is_arc self }
+    {
+        match self {
+            Scope::Area(_place) => false,
+            Scope::Arc(_number) => true,
+        }
+    }
 }
 
 /// The place of a rule: its scope, its key, and whether its value is conditional.

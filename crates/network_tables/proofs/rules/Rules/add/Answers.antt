@@ -1,12 +1,33 @@
-use Rattle.std.proofs.Common.{◌∙◌, ap, sym}
+use Rattle.std.proofs.Common.{◌≡◌, ◌∙◌, ◌||◌, ◌++◌, ◌∷◌, [], None, ap, sym}
+use Rattle.std.specs.Option.{option_map}
 use Rattle.indexmap.proofs.CallerLemmas.{insert_entry-new}
 use Rattle.table_reader.proofs.NameRows.{none_from}
+use Rattle.network_tables.specs.Rules.{has_arc_rules, rule_value_at}
 use Rattle.network_tables.specs.RuleLists.{RuleList, with_rule}
+use Rattle.network_tables.proofs.ArcRules.{arc_rules_more}
+use Rattle.network_tables.proofs.SamePlaces.{code_value}
 use Rattle.network_tables.proofs.rules.Rules.add.Goals as goal
+
+-- the place had no value
+was_free : (c : goal.After-self-1) → rule_value_at c.self.inside.values.entries c.args.place ≡ None
+was_free c =
+    ap (λ (list : RuleList). rule_value_at list.rules c.args.place) c.self.view_is
+    ∙ sym c.value.ensures
+    ∙ ap (option_map _) (none_from _ (sym c.is_some.ensures ∙ c.if-is_some.false))
+
+-- the rule is the last one
+entries_now : (c : goal.After-self-1) → c.insert.new.self.entries ≡ c.self.inside.values.entries ++ (c.args.place, c.args.value) ∷ []
+entries_now c =
+    c.in_ok-insert.ensures.entries
+    ∙ insert_entry-new _ c.self.inside.values c.args.place c.args.value (code_value c.self.inside.values.entries c.args.place ∙ was_free c)
+
+pub invariant_of-self-2 : goal.invariant_of-self-2
+invariant_of-self-2 c =
+    (λ i. c.self.invariant i || c.is_arc.ensures i)
+    ∙ sym (arc_rules_more c.self.inside.values.entries c.args.place c.args.value)
+    ∙ sym (ap has_arc_rules (entries_now c))
 
 pub returns-clause-added : goal.returns-clause-added
 returns-clause-added c =
-    let none = none_from _ (sym c.contains_key.ensures ∙ c.if-contains_key.false) in
-    let entries = c.in_ok-insert.ensures.entries ∙ insert_entry-new _ c.self.inside.values c.args.place c.args.value none in
-    (λ i. record { rules = entries i; passed_over = c.self.inside.passed_over })
+    (λ i. record { rules = entries_now c i; passed_over = c.self.inside.passed_over })
     ∙ ap (λ (list : RuleList). with_rule list c.args.place c.args.value) c.self.view_is
