@@ -6,15 +6,18 @@
 //! pair says.
 //!
 //! The law is in `route_base`: `Achieves` and `HasNoNeighbouringWaits`, proved at `unpack`, and `IsRight`, the clause of the trait
-//! `FrontSearch`, proved for `FunctionEngine`, which searches and unpacks each pair by `routes_of`. `specs/Inside` is no law: it
-//! says what a leg that is found leads from, and what the legs found so far lead to.
+//! `FrontSearch`, proved for `FunctionEngine`, which searches and unpacks each pair by `routes_of`. That costs fit, as the engine
+//! requires (`CostsFit`), is the law `costs_fit` over nets in which no minute is dear. `specs/Inside` is no law: it says what a leg
+//! that is found leads from, and what the legs found so far lead to.
 #![tactic(auto)]
 
 mod back;
 mod engine;
+mod laws;
 mod legs;
 mod solved;
 mod sources;
 
 pub use back::{unpack, unpack_over};
 pub use engine::{FunctionEngine, routes_of};
+pub use laws::costs_fit;
