@@ -17,10 +17,12 @@
 //! test is the relation of `opening_hours`; `covered_minutes` meets it for every minute of a window. `Layers` says what layers of
 //! minutes give: the last layer that has a minute decides whether it is closed. `overlaid` and `closed_by` meet this, and `common`
 //! has the minutes of all sets. The law `last_of_all` says that lists of clauses, one after another, may be taken as one list.
+//! `Bans` says when a set has exactly those minutes of a window that pass a test (`HasThose`): the set of `closed_set` has those at
+//! which the arc is closed.
 //!
 //! The other definitions are machinery. `LocalDays` says which minutes of UTC the spans of a local day are, while the offset of
 //! the zone stays the same: `coverage` cuts the window where the offset changes, `local_days` lays out the days of each part, and
-//! both write runs in any order, of which `minute_sets` makes a set. `Bans` says what it is to lay the values of rules over
+//! both write runs in any order, of which `minute_sets` makes a set. `Bans` says too what it is to lay the values of rules over
 //! minutes that are closed so far, from general to special, as `closed_sets` does. `Inside` says how arcs are grouped and timed.
 #![tactic(auto)]
 
