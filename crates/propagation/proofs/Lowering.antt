@@ -1,6 +1,6 @@
 -- A write to a list of functions lowers one of them.
 use Rattle.std.proofs.Common.{◌≡◌, ℕ, ◌-◌, ◌≤◌, Bool, Option, List, length, get_or, set, sym, ◌∙◌, ap}
-use Rattle.propagation.proofs.Lists.{number_read, number_set, number_set_other}
+use Rattle.potentials.proofs.Lists.{number_read, number_set, number_set_other}
 use Rattle.cost_functions.specs.Pieces.{value_at}
 use Rattle.function_merge.specs.Least.{least_of, is_better}
 use Rattle.propagation.specs.Found.{cost_at, cost_by}

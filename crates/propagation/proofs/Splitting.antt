@@ -8,7 +8,7 @@ use Rattle.route_base.specs.Relaxing.{IsDominatedOrLate}
 use Rattle.route_base.specs.declared.types.Bound.{Bound}
 use Rattle.label_queue.specs.Keys.{key_at, IsSet}
 use Rattle.propagation.specs.declared.state.State.{State}
-use Rattle.propagation.proofs.Lists.{number_read, number_set, number_set_other}
+use Rattle.potentials.proofs.Lists.{number_read, number_set, number_set_other}
 use Rattle.route_base.specs.Runs.{any_has}
 use Rattle.function_merge.specs.Pruning.{IsPruned}
 use Rattle.propagation.specs.Inside.Invariants.{Progress, TakesPart, Task, point}
