@@ -19,6 +19,7 @@ use Rattle.network_tables.specs.Access.{is_closed}
 use Rattle.network_tables.specs.NetworkModel.{NetworkModel, IsGoodNetwork, IsSmallWeight}
 use Rattle.network_tables.specs.RoadSetting.{road_setting, road_over}
 use Rattle.ban_expansion.specs.ArcGroups.{GroupsModel, AreGroups}
+use Rattle.ban_expansion.specs.Bans.{IsShutWithin}
 use Rattle.ban_expansion.specs.Inside.GroupedNets.{HasClosed, AreClosedLists, IsTimedArc, AreTimed, timed_over}
 use Rattle.ban_expansion.proofs.ItemLists.{got_pushed, zip_all, zip_at, zip_length}
 
@@ -131,6 +132,10 @@ module _ (net : NetworkModel) (vehicle : VehicleModel) (window : Run) (all : Gro
         ∙ ap (λ (b : Bool). b && is_closed net vehicle a t) (and_from _ _ (le-leb window.lo t from) (lt-ltb t window.hi to));
   }
 
+  pub net_shut : IsShutWithin net vehicle window
+      (setting_of (record { nodes = net.graph.nodes; arcs = arcs; closed = lists; weights = net.weights }))
+  net_shut a t there = closed_minutes a t (some_inside road_over (at_number net.graph.arcs a) (subst IsSome (same_road a) there))
+
 -- a net of these parts, with nodes and weights that are the network's
 abbrev pub net_with : ℕ → List TimedArc → List (List Run) → List (Option ℕ) → Net
 net_with n arcs closed weights = record { nodes = n; arcs = arcs; closed = closed; weights = weights }
@@ -140,10 +145,13 @@ pub net_made : (net : NetworkModel) (vehicle : VehicleModel) (window : Run) (all
     → AreTimed net all.groups (length net.graph.arcs) arcs → AreClosedLists net vehicle window all.firsts lists
     → {n : ℕ} {weights : List (Option ℕ)} → n ≡ net.graph.nodes → weights ≡ net.weights
     → IsGoodNet (net_with n arcs lists weights) × StandsFor (setting_of (net_with n arcs lists weights)) (road_setting net vehicle) window
+    × IsShutWithin net vehicle window (setting_of (net_with n arcs lists weights))
 net_made net vehicle window all arcs lists good graph groups timed sets nodes weights =
     let same : net_with net.graph.nodes arcs lists net.weights ≡ net_with _ arcs lists _ =
     λ i. net_with (sym nodes i) arcs lists (sym weights i) in (
       subst IsGoodNet same (good_net net vehicle window all arcs lists good graph groups timed sets),
       subst (λ (n : Net). StandsFor (setting_of n) (road_setting net vehicle) window) same
           (net_stands net vehicle window all arcs lists good graph groups timed sets),
+      subst (λ (n : Net). IsShutWithin net vehicle window (setting_of n)) same
+          (net_shut net vehicle window all arcs lists good graph groups timed sets),
     )

@@ -1,6 +1,7 @@
 -- Minutes that are closed by accesses, laid over one another from general to special (source: own).
-use Rattle.std.specs.Prelude.{◌≡◌, ◌&&◌, ℕ, Bool, not, Option, Some, None, List, if◌then◌else◌}
+use Rattle.std.specs.Prelude.{◌≡◌, ◌&&◌, ℕ, Bool, not, Option, Some, None, IsSome, List, if◌then◌else◌}
 use Rattle.route_base.specs.Runs.{any_has, has_minute}
+use Rattle.route_base.specs.Setting.{Setting}
 use Rattle.route_base.specs.declared.types.Run.{Run}
 use Rattle.opening_hours.specs.Holidays.{HolidayLists}
 use Rattle.zone_rules.specs.Zones.{wall_at}
@@ -12,10 +13,17 @@ use Rattle.conditional_rules.specs.Decisions.{part_holds, clause_holds}
 use Rattle.conditional_rules.specs.declared.access.Access.{Access}
 use Rattle.conditional_rules.specs.declared.conditional.Clause.{Clause}
 use Rattle.conditional_rules.specs.declared.conditional.Part.{Part}
+use Rattle.network_tables.specs.Access.{is_closed}
+use Rattle.network_tables.specs.NetworkModel.{NetworkModel}
 
 -- the set has exactly those minutes of the window that pass
 abbrev pub HasThose : Run → (ℕ → Bool) → List Run → Type 0
 HasThose window passes set = (t : ℕ) → any_has set t ≡ (has_minute t window && passes t)
+
+-- each road is shut at exactly those minutes of the window at which its arc is closed to the vehicle, and at no minute outside it
+abbrev pub IsShutWithin : NetworkModel → VehicleModel → Run → Setting → Type 0
+IsShutWithin net vehicle window setting =
+    (a t : ℕ) → IsSome (setting.road a) → setting.shut a t ≡ (has_minute t window && is_closed net vehicle a t)
 
 -- whether a part, and a clause, hold for the vehicle when clocks in the zone are read at this instant
 abbrev pub part_holds_at : VehicleModel → List ZoneRow → HolidayLists → Part → ℕ → Bool

@@ -1,6 +1,6 @@
 // Makes the net of a network for a vehicle, over which trips are planned.
 ghost use Rattle.std.specs.Prelude.{◌≡◌, ◌≤◌, ◌<◌, length, IfOk};
-ghost use Rattle.ban_expansion.specs.Words.{StandsFor, setting_of, IsGoodGraph, road_setting, IsWindow};
+ghost use Rattle.ban_expansion.specs.Words.{StandsFor, IsShutWithin, setting_of, IsGoodGraph, road_setting, IsWindow};
 ghost use Rattle.ban_expansion.specs.Words.{AreGroups, AreTimed, IsTimedArc, timed_over};
 
 use crate::arc_groups::ArcGroups;
@@ -80,8 +80,10 @@ pub fn expand_groups(
 ) -> Result<TimedNet, OutOfMemory>
     requires groups { AreGroups network.now groups.now }
     requires window { IsWindow window }
-    ensures { IfOk result (λ net.
+    ensures stands { IfOk result (λ net.
         StandsFor (setting_of net) (road_setting network.now vehicle.now) window) }
+    ensures exact { IfOk result (λ net.
+        IsShutWithin network.now vehicle.now window (setting_of net)) }
 {
     let nodes = network.graph().node_count();
     let arcs = timed_arcs(alloc, network, groups)?;
@@ -102,8 +104,10 @@ pub fn expand_plain(
     window: Run,
 ) -> Result<TimedNet, OutOfMemory>
     requires { IsWindow window }
-    ensures { IfOk result (λ net.
+    ensures stands { IfOk result (λ net.
         StandsFor (setting_of net) (road_setting network.now vehicle.now) window) }
+    ensures exact { IfOk result (λ net.
+        IsShutWithin network.now vehicle.now window (setting_of net)) }
 {
     let groups = group_arcs(alloc, network)?;
     expand_groups(alloc, network, &groups, vehicle, window)
@@ -123,8 +127,10 @@ pub fn expand<R: Threads + Sync, G: Gate>(
     gate: &G,
 ) -> Result<TimedNet, OutOfMemory>
     requires { IsWindow window }
-    ensures { IfOk result (λ net.
+    ensures stands { IfOk result (λ net.
         StandsFor (setting_of net) (road_setting network.now vehicle.now) window) }
+    ensures exact { IfOk result (λ net.
+        IsShutWithin network.now vehicle.now window (setting_of net)) }
 {
     let groups = group_arcs(alloc, network)?;
     let nodes = network.graph().node_count();

@@ -5,6 +5,7 @@ use Rattle.route_base.specs.declared.types.ArcId.{ArcId}
 use Rattle.route_base.specs.declared.types.Run.{Run}
 use Rattle.dimacs_reader.specs.GraphModel.{GraphModel, IsGoodGraph}
 use Rattle.network_tables.specs.RoadSetting.{road_setting}
+use Rattle.ban_expansion.specs.Bans.{IsShutWithin}
 use Rattle.ban_expansion.specs.Inside.GroupedNets.{AreClosedLists}
 use Rattle.ban_expansion.proofs.TimedNets.{net_made}
 use Rattle.ban_expansion.proofs.expansion.expand_groups.Goals as goal
@@ -20,8 +21,8 @@ new-requires c =
     (net_made net c.args.vehicle.now c.args.window c.args.groups.now c.in_ok-arcs.arcs.items lists c.graph.ensures.good graph
     c.requires.groups c.in_ok-arcs.ensures sets nodes c.in_ok-weights.ensures).0
 
-pub returns : goal.returns
-returns c =
+pub returns-clause-stands : goal.returns-clause-stands
+returns-clause-stands c =
     let net = c.args.network.now in
     let graph = subst IsGoodGraph c.graph.ensures.value c.node_count-nodes.ensures.good in
     let nodes = c.node_count-nodes.ensures.value ∙ ap (λ (g : GraphModel). g.nodes) c.graph.ensures.value in
@@ -31,3 +32,15 @@ returns c =
     let made = net_made net c.args.vehicle.now c.args.window c.args.groups.now c.in_ok-arcs.arcs.items lists c.graph.ensures.good graph
     c.requires.groups c.in_ok-arcs.ensures sets nodes c.in_ok-weights.ensures in
     subst (λ (n : Net). StandsFor (setting_of n) (road_setting net c.args.vehicle.now) c.args.window) (sym c.new.ensures) made.1
+
+pub returns-clause-exact : goal.returns-clause-exact
+returns-clause-exact c =
+    let net = c.args.network.now in
+    let graph = subst IsGoodGraph c.graph.ensures.value c.node_count-nodes.ensures.good in
+    let nodes = c.node_count-nodes.ensures.value ∙ ap (λ (g : GraphModel). g.nodes) c.graph.ensures.value in
+    let lists : List (List Run) = map (λ v. v.items) c.in_ok-closed.closed.items in
+    let sets = subst (λ (firsts : List ArcId). AreClosedLists net c.args.vehicle.now c.args.window firsts lists) c.firsts.ensures
+    c.in_ok-closed.ensures in
+    let made = net_made net c.args.vehicle.now c.args.window c.args.groups.now c.in_ok-arcs.arcs.items lists c.graph.ensures.good graph
+    c.requires.groups c.in_ok-arcs.ensures sets nodes c.in_ok-weights.ensures in
+    subst (λ (n : Net). IsShutWithin net c.args.vehicle.now c.args.window (setting_of n)) (sym c.new.ensures) made.2
