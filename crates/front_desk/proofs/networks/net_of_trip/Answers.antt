@@ -10,4 +10,4 @@ use Rattle.front_desk.proofs.networks.net_of_trip.Goals as goal
 pub trip_net-requires-clause-stands : goal.trip_net-requires-clause-stands
 trip_net-requires-clause-stands c =
     subst (λ (m : VehicleModel). StandsFor (setting_of c.in_ok-net.net) (road_setting c.args.network.now m) (trip_window (trip_in c.args.trip)))
-    c.requires.vehicle c.in_ok-net.ensures
+    c.requires.vehicle c.in_ok-net.ensures.stands
