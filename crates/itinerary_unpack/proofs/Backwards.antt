@@ -21,7 +21,7 @@ use Rattle.route_base.proofs.Walking.{along, cheaper, walk-append}
 use Rattle.cost_functions.specs.declared.pieces.Piece.{Piece}
 use Rattle.propagation.specs.Found.{cost_by, cost_at, Finding, IsFoundFor, IsReachable}
 use Rattle.propagation.specs.Inside.Invariants.{point}
-use Rattle.propagation.proofs.Lists.{number_past}
+use Rattle.potentials.proofs.Lists.{number_past}
 use Rattle.itinerary_unpack.specs.Inside.Sources.{ComesFrom}
 use Rattle.itinerary_unpack.specs.Inside.Ways.{LeadsToPair}
 use Rattle.itinerary_unpack.specs.declared.sources.Source.{Source}

@@ -8,7 +8,6 @@ pub mod Splitting
 pub mod Fitting
 pub mod Lowering
 pub mod Blanks
-pub mod Lists
 pub mod Pairing
 pub mod ByArrival
 pub mod Waited
