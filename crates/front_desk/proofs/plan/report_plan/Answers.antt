@@ -24,7 +24,7 @@ returns-in-Ok-clause-halted g c =
     c.in_ok-net-in-Ok.ensures c.in_ok-planned-in-Ok.ensures in
     halted_handed (plan_in c.args.plan) (g.F.Folder.state c.args.folder.now) (g.F.Folder.state c.load_network.new.folder)
     (g.F.Folder.state c.hand_over.new.folder) e.kept c.in_ok-network.network e.found c.in_ok-planned-in-Ok.planned ready
-    c.hand_over.result c.hand_over.ensures
+    e.faultless c.in-Ok.ensures.passed c.hand_over.result c.hand_over.ensures
 
 pub returns-in-Ok-clause-left : goal.returns-in-Ok-clause-left
 returns-in-Ok-clause-left g c =
@@ -33,7 +33,7 @@ returns-in-Ok-clause-left g c =
     c.in_ok-net-in-Ok.ensures c.in_ok-planned-in-Ok.ensures in
     left_handed (plan_in c.args.plan) (g.F.Folder.state c.args.folder.now) (g.F.Folder.state c.load_network.new.folder)
     (g.F.Folder.state c.hand_over.new.folder) e.kept c.in_ok-network.network e.found c.in_ok-planned-in-Ok.planned ready
-    c.hand_over.result c.hand_over.ensures
+    e.faultless c.in-Ok.ensures.passed c.hand_over.result c.hand_over.ensures
 
 pub returns-in-Ok-clause-left_halted : goal.returns-in-Ok-clause-left_halted
 returns-in-Ok-clause-left_halted g c =
