@@ -13,7 +13,7 @@ use Rattle.plan_report.specs.Refusals.{refusal_text_of}
 use Rattle.plan_report.specs.declared.outcomes.Refusal.{Refusal}
 use Rattle.plan_report.specs.declared.outcomes.Refusal.TheVariants.{Usage as UsageRefusal, Input, Request}
 use Rattle.front_desk.specs.CommandLine.{Command, command_of}
-use Rattle.front_desk.specs.Commands.{first_fault_for, failed_check_for, Answers, Judges, Rejects, WritesFiles, LeavesFiles}
+use Rattle.front_desk.specs.Commands.{first_fault_for, failed_check_for, Answers, Judges, HasRequest, Rejects, WritesFiles, LeavesFiles}
 use Rattle.front_desk.specs.Files.{IfTold}
 
 -- the command's files have no fault, its request passes all checks, and the text is its answer
@@ -46,8 +46,9 @@ pub record IsFirstFault (first_fault : Contents → Option BadInput) (old new : 
   pub first : IfTold old (λ held. first_fault held ≡ Some fault)
   pub missed : fault.cause ≡ Missing → MissedFile old new
 
--- the command's files have no fault and this is the first check that fails, where the folder tells its contents
+-- the command has a request, and where the folder tells its contents, its files have no fault and this is the first check that fails
 pub record IsFailedCheck (command : Command) (old : FolderState) (fault : RequestFault) : Type 0 where
+  pub asks : HasRequest command
   pub faultless : IfTold old (λ held. first_fault_for command held ≡ None)
   pub first : IfTold old (λ held. failed_check_for command held ≡ Some fault)
 
