@@ -6,8 +6,8 @@ use Rattle.front_desk.specs.Inside.Judging.{IsJudged}
 use Rattle.front_desk.proofs.Judgements.{reports_judged}
 use Rattle.front_desk.proofs.judgement.report_check.Goals as goal
 
-pub returns-in-Ok-clause-reports : goal.returns-in-Ok-clause-reports
-returns-in-Ok-clause-reports g c =
+pub returns-in_ok-report-in-Ok-clause-reports : goal.returns-in_ok-report-in-Ok-clause-reports
+returns-in_ok-report-in-Ok-clause-reports g c =
     let e = c.in_ok-network.ensures in
     let net = c.in_ok-net-in-Ok.net in
     let bytes = c.in_ok-network.bytes in
