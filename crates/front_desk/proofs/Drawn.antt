@@ -57,7 +57,7 @@ module _ (g : Gen) (old new : FolderState) (files : List FileToWrite) (same : fi
   pub unwritten_stops : (halt : Halt) → FailsToPutEach old new g.dir files halt → StopsCommand (to_gen g) old new halt
   unwritten_stops (Refused refusal) why = absurd why
   unwritten_stops ReadFault why = absurd why
-  unwritten_stops WriteFault why = (tt, why.0)
+  unwritten_stops WriteFault why = record { writes = tt; faultless = λ held is. refl; good = λ held is. refl; counted = why.0 }
   unwritten_stops NoMemory why = tt
 
   pub unwritten_left : (halt : Halt) → FailsToPutEach old new g.dir files halt → LeavesGen g old new (status_of_halt halt)

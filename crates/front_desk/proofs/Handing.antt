@@ -16,7 +16,7 @@ use Rattle.front_desk.specs.Commands.{PlanWrites, LeavesPlan}
 use Rattle.front_desk.specs.Files.{IfTold, path_of}
 use Rattle.front_desk.specs.Inside.Halting.{ReportsOn, StopsCommand, status_of_halt}
 use Rattle.front_desk.specs.Inside.Planning.{IsFileFor, IsReady, IsWritten, IsUnwritten, HandsOver}
-use Rattle.front_desk.specs.Plan.{Certifies, HoldsCertificate, IsPlanned, plan_fault, trip_setting}
+use Rattle.front_desk.specs.Plan.{Certifies, HoldsCertificate, IsPlanned, plan_fault, plan_check, trip_setting}
 use Rattle.front_desk.specs.ReadingOrder.{network_held}
 use Rattle.front_desk.specs.Trips.{failed_check, request_of}
 use Rattle.front_desk.specs.declared.outcome.Halt.{Halt}
@@ -93,25 +93,6 @@ module _ (p : Plan) (old mid new : FolderState) (kept : KeepsFiles old mid) (net
   unwritten_rises (Some file) WriteFault why = rise_more old mid new kept why.0
   unwritten_rises (Some file) NoMemory why = rise_more old mid new kept why.0
 
-  leaves : (asked : Option (List ℕ)) (file : Option CertificateFile)
-      → IsFileFor (trip_setting network p.trip) (request_of p.trip) ready.routes asked file → IsWritten mid new p.dir file
-      → LeavesPlan p asked old new Done
-  leaves None None for written = keeps_more old mid new kept written
-  leaves None (Some file) for written = absurd for
-  leaves (Some name) None for written = absurd for
-  leaves (Some name) (Some file) for written = record {
-    others = subst (λ (n : List ℕ). LeavesOpen old.contents new.contents (path_of p.dir n)) for.0
-        (subst (λ (o : Option Contents). LeavesOpen o new.contents (path_of p.dir file.name.now)) kept.contents
-        (opened mid.contents new.contents (path_of p.dir file.name.now) file.bytes.items written.1));
-    whole = λ held is. record {
-      routes = ready.routes;
-      right = subst (λ (n : NetworkModel). IsRight (trip_setting n p.trip) (request_of p.trip) ready.routes) (found held is) ready.right;
-      certified = subst
-          (λ (n : NetworkModel). HoldsCertificate (trip_setting n p.trip) (request_of p.trip) ready.routes (path_of p.dir name) (Some held) new.contents)
-          (found held is) (holds (trip_setting network p.trip) name file held is for written.1);
-    };
-  }
-
   unwritten_leaves : (asked : Option (List ℕ)) (file : Option CertificateFile) (halt : Halt)
       → IsFileFor (trip_setting network p.trip) (request_of p.trip) ready.routes asked file → IsUnwritten mid new p.dir file halt
       → LeavesPlan p asked old new (status_of_halt halt)
@@ -131,21 +112,50 @@ module _ (p : Plan) (old mid new : FolderState) (kept : KeepsFiles old mid) (net
   writes None file for = for
   writes (Some name) file for = tt
 
-  unwritten_stops : (file : Option CertificateFile) (halt : Halt)
-      → IsFileFor (trip_setting network p.trip) (request_of p.trip) ready.routes p.certificate file → IsUnwritten mid new p.dir file halt
-      → StopsCommand (to_plan p) old new halt
-  unwritten_stops None halt for why = absurd why
-  unwritten_stops (Some file) (Refused refusal) for why = absurd why
-  unwritten_stops (Some file) ReadFault for why = absurd why
-  unwritten_stops (Some file) WriteFault for why = (writes p.certificate file for, failed_since old mid new kept why.1.0)
-  unwritten_stops (Some file) NoMemory for why = tt
-
   module _ (faultless : IfTold old (λ held. plan_fault p held ≡ None)) (passed : failed_check network p.trip ≡ None) where
+    passes : IfTold old (λ held. plan_check p held ≡ None)
+    passes held is = ap (λ (n : NetworkModel). failed_check n p.trip) (sym (found held is)) ∙ passed
+
+    leaves : (asked : Option (List ℕ)) (file : Option CertificateFile)
+        → IsFileFor (trip_setting network p.trip) (request_of p.trip) ready.routes asked file → IsWritten mid new p.dir file
+        → LeavesPlan p asked old new Done
+    leaves None None for written = keeps_more old mid new kept written
+    leaves None (Some file) for written = absurd for
+    leaves (Some name) None for written = absurd for
+    leaves (Some name) (Some file) for written = record {
+      others = subst (λ (n : List ℕ). LeavesOpen old.contents new.contents (path_of p.dir n)) for.0
+          (subst (λ (o : Option Contents). LeavesOpen o new.contents (path_of p.dir file.name.now)) kept.contents
+          (opened mid.contents new.contents (path_of p.dir file.name.now) file.bytes.items written.1));
+      whole = λ held is. record {
+        faultless = faultless held is;
+        good = passes held is;
+        routes = ready.routes;
+        right = subst (λ (n : NetworkModel). IsRight (trip_setting n p.trip) (request_of p.trip) ready.routes) (found held is) ready.right;
+        certified = subst
+            (λ (n : NetworkModel). HoldsCertificate (trip_setting n p.trip) (request_of p.trip) ready.routes (path_of p.dir name) (Some held) new.contents)
+            (found held is) (holds (trip_setting network p.trip) name file held is for written.1);
+      };
+    }
+
+    unwritten_stops : (file : Option CertificateFile) (halt : Halt)
+        → IsFileFor (trip_setting network p.trip) (request_of p.trip) ready.routes p.certificate file → IsUnwritten mid new p.dir file halt
+        → StopsCommand (to_plan p) old new halt
+    unwritten_stops None halt for why = absurd why
+    unwritten_stops (Some file) (Refused refusal) for why = absurd why
+    unwritten_stops (Some file) ReadFault for why = absurd why
+    unwritten_stops (Some file) WriteFault for why = record {
+      writes = writes p.certificate file for;
+      faultless = faultless;
+      good = passes;
+      counted = failed_since old mid new kept why.1.0;
+    }
+    unwritten_stops (Some file) NoMemory for why = tt
+
     pub reports_handed : (result : Result Report Halt) → HandsOver mid new p.dir planned result → IfOk result (ReportsOn (to_plan p) old new)
     reports_handed (Ok report) h = record {
       answered = λ _ held is. record {
         faultless = faultless held is;
-        good = ap (λ (n : NetworkModel). failed_check n p.trip) (sym (found held is)) ∙ passed;
+        good = passes held is;
         answer = subst (λ (n : NetworkModel). IsPlanned (trip_setting n p.trip) p (Some held) new.contents report.text.items) (found held is)
             (record {
               routes = ready.routes;
@@ -159,17 +169,17 @@ module _ (p : Plan) (old mid new : FolderState) (kept : KeepsFiles old mid) (net
     }
     reports_handed (Err halt) h = tt
 
+    pub halted_handed : (result : Result Report Halt) → HandsOver mid new p.dir planned result → IfErr result (StopsCommand (to_plan p) old new)
+    halted_handed (Ok report) h = tt
+    halted_handed (Err halt) h = unwritten_stops planned.certificate halt ready.file h
+
+    pub left_handed : (result : Result Report Halt) → HandsOver mid new p.dir planned result → OnOk result (LeavesPlan p p.certificate old new Done)
+    left_handed (Ok report) h = leaves p.certificate planned.certificate ready.file h.1.1
+    left_handed (Err halt) h = tt
+
   pub done_handed : (result : Result Report Halt) → HandsOver mid new p.dir planned result → IfOk result (λ report. report.rejects ≡ false)
   done_handed (Ok report) h = h.0
   done_handed (Err halt) h = tt
-
-  pub halted_handed : (result : Result Report Halt) → HandsOver mid new p.dir planned result → IfErr result (StopsCommand (to_plan p) old new)
-  halted_handed (Ok report) h = tt
-  halted_handed (Err halt) h = unwritten_stops planned.certificate halt ready.file h
-
-  pub left_handed : (result : Result Report Halt) → HandsOver mid new p.dir planned result → OnOk result (LeavesPlan p p.certificate old new Done)
-  left_handed (Ok report) h = leaves p.certificate planned.certificate ready.file h.1.1
-  left_handed (Err halt) h = tt
 
   pub left_halted : (result : Result Report Halt) → HandsOver mid new p.dir planned result
       → IfErr result (λ halt. LeavesPlan p p.certificate old new (status_of_halt halt))

@@ -3,6 +3,7 @@ use Rattle.std.proofs.Common.{◌≡◌, ℕ, true, None, List, refl, ap, sym, s
 use Rattle.std.proofs.lemmas.Bool.{both_ways}
 use Rattle.route_base.specs.Front.{IsFront}
 use Rattle.route_base.specs.Setting.{Setting}
+use Rattle.route_base.specs.declared.types.Pair.{Pair}
 use Rattle.route_base.specs.declared.types.Request.{Request}
 use Rattle.certificate.specs.Writable.{IsCertificateText, IsNoCertificateText}
 use Rattle.certificate.specs.declared.Certificate.{Certificate}
@@ -14,7 +15,7 @@ use Rattle.route_base.specs.FolderState.{FolderState}
 use Rattle.network_tables.specs.NetworkModel.{NetworkModel}
 use Rattle.plan_report.specs.Check.{check_text_of}
 use Rattle.plan_report.specs.declared.outcomes.Verdict3.TheVariants.{Rejected as Rejected3}
-use Rattle.front_desk.specs.Check.{no_certificate, condition_fails, check_fault, certificate_held, IsAccepted, IsRejected}
+use Rattle.front_desk.specs.Check.{no_certificate, condition_fails, check_fault, certificate_held, FailsWith, IsAccepted, IsRejected}
 use Rattle.front_desk.specs.CommandLine.{Check, to_check}
 use Rattle.front_desk.specs.Files.{IfTold}
 use Rattle.front_desk.specs.Inside.Halting.{ReportsOn}
@@ -43,6 +44,31 @@ module _ (s : Setting) (request : Request) (bytes : List ℕ) (report : Report) 
   judged_unread none rejects is_text = record {
     accepted = λ accepts. absurd (both_ways report.rejects accepts rejects);
     rejected = λ _. record { number = 0; fails = no_certificate none; is_text = is_text };
+  }
+
+-- a report that judges bytes in one setting judges them in each that has the same verdicts and fronts
+module _ (s z : Setting) (request : Request)
+    (verdicts : (c : Certificate) (v : Verdict) → IsVerdict s request c v → IsVerdict z request c v)
+    (fronts : (pairs : List Pair) → IsFront s request pairs → IsFront z request pairs) where
+  fails_there : (bytes : List ℕ) (k : ℕ) → FailsWith s request bytes k → FailsWith z request bytes k
+  fails_there bytes _ (no_certificate none) = no_certificate none
+  fails_there bytes _ (condition_fails certificate k read fails) =
+      condition_fails certificate k read (verdicts certificate (Rejected k) fails)
+
+  pub judged_there : (bytes : List ℕ) (report : Report) → IsJudged s request bytes report → IsJudged z request bytes report
+  judged_there bytes report judged = record {
+    accepted = λ accepts. let a = judged.accepted accepts in record {
+      certificate = a.certificate;
+      read = a.read;
+      good = verdicts a.certificate Accepted a.good;
+      front = fronts (pairs_of a.certificate.routes) a.front;
+      is_text = a.is_text;
+    };
+    rejected = λ rejects. let r = judged.rejected rejects in record {
+      number = r.number;
+      fails = fails_there bytes r.number r.fails;
+      is_text = r.is_text;
+    };
   }
 
 module _ (k : Check) (old new : FolderState) (network : NetworkModel) (bytes : List ℕ) (report : Report)

@@ -20,7 +20,7 @@ failed_bans_check network b =
     else if not (is_node (length network.graph.arcs) b.arc) then Some UnknownArc
     else failed_time b.depart b.until
 
--- the minutes from the first instant up to, but not with, the last
+-- the minutes from the first instant up to, but not including, the last
 abbrev pub window_of : Bans → Run
 window_of b = record { lo = b.depart; hi = b.until }
 

@@ -40,6 +40,14 @@ Answers (to_bans b) held after text = IsBansReport b held text
 Answers (to_batch b) held after text = IsBatchReport b held text
 Answers (to_gen g) held after text = IsGenReport g held after text
 
+-- the command has a request, which may fail a check; each job of a batch has its own
+abbrev pub HasRequest : Command → Type 0
+HasRequest (to_plan p) = ⊤
+HasRequest (to_check c) = ⊤
+HasRequest (to_bans b) = ⊤
+HasRequest (to_batch b) = ⊥
+HasRequest (to_gen g) = ⊥
+
 -- the command judges a file, which it may reject
 abbrev pub Judges : Command → Type 0
 Judges (to_plan p) = ⊥

@@ -54,13 +54,6 @@ trip_setting network trip = road_setting network (vehicle_named network trip.veh
 abbrev pub IsPlanReport : Plan → Contents → Option Contents → List ℕ → Type 0
 IsPlanReport p held after text = IsPlanned (trip_setting (network_held held p.dir) p.trip) p (Some held) after text
 
--- a good certificate of right routes of the plan's trip stands under this name in the plan's folder, and all else is as it was
-pub record IsCertified (p : Plan) (name : List ℕ) (held : Contents) (after : Option Contents) : Type 0 where
-  pub routes : List Route
-  pub right : IsRight (trip_setting (network_held held p.dir) p.trip) (request_of p.trip) routes
-  pub certified : HoldsCertificate (trip_setting (network_held held p.dir) p.trip) (request_of p.trip) routes (path_of p.dir name)
-      (Some held) after
-
 -- the first fault of the plan's files
 abbrev pub plan_fault : Plan → Contents → Option BadInput
 plan_fault p held = first_folder_fault held p.dir
@@ -68,3 +61,13 @@ plan_fault p held = first_folder_fault held p.dir
 -- the first check that the plan's trip fails
 abbrev pub plan_check : Plan → Contents → Option RequestFault
 plan_check p held = failed_check (network_held held p.dir) p.trip
+
+-- the plan's files have no fault, its trip passes all checks, a good certificate of right routes of the trip stands under this name in the
+-- plan's folder, and all else is as it was
+pub record IsCertified (p : Plan) (name : List ℕ) (held : Contents) (after : Option Contents) : Type 0 where
+  pub faultless : plan_fault p held ≡ None
+  pub good : plan_check p held ≡ None
+  pub routes : List Route
+  pub right : IsRight (trip_setting (network_held held p.dir) p.trip) (request_of p.trip) routes
+  pub certified : HoldsCertificate (trip_setting (network_held held p.dir) p.trip) (request_of p.trip) routes (path_of p.dir name)
+      (Some held) after

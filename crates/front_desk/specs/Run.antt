@@ -13,7 +13,7 @@ use Rattle.plan_report.specs.Refusals.{refusal_text_of}
 use Rattle.plan_report.specs.declared.outcomes.Refusal.{Refusal}
 use Rattle.plan_report.specs.declared.outcomes.Refusal.TheVariants.{Usage as UsageRefusal, Input, Request}
 use Rattle.front_desk.specs.CommandLine.{Command, command_of}
-use Rattle.front_desk.specs.Commands.{first_fault_for, failed_check_for, Answers, Judges, Rejects, WritesFiles}
+use Rattle.front_desk.specs.Commands.{first_fault_for, failed_check_for, Answers, Judges, HasRequest, Rejects, WritesFiles, LeavesFiles}
 use Rattle.front_desk.specs.Files.{IfTold}
 
 -- the command's files have no fault, its request passes all checks, and the text is its answer
@@ -46,8 +46,9 @@ pub record IsFirstFault (first_fault : Contents → Option BadInput) (old new : 
   pub first : IfTold old (λ held. first_fault held ≡ Some fault)
   pub missed : fault.cause ≡ Missing → MissedFile old new
 
--- the command's files have no fault and this is the first check that fails, where the folder tells its contents
+-- the command has a request, and where the folder tells its contents, its files have no fault and this is the first check that fails
 pub record IsFailedCheck (command : Command) (old : FolderState) (fault : RequestFault) : Type 0 where
+  pub asks : HasRequest command
   pub faultless : IfTold old (λ held. first_fault_for command held ≡ None)
   pub first : IfTold old (λ held. failed_check_for command held ≡ Some fault)
 
@@ -110,25 +111,29 @@ pub record Prints (P : List ℕ → Type 0) (from to : SinkState) : Type 0 where
   pub is_due : P text
   pub gained : Appends from to text
 
--- a failed write was counted, and the sink gained a prefix of a text that is due with some status
-pub record FailsToPrint (P : Status → List ℕ → Type 0) (from to : SinkState) : Type 0 where
+-- a failed write was counted, the sink gained a prefix of a text that is due with some status, and the files are left as with that status
+pub record FailsToPrint (words : List (List ℕ)) (old new : FolderState) (from to : SinkState) : Type 0 where
   pub counted : FailedToAppend from to
   pub status : Status
   pub text : List ℕ
-  pub is_due : P status text
+  pub is_due : IsDue words old new status text
+  pub left : LeavesFiles (command_of words) old new status
   pub gained : AppendsPrefix from to text
 
--- a failed write of a file was counted, by a command that writes files, and nothing was printed
+-- a failed write of a file was counted, by a command that writes files; where the folder tells its contents, the command's files have no
+-- fault and its request passes all checks; nothing was printed
 pub record FailsInFolder (words : List (List ℕ)) (old new : FolderState) (from to : SinkState) : Type 0 where
   pub command : Command
   pub is_command : command_of words ≡ Some command
   pub writes : WritesFiles command
+  pub faultless : IfTold old (λ held. first_fault_for command held ≡ None)
+  pub good : IfTold old (λ held. failed_check_for command held ≡ None)
   pub counted : FailedToWrite old new
   pub silent : StaysSilent from to
 
 -- how writing failed: in the folder, or in the sink
 abbrev pub FailsToWrite : List (List ℕ) → FolderState → FolderState → SinkState → SinkState → Type 0
-FailsToWrite words old new from to = FailsInFolder words old new from to ⊎ FailsToPrint (IsDue words old new) from to
+FailsToWrite words old new from to = FailsInFolder words old new from to ⊎ FailsToPrint words old new from to
 
 -- reading, writing or memory failed
 abbrev pub HasFailed : Status → Type 0

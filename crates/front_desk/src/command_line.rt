@@ -25,7 +25,7 @@ pub struct Check<'a> {
     pub name: &'a str,
 }
 
-/// The command that prints the minutes from `depart` up to, but not with, `until` at which an arc is closed to a vehicle, over the
+/// The command that prints the minutes from `depart` up to, but not including, `until` at which an arc is closed to a vehicle, over the
 /// files of the folder `dir`. Nothing is checked yet.
 #[derive(Clone, Copy)]
 pub struct Bans<'a> {

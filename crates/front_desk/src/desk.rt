@@ -39,16 +39,16 @@ fn refuse<S: Sink>(alloc: Global, out: &mut S, refusal: Refusal) -> Status
 /// `plan DIR VEHICLE FROM TO DEPART UNTIL` prints the Pareto front of the trip of a vehicle from node FROM at the instant DEPART to
 /// node TO, by the instant UNTIL at the latest, over the files of the folder DIR, in the form that `--form F` asks for. With
 /// `--certificate NAME` it first writes a certificate of the front into DIR, good and tight. `check DIR VEHICLE FROM TO DEPART UNTIL NAME`
-/// judges the certificate NAME of DIR. `bans DIR VEHICLE ARC DEPART UNTIL` prints the minutes from DEPART up to, but not with, UNTIL at
+/// judges the certificate NAME of DIR. `bans DIR VEHICLE ARC DEPART UNTIL` prints the minutes from DEPART up to, but not including, UNTIL at
 /// which the arc is closed to the vehicle. `batch DIR JOBS` prints the plans of the trips of the table JOBS of DIR, planned on four
 /// workers or as many as `--workers N` says. `gen DIR NUMBER ROWS COLUMNS` draws a network from a number, writes its files into DIR, and
-/// prints a summary of them and of a trip over them. The vehicle is `any` or one of `vehicles.csv`. An instant is a text, as
-/// `2020-07-04T00:00Z`, or a Unix minute. Any other words are `Usage`. The text goes to the sink in one call.
+/// prints a summary of them and of a trip over them. The vehicle is `any` or one of `vehicles.csv`. An instant is a text, such
+/// as `2020-07-04T00:00Z`, or a Unix minute. Any other words are `Usage`. The text goes to the sink in one call.
 ///
 /// Reading is linear in the bytes. A plan takes the time and the memory of `propagation::search`, which are those of the cost functions'
 /// pieces and not of minutes, and for each pair what its legs take. A judgement takes a few binary searches for
-/// each piece of a node's function and each arc that leaves the node, and for each closed run and each piece that such a step meets; it takes
-/// no memory beside the certificate's.
+/// each piece of a node's function and each arc that leaves the node, and for each closed run and each piece that such a step meets; beside
+/// the certificate's memory it takes that of the list of its pairs.
 pub fn run<R: Threads + Sync, F: Folder, S: Sink>(
     rt: &R,
     alloc: Global,

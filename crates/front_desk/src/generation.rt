@@ -136,7 +136,7 @@ fn files_of(drawn: &Generated) -> [FileToWrite<'_>; 4]
     ]
 }
 
-/// The summary of the network that is drawn from a number, whose files are written into its folder before. It takes the time and memory of
+/// Draws a network from a number, writes its files into the folder, and gives its summary. It takes the time and memory of
 /// `net_generator::generate`, of reading the files and of planning one trip.
 pub fn report_gen<R: Threads + Sync, F: Folder, G: Gate>(
     rt: &R,

@@ -1,54 +1,35 @@
 // The command that judges a certificate.
-ghost use Rattle.std.specs.Prelude.{◌≡◌, true, false, None, IfOk, OnOk, IfErr};
+ghost use Rattle.std.specs.Prelude.{◌≡◌, true, false, None, List, ℕ, IfOk, OnOk, IfErr};
 ghost use Rattle.front_desk.specs.Words.{IfTold, network_held, check_fault, certificate_held, StopsReading};
-ghost use Rattle.front_desk.specs.Words.{KeepsFiles, IsGoodNetwork, trip_setting, vehicle_named, check_in, to_check, IsTimed};
-ghost use Rattle.front_desk.specs.Words.{request_of, trip_in, IsGoodTrip, IsAccepted, IsRejected, StopsCommand, ReportsOn, Tells, IsJudged};
-ghost use Rattle.route_base.specs.Front.{IsFront};
-ghost use Rattle.certificate.specs.Writable.{IsWritable};
-ghost use Rattle.certificate_check.specs.Conditions.{pairs_of};
-ghost use Rattle.certificate_check.specs.Verdicts.{IsVerdict};
-ghost use Rattle.certificate_check.specs.declared.checker.Verdict.TheVariants.{Accepted};
+ghost use Rattle.front_desk.specs.Words.{KeepsFiles, trip_setting, check_in, to_check, IsTimed, IsTripNet};
+ghost use Rattle.front_desk.specs.Words.{request_of, IsAccepted, IsRejected, StopsCommand, ReportsOn, Tells, IsJudged};
+ghost use Rattle.front_desk.specs.Trips.{Trip as TripModel};
+ghost use Rattle.front_desk.specs.declared.outcome.Report.{Report as ReportModel};
+ghost use Rattle.network_tables.specs.NetworkModel.{NetworkModel};
+ghost use Rattle.route_base.specs.Net.{Net, IsGoodRequest, setting_of};
 
 use crate::command_line::Check;
 use crate::file_to_read::FileToRead;
 use crate::networks::{load_with, net_at_once};
 use crate::outcome::{Halt, Report};
-use crate::requests::{Trip, request_of, vehicle_of_trip};
+use crate::requests::{request_of, vehicle_of_trip};
 use certificate::{Certificate, CertificateFault, read};
 use certificate_check::{Verdict, check, verdicts_agree};
 use network_tables::Network;
 use plan_report::{Refusal, Verdict3, check_text};
-use route_base::{FileBytes, Folder, Gate, OutOfMemory, settings_agree};
+use route_base::{FileBytes, Folder, Gate, OutOfMemory, Request, TimedNet, settings_agree};
 use std::alloc::Global;
 use std::thread::Threads;
-use vehicle_classes::Vehicle;
 
-// The verdict on a certificate for a trip that passes the checks, for its vehicle.
-fn verdict_of_trip<R: Threads + Sync, G: Gate>(
-    rt: &R,
-    alloc: Global,
-    network: &Network,
-    vehicle: &Vehicle,
-    trip: Trip<'_>,
-    certificate: &Certificate,
-    gate: &G,
-) -> Result<Verdict, OutOfMemory>
-    requires network { IsGoodNetwork network.now }
-    requires vehicle { vehicle.now ≡ vehicle_named network.now (trip_in trip).vehicle }
-    requires good { IsGoodTrip network.now.graph.nodes (trip_in trip) }
-    requires timed { IsTimed (trip_in trip) }
-    requires writable { IsWritable certificate.now }
-    ensures verdict { IfOk result (IsVerdict (trip_setting network.now (trip_in trip.entry))
-        (request_of (trip_in trip.entry)) certificate.now) }
-    ensures sound { IfOk result (λ verdict. verdict ≡ Accepted
-        → IsFront (trip_setting network.now (trip_in trip.entry))
-        (request_of (trip_in trip.entry)) (pairs_of certificate.now.routes)) }
+// The law of the net of a trip: a report that judges bytes over the net judges them over the network's roads. The call does nothing.
+fn judgements_agree()
+    ensures { (network : NetworkModel) (net : Net) (trip : TripModel) (bytes : List ℕ)
+        → (report : ReportModel) → IsTripNet network trip net
+        → IsJudged (setting_of net) (request_of trip) bytes report
+        → IsJudged (trip_setting network trip) (request_of trip) bytes report }
 {
-    let net = net_at_once(rt, alloc, network, vehicle, trip, gate)?;
     settings_agree();
     verdicts_agree();
-    let verdict = check(alloc, &net, request_of(trip), certificate)?;
-    Ok(verdict)
 }
 
 // The report on a certificate with this verdict.
@@ -71,24 +52,17 @@ fn verdict_report(
     }
 }
 
-// The report on the bytes of a certificate's file.
-fn judged<R: Threads + Sync, G: Gate>(
-    rt: &R,
+// The report on the bytes of a certificate's file, over the net of a trip. The bytes are given back once they are read.
+fn judged(
     alloc: Global,
-    network: &Network,
-    vehicle: &Vehicle,
-    trip: Trip<'_>,
-    bytes: &[u8],
-    gate: &G,
+    net: &TimedNet,
+    request: Request,
+    bytes: FileBytes,
 ) -> Result<Report, OutOfMemory>
-    requires network { IsGoodNetwork network.now }
-    requires vehicle { vehicle.now ≡ vehicle_named network.now (trip_in trip).vehicle }
-    requires good { IsGoodTrip network.now.graph.nodes (trip_in trip) }
-    requires timed { IsTimed (trip_in trip) }
-    ensures { IfOk result (IsJudged (trip_setting network.now (trip_in trip.entry))
-        (request_of (trip_in trip.entry)) bytes.now) }
+    requires { IsGoodRequest net.now request }
+    ensures { IfOk result (IsJudged (setting_of net.now) request bytes) }
 {
-    let certificate = match read(alloc, bytes) {
+    let certificate = match read(alloc, bytes.as_slice()) {
         Ok(certificate) => certificate,
         Err(CertificateFault::NotACertificate) => {
             return Ok(Report {
@@ -98,7 +72,8 @@ fn judged<R: Threads + Sync, G: Gate>(
         }
         Err(CertificateFault::OutOfMemory) => return Err(OutOfMemory),
     };
-    let verdict = verdict_of_trip(rt, alloc, network, vehicle, trip, &certificate, gate)?;
+    drop(bytes);
+    let verdict = check(alloc, net, request, &certificate)?;
     let report = verdict_report(alloc, &certificate, verdict)?;
     Ok(report)
 }
@@ -123,7 +98,8 @@ fn load_to_check<F: Folder>(
     load_with(alloc, folder, check.dir, file)
 }
 
-/// The judgement of the certificate in the check's folder for its trip over the files of that folder.
+/// The judgement of the certificate in the check's folder for its trip over the files of that folder. Several workers make the net at
+/// once; the network is given back before the certificate is judged, which needs the net alone.
 pub fn report_check<R: Threads + Sync, F: Folder, G: Gate>(
     rt: &R,
     alloc: Global,
@@ -141,15 +117,10 @@ pub fn report_check<R: Threads + Sync, F: Folder, G: Gate>(
     let (network, bytes) = load_to_check(alloc, folder, check)?;
     match vehicle_of_trip(&network, check.trip) {
         Ok(vehicle) => {
-            let report = judged(
-                rt,
-                alloc,
-                &network,
-                vehicle,
-                check.trip,
-                bytes.as_slice(),
-                gate,
-            )?;
+            let net = net_at_once(rt, alloc, &network, vehicle, check.trip, gate)?;
+            drop(network);
+            judgements_agree();
+            let report = judged(alloc, &net, request_of(check.trip), bytes)?;
             Ok(report)
         }
         Err(fault) => Err(Halt::Refused(Refusal::Request(fault))),

@@ -3,7 +3,7 @@
 //! `command_line` reads the words, `files` reads a folder's files one after another, `networks` makes a network of them and the net of a
 //! trip, `requests` checks a request and finds its vehicle, and `writing` writes files. Each command has a module of its own, `plan`,
 //! `judgement` (of certificates), `bans`, `batch` and `generation` (of networks); `commands` has one case for each. `desk` has the top
-//! call, `run`, and `run_gated`, whose workers go through a gate; `outcome` says how a command may end.
+//! call, `run`, and `run_gated`, whose workers go through a gate; `outcome` says how a command may end; `laws` has the numbers of the limits.
 //! Reports and the lines of refusals are those of the crate `plan_report`.
 //!
 //! The law of `run` is in `specs/`. `Run` says which text is due with each status, over `Commands` (the answer, the refusals and the
@@ -23,6 +23,7 @@ mod file_to_read;
 mod files;
 mod generation;
 mod judgement;
+mod laws;
 mod networks;
 mod outcome;
 mod plan;
@@ -30,3 +31,4 @@ mod requests;
 mod writing;
 
 pub use desk::{run, run_gated};
+pub use laws::limits_are_these;

@@ -112,28 +112,6 @@ pub fn planned_trip<'a>(
     Ok(planned)
 }
 
-// The same text and certificate, over a net that several workers make at once.
-fn planned_at_once<'a, R: Threads + Sync, G: Gate>(
-    rt: &R,
-    alloc: Global,
-    network: &Network,
-    vehicle: &Vehicle,
-    plan: Plan<'a>,
-    gate: &G,
-) -> Result<Planned<'a>, OutOfMemory>
-    requires network { IsGoodNetwork network.now }
-    requires vehicle { vehicle.now ≡ vehicle_named network.now (plan_in plan).trip.vehicle }
-    requires good { IsGoodTrip network.now.graph.nodes (plan_in plan).trip }
-    requires timed { IsTimed (plan_in plan).trip }
-    ensures { IfOk result
-        (IsReady (trip_setting network.now (plan_in plan.entry).trip) (plan_in plan.entry)) }
-{
-    let net = net_at_once(rt, alloc, network, vehicle, plan.trip, gate)?;
-    plans_agree();
-    let planned = planned_over(alloc, &net, plan)?;
-    Ok(planned)
-}
-
 // Writes the certificate's file below dir, if there is one.
 fn put_certificate<F: Folder>(
     alloc: Global,
@@ -173,7 +151,8 @@ fn hand_over<F: Folder>(
     })
 }
 
-/// The report of the plan's trip over the files of its folder, into which its certificate is written where one is asked for.
+/// The report of the plan's trip over the files of its folder, into which its certificate is written where one is asked for. Several
+/// workers make the net at once; the network is given back before the search, which needs the net alone.
 pub fn report_plan<R: Threads + Sync, F: Folder, G: Gate>(
     rt: &R,
     alloc: Global,
@@ -197,7 +176,10 @@ pub fn report_plan<R: Threads + Sync, F: Folder, G: Gate>(
     let network = load_network(alloc, folder, plan.dir)?;
     match vehicle_of_trip(&network, plan.trip) {
         Ok(vehicle) => {
-            let planned = planned_at_once(rt, alloc, &network, vehicle, plan, gate)?;
+            let net = net_at_once(rt, alloc, &network, vehicle, plan.trip, gate)?;
+            drop(network);
+            plans_agree();
+            let planned = planned_over(alloc, &net, plan)?;
             hand_over(alloc, folder, plan.dir, planned)
         }
         Err(fault) => Err(Halt::Refused(Refusal::Request(fault))),

@@ -1,5 +1,5 @@
 -- How a command halts before its text is there, and how a text is handed to a sink (source: own).
-use Rattle.std.specs.Prelude.{◌≡◌, ◌≢◌, ◌⊎◌, ℕ, true, false, ⊤, Option, Some, List, if◌then◌else◌}
+use Rattle.std.specs.Prelude.{◌≡◌, ◌≢◌, ◌⊎◌, ℕ, true, false, ⊤, Option, Some, None, List, if◌then◌else◌}
 use Rattle.route_base.specs.Causes.{IsOfContents}
 use Rattle.route_base.specs.Contents.{Contents}
 use Rattle.route_base.specs.FolderState.{FolderState, FailedToRead, FailedToWrite}
@@ -9,7 +9,7 @@ use Rattle.route_base.specs.declared.status.Status.{Status}
 use Rattle.route_base.specs.declared.status.Status.TheVariants.{Done, Rejected, ReadFault as ReadFaultStatus, WriteFault, NoMemory}
 use Rattle.plan_report.specs.declared.outcomes.Refusal.TheVariants.{Usage, Input, Request}
 use Rattle.front_desk.specs.CommandLine.{Command, command_of}
-use Rattle.front_desk.specs.Commands.{Judges, WritesFiles}
+use Rattle.front_desk.specs.Commands.{first_fault_for, failed_check_for, Judges, WritesFiles}
 use Rattle.front_desk.specs.Files.{IfTold}
 use Rattle.front_desk.specs.Run.{IsAnsweredBy, IsRejectedBy, IsFirstFault, IsCauseFor, IsCause, status_of}
 use Rattle.front_desk.specs.declared.outcome.Halt.{Halt}
@@ -34,18 +34,28 @@ StopsStating fault ReadFault = ⊥
 StopsStating fault WriteFaultHalt = ⊥
 StopsStating fault NoMemoryHalt = ⊤
 
+-- a command that writes files failed to write one; where the folder tells its contents, the command's files have no fault and its request
+-- passes all checks
+pub record StopsAtFile (command : Command) (old new : FolderState) : Type 0 where
+  pub writes : WritesFiles command
+  pub faultless : IfTold old (λ held. first_fault_for command held ≡ None)
+  pub good : IfTold old (λ held. failed_check_for command held ≡ None)
+  pub counted : FailedToWrite old new
+
 -- why a command has no answer
 abbrev pub StopsCommand : Command → FolderState → FolderState → Halt → Type 0
 StopsCommand command old new (Refused refusal) = IsCauseFor command old new refusal
 StopsCommand command old new ReadFault = FailedToRead old new
-StopsCommand command old new WriteFaultHalt = WritesFiles command × FailedToWrite old new
+StopsCommand command old new WriteFaultHalt = StopsAtFile command old new
 StopsCommand command old new NoMemoryHalt = ⊤
 
--- a command that writes files failed to write one
+-- the same of the command that the words are
 pub record StopsWriting (words : List (List ℕ)) (old new : FolderState) : Type 0 where
   pub command : Command
   pub is_command : command_of words ≡ Some command
   pub writes : WritesFiles command
+  pub faultless : IfTold old (λ held. first_fault_for command held ≡ None)
+  pub good : IfTold old (λ held. failed_check_for command held ≡ None)
   pub counted : FailedToWrite old new
 
 -- why words have no answer

@@ -16,6 +16,7 @@ returns-in-Ok-clause-write_fault g c = λ failed. inr (record {
   status = status_of_report c.in-Ok.report;
   text = c.in-Ok.report.text.items;
   is_due = c.in-Ok.ensures.due;
+  left = c.in-Ok.ensures.left;
   gained = subst (λ (text : List ℕ). AppendsPrefix (g.S.Sink.state c.args.out.now) (g.S.Sink.state c.put.new.out) text)
       c.as_slice.ensures.value (c.put.ensures.part failed (λ same. never_fault c.in-Ok.report (sym c.status.ensures ∙ same)));
 })
@@ -23,11 +24,13 @@ returns-in-Ok-clause-write_fault g c = λ failed. inr (record {
 pub returns-in-Err-Refused-clause-write_fault : goal.returns-in-Err-Refused-clause-write_fault
 returns-in-Err-Refused-clause-write_fault g c = λ failed.
     let cause = rw c.in-Err-Refused.field-0-is at c.in-Err-Refused.ensures.halted in
+    let left = rw c.in-Err-Refused.field-0-is at c.in-Err-Refused.ensures.left_halted in
     inr (record {
       counted = c.refuse.ensures.fault failed (no_write_fault c.in-Err-Refused.refusal);
       status = status_of c.in-Err-Refused.refusal;
       text = refusal_text_of c.in-Err-Refused.refusal;
       is_due = refusal_due _ _ _ c.in-Err-Refused.refusal cause;
+      left = left;
       gained = c.refuse.ensures.part failed (no_write_fault c.in-Err-Refused.refusal);
     })
 

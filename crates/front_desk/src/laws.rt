@@ -1,0 +1,42 @@
+// The numbers of the limits.
+ghost use Rattle.std.specs.Prelude.{◌≡◌};
+ghost use Rattle.certificate.specs.declared.limits.TheConstants.{LONGEST_BOUND};
+ghost use Rattle.front_words.specs.declared.limits.TheConstants.{MOST_WORKERS, USUAL_WORKERS};
+ghost use Rattle.net_generator.specs.declared.limits.TheConstants.{LAST_NUMBER, MOST_GENERATED_NODES, MOST_LINES};
+ghost use Rattle.network_tables.specs.declared.limits.TheConstants.{MOST_JOBS};
+ghost use Rattle.route_base.specs.declared.limits.TheConstants.{MOST_NODES, MOST_ARCS, LONGEST_DRIVE, LONGEST_HORIZON, LAST_DAY};
+ghost use Rattle.route_base.specs.declared.limits.TheConstants.{FIRST_INSTANT, LAST_INSTANT, COST_OF_MINUTE, HEAVIEST_WEIGHT};
+ghost use Rattle.route_base.specs.declared.limits.TheConstants.{HIGHEST_COST, LARGEST_SIZE, LONGEST_RULE, LONGEST_NAME};
+ghost use Rattle.route_base.specs.declared.limits.TheConstants.{LONGEST_FOLDER, LONGEST_FILE, LONGEST_CERTIFICATE};
+ghost use Rattle.route_base.specs.declared.limits.TheConstants.{MOST_ZONE_ROWS, MOST_AREAS, MOST_ROAD_ROWS, MOST_VEHICLES};
+ghost use Rattle.route_base.specs.declared.limits.TheConstants.{MOST_RULES, MOST_CLOSURES, MOST_RATINGS, MOST_PARKING_ROWS};
+ghost use Rattle.route_base.specs.declared.limits.TheConstants.{MOST_HOLIDAYS};
+
+/// The law of the limits: the definitions of the law take each from a constant of the code, and the constants have these numbers. They are
+/// those of `docs/LIMITS.md`. The call does nothing.
+pub fn limits_are_these()
+    ensures graph { (MOST_NODES ≡ 500000) × (MOST_ARCS ≡ 1000000) }
+    ensures drive { LONGEST_DRIVE ≡ 10080 }
+    ensures instants { (FIRST_INSTANT ≡ 525600) × (LAST_INSTANT ≡ 120968639) }
+    ensures days { LAST_DAY ≡ 84370 }
+    ensures horizon { LONGEST_HORIZON ≡ 86400 }
+    ensures costs { (COST_OF_MINUTE ≡ 1000) × (HIGHEST_COST ≡ 10000000000) }
+    ensures weight { HEAVIEST_WEIGHT ≡ 100000 }
+    ensures size { LARGEST_SIZE ≡ 1000000 }
+    ensures names { (LONGEST_NAME ≡ 64) × (LONGEST_FOLDER ≡ 4096) }
+    ensures file { LONGEST_FILE ≡ 268435456 }
+    ensures certificate { (LONGEST_CERTIFICATE ≡ 4398046511104) × (LONGEST_BOUND ≡ 10000000000) }
+    ensures workers { (MOST_WORKERS ≡ 64) × (USUAL_WORKERS ≡ 4) }
+    ensures drawn { (MOST_LINES ≡ 400) × (MOST_GENERATED_NODES ≡ 22500) }
+    ensures number { LAST_NUMBER ≡ 2147483646 }
+    ensures zones { MOST_ZONE_ROWS ≡ 10000 }
+    ensures areas { MOST_AREAS ≡ 1000 }
+    ensures roads { MOST_ROAD_ROWS ≡ 1000000 }
+    ensures vehicles { MOST_VEHICLES ≡ 10000 }
+    ensures rules { (MOST_RULES ≡ 20000) × (LONGEST_RULE ≡ 65536) }
+    ensures closures { MOST_CLOSURES ≡ 100000 }
+    ensures ratings { MOST_RATINGS ≡ 1000 }
+    ensures parking { MOST_PARKING_ROWS ≡ 500000 }
+    ensures holidays { MOST_HOLIDAYS ≡ 100000 }
+    ensures jobs { MOST_JOBS ≡ 10000 }
+{}
