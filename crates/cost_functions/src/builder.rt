@@ -1,5 +1,5 @@
 // Functions built from the left, reduced at every step.
-ghost use Rattle.std.specs.Prelude.{◌≡◌, ◌+◌, ◌-◌, ◌<◌, ◌≤◌, ℕ, List, [], ◌∷◌, ◌++◌, length, slice_set, All, None, OnOk, OnErr, IfSome};
+ghost use Rattle.std.specs.Prelude.{◌≡◌, ◌+◌, ◌-◌, ◌<◌, ◌≤◌, ℕ, List, [], ◌∷◌, ◌++◌, length, take, slice_set, All, None, OnOk, OnErr, IfSome};
 ghost use Rattle.cost_functions.specs.Lines.{line_at, IsPiece, IsSmallPiece, AreOneLine};
 ghost use Rattle.cost_functions.specs.Pieces.{value_at, ArePieces, IsReduced, AreSmallPieces};
 ghost use Rattle.cost_functions.specs.Building.{AreBuilt};
@@ -72,12 +72,14 @@ impl Builder {
     }
 
     /// Adds the values of built pieces behind all others: the first by `push`, the others in one copy. Out of memory leaves a
-    /// reduced function, to which the first may be added already.
+    /// reduced function, to which a prefix of the pieces may be added already, and which has lost no value.
     pub fn extend(&mut self, pieces: &[Piece]) -> Result<(), OutOfMemory>
         requires built { AreBuilt pieces.now }
         requires later { All (λ p. All (λ q. q.hi < p.lo) self.old) pieces.now }
         ensures values { OnOk result ((t : ℕ) →
             value_at self.new t ≡ value_at (self.old ++ pieces.now) t) }
+        ensures prefix { OnErr result ((n : ℕ) × ((t : ℕ) →
+            value_at self.new t ≡ value_at (self.old ++ take n pieces.now) t)) }
     {
         let [first, others @ ..] = pieces else {
             return Ok(());
@@ -102,6 +104,7 @@ fn append_all(held: &mut Vec<Piece>, others: &[Piece]) -> Result<(), OutOfMemory
     requires held { AreBuilt held.old.items }
     ensures built { AreBuilt held.new.items }
     ensures items { OnOk result (held.new.items ≡ held.old.items ++ others.now) }
+    ensures kept { OnErr result (held.new.items ≡ held.old.items) }
 {
     held.extend_from_slice(others)?;
     Ok(())

@@ -1,5 +1,5 @@
 // Sets of minutes.
-ghost use Rattle.std.specs.Prelude.{◌≡◌, ◌≤◌, ◌||◌, ◌&&◌, ◌↔◌, IsTrue, not, ℕ, List, [], All, OnOk, OnErr, IfOk};
+ghost use Rattle.std.specs.Prelude.{◌≡◌, ◌≤◌, ◌||◌, ◌&&◌, ◌↔◌, IsTrue, not, ℕ, List, [], All, OnOk, OnErr, IfOk, take};
 ghost use Rattle.route_base.specs.Runs.{any_has, has_minute, AreRuns};
 ghost use Rattle.minute_sets.specs.Entries.{IsEntry};
 ghost use Rattle.route_base.specs.declared.types.Run.{Run};
@@ -73,12 +73,13 @@ impl MinuteSet {
     }
 
     /// Adds the minutes of another set, in time linear in the other set's runs and in those runs that don't end before it begins;
-    /// a binary search finds the first of these, and the runs before it stay where they are. Out of memory leaves a set, which
-    /// may have lost minutes.
+    /// a binary search finds the first of these, and the runs before it stay where they are. Out of memory leaves a prefix of the
+    /// set's runs: it may have lost minutes, and has no new one.
     pub fn add_all(&mut self, alloc: Global, other: &MinuteSet) -> Result<(), OutOfMemory>
         ensures minutes { OnOk result ((t : ℕ) →
             any_has self.new t ≡ (any_has self.old t || any_has other.now t)) }
         ensures runs { AreRuns self.new }
+        ensures prefix { OnErr result ((n : ℕ) × (self.new ≡ take n self.old)) }
     {
         add_all(alloc, &mut self.held, &other.held)
     }
