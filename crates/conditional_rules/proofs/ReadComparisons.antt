@@ -73,7 +73,7 @@ stops_unit kind Width unit t m (inr e) = subst (Stops kind) (sym e) m
 stops_unit kind Length unit t m (inr e) = subst (Stops kind) (sym e) m
 stops_unit kind Axles unit t m (inr e) = subst (Stops kind) (sym e) tt
 
--- What the law says is read.
+-- Each text that the law calls a comparison is read.
 word_again : (q : Quantity) → (list_all is_small_letter (quantity_text q) ≡ true) × (quantity_of (quantity_text q) ≡ Some q)
 unfolding quantity_of
 word_again Weight = (refl, refl)
@@ -165,7 +165,7 @@ comparison_read (law.comparison a b c unit {sign = sign} {measure = measure} {qu
     (signed_again q b rest sg bb (stops_measure is_blank (c ++ unit) digit_no_blank m) (stops_measure is_equal (c ++ unit) digit_no_equal m)
     ∙ measured_again q s c unit m bc u)
 
--- What is read, the law says.
+-- Each text that is read is a comparison by the law.
 one_word : (word : List ℕ) (p q : Quantity) (o : Option Quantity) → cond (bytes_eq word (quantity_text p)) (Some p) o ≡ Some q
     → (o ≡ Some q → word ≡ quantity_text q) → word ≡ quantity_text q
 one_word word p q o e next = by (bytes_eq word (quantity_text p)) refl e

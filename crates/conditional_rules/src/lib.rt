@@ -3,7 +3,7 @@
 //! The notation is a subset of OpenStreetMap's conditional restrictions (their page on the OpenStreetMap wiki). A clause is
 //! `value @ (condition)`, and `;` stands between clauses. A condition has parts with `AND` or `and` between them, within
 //! parentheses or without any. A part is a comparison of the vehicle's weight, axleload, height, width, length or axles with a
-//! number (`weight>7.5`), a flag in small letters and underscores (`articulated`), or opening hours (`Mo-Fr 06:00-09:00`),
+//! number (`weight>7.5`), a flag in lower case letters and underscores (`articulated`), or opening hours (`Mo-Fr 06:00-09:00`),
 //! which stand within parentheses where they have a semicolon. Whatever is outside the subset is refused and never ignored.
 //! One rule is this project's own: each value of an access key counts as one of three accesses (`Free`, `Barred`, `Purpose`).
 //! Agreement with other evaluators of the notation isn't claimed.

@@ -9,9 +9,9 @@
 //! The law of `run` is in `specs/`. `Run` says which text is due with each status, over `Commands` (the answer, the refusals and the
 //! files of each command, one line a command), `CommandLine` (the command that words are), `ReadingOrder` and `Files` (the first
 //! fault of a folder's files, and the network that they state), `Trips` (the first check that fails), and `Plan`, `Check`, `Bans`,
-//! `Batch` and `Gen` (the answers of the commands); the texts are defined in `plan_report`. It is proved on `run`; each other call answers exactly what
-//! its definition says. `Inside` is no law: it has the facts that the functions hand to one another. `Words` passes the names of all
-//! these on to the contracts.
+//! `Batch` and `Gen` (the answers of the commands); the texts are defined in `plan_report`. It is proved on `run`; each other call
+//! answers exactly as its definition says. `Inside` is no law: it has the facts that the functions hand to one another. `Words`
+//! passes the names of all these on to the contracts.
 #![tactic(auto)]
 
 mod bans;

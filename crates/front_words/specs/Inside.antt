@@ -1,4 +1,4 @@
--- What the calls hand to one another; no law.
+-- The facts that the calls hand to one another; no law.
 use Rattle.std.specs.Prelude.{ℕ, ◌≡◌, ◌≤◌, Option, Some, None, List, map, option_map, Result, Ok, Err, ◌++◌}
 use Rattle.std.specs.Prelude.{[], ◌∷◌}
 use Rattle.std.specs.Borrow.{Bor}

@@ -34,7 +34,7 @@ pub fn can_wait(f: &CostFn, weight: Cost, until: Minute) -> bool
     all_fit_wait(f.pieces(), weight, until)
 }
 
-// Whether the ends of all pieces stay in range, that many minutes later and at this cost.
+// Whether the ends of all pieces stay in range, `minutes` later and at this cost.
 fn all_fit(pieces: &[Piece], minutes: u64, cost: Cost) -> bool
     requires { ArePieces pieces.now }
     ensures { IsTrue result ↔ All (EndsInRange minutes cost) pieces.now }

@@ -80,7 +80,8 @@ pub fn improve_in_place(alloc: Global, f: &mut CostFn, g: &CostFn) -> Result<Min
     Ok(improved)
 }
 
-// The pieces; where there are none yet, with room for exactly so many, since most functions stay as short as they begin.
+// The pieces. Where there are none yet, they get room for `count` pieces and no more, since most functions stay as short as they
+// begin.
 fn with_room(pieces: Vec<Piece>, count: usize) -> Result<Vec<Piece>, OutOfMemory>
     ensures { IfOk result (λ own. own.items ≡ pieces.items) }
 {

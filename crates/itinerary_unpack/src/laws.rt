@@ -1,4 +1,4 @@
-// What a caller of the engine knows of costs.
+// The law by which a caller of the engine meets its premise on costs.
 ghost use Rattle.std.specs.Prelude.{◌≡◌, ◌+◌, ◌*◌, ◌≤◌, ℕ, Some};
 ghost use Rattle.route_base.specs.Legs.{CostsFit};
 ghost use Rattle.route_base.specs.Net.{Net, IsGoodNet, setting_of};

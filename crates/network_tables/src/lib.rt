@@ -2,10 +2,10 @@
 //! of a batch.
 //!
 //! The law is in `specs/`. A module for each table says its schema and what its rows state: `Zones`, `Areas`, `Roads`, `Rules`,
-//! `Closures`, `Ratings`, `Parking` and `Holidays` (vehicles are read by `vehicle_classes`), each over `Schema` of `table_reader`. `NetworkModel` says what a network is,
-//! `NetworkFiles` which network all files state together and what the first fault of their contents is, `Access` which access an arc
-//! gives a vehicle at an instant, and `RoadSetting` the setting in which trips over a network are planned. It is met
-//! by `read_network` and the calls of `Network`.
+//! `Closures`, `Ratings`, `Parking` and `Holidays` (vehicles are read by `vehicle_classes`), each over `Schema` of `table_reader`.
+//! `NetworkModel` says what a network is, `NetworkFiles` which network all files state together and what the first fault of their
+//! contents is, `Access` which access an arc gives a vehicle at an instant, and `RoadSetting` the setting in which trips over a
+//! network are planned. It is met by `read_network` and the calls of `Network`.
 //!
 //! `Jobs` is the law of `read_jobs`: which jobs a table of jobs states, its schema, and the instants of its trips. A table of jobs is read
 //! without a network, so no vehicle and no node is looked up.

@@ -48,7 +48,7 @@ fn day_holds(rules: &[HoursRule], day: u32, at: u32, holidays: &Holidays) -> boo
 }
 
 /// Whether the hours cover a minute of local time: a day number (days since 1970-01-01) and the minute of that day. It looks at
-/// eight days at the most, each in time linear in the rules, and takes no memory.
+/// at most eight days, each in time linear in the rules, and takes no memory.
 #[tactic(auto, using(crate::proofs::CoverTests::one_covers, crate::proofs::CoverTests::none_covers))]
 pub fn covers(hours: &Hours, day: u32, minute: u32, holidays: &Holidays) -> bool
     requires from { 7 ≤ day }

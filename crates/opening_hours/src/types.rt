@@ -27,7 +27,7 @@ pub struct TimeSpan {
     pub length: u32,
 }
 
-/// A span of minutes that starts on a weekday, of a week at the most.
+/// A span of minutes that starts on a weekday, of at most a week.
 #[derive(Clone, Copy, Debug, PartialEq, Eq)]
 pub struct LongSpan {
     pub weekday: Weekday,

@@ -1,4 +1,4 @@
--- What a writer that goes over legs keeps; this is machinery of the proofs, and no law (source: own).
+-- The facts that a writer keeps as it goes over legs; this is machinery of the proofs, and no law (source: own).
 use Rattle.std.specs.Prelude.{◌≡◌, ℕ, ◌<◌, ◌^◌, ◌++◌, IsSome, List, codes, decimal}
 use Rattle.route_base.specs.Setting.{Setting}
 use Rattle.route_base.specs.Itinerary.{Position, Walks}

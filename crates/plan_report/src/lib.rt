@@ -5,8 +5,8 @@
 //! what the table and the CSV text share, the position before each leg. `Bans`, `Check`, `Batch`, `Summary` and `Refusals` are the
 //! other texts.
 //!
-//! `plan_text`, `bans_text`, `check_text`, `batch_text`, `summary_text` and `refusal_text` give exactly these texts. `reports_agree` is the law that settings
-//! of which one stands for the other have the same texts.
+//! `plan_text`, `bans_text`, `check_text`, `batch_text`, `summary_text` and `refusal_text` give exactly these texts. By the law
+//! `reports_agree`, settings of which one stands for the other have the same texts.
 //!
 //! `Inside` is no law: it has what a writer keeps as it goes over the legs. `proofs/Going` shows that each position that it
 //! carries along is the one before the next leg, and within the range of numbers and instants.

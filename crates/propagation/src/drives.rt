@@ -1,4 +1,4 @@
-// What drives over an arc offer to its head.
+// The offer that drives over an arc make to its head.
 ghost use Rattle.std.specs.Prelude.{◌≡◌, ◌≤◌, ℕ, Some, length, IfOk, OnOk};
 ghost use Rattle.route_base.specs.Front.{RiseAndFall};
 ghost use Rattle.route_base.specs.Net.{at_number, IsGoodArc};
@@ -96,7 +96,7 @@ pub fn closed(
     Ok(offer)
 }
 
-// What drives of the part over the arc offer to its head.
+// The offer that drives of the part over the arc make to its head.
 pub fn offered(
     alloc: Global,
     plan: Plan<'_>,

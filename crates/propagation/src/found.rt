@@ -1,4 +1,4 @@
-// What a search has found.
+// The findings of a search.
 ghost use Rattle.std.specs.Prelude.{◌≡◌, ◌≤◌, Some, length};
 ghost use Rattle.route_base.specs.Net.{at_number};
 
@@ -23,7 +23,7 @@ impl Model for Found {
 }
 
 impl Found {
-    // What a search has found, of these parts.
+    // The findings of a search, made of these parts.
     pub(crate) fn new(pairs: Vec<Pair>, functions: Vec<CostFn>, bounds: Bounds) -> Found
         ensures { result ≡ record {
           pairs = pairs.items;

@@ -1,4 +1,4 @@
-// What is taken of the pending minutes of a node to be driven on.
+// The part of a node's pending minutes that a turn takes to drive on.
 ghost use Rattle.std.specs.Prelude.{◌≡◌, ◌≤◌, ◌<◌, ◌&&◌, not, nat_lt, ℕ, Option, Some, None, true, length, IfOk, OnOk};
 ghost use Rattle.route_base.specs.Front.{RiseAndFall};
 ghost use Rattle.route_base.specs.Runs.{any_has};
@@ -26,7 +26,7 @@ const SPAN_BEFORE_PAIRS: u64 = 60;
 // Once pairs prune most labels, it takes those that begin within two days, and so reaches over a day's ban.
 const SPAN_AFTER_PAIRS: u64 = 2_880;
 
-// What is taken, and the first minute that is left.
+// The part that is taken, and the first minute that is left.
 #[derive(Drop)]
 pub struct Split {
     taken: MinuteSet,

@@ -1,4 +1,4 @@
-// What is searched.
+// The net and the request that are searched, and what is made once for a search.
 use node_arcs::NodeArcs;
 use route_base::{Bounds, Request, TimedNet};
 

@@ -1,4 +1,4 @@
-// What the search has found so far.
+// The state of the search: the functions, pending minutes and pairs found so far.
 ghost use Rattle.std.specs.Prelude.{◌≡◌, ◌≤◌, ◌||◌, ℕ, true, false, All, length, IfOk, OnOk, IfSome, IsNone};
 ghost use Rattle.route_base.specs.Runs.{any_has};
 ghost use Rattle.cost_functions.specs.Pieces.{value_at, AreSmallPieces};

@@ -75,7 +75,7 @@ fn run_parts<R: Threads + Sync, P: JobPlanner, G: Gate>(
     Ok(texts)
 }
 
-/// Right texts of all jobs of the planner, in their order, planned on that many workers at once. It takes the time of the longest part
+/// Right texts of all jobs of the planner, in their order, planned on `workers` workers at once. It takes the time of the longest part
 /// and the memory of the texts.
 pub fn run_batch<R: Threads + Sync, P: JobPlanner, G: Gate>(
     rt: &R,

@@ -1,4 +1,4 @@
--- What a search keeps of its labels, as functions of node and minute: the invariants of label correcting (source: own; no law).
+-- The facts that a search keeps of its labels, as functions of node and minute: the invariants of label correcting (source: own; no law).
 use Rattle.std.specs.Prelude.{◌≡◌, ◌⊎◌, ℕ, ◌+◌, ◌≤◌, ◌<◌, ⊤, Bool, true, false, Option, Some, None, List, [], Contains}
 use Rattle.route_base.specs.Setting.{Setting}
 use Rattle.route_base.specs.Itinerary.{Position, Drives, Waits}
