@@ -1,8 +1,8 @@
-//! Proved callers of the libraries, one for each that is useful on its own: they show that the contracts can be used.
+//! Proved callers of the libraries: they show that the contracts can be used from outside.
 //!
 //! `open_roads` asks opening hours for an instant of a zone, `clocks` reads local time, `trips` judges an itinerary, `lockers`
-//! reads a table of its own, and `plans` plans a trip over a network. Each call says over the definitions of the library what it answers; `Words` passes their names on, and
-//! the crate has no definitions of its own but the schema of its table (`Lockers`).
+//! reads a table of its own, and `plans` plans a trip over a network. Each call says over the definitions of the library what it
+//! answers; `Words` passes their names on, and the crate has no definitions of its own but the schema of its table (`Lockers`).
 #![tactic(auto)]
 
 mod clocks;
