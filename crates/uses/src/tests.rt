@@ -1,6 +1,7 @@
 // One worked case for each caller, and the networks and jobs that tables state.
 mod jobs;
 mod networks;
+mod plans;
 
 use crate::{Codes, clock_shows, is_banned, read_lockers};
 use opening_hours::{Holidays, HoursFault};

@@ -1,0 +1,56 @@
+// A trip over a network of three nodes, planned by a caller of the libraries.
+use crate::plan_trip;
+use network_tables::{Files, Network, NetworkFault, read_network};
+use route_base::{FileBytes, NodeId, OutOfMemory, Pair, Request};
+use std::alloc::Global;
+
+fn file_of(alloc: Global, text: &str) -> Result<FileBytes, OutOfMemory> {
+    Ok(FileBytes::from_vec(Vec::from_slice(alloc, text.as_bytes())?))
+}
+
+// The second road is closed from 2020-07-04T01:00Z to 03:00Z, and a lorry may wait at its beginning.
+fn pass(alloc: Global) -> Result<Network, NetworkFault> {
+    let files = Files {
+        graph: file_of(alloc, "p sp 3 3\na 1 2 60\na 2 3 60\na 1 3 300\n")?,
+        closures: file_of(alloc, "arc,from,to\n2,26563740,26563860\n")?,
+        ratings: file_of(alloc, "rating,weight\nyard,2.000\n")?,
+        parking: file_of(alloc, "node,rating\n2,yard\n")?,
+        zones: FileBytes::new(alloc),
+        areas: FileBytes::new(alloc),
+        roads: FileBytes::new(alloc),
+        vehicles: FileBytes::new(alloc),
+        rules: FileBytes::new(alloc),
+        holidays: FileBytes::new(alloc),
+    };
+    read_network(alloc, &files)
+}
+
+#[test]
+fn waits_for_the_pass_or_drives_around_it(rt: HostRuntime) -> Result<(), NetworkFault> {
+    let alloc = rt.alloc();
+    let network = pass(alloc)?;
+    assert_eq!(rt; network.graph().node_count(), 3);
+    assert_eq!(rt; network.vehicles().len(), 1);
+    let request = Request {
+        origin: NodeId(1),
+        goal: NodeId(3),
+        depart: 26_563_680,
+        until: 26_564_080,
+    };
+    let routes = plan_trip(alloc, &network, network.vehicles().vehicle(0), request)?;
+    let expected = [
+        Pair {
+            arrival: 26_563_920,
+            cost: 360_000,
+        },
+        Pair {
+            arrival: 26_563_980,
+            cost: 300_000,
+        },
+    ];
+    assert_eq!(rt; routes.len(), 2);
+    for (route, pair) in routes.as_slice().iter().zip(&expected) {
+        assert_eq!(rt; route.pair, *pair);
+    }
+    Ok(())
+}
