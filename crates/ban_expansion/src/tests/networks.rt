@@ -1,7 +1,10 @@
 // When arcs of a small network are closed to two vehicles.
+ghost use Rattle.std.specs.Prelude.{◌≡◌, ◌≤◌, ◌<◌, true, length};
+
 use crate::{closed_at, closed_set, expand_plain, group_arcs};
 use network_tables::{Files, Network, NetworkFault, read_network};
-use route_base::{ArcId, FileBytes, OutOfMemory, Run};
+use route_base::limits::{FIRST_INSTANT, LAST_INSTANT};
+use route_base::{ArcId, FileBytes, FileKind, Minute, OutOfMemory, Run, TimedNet};
 use std::alloc::Global;
 
 const RULES: &str =
@@ -33,26 +36,56 @@ fn file(alloc: Global, text: &str) -> Result<FileBytes, OutOfMemory> {
     Ok(FileBytes::from_vec(Vec::from_slice(alloc, text.as_bytes())?))
 }
 
-// Arcs in the areas `port` and `town`, in this zone. Those that no road names are in the first.
-fn network_of(
-    alloc: Global,
-    graph: &str,
-    roads: &str,
-    rules: &str,
-    closures: &str,
-) -> Result<Network, NetworkFault> {
-    let files = Files {
-        graph: file(alloc, graph)?,
-        zones: file(alloc, "zone,from,offset\nHere,525600,+01:00\n")?,
-        areas: file(alloc, "area,zone\nport,Here\ntown,Here\n")?,
-        roads: file(alloc, roads)?,
-        vehicles: file(alloc, VEHICLES)?,
-        rules: file(alloc, rules)?,
-        closures: file(alloc, closures)?,
+// The files of a network, all of them empty.
+fn no_files(alloc: Global) -> Files {
+    Files {
+        graph: FileBytes::new(alloc),
+        zones: FileBytes::new(alloc),
+        areas: FileBytes::new(alloc),
+        roads: FileBytes::new(alloc),
+        vehicles: FileBytes::new(alloc),
+        rules: FileBytes::new(alloc),
+        closures: FileBytes::new(alloc),
         ratings: FileBytes::new(alloc),
         parking: FileBytes::new(alloc),
         holidays: FileBytes::new(alloc),
-    };
+    }
+}
+
+// Puts bytes in the place of a table that these tests use.
+fn put(files: &mut Files, file: FileKind, bytes: FileBytes) {
+    match file {
+        FileKind::Graph => files.graph = bytes,
+        FileKind::Zones => files.zones = bytes,
+        FileKind::Areas => files.areas = bytes,
+        FileKind::Roads => files.roads = bytes,
+        FileKind::Vehicles => files.vehicles = bytes,
+        FileKind::Rules => files.rules = bytes,
+        FileKind::Closures => files.closures = bytes,
+        _ => {}
+    }
+}
+
+// Arcs in the areas `port` and `town`, in this zone. Those that no road names are in the first.
+fn network_of<'a>(
+    alloc: Global,
+    graph: &'a str,
+    roads: &'a str,
+    rules: &'a str,
+    closures: &'a str,
+) -> Result<Network, NetworkFault> {
+    let mut files = no_files(alloc);
+    for (kind, text) in [
+        (FileKind::Graph, graph),
+        (FileKind::Zones, "zone,from,offset\nHere,525600,+01:00\n"),
+        (FileKind::Areas, "area,zone\nport,Here\ntown,Here\n"),
+        (FileKind::Roads, roads),
+        (FileKind::Vehicles, VEHICLES),
+        (FileKind::Rules, rules),
+        (FileKind::Closures, closures),
+    ] {
+        put(&mut files, kind, file(alloc, text)?);
+    }
     read_network(alloc, &files)
 }
 
@@ -67,50 +100,101 @@ fn port(alloc: Global) -> Result<Network, NetworkFault> {
     )
 }
 
+// Whether the network has a vehicle of this place and an arc of this number.
+fn has(network: &Network, place: usize, arc: u32) -> bool
+    ensures vehicle { result ≡ true → place < length network.now.vehicles }
+    ensures low { result ≡ true → 1 ≤ arc }
+    ensures high { result ≡ true → arc ≤ length network.now.graph.arcs }
+{
+    place < network.vehicles().len() && 1 <= arc && arc <= network.graph().arc_count()
+}
+
+// Whether these are the minutes of the day at which an arc is closed to a vehicle; no where either is missing.
+fn are_closed(
+    alloc: Global,
+    network: &Network,
+    place: usize,
+    arc: u32,
+    runs: &[Run],
+) -> Result<bool, OutOfMemory> {
+    if !has(network, place, arc) {
+        return Ok(false);
+    }
+    let vehicle = network.vehicles().vehicle(place);
+    let closed = closed_set(alloc, network, vehicle, ArcId(arc), DAY)?;
+    Ok(closed.runs() == runs)
+}
+
 #[test]
 fn closes_arcs_by_the_last_value_that_is_given(rt: HostRuntime) -> Result<(), NetworkFault> {
     let alloc = rt.alloc();
     let network = port(alloc)?;
-    assert_eq!(rt; network.graph().arc_count(), 4);
-    assert_eq!(rt; network.vehicles().len(), 2);
-    let lorry = network.vehicles().vehicle(0);
-    let van = network.vehicles().vehicle(1);
-    let barred = closed_set(alloc, &network, lorry, ArcId(1), DAY)?;
-    assert!(rt; barred.runs() == [DAY].as_slice());
-    // A value for a more general key stands before those of the area for `hgv`.
-    for a in [ArcId(1), ArcId(2)] {
-        let closed = closed_set(alloc, &network, van, a, DAY)?;
-        assert!(rt; closed.runs() == WITHOUT_DELIVERY.as_slice());
-    }
-    let closed = closed_set(alloc, &network, lorry, ArcId(3), DAY)?;
+    assert!(rt; network.graph().arc_count() == 4);
+    assert!(rt; network.vehicles().len() == 2);
     let closure = Run {
         lo: 26_565_100,
         hi: 26_565_120,
     };
-    assert!(rt; closed.runs() == [closure].as_slice());
-    assert!(rt; closed_at(&network, van, ArcId(1), 26_563_979));
-    assert!(rt; !closed_at(&network, van, ArcId(1), 26_563_980));
-    assert!(rt; closed_at(&network, lorry, ArcId(1), 26_563_980));
-    assert!(rt; closed_at(&network, lorry, ArcId(3), 26_565_199));
-    assert!(rt; !closed_at(&network, lorry, ArcId(3), 26_565_200));
+    // A value for a more general key stands before those of the area for `hgv`.
+    for (place, arc, runs) in [
+        (0, 1, [DAY].as_slice()),
+        (1, 1, WITHOUT_DELIVERY.as_slice()),
+        (1, 2, WITHOUT_DELIVERY.as_slice()),
+        (0, 3, [closure].as_slice()),
+    ] {
+        assert!(rt; are_closed(alloc, &network, place, arc, runs)?, "arc {arc}");
+    }
     Ok(())
+}
+
+// Whether an arc is closed to a vehicle at an instant; none where one of the three is missing.
+fn is_closed(network: &Network, place: usize, arc: u32, minute: Minute) -> Option<bool> {
+    if !has(network, place, arc) || minute < FIRST_INSTANT || minute > LAST_INSTANT {
+        return None;
+    }
+    let vehicle = network.vehicles().vehicle(place);
+    Some(closed_at(network, vehicle, ArcId(arc), minute))
+}
+
+#[test]
+fn closes_arcs_at_the_same_instants(rt: HostRuntime) -> Result<(), NetworkFault> {
+    let network = port(rt.alloc())?;
+    for (place, arc, minute, closed) in [
+        (1, 1, 26_563_979, true),
+        (1, 1, 26_563_980, false),
+        (0, 1, 26_563_980, true),
+        (0, 3, 26_565_199, true),
+        (0, 3, 26_565_200, false),
+    ] {
+        assert!(rt;
+            is_closed(&network, place, arc, minute) == Some(closed),
+            "at {minute}"
+        );
+    }
+    Ok(())
+}
+
+// The place of the closed minutes of an arc.
+fn place_of(net: &TimedNet, arc: u32) -> Option<u32> {
+    Some(net.arc(ArcId(arc))?.closed)
 }
 
 #[test]
 fn shares_sets_within_an_area(rt: HostRuntime) -> Result<(), NetworkFault> {
     let alloc = rt.alloc();
     let network = port(alloc)?;
-    assert_eq!(rt; network.vehicles().len(), 2);
+    assert!(rt; network.vehicles().len() == 2);
     let net = expand_plain(alloc, &network, network.vehicles().vehicle(1), DAY)?;
-    let arcs = (net.arc(ArcId(1)), net.arc(ArcId(2)), net.arc(ArcId(4)));
-    if let (Some(first), Some(second), Some(last)) = arcs {
-        assert_eq!(rt; first.closed, last.closed);
-        assert!(rt; first.closed != second.closed);
-        assert_eq!(rt; last.cost, 300_000);
-        assert!(rt; net.closed_runs(ArcId(4)) == WITHOUT_DELIVERY.as_slice());
-    } else {
+    let second = place_of(&net, 2);
+    assert!(rt; second.is_some());
+    assert!(rt; place_of(&net, 1) != second);
+    let Some(last) = net.arc(ArcId(4)) else {
         assert!(rt; false, "an arc is missing");
-    }
+        return Ok(());
+    };
+    assert!(rt; place_of(&net, 1) == Some(last.closed));
+    assert!(rt; last.cost == 300_000);
+    assert!(rt; net.closed_runs(ArcId(4)) == WITHOUT_DELIVERY.as_slice());
     Ok(())
 }
 
