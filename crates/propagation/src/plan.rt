@@ -1,4 +1,4 @@
-// The net and the request that are searched, and what is made once for a search.
+// The net and the request that are searched, with the lists of arcs and the bounds that are made once for a search.
 use node_arcs::NodeArcs;
 use route_base::{Bounds, Request, TimedNet};
 

@@ -13,7 +13,8 @@ use std::alloc::Global;
 use vehicle_classes::Vehicle;
 
 /// The Pareto front of the trips of a vehicle over a network, under all its rules and closures, by rising arrival, each pair with
-/// lawful legs. It takes the time and memory of `expand_plain` and of `propagation::search`.
+/// lawful legs. Minutes are Unix minutes, and costs are thousandths. It takes the time and memory of `expand_plain` and of
+/// `propagation::search`.
 pub fn plan_trip(
     alloc: Global,
     network: &Network,

@@ -36,7 +36,7 @@ fn bytes_of(
 }
 
 // The network of these tables over the triangle.
-fn read(alloc: Global, texts: &[(FileKind, &str)]) -> Result<Network, NetworkFault> {
+pub fn read(alloc: Global, texts: &[(FileKind, &str)]) -> Result<Network, NetworkFault> {
     let graph = bytes_of(alloc, &[(FileKind::Graph, TRIANGLE)], FileKind::Graph)?;
     let files = Files {
         graph,

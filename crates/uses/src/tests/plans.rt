@@ -1,28 +1,20 @@
 // A trip over a network of three nodes, planned by a caller of the libraries.
+use super::networks::read;
 use crate::plan_trip;
-use network_tables::{Files, Network, NetworkFault, read_network};
-use route_base::{FileBytes, NodeId, OutOfMemory, Pair, Request};
+use network_tables::{Network, NetworkFault};
+use route_base::{FileKind, NodeId, Pair, Request};
 use std::alloc::Global;
-
-fn file_of(alloc: Global, text: &str) -> Result<FileBytes, OutOfMemory> {
-    Ok(FileBytes::from_vec(Vec::from_slice(alloc, text.as_bytes())?))
-}
 
 // The second road is closed from 2020-07-04T01:00Z to 03:00Z, and a lorry may wait at its beginning.
 fn pass(alloc: Global) -> Result<Network, NetworkFault> {
-    let files = Files {
-        graph: file_of(alloc, "p sp 3 3\na 1 2 60\na 2 3 60\na 1 3 300\n")?,
-        closures: file_of(alloc, "arc,from,to\n2,26563740,26563860\n")?,
-        ratings: file_of(alloc, "rating,weight\nyard,2.000\n")?,
-        parking: file_of(alloc, "node,rating\n2,yard\n")?,
-        zones: FileBytes::new(alloc),
-        areas: FileBytes::new(alloc),
-        roads: FileBytes::new(alloc),
-        vehicles: FileBytes::new(alloc),
-        rules: FileBytes::new(alloc),
-        holidays: FileBytes::new(alloc),
-    };
-    read_network(alloc, &files)
+    read(
+        alloc,
+        &[
+            (FileKind::Closures, "arc,from,to\n2,26563740,26563860\n"),
+            (FileKind::Ratings, "rating,weight\nyard,2.000\n"),
+            (FileKind::Parking, "node,rating\n2,yard\n"),
+        ],
+    )
 }
 
 #[test]
