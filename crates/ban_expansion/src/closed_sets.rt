@@ -1,5 +1,5 @@
 // The minutes of a window at which an arc is closed to a vehicle.
-ghost use Rattle.std.specs.Prelude.{◌≡◌, ◌≤◌, ◌<◌, not, length, option_map, option_and_then, IfOk};
+ghost use Rattle.std.specs.Prelude.{◌≤◌, ◌<◌, not, length, option_map, option_and_then, IfOk};
 ghost use Rattle.ban_expansion.specs.Words.{any_has, AreRuns, last_given, closures_of, IsWindow};
 ghost use Rattle.ban_expansion.specs.Words.{area_at, decision_at, given_at, places_of_key, is_let_in, is_closed};
 ghost use Rattle.ban_expansion.specs.Words.{HasThose, Lays, part_holds_at, clause_holds_at, clause_gives};

@@ -4,8 +4,8 @@ ghost use Rattle.ban_expansion.specs.Words.{StandsFor, IsShutWithin, setting_of,
 ghost use Rattle.ban_expansion.specs.Words.{AreGroups, AreTimed, IsTimedArc, timed_over};
 
 use crate::arc_groups::ArcGroups;
+use crate::closed_lists::{closed_lists, closed_lists_at_once};
 use crate::grouping::group_arcs;
-use crate::parts::{closed_lists, closed_lists_at_once};
 use dimacs_reader::GraphArc;
 use network_tables::Network;
 use route_base::limits::COST_OF_MINUTE;

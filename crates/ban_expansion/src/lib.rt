@@ -30,6 +30,7 @@ mod access;
 mod arc_comparison;
 mod arc_digests;
 mod arc_groups;
+mod closed_lists;
 mod closed_sets;
 mod coverage;
 mod expansion;
@@ -37,7 +38,6 @@ mod grouping;
 mod laws;
 mod layers;
 mod local_days;
-mod parts;
 mod threads;
 
 pub use access::closed_at;

@@ -1,12 +1,13 @@
 // Compares the pairs of two lists of routes.
-ghost use Rattle.std.specs.Prelude.{◌≡◌, IsTrue, map, false};
+ghost use Rattle.std.specs.Prelude.{◌≡◌, IsTrue, false};
+ghost use Rattle.route_base.specs.Front.{pairs_of};
 
 use route_base::Route;
 
 /// Whether two lists of routes have the same pairs in the same order. Linear in the shorter list, without memory.
 pub fn have_same_pairs(first: &[Route], second: &[Route]) -> bool
-    ensures same { IsTrue result → map (λ x. x.pair) first.now ≡ map (λ x. x.pair) second.now }
-    ensures other { result ≡ false → map (λ x. x.pair) first.now ≡ map (λ x. x.pair) second.now → ⊥ }
+    ensures same { IsTrue result → pairs_of first.now ≡ pairs_of second.now }
+    ensures other { result ≡ false → pairs_of first.now ≡ pairs_of second.now → ⊥ }
 {
     let mut left = first;
     let mut right = second;

@@ -3,7 +3,7 @@ ghost use Rattle.std.specs.Prelude.{◌≡◌, ℕ, ◌≤◌, ◌||◌, codes, 
 ghost use Rattle.std.specs.Result.{result_ok};
 ghost use Rattle.route_base.specs.Time.{IsInstant};
 ghost use Rattle.calendar_days.specs.Days.{date_on};
-ghost use Rattle.calendar_days.specs.Texts.{day_of_text, minute_of_day, clock_of, in_range, dated_minute_of, instant_of};
+ghost use Rattle.calendar_days.specs.Texts.{day_of_text, minute_of_day, clock_of, dated_minute_of, instant_of};
 ghost use Rattle.calendar_days.specs.Texts.{date_text_of, instant_text_of, IsTextOf};
 
 use crate::digits::{read_four, read_two, two_digits};

@@ -1,14 +1,13 @@
 -- The verdict over a setting is that over a setting which agrees with it within the window.
 use Rattle.std.proofs.Common.{◌≡◌, ◌⊎◌, inl, inr, ⊎_elim, ℕ, ◌≤◌, Bool, true, false, cond, Option, Some, None, List, [], ◌∷◌, All}
-use Rattle.std.proofs.Common.{refl, sym, ◌∙◌, ap, subst, arith}
+use Rattle.std.proofs.Common.{refl, ◌∙◌, subst, arith}
 use Rattle.std.specs.Prelude.{◌==◌}
 use Rattle.std.proofs.lemmas.List.Elements.{All-head, All-tail}
-use Rattle.route_base.specs.Setting.{Setting, Road}
+use Rattle.route_base.specs.Setting.{Setting}
 use Rattle.route_base.specs.Itinerary.{Position, Step, Moves}
 use Rattle.route_base.specs.Legs.{start_of, end_of}
 use Rattle.route_base.specs.Matching.{StandsFor, IsInWindow}
 use Rattle.route_base.specs.Relaxing.{IsDominatedOrLate, IsRelaxed}
-use Rattle.route_base.specs.declared.types.Bound.{Bound}
 use Rattle.route_base.specs.declared.types.NodeId.{NodeId}
 use Rattle.route_base.specs.declared.types.Request.{Request}
 use Rattle.route_base.specs.declared.types.Run.{Run}

@@ -4,11 +4,12 @@ use Rattle.route_base.specs.Setting.{Setting}
 use Rattle.route_base.specs.Relaxing.{HasPair}
 use Rattle.route_base.specs.declared.types.Pair.{Pair}
 use Rattle.route_base.specs.declared.types.Request.{Request}
+use Rattle.route_base.specs.Front.{pairs_of}
 use Rattle.cost_functions.specs.Pieces.{value_at}
 use Rattle.cost_functions.specs.declared.pieces.Piece.{Piece}
 use Rattle.certificate.specs.ByNode.{item_at}
 use Rattle.certificate.specs.declared.Certificate.{Certificate}
-use Rattle.certificate_check.specs.Conditions.{pairs_of, value_of, AreOrderedPairs, IsStartRelaxed, AreFunctionsRelaxed}
+use Rattle.certificate_check.specs.Conditions.{value_of, AreOrderedPairs, IsStartRelaxed, AreFunctionsRelaxed}
 use Rattle.certificate_check.specs.Verdicts.{HasOrderedPairs, HasRelaxedStart, HasRelaxedSteps, HasCoveredGoal}
 
 pub refused : IsTrue false → ⊥

@@ -1,5 +1,5 @@
 -- The six conditions, over pairs, bounds and functions: by them these leave no lawful itinerary out (source: own).
-use Rattle.std.specs.Prelude.{◌≡◌, ◌⊎◌, ℕ, ◌≤◌, Option, Some, None, List, map, All}
+use Rattle.std.specs.Prelude.{◌≡◌, ◌⊎◌, ℕ, ◌≤◌, Option, Some, None, List, All}
 use Rattle.route_base.specs.Setting.{Setting}
 use Rattle.route_base.specs.Itinerary.{Position, Step, Moves}
 use Rattle.route_base.specs.Legs.{Achieves, start_of}
@@ -15,10 +15,6 @@ use Rattle.cost_functions.specs.declared.TheConstants.{HIGHEST_PIECE_COST}
 use Rattle.cost_functions.specs.declared.pieces.Piece.{Piece}
 use Rattle.certificate.specs.ByNode.{item_at}
 use Rattle.certificate.specs.declared.limits.TheConstants.{LONGEST_BOUND}
-
--- the pairs of routes
-abbrev pub pairs_of : List Route → List Pair
-pairs_of routes = map (λ x. x.pair) routes
 
 -- the value at a minute of a function that may be missing
 abbrev pub value_in : Option (List Piece) → ℕ → Option ℕ

@@ -1,8 +1,8 @@
 // The six conditions, one after another.
 ghost use Rattle.std.specs.Prelude.{◌≡◌, IfOk};
 ghost use Rattle.route_base.specs.Net.{setting_of, IsGoodRequest};
-ghost use Rattle.route_base.specs.Front.{IsFront};
-ghost use Rattle.certificate_check.specs.Conditions.{pairs_of, AreBoundsInRange};
+ghost use Rattle.route_base.specs.Front.{IsFront, pairs_of};
+ghost use Rattle.certificate_check.specs.Conditions.{AreBoundsInRange};
 ghost use Rattle.certificate_check.specs.Verdicts.{IsVerdict};
 ghost use Rattle.certificate_check.specs.declared.checker.Verdict.TheVariants.{Accepted};
 

@@ -1,7 +1,7 @@
 // The first condition: the order of the pairs.
 ghost use Rattle.std.specs.Prelude.{◌≡◌, ◌↔◌, IsTrue, IfOk};
-ghost use Rattle.route_base.specs.Front.{Trades};
-ghost use Rattle.certificate_check.specs.Conditions.{AreOrderedPairs, pairs_of};
+ghost use Rattle.route_base.specs.Front.{Trades, pairs_of};
+ghost use Rattle.certificate_check.specs.Conditions.{AreOrderedPairs};
 
 use route_base::{Minute, OutOfMemory, Pair, Route};
 use std::alloc::Global;

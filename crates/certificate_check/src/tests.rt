@@ -1,6 +1,5 @@
 // A certificate of a worked trip, and changes of it with the numbers of the conditions that they break.
-ghost use Rattle.std.specs.Prelude.{◌≡◌, ◌*◌, ◌<◌, ◌≤◌, ◌↔◌, IsTrue, IfOk};
-ghost use Rattle.route_base.specs.Net.{IsGoodRequest};
+ghost use Rattle.std.specs.Prelude.{◌≡◌, ◌*◌, ◌<◌, ◌↔◌, IsTrue, IfOk};
 ghost use Rattle.cost_functions.specs.Lines.{IsPiece};
 ghost use Rattle.certificate_check.specs.Conditions.{AreBoundsInRange};
 

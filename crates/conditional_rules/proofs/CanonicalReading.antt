@@ -1,8 +1,8 @@
 -- The canonical text of clauses is read as these clauses.
-use Rattle.std.proofs.Common.{◌≡◌, ℕ, ◌+◌, Bool, true, false, cond, Option, Some, None, List, [], ◌∷◌, ◌++◌, length, take, drop, map, refl, sym, ap}
-use Rattle.std.proofs.Common.{subst, ◌∙◌, arith}
+use Rattle.std.proofs.Common.{◌≡◌, ℕ, ◌+◌, Bool, true, false, cond, Some, List, [], ◌∷◌, ◌++◌, map, refl, sym}
+use Rattle.std.proofs.Common.{subst, ◌∙◌}
 use Rattle.std.specs.Prelude.{◌==◌, ◌&&◌, ◌||◌, not, codes}
-use Rattle.std.specs.List.{list_all, list_any}
+use Rattle.std.specs.List.{list_all}
 use Rattle.std.specs.Option.{option_map}
 use Rattle.std.proofs.lemmas.Bool.{and_parts, or_parts}
 use Rattle.std.proofs.lemmas.List.Folds.{list_any-append}
@@ -13,9 +13,9 @@ use Rattle.conditional_rules.specs.declared.conditional.Clause.{Clause}
 use Rattle.conditional_rules.specs.declared.conditional.Part.{Part}
 use Rattle.conditional_rules.specs.Accesses.{access_of}
 use Rattle.conditional_rules.specs.CanonicalText.{part_text, access_text, joined, clause_text, conditional_text}
-use Rattle.conditional_rules.specs.Conditions.{has_parenthesis, has_at, IsPart, IsSpacedPart, IsParts, IsCondition, IsClause, IsConditional, AreParsedClauses}
+use Rattle.conditional_rules.specs.Conditions.{has_parenthesis, IsPart, IsSpacedPart, IsParts, IsCondition, IsClause, IsConditional, AreParsedClauses}
 use Rattle.conditional_rules.specs.Conditions as conditions
-use Rattle.conditional_rules.specs.Cutting.{trimmed, is_within, semicolon_from, first_semicolon, first_and}
+use Rattle.conditional_rules.specs.Cutting.{trimmed, semicolon_from, first_semicolon, first_and}
 use Rattle.conditional_rules.proofs.Joined.{Each, IsJoinedPart, pieces, each_of, each_map, joined_cut}
 use Rattle.conditional_rules.proofs.Over.{IsOver, empty_over, both_over}
 use Rattle.conditional_rules.proofs.Tight.{IsCompact, IsGap, step, starts_before, ends_within, trimmed_same}

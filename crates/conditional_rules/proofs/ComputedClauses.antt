@@ -14,7 +14,7 @@ use Rattle.conditional_rules.specs.declared.conditional.Clause.{Clause}
 use Rattle.conditional_rules.specs.declared.conditional.Part.{Part}
 use Rattle.conditional_rules.specs.declared.conditional.Part.TheVariants.{Compare, Flag, Times}
 use Rattle.conditional_rules.specs.Accesses.{access_of}
-use Rattle.conditional_rules.specs.Conditions.{has_sign, is_flag, has_parenthesis, has_at}
+use Rattle.conditional_rules.specs.Conditions.{has_sign, is_flag, has_parenthesis}
 use Rattle.conditional_rules.specs.Conditions.{IsPart, IsSpacedPart, IsParts, IsCondition, IsClause, IsConditional}
 use Rattle.conditional_rules.specs.Conditions as law
 use Rattle.conditional_rules.specs.Cutting.{trimmed, Cut, first_semicolon, first_and}

@@ -1,11 +1,9 @@
 -- A text has one list of clauses at most.
-use Rattle.std.proofs.Common.{◌≡◌, ℕ, Bool, true, false, List, ◌∷◌, ◌++◌, Some, refl, sym, subst, ◌∙◌}
-use Rattle.conditional_rules.specs.declared.access.Access.{Access}
+use Rattle.std.proofs.Common.{◌≡◌, ℕ, List, ◌∷◌, ◌++◌, refl, sym}
 use Rattle.conditional_rules.specs.declared.conditional.Clause.{Clause}
 use Rattle.conditional_rules.specs.declared.conditional.Part.{Part}
-use Rattle.conditional_rules.specs.Accesses.{access_of}
 use Rattle.conditional_rules.specs.Cutting.{trimmed, first_semicolon, first_and}
-use Rattle.conditional_rules.specs.Conditions.{has_parenthesis, IsSpacedPart, IsParts, IsCondition, IsClause, IsConditional}
+use Rattle.conditional_rules.specs.Conditions.{IsSpacedPart, IsParts, IsCondition, IsClause, IsConditional}
 use Rattle.conditional_rules.specs.Conditions as conditions
 use Rattle.conditional_rules.proofs.CutLists.{one_list}
 use Rattle.conditional_rules.proofs.OnePart.{one_part}

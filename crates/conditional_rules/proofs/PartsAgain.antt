@@ -1,22 +1,22 @@
 -- Parts as they are printed.
-use Rattle.std.proofs.Common.{◌≡◌, ℕ, ◌+◌, Bool, true, false, cond, List, [], ◌∷◌, ◌++◌, length, Option, Some, refl, sym, ap}
-use Rattle.std.proofs.Common.{◌∙◌, arith}
+use Rattle.std.proofs.Common.{◌≡◌, ℕ, ◌+◌, true, false, List, [], ◌∷◌, ◌++◌, refl}
+use Rattle.std.proofs.Common.{arith}
 use Rattle.std.specs.Prelude.{◌==◌, ◌&&◌, ◌||◌, not, codes}
 use Rattle.std.specs.List.{list_all, list_any}
 use Rattle.std.proofs.lemmas.Bool.{and_parts, or_parts, not-true}
 use Rattle.std.proofs.lemmas.Grind.{common_steps}
 use Rattle.route_base.specs.Forms.{is_blank}
-use Rattle.opening_hours.specs.PlainText.{StartsFilled, EndsFilled}
+use Rattle.opening_hours.specs.PlainText.{EndsFilled}
 use Rattle.vehicle_classes.specs.declared.classes.Quantity.{Quantity}
 use Rattle.vehicle_classes.specs.declared.classes.Quantity.TheVariants.{Weight, Axleload, Height, Width, Length, Axles}
+use Rattle.vehicle_classes.specs.Vehicles.{is_flag_byte}
 use Rattle.conditional_rules.specs.declared.conditional.Comparison.{Comparison}
-use Rattle.conditional_rules.specs.declared.conditional.Comparison.TheVariants.{Below, AtMost, Above, AtLeast, Equal}
 use Rattle.conditional_rules.specs.declared.conditional.Part.{Part}
-use Rattle.conditional_rules.specs.declared.conditional.Part.TheVariants.{Compare, Flag, Times}
+use Rattle.conditional_rules.specs.declared.conditional.Part.TheVariants.{Compare}
 use Rattle.conditional_rules.specs.Accesses.{is_among}
 use Rattle.conditional_rules.specs.CanonicalText.{sign_text, measure_text, part_text}
-use Rattle.conditional_rules.specs.Comparisons.{decimals_in, IsComparison}
-use Rattle.conditional_rules.specs.Conditions.{has_sign, has_parenthesis, is_small_letter, reserved_words, is_flag, IsPart}
+use Rattle.conditional_rules.specs.Comparisons.{IsComparison}
+use Rattle.conditional_rules.specs.Conditions.{has_parenthesis, is_small_letter, reserved_words, is_flag, IsPart}
 use Rattle.conditional_rules.specs.Conditions as conditions
 use Rattle.conditional_rules.specs.Cutting.{is_and, starts_with_and}
 use Rattle.conditional_rules.proofs.PrintedComparisons.{comparison_again}
@@ -38,10 +38,6 @@ word_tight b bs dark plain behind = record {
   behind = behind;
   passes = λ rest gap. dark_passes (b ∷ bs) rest dark;
 }
-
--- the bytes of a flag
-abbrev is_flag_byte : ℕ → Bool
-is_flag_byte b = is_small_letter b || b == 95
 
 flag_dark : (b : ℕ) → is_flag_byte b ≡ true → is_blank b ≡ false
 flag_dark b h = grind (arith, common_steps)

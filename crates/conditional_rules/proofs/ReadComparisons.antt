@@ -13,6 +13,7 @@ use Rattle.route_base.specs.Forms.{is_blank}
 use Rattle.opening_hours.specs.Tokens.{is_digit}
 use Rattle.vehicle_classes.specs.declared.classes.Quantity.{Quantity}
 use Rattle.vehicle_classes.specs.declared.classes.Quantity.TheVariants.{Weight, Axleload, Height, Width, Length, Axles}
+use Rattle.opening_hours.proofs.Lists.{Stops}
 use Rattle.conditional_rules.specs.declared.conditional.Comparison.{Comparison}
 use Rattle.conditional_rules.specs.declared.conditional.Comparison.TheVariants.{Below, AtMost, Above, AtLeast, Equal}
 use Rattle.conditional_rules.specs.Comparisons.{quantity_text, decimals_in, unit_text, IsSign, IsMeasure, IsComparison}
@@ -21,7 +22,7 @@ use Rattle.conditional_rules.specs.Conditions.{is_small_letter}
 use Rattle.conditional_rules.specs.Cutting.{AreBlanks}
 use Rattle.conditional_rules.specs.Inside.Comparisons.{behind, quantity_of, with_equal, sign_at, bounded_number_of, decimals_at, decimal_point_at, measure_at}
 use Rattle.conditional_rules.specs.Inside.Comparisons.{Compared, is_unit, measured, signed, comparison_of}
-use Rattle.conditional_rules.proofs.Runs.{Stops, drop_front, run_again, behind_again, run_whole, run_all, stops_behind, number_all, stops_number}
+use Rattle.conditional_rules.proofs.Runs.{drop_front, run_again, behind_again, run_whole, run_all, stops_behind, number_all, stops_number}
 
 abbrev is_equal : ℕ → Bool
 is_equal b = b == 61

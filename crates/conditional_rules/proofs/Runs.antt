@@ -10,12 +10,8 @@ use Rattle.std.proofs.lemmas.List.Folds.{length-prefix_len}
 use Rattle.std.proofs.lemmas.List.Sums.{take_while-cons}
 use Rattle.route_base.specs.Digits.{digits_from, number_of}
 use Rattle.opening_hours.specs.Tokens.{is_digit}
+use Rattle.opening_hours.proofs.Lists.{Stops}
 use Rattle.conditional_rules.specs.Inside.Comparisons.{behind}
-
--- the text does not begin with a byte of this kind
-abbrev pub Stops : (ℕ → Bool) → List ℕ → Type 0
-Stops kind [] = Unit {0}
-Stops kind (b ∷ bs) = kind b ≡ false
 
 pub run_again : (kind : ℕ → Bool) (w rest : List ℕ) → list_all kind w ≡ true → Stops kind rest → take_while kind (w ++ rest) ≡ w
 run_again kind [] [] h s = refl

@@ -1,9 +1,8 @@
 -- Texts of hours within a condition.
-use Rattle.std.proofs.Common.{◌≡◌, ℕ, zero, suc, ◌+◌, ◌/◌, ◌%◌, ◌≤◌, Bool, true, false, cond, List, [], ◌∷◌, ◌++◌, length, Option, Some, refl, sym, ap}
-use Rattle.std.proofs.Common.{◌∙◌, arith, ◌⊎◌, inl, inr}
+use Rattle.std.proofs.Common.{◌≡◌, ℕ, ◌+◌, ◌/◌, ◌%◌, ◌≤◌, Bool, true, false, cond, List, [], ◌∷◌, ◌++◌, refl, sym, ap}
+use Rattle.std.proofs.Common.{◌∙◌, arith, inl, inr}
 use Rattle.std.specs.Prelude.{◌==◌, ◌&&◌, ◌||◌, not, codes}
-use Rattle.std.specs.List.{list_all, list_any}
-use Rattle.std.specs.Option.{option_map}
+use Rattle.std.specs.List.{list_all}
 use Rattle.std.proofs.lemmas.List.{append_assoc}
 use Rattle.std.proofs.lemmas.Bool.{and_parts}
 use Rattle.std.proofs.lemmas.Grind.{common_steps}
@@ -24,10 +23,10 @@ use Rattle.opening_hours.proofs.Spelled.{rules_spell}
 use Rattle.opening_hours.proofs.Canon.{rules_canon}
 use Rattle.opening_hours.proofs.PlainTexts.{hours_plain}
 use Rattle.opening_hours.proofs.Whole.{print_read}
+use Rattle.vehicle_classes.specs.Vehicles.{is_flag_byte}
 use Rattle.conditional_rules.specs.Accesses.{is_among}
 use Rattle.conditional_rules.specs.Conditions.{has_sign, is_small_letter, reserved_words, is_flag, IsPart}
 use Rattle.conditional_rules.specs.Conditions as conditions
-use Rattle.conditional_rules.specs.declared.conditional.Part.{Part}
 use Rattle.conditional_rules.specs.declared.conditional.Part.TheVariants.{Times}
 use Rattle.route_base.specs.Forms.{is_blank}
 use Rattle.conditional_rules.specs.Cutting.{is_and, starts_with_and, first_and}
@@ -164,17 +163,17 @@ hours_no_sign : (text : List ℕ) → IsPlain text → has_sign text ≡ false
 hours_no_sign text h = none_of is_hours_byte (λ b. b == 60 || (b == 61 || b == 62)) sign_no_hours text h.bytes
 
 -- the letters of a flag that is made of bytes of hours
-flag_letters : (bs : List ℕ) → list_all is_hours_byte bs ≡ true → list_all (λ c. is_small_letter c || c == 95) bs ≡ true → AreLetters bs
+flag_letters : (bs : List ℕ) → list_all is_hours_byte bs ≡ true → list_all is_flag_byte bs ≡ true → AreLetters bs
 flag_letters [] h k = tt
 flag_letters (b ∷ bs) h k =
     let hours = and_parts (is_hours_byte b) (list_all is_hours_byte bs) h in
-    let flag = and_parts (is_small_letter b || b == 95) (list_all (λ c. is_small_letter c || c == 95) bs) k in
+    let flag = and_parts (is_flag_byte b) (list_all is_flag_byte bs) k in
     (letter hours.0 flag.0, flag_letters bs hours.1 flag.1)
   where
-    letter : is_hours_byte b ≡ true → (is_small_letter b || b == 95) ≡ true → is_letter b ≡ true
+    letter : is_hours_byte b ≡ true → is_flag_byte b ≡ true → is_letter b ≡ true
     letter h k = grind (arith, common_steps)
 
-small_letter : (b : ℕ) → is_small_letter b ≡ true → (97 ≤ b) × ((is_small_letter b || b == 95) ≡ true)
+small_letter : (b : ℕ) → is_small_letter b ≡ true → (97 ≤ b) × (is_flag_byte b ≡ true)
 small_letter b h = (grind (arith, common_steps), rw h refl)
 
 -- hours that are one word are off or closed, and no flag
@@ -182,9 +181,9 @@ hours_no_flag : (text : List ℕ) → IsPlain text → is_flag text ≡ false
 unfolding is_flag
 hours_no_flag [] h = refl
 hours_no_flag (b ∷ bs) h =
-    by (is_small_letter b) (list_all (λ c. is_small_letter c || c == 95) bs) (is_among reserved_words (b ∷ bs)) refl refl refl
+    by (is_small_letter b) (list_all is_flag_byte bs) (is_among reserved_words (b ∷ bs)) refl refl refl
   where
-    by : (u v w : Bool) → is_small_letter b ≡ u → list_all (λ c. is_small_letter c || c == 95) bs ≡ v → is_among reserved_words (b ∷ bs) ≡ w
+    by : (u v w : Bool) → is_small_letter b ≡ u → list_all is_flag_byte bs ≡ v → is_among reserved_words (b ∷ bs) ≡ w
         → (u && (v && not w)) ≡ false
     by false v w e f g = refl
     by true false w e f g = refl

@@ -1,5 +1,5 @@
 -- The canonical text of a conditional value (source: OpenStreetMap wiki, conditional restrictions; the one form of each part is own).
-use Rattle.std.specs.Prelude.{ℕ, zero, suc, ◌+◌, ◌*◌, ◌/◌, ◌%◌, ◌^◌, ◌==◌, List, [], ◌∷◌, ◌++◌, map, codes, decimal, if◌then◌else◌}
+use Rattle.std.specs.Prelude.{ℕ, zero, suc, ◌+◌, ◌/◌, ◌%◌, ◌^◌, List, [], ◌∷◌, ◌++◌, map, codes, decimal}
 use Rattle.opening_hours.specs.CanonicalTokens.{hours_text}
 use Rattle.conditional_rules.specs.declared.access.Access.{Access}
 use Rattle.conditional_rules.specs.declared.access.Access.TheVariants.{Free, Barred, Purpose as ForPurpose}

@@ -1,9 +1,11 @@
 -- Conditional values: their texts and their clauses, one case for each form (source: OpenStreetMap wiki, conditional restrictions, a
 -- subset).
-use Rattle.std.specs.Prelude.{◌≡◌, ℕ, ◌==◌, ◌&&◌, ◌||◌, Bool, true, false, not, nat_le, Option, Some, List, [], ◌∷◌, ◌++◌, codes}
+use Rattle.std.specs.Prelude.{◌≡◌, ℕ, ◌==◌, ◌&&◌, ◌||◌, Bool, true, false, not, Some, List, [], ◌∷◌, ◌++◌, codes}
 use Rattle.std.specs.List.{list_all, list_any}
+use Rattle.route_base.specs.Forms.{is_from_to}
 use Rattle.opening_hours.specs.Hours.{IsHours}
 use Rattle.opening_hours.specs.declared.types.HoursRule.{HoursRule}
+use Rattle.vehicle_classes.specs.Vehicles.{is_flag_byte}
 use Rattle.vehicle_classes.specs.declared.classes.Quantity.{Quantity}
 use Rattle.conditional_rules.specs.declared.access.Access.{Access}
 use Rattle.conditional_rules.specs.declared.conditional.Clause.{Clause}
@@ -19,7 +21,7 @@ abbrev pub has_sign : List ℕ → Bool
 has_sign text = list_any (λ b. b == 60 || (b == 61 || b == 62)) text
 
 abbrev pub is_small_letter : ℕ → Bool
-is_small_letter b = nat_le 97 b && nat_le b 122
+is_small_letter b = is_from_to 97 122 b
 
 -- the words that mean something else than a flag
 abbrev pub reserved_words : List (List ℕ)
@@ -29,7 +31,7 @@ reserved_words = codes "off" ∷ codes "closed" ∷ codes "open" ∷ codes "and"
 unfoldable pub is_flag : List ℕ → Bool
 is_flag [] = false
 is_flag (b ∷ bs) =
-    is_small_letter b && (list_all (λ c. is_small_letter c || c == 95) bs && not (is_among reserved_words (b ∷ bs)))
+    is_small_letter b && (list_all is_flag_byte bs && not (is_among reserved_words (b ∷ bs)))
 
 -- a part: a comparison where it has a sign, or else a flag, or else hours
 pub data IsPart : List ℕ → Part → Type 0 where

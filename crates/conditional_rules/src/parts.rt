@@ -2,9 +2,10 @@
 ghost use Rattle.std.specs.Prelude.{◌≡◌, ◌==◌, ◌||◌, true, false, IfOk};
 ghost use Rattle.std.specs.List.{list_all};
 ghost use Rattle.std.specs.Result.{IsErrOf};
+ghost use Rattle.vehicle_classes.specs.Vehicles.{is_flag_byte};
 ghost use Rattle.conditional_rules.specs.declared.conditional.Part.{Part as Piece};
 ghost use Rattle.conditional_rules.specs.Accesses.{is_among};
-ghost use Rattle.conditional_rules.specs.Conditions.{has_sign, is_small_letter, reserved_words, is_flag, IsPart};
+ghost use Rattle.conditional_rules.specs.Conditions.{has_sign, reserved_words, is_flag, IsPart};
 
 use crate::comparisons::{read_comparison, small_letter};
 use crate::conditional::{Part, Word};
@@ -32,7 +33,7 @@ fn is_reserved(word: &[u8]) -> bool
 
 // Whether each byte is a small letter or an underscore.
 fn of_flag_bytes(bytes: &[u8]) -> bool
-    ensures { result ≡ list_all (λ c. is_small_letter c || c == 95) bytes.now }
+    ensures { result ≡ list_all is_flag_byte bytes.now }
 {
     bytes.iter().all(|b| small_letter(*b) || *b == b'_')
 }

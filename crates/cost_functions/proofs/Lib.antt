@@ -1,5 +1,4 @@
 pub mod Appended
-pub mod FirstItems
 pub mod Joining
 pub mod Lasts
 pub mod PieceValues

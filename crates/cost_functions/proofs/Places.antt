@@ -4,7 +4,7 @@ use Rattle.std.proofs.Common.{length, get_or, take, drop, All, refl, ◌∙◌, 
 use Rattle.std.proofs.lemmas.Bool.{cases_eq, cases_lt, eq-eqb, ne_eqb, ltb-true, ltb-false}
 use Rattle.std.specs.List.{AllWithin}
 use Rattle.std.specs.List.Sorted.{IsNonDecreasingBy}
-use Rattle.cost_functions.proofs.FirstItems.{first_and_rest}
+use Rattle.route_base.proofs.Lists.{first_and_rest}
 use Rattle.std.proofs.lemmas.List.Elements.{All-head, All-tail, All-cons}
 use Rattle.std.proofs.lemmas.List.Kept.{AllPairs-cons}
 use Rattle.cost_functions.specs.Lines.{is_on_piece, line_at, AreOneLine}

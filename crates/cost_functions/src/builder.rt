@@ -1,7 +1,7 @@
 // Functions built from the left, reduced at every step.
 ghost use Rattle.std.specs.Prelude.{◌≡◌, ◌+◌, ◌-◌, ◌<◌, ◌≤◌, ℕ, List, [], ◌∷◌, ◌++◌, length, take, slice_set, All, None, OnOk, OnErr, IfSome};
-ghost use Rattle.cost_functions.specs.Lines.{line_at, IsPiece, IsSmallPiece, AreOneLine};
-ghost use Rattle.cost_functions.specs.Pieces.{value_at, ArePieces, IsReduced, AreSmallPieces};
+ghost use Rattle.cost_functions.specs.Lines.{IsPiece, IsSmallPiece, AreOneLine};
+ghost use Rattle.cost_functions.specs.Pieces.{value_at};
 ghost use Rattle.cost_functions.specs.Building.{AreBuilt};
 ghost use Rattle.cost_functions.specs.Inside.JoinedPieces.{IsJoined, IsExtended};
 ghost use Rattle.cost_functions.specs.declared.pieces.Piece.{Piece};

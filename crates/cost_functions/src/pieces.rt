@@ -1,7 +1,6 @@
 // Pieces of cost functions.
 ghost use Rattle.std.specs.Prelude.{◌≡◌, ◌+◌, ◌*◌, ◌-◌, ◌<◌, ◌≤◌, ℕ, IfSome};
-ghost use Rattle.cost_functions.specs.Lines.{line_at, IsPiece, IsSmallPiece, AreOneLine};
-ghost use Rattle.route_base.specs.declared.limits.TheConstants.{HIGHEST_COST};
+ghost use Rattle.cost_functions.specs.Lines.{line_at, IsPiece, AreOneLine};
 
 use route_base::{Cost, Minute};
 

@@ -1,5 +1,5 @@
 // Lists of pieces, reduced.
-ghost use Rattle.std.specs.Prelude.{◌≡◌, ◌↔◌, ◌<◌, ◌≤◌, ℕ, IsTrue, IfOk};
+ghost use Rattle.std.specs.Prelude.{◌≡◌, ◌↔◌, ◌<◌, ℕ, IsTrue, IfOk};
 ghost use Rattle.cost_functions.specs.Pieces.{value_at, ArePieces, IsReduced, AreSmallPieces};
 ghost use Rattle.cost_functions.specs.Building.{AreBuilt};
 

@@ -1,24 +1,14 @@
 -- The files of a drawn network (source: own).
-use Rattle.std.specs.Prelude.{ℕ, List, []}
+use Rattle.std.specs.Prelude.{ℕ}
 use Rattle.net_generator.specs.Generated.{graph_file, closures_file, parking_file, ratings_file}
+use Rattle.network_tables.specs.Files.{no_files}
 use Rattle.network_tables.specs.declared.files.Files.{Files}
 
--- the four files that are drawn; the tables beside them are empty, as missing ones are
-abbrev pub files_with : List ℕ → List ℕ → List ℕ → List ℕ → Files
-files_with graph closures parking ratings = record {
-  graph = graph;
-  zones = [];
-  areas = [];
-  roads = [];
-  vehicles = [];
-  rules = [];
-  closures = closures;
-  ratings = ratings;
-  parking = parking;
-  holidays = [];
-}
-
--- those that are drawn from a number
+-- the four files that are drawn from a number; the tables beside them are empty, as missing ones are
 abbrev pub drawn_files : ℕ → ℕ → ℕ → Files
-drawn_files number rows columns =
-    files_with (graph_file number rows columns) (closures_file number rows columns) (parking_file number rows columns) ratings_file
+drawn_files number rows columns = record no_files {
+  graph = graph_file number rows columns;
+  closures = closures_file number rows columns;
+  parking = parking_file number rows columns;
+  ratings = ratings_file;
+}

@@ -5,7 +5,7 @@ ghost use Rattle.drawn_network.specs.DrawnFiles.{drawn_files};
 
 use net_generator::{Generated, generate};
 use network_tables::Files;
-use route_base::{FileBytes, OutOfMemory};
+use route_base::OutOfMemory;
 use std::alloc::Global;
 
 /// The drawn files, beside tables that are empty. Linear in the nodes.
@@ -14,18 +14,12 @@ pub fn draw_files(alloc: Global, number: u64, rows: u32, columns: u32) -> Result
     ensures { IfOk result (λ files. files ≡ drawn_files number rows columns) }
 {
     let drawn = generate(alloc, number, rows, columns)?;
-    Ok(Files {
-        graph: drawn.graph,
-        zones: FileBytes::new(alloc),
-        areas: FileBytes::new(alloc),
-        roads: FileBytes::new(alloc),
-        vehicles: FileBytes::new(alloc),
-        rules: FileBytes::new(alloc),
-        closures: drawn.closures,
-        ratings: drawn.ratings,
-        parking: drawn.parking,
-        holidays: FileBytes::new(alloc),
-    })
+    let mut files = Files::new(alloc);
+    files.graph = drawn.graph;
+    files.closures = drawn.closures;
+    files.parking = drawn.parking;
+    files.ratings = drawn.ratings;
+    Ok(files)
 }
 
 /// The four drawn files among these. In constant time.

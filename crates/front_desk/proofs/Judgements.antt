@@ -1,13 +1,12 @@
 -- The report on a certificate's file judges it.
 use Rattle.std.proofs.Common.{◌≡◌, ℕ, true, None, List, refl, ap, sym, subst, ◌∙◌}
 use Rattle.std.proofs.lemmas.Bool.{both_ways}
-use Rattle.route_base.specs.Front.{IsFront}
+use Rattle.route_base.specs.Front.{IsFront, pairs_of}
 use Rattle.route_base.specs.Setting.{Setting}
 use Rattle.route_base.specs.declared.types.Pair.{Pair}
 use Rattle.route_base.specs.declared.types.Request.{Request}
 use Rattle.certificate.specs.Writable.{IsCertificateText, IsNoCertificateText}
 use Rattle.certificate.specs.declared.Certificate.{Certificate}
-use Rattle.certificate_check.specs.Conditions.{pairs_of}
 use Rattle.certificate_check.specs.Verdicts.{IsVerdict}
 use Rattle.certificate_check.specs.declared.checker.Verdict.{Verdict}
 use Rattle.certificate_check.specs.declared.checker.Verdict.TheVariants.{Accepted, Rejected}

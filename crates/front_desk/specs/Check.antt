@@ -1,7 +1,7 @@
 -- The judgement of the command that checks a certificate (source: own).
 use Rattle.std.specs.Prelude.{◌≡◌, ℕ, true, Option, List, length}
 use Rattle.route_base.specs.Contents.{Contents}
-use Rattle.route_base.specs.Front.{IsFront}
+use Rattle.route_base.specs.Front.{IsFront, pairs_of}
 use Rattle.route_base.specs.Setting.{Setting}
 use Rattle.route_base.specs.declared.faults.BadInput.{BadInput}
 use Rattle.route_base.specs.declared.faults.Cause.TheVariants.{TooLong}
@@ -11,7 +11,6 @@ use Rattle.route_base.specs.declared.limits.TheConstants.{LONGEST_CERTIFICATE}
 use Rattle.route_base.specs.declared.types.Request.{Request}
 use Rattle.certificate.specs.Writable.{IsCertificateText, IsNoCertificateText}
 use Rattle.certificate.specs.declared.Certificate.{Certificate}
-use Rattle.certificate_check.specs.Conditions.{pairs_of}
 use Rattle.certificate_check.specs.Verdicts.{IsGood, FailsFirst}
 use Rattle.plan_report.specs.Check.{check_text_of}
 use Rattle.plan_report.specs.declared.outcomes.Verdict3.TheVariants.{Accepted, Rejected}

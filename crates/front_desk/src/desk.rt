@@ -1,5 +1,5 @@
 // The top call.
-ghost use Rattle.std.specs.Prelude.{◌≡◌, ◌≢◌, ◌⊎◌, Some, None, List, ℕ, IfOk, IfErr};
+ghost use Rattle.std.specs.Prelude.{◌≡◌, ◌≢◌, ◌⊎◌, Some, None};
 ghost use Rattle.front_desk.specs.Words.{Contents, CountsRise, FailedToRead, FaultsRise, StaysSilent, BadInput, RequestFault};
 ghost use Rattle.front_desk.specs.Words.{Command, command_of, first_fault_for, failed_check_for, IsFinished, IsUndisturbed};
 ghost use Rattle.front_desk.specs.Words.{ReadsNothing, LeavesFiles, IsAnswer, IsDue, IsRefused, Prints, FailsToWrite};

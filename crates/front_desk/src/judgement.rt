@@ -2,7 +2,7 @@
 ghost use Rattle.std.specs.Prelude.{◌≡◌, true, false, None, List, ℕ, IfOk, OnOk, IfErr};
 ghost use Rattle.front_desk.specs.Words.{IfTold, network_held, check_fault, certificate_held, StopsReading};
 ghost use Rattle.front_desk.specs.Words.{KeepsFiles, trip_setting, check_in, to_check, IsTimed, IsTripNet};
-ghost use Rattle.front_desk.specs.Words.{request_of, IsAccepted, IsRejected, StopsCommand, ReportsOn, Tells, IsJudged};
+ghost use Rattle.front_desk.specs.Words.{request_of, StopsCommand, ReportsOn, Tells, IsJudged};
 ghost use Rattle.front_desk.specs.Trips.{Trip as TripModel};
 ghost use Rattle.front_desk.specs.declared.outcome.Report.{Report as ReportModel};
 ghost use Rattle.network_tables.specs.NetworkModel.{NetworkModel};

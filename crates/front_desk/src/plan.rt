@@ -1,14 +1,13 @@
 // The command that plans a trip.
-ghost use Rattle.std.specs.Prelude.{◌≡◌, Some, IfOk, OnOk, IfErr, IfSome, false};
+ghost use Rattle.std.specs.Prelude.{◌≡◌, Some, IfOk, OnOk, IfErr, false};
 ghost use Rattle.front_desk.specs.Words.{CountsRise, IsGoodNetwork, trip_setting, vehicle_named, plan_in, to_plan, IsTimed};
-ghost use Rattle.front_desk.specs.Words.{request_of, IsGoodTrip, IsCertificateOf, IsPlannable, IsFileFor, IsReady};
-ghost use Rattle.front_desk.specs.Words.{StopsCommand, ReportsOn, LeavesPlan, IfTold, status_of_halt, HandsOver, IsWritten, IsUnwritten};
+ghost use Rattle.front_desk.specs.Words.{request_of, IsGoodTrip, IsPlannable, IsReady};
+ghost use Rattle.front_desk.specs.Words.{StopsCommand, ReportsOn, LeavesPlan, status_of_halt, HandsOver, IsWritten, IsUnwritten};
 ghost use Rattle.ban_expansion.specs.ArcGroups.{AreGroups};
 ghost use Rattle.front_desk.specs.CommandLine.{Plan as PlanModel};
 ghost use Rattle.front_desk.specs.Words.{IsTripNet};
 ghost use Rattle.front_desk.specs.declared.plan.Planned.{Planned as PlannedModel};
 ghost use Rattle.network_tables.specs.NetworkModel.{NetworkModel};
-ghost use Rattle.route_base.specs.Front.{IsRight};
 ghost use Rattle.route_base.specs.Net.{Net, setting_of};
 ghost use Rattle.route_base.specs.declared.status.Status.TheVariants.{Done};
 

@@ -4,7 +4,7 @@ use Rattle.std.proofs.Common.{ap₂}
 use Rattle.std.proofs.lemmas.List.{map-append}
 use Rattle.std.specs.Prelude.{option_map, not, ◌&&◌, if◌then◌else◌}
 use Rattle.std.specs.List.{after_first, before_first}
-use Rattle.front_words.specs.Splitting.{Given, Split, Piece, plain, named, assigned, stray, is_among, is_dashed, is_equals, split_of_pieces}
+use Rattle.front_words.specs.Splitting.{Given, Split, Piece, plain, named, assigned, stray, is_option, is_dashed, is_equals, split_of_pieces}
 use Rattle.front_words.specs.Splitting.{piece_of, split_of, with_given, with_place}
 use Rattle.front_words.specs.Inside.{IsDivided, follow}
 
@@ -35,8 +35,8 @@ follow_given done option value (Some s) = simp append_assoc
 
 -- a word is read by whether it begins with `-`
 abbrev by_dash : List (List ℕ) → List ℕ → Bool → Piece
-by_dash options word b = if not b then plain word else if is_among options word then named word
-    else if is_among options (before_first is_equals word) && not (is_dashed (after_first is_equals word))
+by_dash options word b = if not b then plain word else if is_option options word then named word
+    else if is_option options (before_first is_equals word) && not (is_dashed (after_first is_equals word))
     then assigned (before_first is_equals word) (after_first is_equals word) else stray
 
 -- at each step the rest begins with the words that the step takes

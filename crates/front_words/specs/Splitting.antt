@@ -34,15 +34,15 @@ abbrev pub is_equals : ℕ → Bool
 is_equals b = b == 61
 
 -- whether the word is one of the options
-abbrev pub is_among : List (List ℕ) → List ℕ → Bool
-is_among options word = list_any (λ option. bytes_eq option word) options
+abbrev pub is_option : List (List ℕ) → List ℕ → Bool
+is_option options word = list_any (λ option. bytes_eq option word) options
 
 -- what a word is for a command with these options
 abbrev pub piece_of : List (List ℕ) → List ℕ → Piece
 piece_of options word =
     if not (is_dashed word) then plain word
-    else if is_among options word then named word
-    else if is_among options (before_first is_equals word) && not (is_dashed (after_first is_equals word))
+    else if is_option options word then named word
+    else if is_option options (before_first is_equals word) && not (is_dashed (after_first is_equals word))
     then assigned (before_first is_equals word) (after_first is_equals word)
     else stray
 

@@ -1,5 +1,5 @@
 // The forms of words.
-ghost use Rattle.std.specs.Prelude.{◌≡◌, IfSome, option_map};
+ghost use Rattle.std.specs.Prelude.{◌≡◌, IfSome};
 ghost use Rattle.calendar_days.specs.Texts.{instant_of};
 ghost use Rattle.front_words.specs.Forms.{is_folder_name, is_certificate_name, count_of, node_of, report_of};
 ghost use Rattle.front_words.specs.Inside.{IsUpTo};

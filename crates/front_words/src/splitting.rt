@@ -1,6 +1,6 @@
 // Divides the words behind a command's name into positional words and options.
 ghost use Rattle.std.specs.Prelude.{◌≡◌, map};
-ghost use Rattle.front_words.specs.Splitting.{is_dashed, is_among, piece_of, split_of};
+ghost use Rattle.front_words.specs.Splitting.{is_dashed, is_option, piece_of, split_of};
 ghost use Rattle.front_words.specs.Inside.{AnswersWith, piece_of_word, split_in};
 
 use crate::WordsFault;
@@ -46,7 +46,7 @@ fn is_dashed(word: &str) -> bool
 
 // Whether a word is one of the options.
 fn is_option(options: &[&str], word: &str) -> bool
-    ensures { result ≡ is_among (map (λ o. o.now) options.now) word.now }
+    ensures { result ≡ is_option (map (λ o. o.now) options.now) word.now }
 {
     options.contains(&word)
 }

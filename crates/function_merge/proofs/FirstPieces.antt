@@ -7,7 +7,7 @@ use Rattle.cost_functions.specs.Lines.{line_at, IsPiece}
 use Rattle.cost_functions.specs.Pieces.{value_at, ArePieces}
 use Rattle.cost_functions.specs.declared.pieces.Piece.{Piece}
 use Rattle.cost_functions.proofs.Values.{value_here, value_before, value_after, none_behind, none_after, pieces_tail}
-use Rattle.cost_functions.proofs.FirstItems.{first_and_rest}
+use Rattle.route_base.proofs.Lists.{first_and_rest}
 
 abbrev pub first_of : List Piece → Piece
 first_of ps = get_or ps 0 (record { lo = 0; hi = 0; cost = 0; slope = 0 })

@@ -11,7 +11,7 @@ use Rattle.cost_functions.specs.declared.pieces.Piece.{Piece}
 use Rattle.cost_functions.proofs.Values.{value_here, value_before, none_behind}
 use Rattle.function_merge.specs.Moves.{kept_at, moved_at, CanMove}
 use Rattle.cost_functions.proofs.Smallness.{value_within}
-use Rattle.cost_functions.proofs.FirstItems.{first_and_rest}
+use Rattle.route_base.proofs.Lists.{first_and_rest}
 use Rattle.minute_sets.proofs.FirstRuns.{in_first, before_first}
 
 module _ (minutes cost : ℕ) (f : ℕ → Option ℕ) where

@@ -1,5 +1,5 @@
 // Tests of what `shift` and `wait` require.
-ghost use Rattle.std.specs.Prelude.{◌≡◌, ◌↔◌, ◌≤◌, List, IsTrue, All};
+ghost use Rattle.std.specs.Prelude.{◌↔◌, ◌≤◌, List, IsTrue, All};
 ghost use Rattle.cost_functions.specs.Lines.{IsPiece};
 ghost use Rattle.cost_functions.specs.Pieces.{value_at, ArePieces};
 ghost use Rattle.route_base.specs.declared.limits.TheConstants.{LAST_INSTANT, HIGHEST_COST};

@@ -1,6 +1,5 @@
 // The least of two functions, as a function of its own or in place of the first.
 ghost use Rattle.std.specs.Prelude.{◌≡◌, ◌+◌, ◌<◌, ◌≤◌, ◌↔◌, ◌&&◌, nat_le, ℕ, Bool, true, false, Option, All, IsTrue, IfOk, OnOk, OnErr, [], length};
-ghost use Rattle.std.specs.List.{AllWithin};
 ghost use Rattle.route_base.specs.Runs.{any_has, AreRuns};
 ghost use Rattle.cost_functions.specs.Pieces.{value_at, ArePieces, AreSmallPieces};
 ghost use Rattle.cost_functions.specs.Building.{AreBuilt, IsSettled};

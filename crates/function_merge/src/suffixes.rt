@@ -1,5 +1,5 @@
 // The pieces or runs that are left from a minute on.
-ghost use Rattle.std.specs.Prelude.{◌≡◌, ◌+◌, ◌<◌, ◌≤◌, ℕ, List, ◌∷◌, All, length};
+ghost use Rattle.std.specs.Prelude.{◌≡◌, ◌<◌, ◌≤◌, ℕ, List, ◌∷◌, All, length};
 ghost use Rattle.std.specs.List.{AllWithin};
 ghost use Rattle.route_base.specs.declared.types.Run.{Run};
 ghost use Rattle.cost_functions.specs.declared.pieces.Piece.{Piece};

@@ -9,7 +9,7 @@ use Rattle.std.proofs.lemmas.Option.{slice_get_within, get_or_from_slice_get}
 use Rattle.route_base.specs.Setting.{Setting, Road}
 use Rattle.route_base.specs.Itinerary.{Position, Step, drive, wait, Moves, Walks}
 use Rattle.route_base.specs.Front.{IsAchieved, IsFront}
-use Rattle.route_base.specs.Legs.{steps_of, steps_of_leg, start_of, end_of, CostsFit}
+use Rattle.route_base.specs.Legs.{steps_of, steps_of_leg, start_of, end_of, CostsFit, IsReachable}
 use Rattle.route_base.specs.Net.{Net, IsGoodNet, IsGoodArc, road_of, setting_of, at_number}
 use Rattle.route_base.specs.declared.limits.TheConstants.{HIGHEST_COST}
 use Rattle.route_base.specs.declared.types.Leg.{Leg}
@@ -19,7 +19,7 @@ use Rattle.route_base.specs.declared.types.Request.{Request}
 use Rattle.route_base.specs.declared.types.TimedArc.{TimedArc}
 use Rattle.route_base.proofs.Walking.{along, cheaper, walk-append}
 use Rattle.cost_functions.specs.declared.pieces.Piece.{Piece}
-use Rattle.propagation.specs.Found.{cost_by, cost_at, Finding, IsFoundFor, IsReachable}
+use Rattle.propagation.specs.Found.{cost_by, cost_at, Finding, IsFoundFor}
 use Rattle.propagation.specs.Inside.Invariants.{point}
 use Rattle.potentials.proofs.Lists.{number_past}
 use Rattle.itinerary_unpack.specs.Inside.Sources.{ComesFrom}

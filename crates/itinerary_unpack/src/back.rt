@@ -1,5 +1,5 @@
 // Back from a pair to the start.
-ghost use Rattle.std.specs.Prelude.{◌≡◌, ◌≤◌, ◌<◌, length, reverse, slice_get, Some, Contains, IfOk, OnOk, slice_index_or};
+ghost use Rattle.std.specs.Prelude.{◌≤◌, ◌<◌, length, reverse, Contains, IfOk, slice_index_or};
 ghost use Rattle.route_base.specs.Net.{IsGoodRequest, setting_of};
 ghost use Rattle.route_base.specs.Itinerary.{Walks};
 ghost use Rattle.route_base.specs.Legs.{steps_of, start_of, end_of, Achieves, HasNoNeighbouringWaits, CostsFit};

@@ -1,8 +1,8 @@
 // The engine over cost functions.
-ghost use Rattle.std.specs.Prelude.{◌≡◌, ◌≤◌, map, IfOk};
+ghost use Rattle.std.specs.Prelude.{◌≡◌, ◌≤◌, IfOk};
 ghost use Rattle.node_arcs.specs.Stars.{AreIncoming};
 ghost use Rattle.propagation.specs.Found.{IsFoundFor};
-ghost use Rattle.route_base.specs.Front.{IsRight};
+ghost use Rattle.route_base.specs.Front.{IsRight, pairs_of};
 ghost use Rattle.route_base.specs.Legs.{CostsFit};
 ghost use Rattle.route_base.specs.Net.{IsGoodRequest, setting_of};
 
@@ -45,7 +45,7 @@ pub fn routes_of(
     requires fit { CostsFit (setting_of net.now) request }
     requires found { IsFoundFor net.now request found.now }
     ensures right { IfOk result (IsRight (setting_of net.now) request) }
-    ensures pairs { IfOk result (λ routes. map (λ x. x.pair) routes ≡ found.now.pairs) }
+    ensures pairs { IfOk result (λ routes. pairs_of routes ≡ found.now.pairs) }
 {
     let pairs = found.pairs();
     let mut routes = Vec::with_capacity(alloc, pairs.len())?;

@@ -1,5 +1,5 @@
 // Where the cost of a node at a minute comes from.
-ghost use Rattle.std.specs.Prelude.{◌≡◌, ◌≤◌, ◌<◌, ◌-◌, ℕ, Some, IfSome, IsNone};
+ghost use Rattle.std.specs.Prelude.{◌≡◌, ◌≤◌, ◌<◌, ◌-◌, Some, IfSome, IsNone};
 ghost use Rattle.node_arcs.specs.Stars.{EndsAt};
 ghost use Rattle.node_arcs.specs.declared.links.End.TheVariants.{Head};
 ghost use Rattle.route_base.specs.declared.types.Leg.TheVariants.{Wait};

@@ -2,7 +2,7 @@
 use Rattle.std.proofs.Common.{◌≡◌, ℕ, ◌-◌, ◌≤◌, ◌<◌, true, false, List, ◌∷◌, length, get_or, take, drop, ◌∙◌, ap, subst, sym}
 use Rattle.route_base.specs.Runs.{any_has, AreRuns}
 use Rattle.route_base.specs.declared.types.Run.{Run}
-use Rattle.minute_sets.proofs.FirstItems.{first_and_rest}
+use Rattle.route_base.proofs.Lists.{first_and_rest}
 use Rattle.minute_sets.proofs.FirstRuns.{before_first, in_first, in_others, not_behind, runs_tail}
 
 abbrev pub head_run : List Run → Run

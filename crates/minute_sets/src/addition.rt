@@ -1,5 +1,5 @@
 // Adds the minutes of one set to another in place.
-ghost use Rattle.std.specs.Prelude.{◌≡◌, ◌<◌, ◌≤◌, ◌||◌, ◌++◌, ℕ, All, OnOk, OnErr, length, take};
+ghost use Rattle.std.specs.Prelude.{◌≡◌, ◌<◌, ◌≤◌, ◌||◌, ◌++◌, ℕ, OnOk, OnErr, length, take};
 ghost use Rattle.std.specs.List.{AllWithin};
 ghost use Rattle.route_base.specs.Runs.{any_has, AreRuns};
 

@@ -1,5 +1,5 @@
 -- A network of rows and columns of nodes, drawn from a number (source: own).
-use Rattle.std.specs.Prelude.{ℕ, suc, ◌+◌, ◌*◌, ◌%◌, ◌==◌, Bool, true, false, not, nat_le, List, [], ◌∷◌, length, if◌then◌else◌}
+use Rattle.std.specs.Prelude.{ℕ, ◌+◌, ◌*◌, ◌%◌, ◌==◌, Bool, not, nat_le, [], ◌∷◌, if◌then◌else◌}
 use Rattle.net_generator.specs.Draws.{next_state, Drawn, undrawn, then_drawn, drawn_to}
 use Rattle.net_generator.specs.declared.layout.Road.{Road}
 use Rattle.net_generator.specs.declared.layout.Closure.{Closure}

@@ -1,8 +1,8 @@
 // Draws the roads, the closures and the parking areas.
-ghost use Rattle.std.specs.Prelude.{◌≡◌, ◌≤◌, ◌*◌, ◌+◌, length, OnOk, IfOk, []};
+ghost use Rattle.std.specs.Prelude.{◌≡◌, ◌≤◌, ◌*◌, ◌+◌, OnOk, IfOk, []};
 ghost use Rattle.net_generator.specs.Draws.{Continues, drawn_to};
-ghost use Rattle.net_generator.specs.Layout.{both_ways, has_right, has_below, road_to, roads_at, drawn_closure, closures_at};
-ghost use Rattle.net_generator.specs.Layout.{drawn_parking, parking_at};
+ghost use Rattle.net_generator.specs.Layout.{both_ways, roads_at, closures_at};
+ghost use Rattle.net_generator.specs.Layout.{parking_at};
 ghost use Rattle.net_generator.specs.declared.limits.TheConstants.{MOST_GENERATED_NODES};
 
 use crate::draws::Draws;

@@ -2,6 +2,7 @@ pub mod Access
 pub mod AreaPlaces
 pub mod Areas
 pub mod Closures
+pub mod Files
 pub mod HolidayDays
 pub mod Holidays
 pub mod Jobs

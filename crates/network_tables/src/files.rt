@@ -1,6 +1,7 @@
 // The bytes of a network's files, and how a table is read from them.
-ghost use Rattle.std.specs.Prelude.{[]};
+ghost use Rattle.std.specs.Prelude.{◌≡◌, []};
 ghost use Rattle.table_reader.specs.Records.{Record, header_of, rows_of};
+ghost use Rattle.network_tables.specs.Files.{no_files, with_file};
 ghost use Rattle.network_tables.specs.NetworkFiles.{table_fault};
 ghost use Rattle.network_tables.specs.Refusals.{Reads};
 
@@ -22,6 +23,45 @@ pub struct Files {
     pub ratings: FileBytes,
     pub parking: FileBytes,
     pub holidays: FileBytes,
+}
+
+impl Files {
+    /// Files that aren't there, each of them empty, at no cost.
+    pub fn new(alloc: Global) -> Files
+        ensures { result ≡ no_files }
+    {
+        Files {
+            graph: FileBytes::new(alloc),
+            zones: FileBytes::new(alloc),
+            areas: FileBytes::new(alloc),
+            roads: FileBytes::new(alloc),
+            vehicles: FileBytes::new(alloc),
+            rules: FileBytes::new(alloc),
+            closures: FileBytes::new(alloc),
+            ratings: FileBytes::new(alloc),
+            parking: FileBytes::new(alloc),
+            holidays: FileBytes::new(alloc),
+        }
+    }
+
+    /// Puts the bytes of a file in its place, at no cost. A network has no jobs and no certificate: their bytes are dropped.
+    pub fn put(&mut self, file: FileKind, bytes: FileBytes)
+        ensures { self.new ≡ with_file self.old file bytes }
+    {
+        match file {
+            FileKind::Graph => self.graph = bytes,
+            FileKind::Zones => self.zones = bytes,
+            FileKind::Areas => self.areas = bytes,
+            FileKind::Roads => self.roads = bytes,
+            FileKind::Vehicles => self.vehicles = bytes,
+            FileKind::Rules => self.rules = bytes,
+            FileKind::Closures => self.closures = bytes,
+            FileKind::Ratings => self.ratings = bytes,
+            FileKind::Parking => self.parking = bytes,
+            FileKind::Holidays => self.holidays = bytes,
+            FileKind::Jobs | FileKind::Certificate => {}
+        }
+    }
 }
 
 /// Adds the rows of a file to an empty table. Linear in the bytes.

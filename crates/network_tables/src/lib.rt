@@ -10,6 +10,8 @@
 //! `Jobs` is the law of `read_jobs`: which jobs a table of jobs states, its schema, and the instants of its trips. A table of jobs is read
 //! without a network, so no vehicle and no node is looked up.
 //!
+//! `Files` has the bytes of a network's files by their kinds, and is made by `Files::new` and `put`.
+//!
 //! The other modules are machinery: `AreaPlaces`, `HolidayDays` and `RuleLists` are tables while they are read, `NetworkParts` is how a
 //! network is held, `Refusals` are words for contracts.
 //!

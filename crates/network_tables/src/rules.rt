@@ -1,5 +1,5 @@
 // rules.csv: access rules of areas and arcs by key.
-ghost use Rattle.std.specs.Prelude.{◌≡◌, ◌+◌, ◌++◌, ◌∷◌, [], None, OnOk, IfErr, IsSome, option_map};
+ghost use Rattle.std.specs.Prelude.{◌≡◌, [], None, OnOk, IfErr, IsSome, option_map};
 ghost use Rattle.network_tables.specs.Words.{rules_schema, rule_value_at, plain_at, conditional_at, has_arc_rules, HaveRules, with_rule, with_passed_row, IfBadCause};
 ghost use Rattle.network_tables.specs.Words.{names_of, arc_count_of, areas_of, rules_fault, rules_of, Reads};
 

@@ -1,6 +1,5 @@
 // Chains of arcs: the first arc of each node, and for each arc the next one at the same node.
-ghost use Rattle.std.specs.Prelude.{◌≡◌, ◌+◌, ◌≤◌, length, IfOk, OnOk};
-ghost use Rattle.route_base.specs.Net.{IsGoodNet};
+ghost use Rattle.std.specs.Prelude.{◌≡◌, ◌+◌, ◌≤◌, length, IfOk};
 ghost use Rattle.node_arcs.specs.Stars.{node_at};
 ghost use Rattle.node_arcs.specs.Inside.Chains.{AreLinkedFrom};
 

@@ -15,7 +15,7 @@ use Rattle.opening_hours.specs.declared.types.TimeSpan.{TimeSpan}
 use Rattle.opening_hours.specs.declared.types.LongSpan.{LongSpan}
 use Rattle.opening_hours.specs.declared.types.RuleTimes.TheVariants as times
 use Rattle.opening_hours.specs.declared.types.HoursRule.{HoursRule}
-use Rattle.opening_hours.specs.Grammar.{IsTime, IsDate, IsItem, IsSpan, IsLong, IsOpens, IsDates, IsDays, IsSpans, IsRule}
+use Rattle.opening_hours.specs.Grammar.{IsTime, IsDate, IsItem, IsSpan, IsLong, IsDates, IsDays, IsSpans, IsRule}
 use Rattle.opening_hours.specs.Grammar.{IsRules, Joined, whole_day, span_length, long_length}
 use Rattle.opening_hours.specs.Grammar as grammar
 use Rattle.opening_hours.specs.CanonicalTokens.{listed, date_tokens, item_tokens, time_token, span_tokens, weekday_at, days_after}

@@ -25,8 +25,8 @@ abbrev pub Starts : (Token → Bool) → List Token → Type 0
 Starts p [] = Unit {0}
 Starts p (t ∷ ts) = p t ≡ true
 
--- the first token, if there is one, fails
-abbrev pub Stops : (Token → Bool) → List Token → Type 0
+-- the first item, if there is one, fails
+abbrev pub Stops : {A : Type 0} → (A → Bool) → List A → Type 0
 Stops p [] = Unit {0}
 Stops p (t ∷ ts) = p t ≡ false
 

@@ -11,9 +11,8 @@ use Rattle.std.proofs.lemmas.List.Folds.{length-prefix_len}
 use Rattle.std.proofs.lemmas.List.Sums.{take_while-cons}
 use Rattle.opening_hours.specs.declared.tokens.Token.{Token}
 use Rattle.opening_hours.specs.declared.tokens.Token.TheVariants.{Always, Time, Number, Dash, Comma, Semicolon, Colon}
-use Rattle.opening_hours.specs.Tokens.{is_digit, is_letter, one_digit, number_of_two, months, weekdays, other_words}
-use Rattle.route_base.specs.Forms.{is_blank}
-use Rattle.opening_hours.specs.Tokens.{token_in, other_token, weekday_token, word_token, AreLetters, IsToken, IsFirst}
+use Rattle.opening_hours.specs.Tokens.{is_digit, is_letter, one_digit, number_of_two}
+use Rattle.opening_hours.specs.Tokens.{word_token, AreLetters, IsToken, IsFirst}
 use Rattle.opening_hours.specs.Tokens.{without_blanks, IsCut}
 use Rattle.opening_hours.specs.Inside.Tokenizer.{word_of, word_at, always_at, long_time_at, short_time_at, long_number_at}
 use Rattle.opening_hours.specs.Inside.Tokenizer.{short_number_at, mark_at, token_at, IsMatched}

@@ -10,7 +10,7 @@ use Rattle.std.proofs.lemmas.Slice.Eq.{bytes_eq-Decides}
 use Rattle.opening_hours.specs.declared.tokens.Token.{Token}
 use Rattle.opening_hours.specs.declared.tokens.Token.TheVariants.{Unknown, Open}
 use Rattle.opening_hours.specs.declared.types.HoursRule.{HoursRule}
-use Rattle.opening_hours.specs.Tokens.{is_digit, is_letter, months, weekdays, other_words, token_in, other_token}
+use Rattle.opening_hours.specs.Tokens.{is_digit, is_letter, months, weekdays, token_in, other_token}
 use Rattle.route_base.specs.Forms.{is_blank}
 use Rattle.opening_hours.specs.Tokens.{weekday_token, word_token, AreLetters, IsToken, without_blanks}
 use Rattle.opening_hours.specs.Tokens as tokens

@@ -19,7 +19,6 @@ use Rattle.opening_hours.specs.declared.types.HoursRule.{HoursRule}
 use Rattle.opening_hours.specs.Tokens.{is_digit, is_letter, number_of_two, other_token, weekday_token, word_token, AreLetters, without_blanks}
 use Rattle.route_base.specs.Forms.{is_blank}
 use Rattle.opening_hours.specs.Inside.Tokenizer.{word_of, word_at, mark_at, token_at, IsMatched}
-use Rattle.calendar_days.specs.Texts.{two_digits}
 use Rattle.opening_hours.specs.CanonicalText.{month_text, weekday_text, lexeme, is_tight, is_semicolon, blank_between, spell}
 use Rattle.opening_hours.specs.Grammar.{IsMonth, IsTime, IsDate, IsItem, IsSpan, IsLong, IsOpens, IsDates, IsDays, IsSpans, IsRule, IsRules, Joined}
 use Rattle.opening_hours.specs.Grammar as grammar

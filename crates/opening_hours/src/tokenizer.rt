@@ -1,9 +1,9 @@
 // Cuts a text into tokens.
-ghost use Rattle.std.specs.Prelude.{◌≡◌, ℕ, ◌++◌, ◌≤◌, ◌+◌, ◌-◌, ◌*◌, length, List, Some, None, Option, option_map, IfOk};
+ghost use Rattle.std.specs.Prelude.{◌≡◌, ◌≤◌, ◌+◌, ◌-◌, ◌*◌, length, List, Some, None, Option, option_map, IfOk};
 ghost use Rattle.std.specs.List.{take_while};
 ghost use Rattle.std.specs.Result.{IsErrOf};
 ghost use Rattle.opening_hours.specs.declared.tokens.Token.{Token as Lexeme};
-ghost use Rattle.opening_hours.specs.Tokens.{is_digit, is_letter, one_digit, number_of_two, without_blanks, IsCut};
+ghost use Rattle.opening_hours.specs.Tokens.{is_digit, is_letter, number_of_two, without_blanks, IsCut};
 ghost use Rattle.route_base.specs.Forms.{is_blank};
 ghost use Rattle.opening_hours.specs.Inside.Tokenizer.{word_of, word_at, always_at, long_time_at, short_time_at, long_number_at};
 ghost use Rattle.opening_hours.specs.Inside.Tokenizer.{short_number_at, mark_at, token_at};

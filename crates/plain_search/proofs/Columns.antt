@@ -5,7 +5,7 @@ use Rattle.std.proofs.lemmas.Bool.{cases_lt}
 use Rattle.std.proofs.lemmas.List.Elements.{All-push, All-weaker, All-contains, Contains-push, Contains-append_left}
 use Rattle.std.proofs.lemmas.List.Quantifiers.{all_pairs_push}
 use Rattle.route_base.specs.Setting.{Setting}
-use Rattle.route_base.specs.Legs.{CostsFit}
+use Rattle.route_base.specs.Legs.{CostsFit, IsReachable}
 use Rattle.route_base.specs.Net.{Net, setting_of}
 use Rattle.route_base.specs.declared.limits.TheConstants.{HIGHEST_COST}
 use Rattle.route_base.specs.declared.types.NodeId.{NodeId}
@@ -14,7 +14,7 @@ use Rattle.plain_search.specs.Inside.Costs.{none, at, IsKnownCost, ComesByStep, 
 use Rattle.plain_search.specs.Inside.CostTable.{cost_of}
 use Rattle.plain_search.specs.Inside.Soundness.{IsFinalTable}
 use Rattle.plain_search.specs.declared.cost_table.CostTable.{CostTable}
-use Rattle.plain_search.specs.Values.{IsReachable, IsLeastCost, HasPoint, IsNodeWithPoints, AreValues}
+use Rattle.plain_search.specs.Values.{IsLeastCost, HasPoint, IsNodeWithPoints, AreValues}
 use Rattle.plain_search.proofs.Founding.{TakesTime, walk_to}
 use Rattle.route_base.proofs.Walking.{move_in_time}
 use Rattle.plain_search.proofs.Lowering.{known_inside}
@@ -103,22 +103,22 @@ module _ (s : Setting) (r : Request) (cost : ℕ → ℕ → ℕ) (now : ℕ) (d
       let walk = walk_to s r done.takes cost now done.founded (t + 1) v t (omega arith) (omega (arith, label.is, label.reached)) in
       record {
         reachable = subst (λ (n : ℕ). IsReachable s r (record { node = v; minute = t; cost = n })) label.is
-            (record { steps = walk.0; walk = walk.1 });
-        least = λ y other. let within = (bounded_at s r cost now done.fit done.founded done.relaxed other.steps _ other.walk).within in
+            walk;
+        least = λ y other. let within = (bounded_at s r cost now done.fit done.founded done.relaxed other.0 _ other.1).within in
             omega (arith, within, label.is);
       }
 
   pub label_of_least : (v t x : ℕ) → IsLeastCost s r v t x → IsKnownCost cost v t x
   label_of_least v t x best =
-      let within = (bounded_at s r cost now done.fit done.founded done.relaxed best.reachable.steps _ best.reachable.walk).within in
-      let cheap = done.fit best.reachable.steps _ best.reachable.walk in
+      let within = (bounded_at s r cost now done.fit done.founded done.relaxed best.reachable.0 _ best.reachable.1).within in
+      let cheap = done.fit best.reachable.0 _ best.reachable.1 in
       let known : cost v t < none = omega (arith, within, cheap) in
       let walk = walk_to s r done.takes cost now done.founded (t + 1) v t (omega arith) known in
       let least = best.least (cost v t) (record { steps = walk.0; walk = walk.1 }) in
       record { is = omega (arith, within, least); reached = omega (arith, cheap) }
 
   label_cheap : (v t x : ℕ) → IsKnownCost cost v t x → x ≤ HIGHEST_COST
-  label_cheap v t x label = let best = least_of_label v t x label in done.fit best.reachable.steps _ best.reachable.walk
+  label_cheap v t x label = let best = least_of_label v t x label in done.fit best.reachable.0 _ best.reachable.1
 
   label_inside : (v t x : ℕ) → IsKnownCost cost v t x → IsInside s r v t
   label_inside v t x label = done.inside v t (omega (arith, label.is, label.reached))

@@ -1,5 +1,5 @@
 -- The goal's column, read minute by minute.
-use Rattle.std.proofs.Common.{◌≡◌, ⊎_elim, ℕ, ◌+◌, ◌≤◌, ◌<◌, List, [], ◌∷◌, ◌++◌, map, refl, sym, ap, subst, arith}
+use Rattle.std.proofs.Common.{◌≡◌, ⊎_elim, ℕ, ◌+◌, ◌≤◌, ◌<◌, List, [], ◌∷◌, ◌++◌, refl, sym, ap, subst, arith}
 use Rattle.std.specs.Prelude.{All, Contains}
 use Rattle.std.proofs.lemmas.Bool.{cases_lt}
 use Rattle.std.proofs.lemmas.List.{map-append}
@@ -8,7 +8,7 @@ use Rattle.std.proofs.lemmas.List.Quantifiers.{all_pairs_push}
 use Rattle.route_base.specs.Setting.{Setting}
 use Rattle.route_base.specs.Itinerary.{Position, Step, drive, wait, Moves, Walks}
 use Rattle.route_base.specs.Legs.{start_of, end_of, Achieves, HasNoNeighbouringWaits, CostsFit, steps_of}
-use Rattle.route_base.specs.Front.{Trades, RiseAndFall, IsAchieved, IsRight}
+use Rattle.route_base.specs.Front.{Trades, RiseAndFall, IsAchieved, IsRight, pairs_of}
 use Rattle.route_base.specs.Relaxing.{HasPair}
 use Rattle.route_base.specs.declared.types.Pair.{Pair}
 use Rattle.route_base.specs.declared.types.Route.{Route}
@@ -18,9 +18,6 @@ use Rattle.route_base.proofs.Covering.{pair_later}
 use Rattle.route_base.proofs.Fronts.{is_front}
 use Rattle.plain_search.specs.Inside.Costs.{none, ComesBySteps, IsRelaxedBefore}
 use Rattle.plain_search.specs.Inside.Routes.{IsRouteAt}
-
-abbrev pub pairs_of : List Route → List Pair
-pairs_of routes = map (λ x. x.pair) routes
 
 -- the routes to the goal before minute t, each better than those before it
 pub record IsReadTo (s : Setting) (r : Request) (cost : ℕ → ℕ → ℕ) (t best : ℕ) (routes : List Route) : Type 0 where

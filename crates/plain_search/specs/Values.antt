@@ -1,16 +1,10 @@
 -- Values: for each node and minute the least cost of the walks of lawful steps that lead there (source: SEA 2020, in whole minutes).
 use Rattle.std.specs.Prelude.{◌≡◌, ◌≢◌, ◌↔◌, ℕ, ◌<◌, ◌≤◌, List, [], All, AllPairs, Contains}
 use Rattle.route_base.specs.Setting.{Setting}
-use Rattle.route_base.specs.Itinerary.{Position, Step, Walks}
-use Rattle.route_base.specs.Legs.{start_of}
+use Rattle.route_base.specs.Legs.{IsReachable}
 use Rattle.route_base.specs.declared.limits.TheConstants.{HIGHEST_COST}
 use Rattle.route_base.specs.declared.types.NodeId.{NodeId}
 use Rattle.route_base.specs.declared.types.Request.{Request}
-
--- lawful steps lead from the start of the request to this position
-pub record IsReachable (s : Setting) (r : Request) (p : Position) : Type 0 where
-  pub steps : List Step
-  pub walk : Walks s r.until steps (start_of r) p
 
 -- x is the least cost at which lawful steps lead to node v at minute t
 pub record IsLeastCost (s : Setting) (r : Request) (v t x : ℕ) : Type 0 where

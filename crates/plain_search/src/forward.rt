@@ -1,5 +1,5 @@
 // The forward pass: every step takes at least a minute, so the labels at minute t are final when t is processed.
-ghost use Rattle.std.specs.Prelude.{◌≡◌, ◌+◌, ◌≤◌, ℕ, IfOk};
+ghost use Rattle.std.specs.Prelude.{◌≡◌, ◌+◌, ℕ, IfOk};
 ghost use Rattle.std.specs.Option.{option_flatten};
 ghost use Rattle.route_base.specs.Net.{at_number};
 ghost use Rattle.node_arcs.specs.declared.links.End.TheVariants.{Tail};

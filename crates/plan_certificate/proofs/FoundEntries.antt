@@ -1,11 +1,10 @@
 -- The bounds and functions of a search as entries by rising node.
-use Rattle.std.proofs.Common.{◌≡◌, ◌≢◌, ℕ, ◌≤◌, zero, suc, Option, Some, None, List, [], ◌∷◌, All, length, get_or, refl, sym, ◌∙◌, ap, arith}
+use Rattle.std.proofs.Common.{◌≡◌, ◌≢◌, ℕ, ◌≤◌, Option, Some, None, List, [], ◌∷◌, All, length, get_or, refl, sym, ◌∙◌, ap}
 use Rattle.std.specs.Option.{option_flatten}
-use Rattle.std.proofs.lemmas.Option.{slice_get_within}
 use Rattle.route_base.specs.Net.{at_number}
 use Rattle.route_base.specs.declared.types.Bound.{Bound}
 use Rattle.route_base.specs.declared.types.NodeId.{NodeId}
-use Rattle.route_base.proofs.Numbered.{at_number-all}
+use Rattle.route_base.proofs.Numbered.{at_number-all, number_within}
 use Rattle.cost_functions.specs.Pieces.{value_at}
 use Rattle.cost_functions.specs.declared.pieces.Piece.{Piece}
 use Rattle.potentials.specs.Sums.{bound_at}
@@ -22,10 +21,6 @@ module _ {A : Type 0} (items : ℕ → Option A) (entries : List (NodeId × A)) 
 
   pub same_items : item_at entries ≡ items
   same_items = λ i v. are.at v i
-
-number_within : {A : Type 0} (xs : List A) (n : ℕ) (x : A) → at_number xs n ≡ Some x → (1 ≤ n) × (n ≤ length xs)
-number_within xs zero x is = absurd (cc)
-number_within xs (suc k) x is = let within = slice_get_within xs k x is in (omega arith, omega (arith, within))
 
 some_bound : (o : Option (Option Bound)) (b : Bound) → option_flatten o ≡ Some b → o ≡ Some (Some b)
 some_bound None b is = absurd (cc)

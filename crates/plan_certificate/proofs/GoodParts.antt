@@ -1,7 +1,7 @@
 -- A certificate of what a search has found is good and tight.
 use Rattle.std.proofs.Common.{◌≡◌, ℕ, ◌≤◌, ◌<◌, Option, Some, List, All, length, get_or, sym, ◌∙◌, ap, subst, arith}
 use Rattle.std.proofs.lemmas.List.Elements.{All-weaker}
-use Rattle.route_base.specs.Front.{IsRight}
+use Rattle.route_base.specs.Front.{IsRight, pairs_of}
 use Rattle.route_base.specs.Legs.{Achieves, HasNoNeighbouringWaits}
 use Rattle.route_base.specs.Net.{Net, setting_of}
 use Rattle.route_base.specs.Relaxing.{IsComplete}
@@ -19,7 +19,7 @@ use Rattle.potentials.specs.Sums.{AreLeastBounds, bound_at}
 use Rattle.propagation.specs.Found.{Finding, IsFoundFor, IsJustified, cost_by, cost_at}
 use Rattle.certificate.specs.ByNode.{item_at}
 use Rattle.certificate.specs.declared.Certificate.{Certificate}
-use Rattle.certificate_check.specs.Conditions.{pairs_of, value_of, IsInRange, IsNodeOf, AreOrderedPairs}
+use Rattle.certificate_check.specs.Conditions.{value_of, IsInRange, IsNodeOf, AreOrderedPairs}
 use Rattle.certificate_check.specs.Verdicts.{IsGood}
 use Rattle.plan_certificate.specs.Inside.Entries.{AreEntriesOf, pieces_of}
 use Rattle.plan_certificate.specs.Tight.{IsTight}

@@ -1,5 +1,5 @@
 // The functions of nodes as entries of a certificate.
-ghost use Rattle.std.specs.Prelude.{◌≡◌, ◌<◌, ◌^◌, length, IfOk};
+ghost use Rattle.std.specs.Prelude.{◌<◌, ◌^◌, length, IfOk};
 ghost use Rattle.plan_certificate.specs.Inside.Entries.{AreEntriesOf, pieces_of};
 
 use certificate::NodeFunctions;

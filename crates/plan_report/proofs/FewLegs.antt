@@ -1,8 +1,7 @@
 -- Lawful legs are no more than the minutes that they take.
-use Rattle.std.proofs.Common.{◌≡◌, ◌≢◌, ℕ, zero, suc, ◌+◌, ◌≤◌, List, [], ◌∷◌, length, Some, None, refl, ap, subst, arith}
-use Rattle.std.specs.Prelude.{Option, All, unwrap_or}
+use Rattle.std.proofs.Common.{◌≡◌, ◌≢◌, ℕ, zero, suc, ◌+◌, ◌≤◌, List, [], ◌∷◌, length, Some, None, refl, ap, arith}
+use Rattle.std.specs.Prelude.{Option, unwrap_or}
 use Rattle.std.specs.Option.{option_map}
-use Rattle.std.proofs.lemmas.Option.{slice_get_within, get_or_from_slice_get}
 use Rattle.route_base.specs.Setting.{Road}
 use Rattle.route_base.specs.Itinerary.{Position, Walks}
 use Rattle.route_base.specs.Legs.{steps_of, HasNoEmptyWait}
@@ -10,19 +9,16 @@ use Rattle.route_base.specs.Net.{Net, IsGoodNet, IsGoodArc, at_number, road_of, 
 use Rattle.route_base.specs.declared.types.Leg.{Leg}
 use Rattle.route_base.specs.declared.types.Leg.TheVariants.{Drive, Wait}
 use Rattle.route_base.specs.declared.types.TimedArc.{TimedArc}
+use Rattle.route_base.proofs.Numbered.{at_number-all}
 use Rattle.plan_report.specs.Stages.{no_road, road_at, position_after}
 use Rattle.plan_report.proofs.Going.{walk_after}
-
-at_all : {A : Type 0} (P : A → Type 0) (xs : List A) (n : ℕ) (x : A) → All P xs → at_number xs n ≡ Some x → P x
-at_all P xs zero x all is = absurd (cc)
-at_all P xs (suc k) x all is = subst P (get_or_from_slice_get xs k x x is) (all k x (slice_get_within xs k x is))
 
 -- a road takes some minutes
 takes_time : (net : Net) (a : ℕ) (road : Road) (o : Option TimedArc) → IsGoodNet net → at_number net.arcs a ≡ o → option_map road_of o ≡ Some road
     → 1 ≤ road.minutes
 takes_time net a road None good at is = absurd (cc)
 takes_time net a road (Some arc) good at is =
-    let arc_is : IsGoodArc net arc = at_all (IsGoodArc net) net.arcs a arc good.each_arc at in
+    let arc_is : IsGoodArc net arc = at_number-all (IsGoodArc net) net.arcs a arc good.each_arc at in
     let same : unwrap_or (Some (road_of arc)) no_road ≡ road = ap (λ (r : Option Road). unwrap_or r no_road) is in
     omega (arith, arc_is.minutes.0, ap (λ (r : Road). r.minutes) same)
 

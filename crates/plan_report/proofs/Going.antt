@@ -10,16 +10,9 @@ use Rattle.route_base.specs.declared.types.Leg.{Leg}
 use Rattle.route_base.specs.declared.types.Leg.TheVariants.{Drive, Wait}
 use Rattle.route_base.specs.declared.types.Pair.{Pair}
 use Rattle.route_base.specs.declared.types.Request.{Request}
+use Rattle.route_base.proofs.Waiting.{same_position}
 use Rattle.plan_report.specs.Inside.{Lead, IsKnown, IsPassable}
 use Rattle.plan_report.specs.Stages.{Stage, no_road, road_at, weight_at, position_after, stages_from, numbered_text}
-
-make : ℕ → ℕ → ℕ → Position
-make v t c = record { node = v; minute = t; cost = c }
-
-same_position : (p q : Position) → p.node ≡ q.node → p.minute ≡ q.minute → p.cost ≡ q.cost → p ≡ q
-unfolding make
-same_position p q v t c = ap (λ (w : ℕ). make w p.minute p.cost) v ∙ ap (λ (w : ℕ). make q.node w p.cost) t ∙ ap
-    (λ (w : ℕ). make q.node q.minute w) c
 
 is_some : {A : Type 0} (o : Option A) (x : A) → o ≡ Some x → IsSome o
 is_some o x is = subst IsSome (sym is) refl

@@ -1,5 +1,5 @@
 // Writes routes as CSV.
-ghost use Rattle.std.specs.Prelude.{◌≡◌, ◌≤◌, ◌<◌, ◌+◌, ◌++◌, ◌^◌, All, OnOk, IfOk, flat_map, length};
+ghost use Rattle.std.specs.Prelude.{◌≡◌, ◌<◌, ◌+◌, ◌++◌, ◌^◌, All, OnOk, IfOk, flat_map, length};
 ghost use Rattle.plan_report.specs.Csv.{csv_place_text, csv_kind, csv_leg_row, csv_arrive_row, csv_route_text, csv_text_of};
 ghost use Rattle.plan_report.specs.Inside.{position_at, stage_at, IsPassable, IsLawful, HasInstants};
 ghost use Rattle.plan_report.specs.Stages.{position_after, stages_of, numbered_text};

@@ -1,5 +1,5 @@
 // Writes routes as a table.
-ghost use Rattle.std.specs.Prelude.{◌≡◌, ◌≤◌, ◌++◌, All, OnOk, IfOk, flat_map};
+ghost use Rattle.std.specs.Prelude.{◌≡◌, ◌++◌, All, OnOk, IfOk, flat_map};
 ghost use Rattle.plan_report.specs.Inside.{position_at, stage_at, IsPassable, IsKnown, IsLawful, HasInstants};
 ghost use Rattle.plan_report.specs.Stages.{position_after, stages_of, numbered_text};
 ghost use Rattle.plan_report.specs.Table.{table_move_text, table_leg_text, table_head_text, table_route_text, table_text_of};

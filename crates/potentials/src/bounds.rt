@@ -1,5 +1,5 @@
 // The least minutes and, by itself, the least cost from each node to a goal.
-ghost use Rattle.std.specs.Prelude.{◌≡◌, ◌≤◌, ◌<◌, ℕ, length, IfOk, OnOk};
+ghost use Rattle.std.specs.Prelude.{◌≡◌, ◌≤◌, ◌<◌, length, IfOk, OnOk};
 ghost use Rattle.route_base.specs.Relaxing.{AreBounds};
 ghost use Rattle.route_base.specs.Net.{IsGoodNet, setting_of};
 ghost use Rattle.node_arcs.specs.Stars.{AreIncoming};

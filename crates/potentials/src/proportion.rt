@@ -1,5 +1,5 @@
 // Nets in which every cost is in proportion to minutes: there the least minutes follow from the least costs.
-ghost use Rattle.std.specs.Prelude.{◌≡◌, ◌↔◌, ◌≤◌, ◌/◌, IsTrue, length, map, IfOk};
+ghost use Rattle.std.specs.Prelude.{◌≡◌, ◌↔◌, ◌/◌, IsTrue, map, IfOk};
 ghost use Rattle.std.specs.Option.{option_map};
 ghost use Rattle.route_base.specs.Net.{setting_of};
 ghost use Rattle.route_base.specs.declared.limits.TheConstants.{COST_OF_MINUTE};

@@ -9,7 +9,6 @@ pub mod Fitting
 pub mod Lowering
 pub mod Blanks
 pub mod Pairing
-pub mod ByArrival
 pub mod Waited
 pub mod EntryLists
 pub mod PieceStarts

@@ -1,9 +1,9 @@
 -- The findings of a search: the front, and the bounds and cost functions that show it (source: SEA 2020; the proof that nothing is missing is own).
 use Rattle.std.specs.Prelude.{◌≡◌, ◌⊎◌, ℕ, ◌+◌, ◌≤◌, Option, Some, None, List, length, All, Contains}
 use Rattle.route_base.specs.Setting.{Setting}
-use Rattle.route_base.specs.Itinerary.{Position, Step, Moves, Walks}
+use Rattle.route_base.specs.Itinerary.{Position, Step, Moves}
 use Rattle.route_base.specs.Front.{IsFront, RiseAndFall}
-use Rattle.route_base.specs.Legs.{start_of, end_of}
+use Rattle.route_base.specs.Legs.{end_of, IsReachable}
 use Rattle.route_base.specs.Net.{Net, IsGoodNet, at_number, setting_of}
 use Rattle.route_base.specs.Relaxing.{HasWithin, IsComplete}
 use Rattle.route_base.specs.declared.types.Bound.{Bound}
@@ -28,10 +28,6 @@ cost_by (Some f) t = value_at f t
 -- the cost of a node's function at a minute
 abbrev pub cost_at : List (List Piece) → ℕ → ℕ → Option ℕ
 cost_at functions v t = cost_by (at_number functions v) t
-
--- lawful steps lead from the start to the position
-abbrev pub IsReachable : Setting → Request → Position → Type 0
-IsReachable s r p = (steps : List Step) × Walks s r.until steps (start_of r) p
 
 -- the position is at the node and the minute of the start
 abbrev pub IsStart : Request → Position → Type 0

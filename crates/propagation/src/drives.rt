@@ -1,5 +1,5 @@
 // The offer that drives over an arc make to its head.
-ghost use Rattle.std.specs.Prelude.{◌≡◌, ◌≤◌, ℕ, Some, length, IfOk, OnOk};
+ghost use Rattle.std.specs.Prelude.{◌≡◌, ◌≤◌, ℕ, Some, IfOk, OnOk};
 ghost use Rattle.route_base.specs.Front.{RiseAndFall};
 ghost use Rattle.route_base.specs.Net.{at_number, IsGoodArc};
 ghost use Rattle.cost_functions.specs.Pieces.{value_at, AreSmallPieces};

@@ -1,6 +1,5 @@
 // The minutes at which drives can begin, made when they are first needed.
-ghost use Rattle.std.specs.Prelude.{◌≡◌, ◌≤◌, ◌<◌, ◌↔◌, ℕ, IsTrue, List, [], All, length, IfOk, OnOk, slice_index_or};
-ghost use Rattle.route_base.specs.Runs.{any_has};
+ghost use Rattle.std.specs.Prelude.{◌≡◌, ◌≤◌, ◌<◌, ℕ, IsTrue, [], All, length, IfOk, OnOk, slice_index_or};
 ghost use Rattle.route_base.specs.Net.{Net};
 ghost use Rattle.propagation.specs.Inside.EntrySets.{AreEntries, IsEntrySet, AreEntrySets};
 

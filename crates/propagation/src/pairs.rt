@@ -1,5 +1,5 @@
 // Pairs that rise in arrival and fall in cost.
-ghost use Rattle.std.specs.Prelude.{◌≡◌, ◌⊎◌, ◌↔◌, ◌≤◌, ◌<◌, ℕ, Some, IsTrue, filter, not, slice_index_or, Contains, length, OnOk};
+ghost use Rattle.std.specs.Prelude.{◌≡◌, ◌↔◌, ◌≤◌, ◌<◌, ℕ, IsTrue, filter, not, slice_index_or, length, OnOk};
 ghost use Rattle.route_base.specs.Front.{RiseAndFall};
 ghost use Rattle.route_base.specs.Relaxing.{HasPair};
 ghost use Rattle.route_base.specs.declared.types.Pair.{Pair};

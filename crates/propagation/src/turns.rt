@@ -1,5 +1,5 @@
 // A turn of the search: a part of what is pending at a node is driven on.
-ghost use Rattle.std.specs.Prelude.{◌≡◌, ◌≤◌, ◌<◌, ℕ, Some, None, true, length, OnOk};
+ghost use Rattle.std.specs.Prelude.{◌≡◌, ◌≤◌, ◌<◌, ℕ, Some, None, true, OnOk};
 ghost use Rattle.route_base.specs.Front.{RiseAndFall};
 ghost use Rattle.route_base.specs.Itinerary.{Position, Drives};
 ghost use Rattle.route_base.specs.Net.{setting_of};

@@ -1,4 +1,5 @@
 pub mod AgreeingWalks
+pub mod ByArrival
 pub mod Costs
 pub mod Covering
 pub mod Cuts
@@ -7,6 +8,7 @@ pub mod Fronts
 pub mod FolderStates
 pub mod FormRows
 pub mod LegLists
+pub mod Lists
 pub mod Numbered
 pub mod ShortNumbers
 pub mod SoFar

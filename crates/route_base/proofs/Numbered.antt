@@ -1,5 +1,5 @@
 -- Items at places that are counted from 1.
-use Rattle.std.proofs.Common.{◌≡◌, ℕ, zero, suc, ◌+◌, ◌-◌, ◌<◌, List, [], ◌∷◌, length, get_or, map, Some, refl, subst, arith, add-one}
+use Rattle.std.proofs.Common.{◌≡◌, ℕ, zero, suc, ◌+◌, ◌-◌, ◌≤◌, ◌<◌, List, [], ◌∷◌, length, get_or, map, Some, refl, subst, arith, add-one}
 use Rattle.std.specs.Prelude.{IsSome, All, slice_get}
 use Rattle.std.specs.Option.{option_map}
 use Rattle.std.proofs.lemmas.Option.{slice_get-get_or, slice_get-map, slice_get_within, get_or_from_slice_get}
@@ -14,6 +14,11 @@ got_within (x ∷ xs) (suc k) h = omega (arith, got_within xs k h)
 pub within_number : {A : Type 0} (xs : List A) (n : ℕ) → IsSome (at_number xs n) → n - 1 < length xs
 within_number xs zero h = absurd (cc)
 within_number xs (suc k) h = omega (arith, got_within xs k h)
+
+-- the number of an item is from 1 to the length of the list
+pub number_within : {A : Type 0} (xs : List A) (n : ℕ) (x : A) → at_number xs n ≡ Some x → (1 ≤ n) × (n ≤ length xs)
+number_within xs zero x is = absurd (cc)
+number_within xs (suc k) x is = let within = slice_get_within xs k x is in (omega arith, omega (arith, within))
 
 -- the item of the number after a place
 pub at_number-next : {A : Type 0} (xs : List A) (k : ℕ) (d : A) → k < length xs → at_number xs (k + 1) ≡ Some (get_or xs k d)

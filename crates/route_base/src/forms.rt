@@ -1,5 +1,5 @@
 // The forms of names, numbers, minutes and weights.
-ghost use Rattle.std.specs.Prelude.{◌≡◌, ◌==◌, ◌∷◌, [], IfSome, IfNone, ◌≤◌};
+ghost use Rattle.std.specs.Prelude.{◌≡◌, ◌==◌, [], IfSome, ◌≤◌};
 ghost use Rattle.std.specs.List.{slice_split, list_all};
 ghost use Rattle.route_base.specs.Time.{IsInstant};
 ghost use Rattle.route_base.specs.Forms.{is_blank, is_name_byte, is_name, table_number_of, minute_of, short_number_of};

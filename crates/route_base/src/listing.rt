@@ -1,5 +1,5 @@
 // One generic list type; the named lists are aliases of it.
-ghost use Rattle.std.specs.Prelude.{◌≡◌, ◌∷◌, ◌++◌, [], List, ℕ, length, slice_get, option_copied, OnOk, OnErr};
+ghost use Rattle.std.specs.Prelude.{◌≡◌, ◌∷◌, ◌++◌, [], List, length, slice_get, option_copied, OnOk, OnErr};
 
 use crate::OutOfMemory;
 use std::alloc::Global;

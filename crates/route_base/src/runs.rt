@@ -1,7 +1,6 @@
 // Rising runs of minutes, looked up by binary search.
-ghost use Rattle.std.specs.Prelude.{◌≡◌, ◌↔◌, ◌+◌, ◌<◌, ◌≤◌, ◌^◌, ℕ, false, length, IsTrue, slice_index_or};
-ghost use Rattle.std.specs.List.{HoldsAt};
-ghost use Rattle.route_base.specs.Runs.{any_has, AreRuns, IsFree};
+ghost use Rattle.std.specs.Prelude.{◌↔◌, ◌<◌, ◌≤◌, IsTrue};
+ghost use Rattle.route_base.specs.Runs.{AreRuns, IsFree};
 
 use crate::{Minute, Run};
 

@@ -1,5 +1,5 @@
 // Reads whole files, part by part.
-ghost use Rattle.std.specs.Prelude.{◌≡◌, ◌≤◌, ◌<◌, ◌^◌, length, IfOk, IfSome};
+ghost use Rattle.std.specs.Prelude.{◌≡◌, ◌≤◌, ◌<◌, length, IfOk, IfSome};
 ghost use Rattle.route_base.specs.WholeFile.{IsWhole};
 ghost use Rattle.route_base.specs.FolderState.{KeepsFiles, MissedFile, FailedToRead};
 

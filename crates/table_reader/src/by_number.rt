@@ -1,5 +1,5 @@
 // Tables that assign a named value to a number (arc to area, node to rating).
-ghost use Rattle.std.specs.Prelude.{◌≡◌, ◌∷◌, [], List, ℕ, None, Option, length, map, option_map, replicate, IfOk};
+ghost use Rattle.std.specs.Prelude.{◌≡◌, ◌∷◌, [], List, ℕ, None, Option, length, option_map, replicate, IfOk};
 ghost use Rattle.csv.specs.Records.{fields_of};
 ghost use Rattle.table_reader.specs.ByNumber.{numbered_of, numbered_in, numbered_schema, HaveValues};
 ghost use Rattle.table_reader.specs.Records.{headers_of};

@@ -1,5 +1,5 @@
 // Tables: the codes of lockers, as a table of one's own.
-ghost use Rattle.std.specs.Prelude.{◌≡◌, codes, map};
+ghost use Rattle.std.specs.Prelude.{◌≡◌, codes};
 ghost use Rattle.table_reader.specs.NameIndex.{value_under};
 ghost use Rattle.table_reader.specs.Words.{ReadsRows, first_table_fault, records_of};
 ghost use Rattle.uses.specs.Lockers.{lockers_schema, codes_of};

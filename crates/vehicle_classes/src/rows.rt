@@ -6,7 +6,7 @@ ghost use Rattle.route_base.specs.Forms.{is_blank};
 ghost use Rattle.vehicle_classes.specs.VehicleModel.{IsSmall};
 ghost use Rattle.vehicle_classes.specs.VehicleParts.{AreSmall};
 ghost use Rattle.vehicle_classes.specs.Vehicles.{class_of, purpose_of, size_in, sizes_of_fields, is_flag_byte, has_blank_end};
-ghost use Rattle.vehicle_classes.specs.Vehicles.{words_in, flags_of, vehicle_of};
+ghost use Rattle.vehicle_classes.specs.Vehicles.{flags_of, vehicle_of};
 
 use crate::vehicle::{Sizes, Vehicle};
 use crate::{Class, Purpose};

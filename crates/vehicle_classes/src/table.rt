@@ -1,12 +1,11 @@
 // vehicles.csv: vehicles by name.
-ghost use Rattle.std.specs.Prelude.{◌≡◌, ◌∷◌, ◌<◌, ◌≤◌, [], length, map, IfOk, IfSome, slice_get};
-ghost use Rattle.csv.specs.Records.{fields_of};
+ghost use Rattle.std.specs.Prelude.{◌≡◌, ◌<◌, ◌≤◌, [], length, map, IfOk, IfSome, slice_get};
 ghost use Rattle.table_reader.specs.NameIndex.{names_of, place_among};
 ghost use Rattle.table_reader.specs.Records.{records_of, rows_of};
 ghost use Rattle.table_reader.specs.Refusals.{ReadsRows};
 ghost use Rattle.table_reader.specs.Schema.{first_table_fault};
 ghost use Rattle.vehicle_classes.specs.VehicleParts.{HoldVehicles};
-ghost use Rattle.vehicle_classes.specs.Vehicles.{vehicle_of, vehicles_in, vehicles_schema};
+ghost use Rattle.vehicle_classes.specs.Vehicles.{vehicles_in, vehicles_schema};
 
 use crate::Vehicle;
 use crate::rows::read_vehicle;

@@ -1,5 +1,5 @@
 // A vehicle: its class, its purpose, its sizes and its flags.
-ghost use Rattle.std.specs.Prelude.{◌≡◌, ◌≤◌, [], map, IfSome};
+ghost use Rattle.std.specs.Prelude.{◌≡◌, ◌≤◌, map, IfSome};
 ghost use Rattle.std.specs.List.{list_any};
 ghost use Rattle.std.specs.Str.{bytes_eq};
 ghost use Rattle.vehicle_classes.specs.VehicleModel.{size_of, has_flag, any_vehicle};

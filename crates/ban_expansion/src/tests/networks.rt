@@ -36,36 +36,6 @@ fn file(alloc: Global, text: &str) -> Result<FileBytes, OutOfMemory> {
     Ok(FileBytes::from_vec(Vec::from_slice(alloc, text.as_bytes())?))
 }
 
-// The files of a network, all of them empty.
-fn no_files(alloc: Global) -> Files {
-    Files {
-        graph: FileBytes::new(alloc),
-        zones: FileBytes::new(alloc),
-        areas: FileBytes::new(alloc),
-        roads: FileBytes::new(alloc),
-        vehicles: FileBytes::new(alloc),
-        rules: FileBytes::new(alloc),
-        closures: FileBytes::new(alloc),
-        ratings: FileBytes::new(alloc),
-        parking: FileBytes::new(alloc),
-        holidays: FileBytes::new(alloc),
-    }
-}
-
-// Puts bytes in the place of a table that these tests use.
-fn put(files: &mut Files, file: FileKind, bytes: FileBytes) {
-    match file {
-        FileKind::Graph => files.graph = bytes,
-        FileKind::Zones => files.zones = bytes,
-        FileKind::Areas => files.areas = bytes,
-        FileKind::Roads => files.roads = bytes,
-        FileKind::Vehicles => files.vehicles = bytes,
-        FileKind::Rules => files.rules = bytes,
-        FileKind::Closures => files.closures = bytes,
-        _ => {}
-    }
-}
-
 // Arcs in the areas `port` and `town`, in this zone. Those that no road names are in the first.
 fn network_of<'a>(
     alloc: Global,
@@ -74,7 +44,7 @@ fn network_of<'a>(
     rules: &'a str,
     closures: &'a str,
 ) -> Result<Network, NetworkFault> {
-    let mut files = no_files(alloc);
+    let mut files = Files::new(alloc);
     for (kind, text) in [
         (FileKind::Graph, graph),
         (FileKind::Zones, "zone,from,offset\nHere,525600,+01:00\n"),
@@ -84,7 +54,7 @@ fn network_of<'a>(
         (FileKind::Rules, rules),
         (FileKind::Closures, closures),
     ] {
-        put(&mut files, kind, file(alloc, text)?);
+        files.put(kind, file(alloc, text)?);
     }
     read_network(alloc, &files)
 }

@@ -1,7 +1,7 @@
 // The fronts that both engines find.
-ghost use Rattle.std.specs.Prelude.{All, IsTrue};
+ghost use Rattle.std.specs.Prelude.{IsTrue};
 ghost use Rattle.route_base.specs.Net.{IsGoodNet};
-ghost use Rattle.both_engines.specs.SmallNets.{IsCheapArc, IsRequestOver};
+ghost use Rattle.both_engines.specs.SmallNets.{IsRequestOver};
 
 use super::nets::{NetLists, net_of};
 use crate::have_same_pairs;

@@ -1,5 +1,5 @@
 // Nets of plain lists.
-ghost use Rattle.std.specs.Prelude.{◌≡◌, ◌≤◌, All, IfOk, IfSome, IsTrue, length};
+ghost use Rattle.std.specs.Prelude.{◌≡◌, ◌≤◌, All, IfOk, IsTrue, length};
 ghost use Rattle.route_base.specs.Runs.{AreRuns};
 ghost use Rattle.both_engines.specs.SmallNets.{IsSmallArc, IsCheapArc, IsLight};
 

@@ -1,6 +1,5 @@
 // Random functions, against lists of their values.
-ghost use Rattle.std.specs.Prelude.{◌≡◌, ◌<◌, ◌≤◌, ◌+◌, All, AllPairs, IfOk, OnOk};
-ghost use Rattle.cost_functions.specs.Pieces.{AreSmallPieces};
+ghost use Rattle.std.specs.Prelude.{◌<◌, ◌≤◌, ◌+◌, All, AllPairs, IfOk, OnOk};
 ghost use Rattle.cost_functions.specs.Building.{AreBuilt};
 ghost use Rattle.route_base.specs.Front.{RiseAndFall};
 

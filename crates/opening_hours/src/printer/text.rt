@@ -1,5 +1,5 @@
 // Tokens as text.
-ghost use Rattle.std.specs.Prelude.{◌≡◌, ◌+◌, ◌*◌, ◌/◌, ◌%◌, ◌++◌, ◌∷◌, IfOk, OnOk, codes};
+ghost use Rattle.std.specs.Prelude.{◌≡◌, ◌+◌, ◌*◌, ◌/◌, ◌%◌, ◌++◌, IfOk, OnOk, codes};
 ghost use Rattle.calendar_days.specs.Texts.{two_digits};
 ghost use Rattle.opening_hours.specs.CanonicalText.{month_text, weekday_text, lexeme, is_tight, is_semicolon, blank_between, spell};
 

@@ -1,5 +1,5 @@
 // The canonical text of hours, by its tokens.
-ghost use Rattle.std.specs.Prelude.{◌≡◌, ◌++◌, [], List, IfOk, OnOk};
+ghost use Rattle.std.specs.Prelude.{◌≡◌, ◌++◌, List, IfOk, OnOk};
 ghost use Rattle.opening_hours.specs.CanonicalTokens.{listed, date_tokens, item_tokens, span_tokens, weekday_at, days_after};
 ghost use Rattle.opening_hours.specs.CanonicalTokens.{long_tokens, times_tokens, rule_tokens, hours_tokens, hours_text};
 ghost use Rattle.opening_hours.specs.Hours.{IsHours};

@@ -8,7 +8,8 @@ use Rattle.route_base.specs.Relaxing.{HasWithin, HasPair, IsDominatedOrLate}
 use Rattle.route_base.specs.declared.types.Bound.{Bound}
 use Rattle.route_base.specs.declared.types.Pair.{Pair}
 use Rattle.route_base.specs.declared.types.Request.{Request}
-use Rattle.propagation.specs.Found.{IsReachable, IsStart, HasPredecessor}
+use Rattle.route_base.specs.Legs.{IsReachable}
+use Rattle.propagation.specs.Found.{IsStart, HasPredecessor}
 
 -- what is searched
 pub record Task : Type 0 where

@@ -1,8 +1,8 @@
 // A folder in memory that gives its files in small parts.
-ghost use Rattle.std.specs.Prelude.{◌≡◌, ◌≤◌, length, IfOk, OnOk};
+ghost use Rattle.std.specs.Prelude.{◌≡◌, ◌≤◌, length, IfOk};
 ghost use Rattle.route_base.specs.MemoryFiles.{dripping_state};
-ghost use Rattle.route_base.specs.FolderState.{KeepsFiles, CountsRise, MissedFile, FailedToRead, FailedToWrite};
-ghost use Rattle.route_base.specs.FolderState.{ReadsPart, LacksFile, PutsFile, SpoilsFile};
+ghost use Rattle.route_base.specs.FolderState.{KeepsFiles, MissedFile, FailedToRead};
+ghost use Rattle.route_base.specs.FolderState.{ReadsPart, LacksFile};
 
 use crate::{Folder, PartError, SureFolder, WriteError};
 use std::marker::Model;

@@ -1,5 +1,5 @@
 // Folders in memory.
-ghost use Rattle.std.specs.Prelude.{◌≡◌, ◌≢◌, ◌≤◌, ◌↔◌, Some, None, [], length, OnOk, OnErr, IfOk, IfSome, IsTrue, Contains};
+ghost use Rattle.std.specs.Prelude.{◌≡◌, ◌≤◌, ◌↔◌, Some, None, [], length, OnOk, OnErr, IfOk, IfSome, IsTrue, Contains};
 ghost use Rattle.route_base.specs.MemoryFiles.{held_in, uncalled_files, PutsUnder, sure_state, failing_state, CountsCall, next_ordinal};
 ghost use Rattle.route_base.specs.FolderState.{KeepsFiles, CountsRise, MissedFile, FailedToRead, FailedToWrite};
 ghost use Rattle.route_base.specs.FolderState.{ReadsPart, LacksFile, PutsFile, SpoilsFile};

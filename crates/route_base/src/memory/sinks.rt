@@ -1,7 +1,7 @@
 // Sinks in memory.
 ghost use Rattle.std.specs.Prelude.{◌≡◌, ◌↔◌, [], List, ℕ, OnOk, Contains};
 ghost use Rattle.route_base.specs.MemoryFiles.{sure_sink_state, failing_sink_state, next_ordinal, CountsWrite};
-ghost use Rattle.route_base.specs.SinkState.{Appends, AppendsPrefix, StaysSilent, FaultsRise, FailedToAppend};
+ghost use Rattle.route_base.specs.SinkState.{Appends, AppendsPrefix, FaultsRise, FailedToAppend};
 
 use crate::{Ordinals, Sink, WriteError};
 use std::alloc::Global;

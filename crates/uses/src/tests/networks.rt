@@ -21,35 +21,13 @@ fn file_of(alloc: Global, text: &str) -> Result<FileBytes, OutOfMemory> {
     Ok(FileBytes::from_vec(Vec::from_slice(alloc, text.as_bytes())?))
 }
 
-// The bytes of a file among these texts: none where it isn't named.
-fn bytes_of(
-    alloc: Global,
-    texts: &[(FileKind, &str)],
-    file: FileKind,
-) -> Result<FileBytes, OutOfMemory> {
-    for (named, text) in texts {
-        if *named == file {
-            return file_of(alloc, text);
-        }
-    }
-    Ok(FileBytes::new(alloc))
-}
-
 // The network of these tables over the triangle.
 pub fn read(alloc: Global, texts: &[(FileKind, &str)]) -> Result<Network, NetworkFault> {
-    let graph = bytes_of(alloc, &[(FileKind::Graph, TRIANGLE)], FileKind::Graph)?;
-    let files = Files {
-        graph,
-        zones: bytes_of(alloc, texts, FileKind::Zones)?,
-        areas: bytes_of(alloc, texts, FileKind::Areas)?,
-        roads: bytes_of(alloc, texts, FileKind::Roads)?,
-        vehicles: bytes_of(alloc, texts, FileKind::Vehicles)?,
-        rules: bytes_of(alloc, texts, FileKind::Rules)?,
-        closures: bytes_of(alloc, texts, FileKind::Closures)?,
-        ratings: bytes_of(alloc, texts, FileKind::Ratings)?,
-        parking: bytes_of(alloc, texts, FileKind::Parking)?,
-        holidays: bytes_of(alloc, texts, FileKind::Holidays)?,
-    };
+    let mut files = Files::new(alloc);
+    files.put(FileKind::Graph, file_of(alloc, TRIANGLE)?);
+    for (file, text) in texts {
+        files.put(*file, file_of(alloc, text)?);
+    }
     read_network(alloc, &files)
 }
 
@@ -183,20 +161,14 @@ arc:3,maxweight,7.5\n\
 area:port,hgv:forward,no\n";
 
 // The network of these vehicles and rules over the triangle, with arc 2 in the second area.
-fn ruled(alloc: Global, vehicles: &str, rules: &str) -> Result<Network, NetworkFault> {
-    let files = Files {
-        graph: file_of(alloc, TRIANGLE)?,
-        zones: FileBytes::new(alloc),
-        areas: file_of(alloc, AREAS)?,
-        roads: file_of(alloc, "arc,area\n2,town\n")?,
-        vehicles: file_of(alloc, vehicles)?,
-        rules: file_of(alloc, rules)?,
-        closures: FileBytes::new(alloc),
-        ratings: FileBytes::new(alloc),
-        parking: FileBytes::new(alloc),
-        holidays: FileBytes::new(alloc),
-    };
-    read_network(alloc, &files)
+fn ruled<'a>(alloc: Global, vehicles: &'a str, rules: &'a str) -> Result<Network, NetworkFault> {
+    let texts = [
+        (FileKind::Areas, AREAS),
+        (FileKind::Roads, "arc,area\n2,town\n"),
+        (FileKind::Vehicles, vehicles),
+        (FileKind::Rules, rules),
+    ];
+    read(alloc, &texts)
 }
 
 #[test]

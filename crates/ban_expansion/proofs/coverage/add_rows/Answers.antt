@@ -2,7 +2,7 @@ use Rattle.std.proofs.Common.{◌≡◌, ⊎_elim, true, ◌-◌, ◌<◌, ◌�
 use Rattle.std.proofs.Common.{List, ◌∷◌, length, get_or, take, drop, All, AllPairs, IsTrue, refl, sym, subst, ◌∙◌, ap, arith}
 use Rattle.std.proofs.lemmas.Bool.{and_parts, leb-true, ltb-true, cases_eq}
 use Rattle.std.proofs.lemmas.List.Elements.{All-tail}
-use Rattle.minute_sets.proofs.FirstItems.{first_and_rest}
+use Rattle.route_base.proofs.Lists.{first_and_rest}
 use Rattle.route_base.specs.Runs.{has_minute, any_has}
 use Rattle.zone_rules.specs.Zones.{is_offset, row_at}
 use Rattle.zone_rules.specs.declared.rows.ZoneRow.{ZoneRow}

@@ -2,7 +2,7 @@ use Rattle.std.proofs.Common.{leb, arith, rules}
 use Rattle.std.proofs.lemmas.List.Sorted.{IsPartitionedBy-leb, IsPartitionPoint-from_clause}
 use Rattle.std.proofs.lemmas.Bool.{leb-true, le-leb}
 use Rattle.route_base.specs.declared.types.Pair.{Pair}
-use Rattle.certificate_check.proofs.ByArrival.{arrivals_rise, is_before, last_has, last_is_least}
+use Rattle.route_base.proofs.ByArrival.{arrivals_rise, is_before, last_has, last_is_least}
 use Rattle.certificate_check.proofs.domination.has_pair.Goals as goal
 
 pub returns-then-later-eq0 : goal.returns-then-later-eq0

@@ -1,5 +1,5 @@
 use Rattle.std.proofs.Common.{◌≡◌, take}
-use Rattle.certificate_check.specs.Conditions.{pairs_of}
+use Rattle.route_base.specs.Front.{pairs_of}
 use Rattle.certificate_check.proofs.pairs.pairs_of_routes.Given as goal
 
 abbrev pub invariant-loop-route : goal.invariant-loop-route

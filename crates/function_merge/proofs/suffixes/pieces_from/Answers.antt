@@ -2,7 +2,7 @@ use Rattle.std.proofs.Common.{◌<◌, ◌-◌, length, get_or, take, drop, ◌�
 use Rattle.cost_functions.specs.Pieces.{value_at, ArePieces}
 use Rattle.cost_functions.specs.declared.pieces.Piece.{Piece}
 use Rattle.cost_functions.proofs.Values.{pieces_tail, value_after}
-use Rattle.cost_functions.proofs.FirstItems.{first_and_rest}
+use Rattle.route_base.proofs.Lists.{first_and_rest}
 use Rattle.function_merge.proofs.suffixes.pieces_from.Goals as goal
 
 pub returns-in-len1-up-clause-pieces : goal.returns-in-len1-up-clause-pieces

@@ -1,7 +1,7 @@
 use Rattle.std.proofs.Common.{◌-◌, length, get_or, take, drop, subst}
 use Rattle.route_base.specs.Runs.{AreRuns}
 use Rattle.route_base.specs.declared.types.Run.{Run}
-use Rattle.cost_functions.proofs.FirstItems.{first_and_rest}
+use Rattle.route_base.proofs.Lists.{first_and_rest}
 use Rattle.minute_sets.proofs.FirstRuns.{runs_tail}
 use Rattle.function_merge.proofs.suffixes.runs_from.Goals as goal
 

@@ -1,7 +1,7 @@
 use Rattle.std.proofs.Common.{ltb, arith, rules}
 use Rattle.std.proofs.lemmas.List.Sorted.{IsPartitionedBy-ltb, IsPartitionPoint-from_clause}
 use Rattle.std.proofs.lemmas.Bool.{ltb-true, ltb-false}
-use Rattle.propagation.proofs.ByArrival.{arrivals_rise}
+use Rattle.route_base.proofs.ByArrival.{arrivals_rise}
 use Rattle.propagation.proofs.pairs.first_from.Goals as goal
 
 pub returns-clause-before : goal.returns-clause-before

@@ -1,6 +1,6 @@
 use Rattle.ban_expansion.specs.Inside.GroupedNets.{HasClosed}
 use Rattle.ban_expansion.proofs.ItemLists.{zip_append}
-use Rattle.ban_expansion.proofs.parts.+closed_parts+fn-closed_parts-join+arg2+fn-closed_parts-join+arg3.Goals as goal
+use Rattle.ban_expansion.proofs.closed_lists.+closed_parts+fn-closed_parts-join+arg2+fn-closed_parts-join+arg3.Goals as goal
 
 pub returns : goal.returns
 returns g t c =

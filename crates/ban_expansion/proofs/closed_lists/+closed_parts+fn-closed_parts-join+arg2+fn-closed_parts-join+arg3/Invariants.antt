@@ -1,5 +1,5 @@
 use Rattle.std.proofs.Common.{◌+◌, ◌-◌, ◌*◌}
-use Rattle.ban_expansion.proofs.parts.+closed_parts+fn-closed_parts-join+arg2+fn-closed_parts-join+arg3.Given as goal
+use Rattle.ban_expansion.proofs.closed_lists.+closed_parts+fn-closed_parts-join+arg2+fn-closed_parts-join+arg3.Given as goal
 
 abbrev pub decreases-join+arg2 : goal.decreases-join+arg2
 decreases-join+arg2 g l = 2 * l.left_parts + 1

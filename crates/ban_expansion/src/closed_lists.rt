@@ -1,5 +1,5 @@
 // Makes the closed minutes of groups of arcs, one after another or in parts that workers make at once.
-ghost use Rattle.std.specs.Prelude.{◌≡◌, ◌<◌, ◌+◌, ◌≤◌, All, map, IfOk};
+ghost use Rattle.std.specs.Prelude.{◌<◌, ◌+◌, ◌≤◌, All, map, IfOk};
 ghost use Rattle.std.specs.Thread.{IsSync};
 ghost use Rattle.ban_expansion.specs.Words.{AreClosedLists, IsArc, IsWindow};
 

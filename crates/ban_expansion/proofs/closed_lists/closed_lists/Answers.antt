@@ -5,7 +5,7 @@ use Rattle.route_base.specs.declared.types.ArcId.{ArcId}
 use Rattle.route_base.specs.declared.types.Run.{Run}
 use Rattle.ban_expansion.specs.Inside.GroupedNets.{HasClosed, AreClosedLists}
 use Rattle.ban_expansion.proofs.ItemLists.{zip_push}
-use Rattle.ban_expansion.proofs.parts.closed_lists.Goals as goal
+use Rattle.ban_expansion.proofs.closed_lists.closed_lists.Goals as goal
 
 abbrev no_arc : ArcId
 no_arc = record { 0 = 0 }
