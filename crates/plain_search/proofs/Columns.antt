@@ -102,8 +102,7 @@ module _ (s : Setting) (r : Request) (cost : ℕ → ℕ → ℕ) (now : ℕ) (d
   least_of_label v t x label =
       let walk = walk_to s r done.takes cost now done.founded (t + 1) v t (omega arith) (omega (arith, label.is, label.reached)) in
       record {
-        reachable = subst (λ (n : ℕ). IsReachable s r (record { node = v; minute = t; cost = n })) label.is
-            walk;
+        reachable = subst (λ (n : ℕ). IsReachable s r (record { node = v; minute = t; cost = n })) label.is walk;
         least = λ y other. let within = (bounded_at s r cost now done.fit done.founded done.relaxed other.0 _ other.1).within in
             omega (arith, within, label.is);
       }
@@ -114,7 +113,7 @@ module _ (s : Setting) (r : Request) (cost : ℕ → ℕ → ℕ) (now : ℕ) (d
       let cheap = done.fit best.reachable.0 _ best.reachable.1 in
       let known : cost v t < none = omega (arith, within, cheap) in
       let walk = walk_to s r done.takes cost now done.founded (t + 1) v t (omega arith) known in
-      let least = best.least (cost v t) (record { steps = walk.0; walk = walk.1 }) in
+      let least = best.least (cost v t) walk in
       record { is = omega (arith, within, least); reached = omega (arith, cheap) }
 
   label_cheap : (v t x : ℕ) → IsKnownCost cost v t x → x ≤ HIGHEST_COST
