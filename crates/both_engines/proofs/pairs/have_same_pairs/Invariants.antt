@@ -1,14 +1,11 @@
-use Rattle.std.proofs.Common.{◌≡◌, List, map, length}
-use Rattle.route_base.specs.declared.types.Pair.{Pair}
-use Rattle.route_base.specs.declared.types.Route.{Route}
+use Rattle.std.proofs.Common.{◌≡◌, length}
+use Rattle.route_base.specs.Front.{pairs_of}
 use Rattle.both_engines.proofs.pairs.have_same_pairs.Given as goal
-
-abbrev pairs : List Route → List Pair
-pairs routes = map (λ x. x.pair) routes
 
 abbrev pub invariant-pairs : goal.invariant-pairs
 invariant-pairs l =
-    (pairs l.left ≡ pairs l.right → pairs l.first ≡ pairs l.second) × (pairs l.first ≡ pairs l.second → pairs l.left ≡ pairs l.right)
+    (pairs_of l.left ≡ pairs_of l.right → pairs_of l.first ≡ pairs_of l.second)
+    × (pairs_of l.first ≡ pairs_of l.second → pairs_of l.left ≡ pairs_of l.right)
 
 abbrev pub decreases-pairs : goal.decreases-pairs
 decreases-pairs l = length l.left
