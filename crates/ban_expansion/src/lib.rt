@@ -48,6 +48,3 @@ pub use expansion::{expand, expand_groups, expand_plain};
 pub use grouping::group_arcs;
 pub use laws::{covered_exactly, last_of_all};
 pub use layers::{Layer, closed_by, common, overlaid};
-
-#[cfg(test)]
-mod tests;

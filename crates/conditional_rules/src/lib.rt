@@ -33,6 +33,3 @@ pub use deciding::{comparison_holds, decide};
 pub use faults::ConditionalFault;
 pub use laws::{canonical_reading, computed_reading, one_reading};
 pub use printer::print;
-
-#[cfg(test)]
-mod tests;

@@ -28,8 +28,6 @@ mod options;
 mod plan;
 mod reading;
 mod splitting;
-#[cfg(test)]
-mod tests;
 
 pub use commands::{Command, WordsFault};
 pub use limits::{MOST_WORKERS, USUAL_WORKERS};

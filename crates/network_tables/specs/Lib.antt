@@ -5,6 +5,7 @@ pub mod Closures
 pub mod Files
 pub mod HolidayDays
 pub mod Holidays
+pub mod Inside
 pub mod Jobs
 pub mod NetworkFiles
 pub mod NetworkModel

@@ -1,23 +1,29 @@
 // A whole network, file by file.
-ghost use Rattle.std.specs.Prelude.{◌≡◌};
+ghost use Rattle.std.specs.Prelude.{◌≡◌, map};
 ghost use Rattle.dimacs_reader.specs.GraphModel.{graph_of};
 ghost use Rattle.network_tables.specs.NetworkFiles.{graph_fault, contents_fault, network_in_files};
+ghost use Rattle.network_tables.specs.Inside.{places_fault, access_fault, limits_fault, ArePlaces, IsCalendar};
+ghost use Rattle.network_tables.specs.Words.{arc_count_of, areas_of, holidays_fault, names_of, rules_of, vehicles_of};
+ghost use Rattle.network_tables.specs.NetworkFiles.{closed_runs_of, node_count_of, weights_of};
 ghost use Rattle.network_tables.specs.Refusals.{Reads};
 
-use crate::areas::read_areas;
+use crate::areas::{Areas, read_areas};
 use crate::closures::read_closures;
 use crate::holidays::read_holidays;
 use crate::network::NetworkParts;
 use crate::parking::read_parking;
 use crate::ratings::read_ratings;
 use crate::roads::read_roads;
-use crate::rules::read_rules;
+use crate::rules::{Rules, read_rules};
 use crate::vehicles::read_vehicle_file;
-use crate::zones::{read_zones, zone_list};
+use crate::zones::{Zones, read_zones, zone_list};
 use crate::{Files, Network, NetworkFault};
 use dimacs_reader::{Graph, GraphFault, read_graph};
-use route_base::{BadInput, FileKind};
+use opening_hours::Holidays;
+use route_base::{BadInput, Cost, FileKind, Run};
 use std::alloc::Global;
+use vehicle_classes::Vehicles;
+use zone_rules::Zone;
 
 // The graph. Linear in the bytes.
 fn read_graph_file(alloc: Global, files: &Files) -> Result<Graph, NetworkFault>
@@ -34,29 +40,93 @@ fn read_graph_file(alloc: Global, files: &Files) -> Result<Graph, NetworkFault>
     }
 }
 
+// The zones by name, the areas with the places of their zones, and the area of each arc. Linear in the bytes and the arcs.
+fn read_places(
+    alloc: Global,
+    files: &Files,
+    arcs: u32,
+) -> Result<(Zones, Areas, Vec<u32>), NetworkFault>
+    requires { arcs ≡ arc_count_of files.now }
+    ensures { Reads result (places_fault files.now)
+        (λ read. ArePlaces files.now read.0 read.1 read.2.items) }
+{
+    let zones = read_zones(alloc, files)?;
+    let (zones, areas) = read_areas(alloc, files, zones)?;
+    let (areas, roads) = read_roads(alloc, files, arcs, areas)?;
+    Ok((zones, areas, roads))
+}
+
+// The vehicles and the rules, with the areas that the rules name. Linear in the bytes and the arcs.
+fn read_access(
+    alloc: Global,
+    files: &Files,
+    arcs: u32,
+    areas: Areas,
+) -> Result<(Areas, Vehicles, Rules), NetworkFault>
+    requires arcs { arcs ≡ arc_count_of files.now }
+    requires areas { names_of areas ≡ names_of (areas_of files.now) }
+    ensures { Reads result (access_fault files.now)
+        (λ read. (read.0 ≡ areas)
+        × ((read.1 ≡ vehicles_of files.now) × (read.2 ≡ rules_of files.now))) }
+{
+    let vehicles = read_vehicle_file(alloc, files)?;
+    let (areas, rules) = read_rules(alloc, files, arcs, areas)?;
+    Ok((areas, vehicles, rules))
+}
+
+// The closed minutes of the arcs, and the weights of the nodes by their ratings. Linear in the bytes, the arcs and the nodes.
+fn read_limits(
+    alloc: Global,
+    files: &Files,
+    arcs: u32,
+    nodes: u32,
+) -> Result<(Vec<Vec<Run>>, Vec<Option<Cost>>), NetworkFault>
+    requires arcs { arcs ≡ arc_count_of files.now }
+    requires nodes { nodes ≡ node_count_of files.now }
+    ensures { Reads result (limits_fault files.now)
+        (λ read. (map (λ runs. runs.items) read.0.items ≡ closed_runs_of files.now)
+        × (read.1.items ≡ weights_of files.now)) }
+{
+    let closures = read_closures(alloc, files, arcs)?;
+    let ratings = read_ratings(alloc, files)?;
+    let weights = read_parking(alloc, files, nodes, ratings)?;
+    Ok((closures, weights))
+}
+
+// The zones by number, and for each area the place of its zone and its holidays. Linear in the bytes and the areas, beside n log n
+// steps for n days of holidays.
+fn read_calendar(
+    alloc: Global,
+    files: &Files,
+    zones: Zones,
+    areas: Areas,
+) -> Result<(Vec<Zone>, Vec<usize>, Vec<Holidays>), NetworkFault>
+    requires { names_of areas ≡ names_of (areas_of files.now) }
+    ensures { Reads result (holidays_fault files.now)
+        (λ read. IsCalendar files.now zones areas read.0.items read.1.items read.2.items) }
+{
+    let (areas, holidays) = read_holidays(alloc, files, areas)?;
+    let zones = zone_list(alloc, zones)?;
+    let zone_places = areas.into_zone_places(alloc)?;
+    Ok((zones, zone_places, holidays))
+}
+
 /// Reads the network that the files state: the graph, then zones, areas, roads, vehicles, rules, closures, ratings, parking and
 /// holidays. Linear in the bytes, the nodes and the arcs, beside n log n steps for n days of holidays.
 ///
 /// `Bad` is the first fault of their contents, whose cause is never `Missing` or `TooLong`; `OutOfMemory` comes where a list can't
 /// grow.
-#[tactic(auto, unfolding(crate::specs::NetworkFiles::contents_fault, crate::specs::NetworkFiles::network_in_files))]
+#[tactic(auto, unfolding(crate::specs::NetworkFiles::network_in_files))]
 pub fn read_network(alloc: Global, files: &Files) -> Result<Network, NetworkFault>
     ensures { Reads result (contents_fault files.now)
         (λ network. network ≡ network_in_files files.now) }
 {
     let graph = read_graph_file(alloc, files)?;
     let arcs = graph.arc_count();
-    let zones = read_zones(alloc, files)?;
-    let (zones, areas) = read_areas(alloc, files, zones)?;
-    let (areas, roads) = read_roads(alloc, files, arcs, areas)?;
-    let vehicles = read_vehicle_file(alloc, files)?;
-    let (areas, rules) = read_rules(alloc, files, arcs, areas)?;
-    let closures = read_closures(alloc, files, arcs)?;
-    let ratings = read_ratings(alloc, files)?;
-    let weights = read_parking(alloc, files, graph.node_count(), ratings)?;
-    let (areas, holidays) = read_holidays(alloc, files, areas)?;
-    let zones = zone_list(alloc, zones)?;
-    let zone_places = areas.into_zone_places(alloc)?;
+    let (zones, areas, roads) = read_places(alloc, files, arcs)?;
+    let (areas, vehicles, rules) = read_access(alloc, files, arcs, areas)?;
+    let (closures, weights) = read_limits(alloc, files, arcs, graph.node_count())?;
+    let (zones, zone_places, holidays) = read_calendar(alloc, files, zones, areas)?;
     Ok(Network::new(NetworkParts {
         graph,
         zones,

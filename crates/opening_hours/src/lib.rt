@@ -39,6 +39,3 @@ pub use printer::tokens::print;
 pub use types::{
     DateSpan, DateSpans, DayItem, DayItems, HoursRule, LongSpan, RuleTimes, Spans, TimeSpan,
 };
-
-#[cfg(test)]
-mod tests;

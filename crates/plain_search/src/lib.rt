@@ -26,6 +26,3 @@ mod search;
 
 pub use engine::TableEngine;
 pub use node_points::{NodePoints, Points, values};
-
-#[cfg(test)]
-mod tests;

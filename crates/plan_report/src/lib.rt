@@ -26,8 +26,6 @@ mod refusals;
 mod reports;
 mod summary;
 mod table;
-#[cfg(test)]
-mod tests;
 
 pub use bans::bans_text;
 pub use batch::batch_text;

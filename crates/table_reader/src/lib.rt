@@ -14,8 +14,6 @@ mod fields;
 mod name_index;
 mod records;
 mod table;
-#[cfg(test)]
-mod tests;
 mod threads;
 
 pub use by_number::{Naming, NumberedTable};

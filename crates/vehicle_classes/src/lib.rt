@@ -13,8 +13,6 @@
 mod classes;
 mod rows;
 mod table;
-#[cfg(test)]
-mod tests;
 mod threads;
 mod vehicle;
 

@@ -1,9 +1,8 @@
 // Tables of jobs: the worked one, a row in other forms, a fault for each cause, and the most rows.
 use network_tables::limits::MOST_JOBS;
-use network_tables::{Jobs, read_jobs};
-use route_base::{Cause, OutOfMemory, TableFault};
+use network_tables::{Job, Jobs, read_jobs};
+use route_base::{Cause, Minute, TableFault};
 use std::alloc::Global;
-use std::test::Fail;
 
 const HEADER: &str = "vehicle,from,to,depart,until\n";
 
@@ -21,86 +20,126 @@ fn fault_of(jobs: Result<Jobs, TableFault>) -> Option<(u64, Cause)> {
     }
 }
 
+// The number of jobs.
+fn count_of(jobs: Result<Jobs, TableFault>) -> Result<usize, TableFault> {
+    Ok(jobs?.len())
+}
+
+// A job as it is due: the vehicle, the nodes and the minutes.
+#[derive(Clone, Copy)]
+struct Due {
+    vehicle: &'static str,
+    nodes: (u32, u32),
+    minutes: (Minute, Minute),
+}
+
+impl Due {
+    // Whether the job is this one.
+    fn is(&self, job: &Job) -> bool {
+        job.vehicle.as_slice() == self.vehicle.as_bytes()
+            && (job.origin, job.goal) == self.nodes
+            && (job.depart, job.until) == self.minutes
+    }
+}
+
+// Whether these rows state these jobs, in this order.
+fn are_read(alloc: Global, rows: &str, due: &[Due]) -> Result<bool, TableFault> {
+    let jobs = jobs_of(alloc, rows)?;
+    Ok(
+        jobs.len() == due.len()
+            && jobs
+                .as_slice()
+                .iter()
+                .zip(due)
+                .all(|(job, due)| due.is(job)),
+    )
+}
+
+// A trip there and back, and one by another vehicle.
+const ROWS: &str =
+    "any,1,3,26563680,26564080\nx,1,3,26563680,26564080\nany,3,1,26563680,26564080\n";
+
+const DUE: [Due; 3] = [
+    Due {
+        vehicle: "any",
+        nodes: (1, 3),
+        minutes: (26_563_680, 26_564_080),
+    },
+    Due {
+        vehicle: "x",
+        nodes: (1, 3),
+        minutes: (26_563_680, 26_564_080),
+    },
+    Due {
+        vehicle: "any",
+        nodes: (3, 1),
+        minutes: (26_563_680, 26_564_080),
+    },
+];
+
+// A row in other forms.
+const OTHER_ROW: &str = "\"a.b\",0000000007,4294967295,2020-07-04T00:01:00Z,525600\r\n";
+
+const OTHER_DUE: [Due; 1] = [Due {
+    vehicle: "a.b",
+    nodes: (7, u32::MAX),
+    minutes: (26_563_681, 525_600),
+}];
+
 #[test]
 fn reads_jobs_in_their_order(rt: HostRuntime) -> Result<(), TableFault> {
     let alloc = rt.alloc();
-    let rows = "any,1,3,26563680,26564080\nx,1,3,26563680,26564080\nany,3,1,26563680,26564080\n";
-    let jobs = jobs_of(alloc, rows)?;
-    assert_eq!(rt; jobs.len(), 3);
-    let trips = [
-        (b"any".as_slice(), 1u32, 3u32),
-        (b"x".as_slice(), 1, 3),
-        (b"any".as_slice(), 3, 1),
-    ];
-    for (job, (vehicle, origin, goal)) in jobs.as_slice().iter().zip(trips) {
-        assert_eq!(rt; job.vehicle.as_slice(), vehicle);
-        assert_eq!(rt; (job.origin, job.goal), (origin, goal));
-        assert_eq!(rt; (job.depart, job.until), (26_563_680, 26_564_080));
-    }
-    let rows = "\"a.b\",0000000007,4294967295,2020-07-04T00:01:00Z,525600\r\n";
-    for job in jobs_of(alloc, rows)?.as_slice() {
-        assert_eq!(rt; job.vehicle.as_slice(), b"a.b".as_slice());
-        assert_eq!(rt; (job.origin, job.goal), (7, u32::MAX));
-        assert_eq!(rt; (job.depart, job.until), (26_563_681, 525_600));
-    }
-    assert_eq!(rt; read_jobs(alloc, b"")?.len(), 0);
+    assert!(rt; are_read(alloc, ROWS, &DUE)?);
+    assert!(rt; are_read(alloc, OTHER_ROW, &OTHER_DUE)?);
+    assert!(rt; count_of(read_jobs(alloc, b"")) == Ok(0));
     Ok(())
 }
+
+// Rows that are refused: the record and the cause.
+const BAD_ROWS: [(&str, u64, Cause); 10] = [
+    ("any,1,3,26563680\n", 2, Cause::FieldCount),
+    (",1,3,26563680,26564080\n", 2, Cause::BadField),
+    ("-any,1,3,26563680,26564080\n", 2, Cause::BadField),
+    ("any,,3,26563680,26564080\n", 2, Cause::BadField),
+    ("any,1,4294967296,26563680,26564080\n", 2, Cause::BadField),
+    ("any,1,00000000003,26563680,26564080\n", 2, Cause::BadField),
+    ("any,1,3,525599,26564080\n", 2, Cause::BadField),
+    ("any,1,3,26563680,026564080\n", 2, Cause::BadField),
+    ("any,1,3,525600,525600\nany,1,3\n", 3, Cause::FieldCount),
+    (
+        "x,0,0,525600,525600\nx,0,-,525600,525600\n",
+        3,
+        Cause::BadField,
+    ),
+];
 
 #[test]
 fn refuses_jobs_with_their_first_fault(rt: HostRuntime) {
     let alloc = rt.alloc();
-    let cases = [
-        ("any,1,3,26563680\n", 2, Cause::FieldCount),
-        (",1,3,26563680,26564080\n", 2, Cause::BadField),
-        ("-any,1,3,26563680,26564080\n", 2, Cause::BadField),
-        ("any,,3,26563680,26564080\n", 2, Cause::BadField),
-        ("any,1,4294967296,26563680,26564080\n", 2, Cause::BadField),
-        ("any,1,00000000003,26563680,26564080\n", 2, Cause::BadField),
-        ("any,1,3,525599,26564080\n", 2, Cause::BadField),
-        ("any,1,3,26563680,026564080\n", 2, Cause::BadField),
-        ("any,1,3,525600,525600\nany,1,3\n", 3, Cause::FieldCount),
-        (
-            "x,0,0,525600,525600\nx,0,-,525600,525600\n",
-            3,
-            Cause::BadField,
-        ),
-    ];
-    for (rows, row, cause) in cases {
-        assert_eq!(rt;
-            fault_of(jobs_of(alloc, rows)),
-            Some((row, cause)),
-            "{rows}"
-        );
+    for (rows, row, cause) in BAD_ROWS.iter() {
+        let fault = fault_of(jobs_of(alloc, rows));
+        assert!(rt; fault == Some((*row, *cause)), "{rows}");
     }
     let header = read_jobs(alloc, b"vehicle,from,to,until,depart\n");
-    assert_eq!(rt; fault_of(header), Some((1, Cause::BadHeader)));
+    assert!(rt; fault_of(header) == Some((1, Cause::BadHeader)));
 }
 
-// The row of a job, `count` times.
-fn equal_rows(alloc: Global, count: u32) -> Result<String, OutOfMemory> {
+// The most jobs, which are all equal, and what these rows state after them.
+fn most_jobs_and(alloc: Global, rows: &str) -> Result<Jobs, TableFault> {
     let mut text = String::new(alloc);
-    for _ in 0..count {
+    for _ in 0..MOST_JOBS {
         text.push_str("x,0,0,525600,525600\n")?;
     }
-    Ok(text)
+    text.push_str(rows)?;
+    jobs_of(alloc, &text)
 }
 
 #[test]
-fn reads_10000_jobs(rt: HostRuntime) -> Result<(), Fail> {
+fn reads_10000_jobs(rt: HostRuntime) {
     let alloc = rt.alloc();
-    let mut text = equal_rows(alloc, MOST_JOBS)?;
-    assert_eq!(rt; jobs_of(alloc, &text)?.len(), 10_000);
-    text.push_str("-\n")?;
-    assert_eq!(rt;
-        fault_of(jobs_of(alloc, &text)),
-        Some((10_002, Cause::FieldCount))
-    );
-    text.pop();
-    text.push_str(",,,,\n")?;
-    assert_eq!(rt;
-        fault_of(jobs_of(alloc, &text)),
-        Some((10_002, Cause::SizeLimit))
-    );
-    Ok(())
+    assert!(rt; count_of(most_jobs_and(alloc, "")) == Ok(10_000));
+    for (last, cause) in [("-\n", Cause::FieldCount), ("-,,,,\n", Cause::SizeLimit)] {
+        let fault = fault_of(most_jobs_and(alloc, last));
+        assert!(rt; fault == Some((10_002, cause)), "{last}");
+    }
 }

@@ -1,13 +1,14 @@
 // A happy path for each table over a triangle of three nodes, the refusals of vehicles and rules, and the order in which files
 // are refused. The refusals of the other tables are tested in lorry_plan.
+ghost use Rattle.route_base.specs.Time.{IsInstant};
+
 use conditional_rules::{Access, Conditional};
 use network_tables::{Files, Network, NetworkFault, read_network};
 use route_base::{
-    ArcId, BadInput, Cause, FileBytes, FileKind, NodeId, OutOfMemory, Run, read_number,
+    ArcId, BadInput, Cause, FileBytes, FileKind, Minute, NodeId, OutOfMemory, Run, read_number,
 };
 use std::alloc::Global;
-use std::test::Fail;
-use vehicle_classes::{Key, Purpose, Quantity};
+use vehicle_classes::{Key, Purpose, Quantity, Vehicles};
 
 const TRIANGLE: &str = "p sp 3 3\na 1 2 60\na 2 3 60\na 1 3 300\n";
 
@@ -21,14 +22,61 @@ fn file_of(alloc: Global, text: &str) -> Result<FileBytes, OutOfMemory> {
     Ok(FileBytes::from_vec(Vec::from_slice(alloc, text.as_bytes())?))
 }
 
-// The network of these tables over the triangle.
-pub fn read(alloc: Global, texts: &[(FileKind, &str)]) -> Result<Network, NetworkFault> {
-    let mut files = Files::new(alloc);
+// Puts the triangle and these texts among the files.
+fn put_texts(
+    alloc: Global,
+    files: &mut Files,
+    texts: &[(FileKind, &str)],
+) -> Result<(), OutOfMemory> {
     files.put(FileKind::Graph, file_of(alloc, TRIANGLE)?);
     for (file, text) in texts {
         files.put(*file, file_of(alloc, text)?);
     }
+    Ok(())
+}
+
+// The network of these tables over the triangle.
+pub fn read(alloc: Global, texts: &[(FileKind, &str)]) -> Result<Network, NetworkFault> {
+    let mut files = Files::new(alloc);
+    put_texts(alloc, &mut files, texts)?;
     read_network(alloc, &files)
+}
+
+// What this function finds in the network, where one is read.
+pub fn found<T, F: FnOnce(&Network) -> T>(
+    network: Result<Network, NetworkFault>,
+    find: F,
+) -> Result<T, NetworkFault>
+    requires { F.IsAlwaysCallable find }
+{
+    match network {
+        Ok(network) => Ok(find(&network)),
+        Err(fault) => Err(fault),
+    }
+}
+
+// Whether one may wait at the second node and not at the first one.
+fn parks_at_the_second_node(network: &Network) -> bool {
+    network.graph().node_count() == 3
+        && network.weight(NodeId(1)).is_none()
+        && network.weight(NodeId(2)) == Some(2000)
+}
+
+// Whether the second arc is closed in its two runs, and the first one never.
+fn closes_the_second_arc(network: &Network) -> bool {
+    let first = Run {
+        lo: 26_563_680,
+        hi: 26_563_860,
+    };
+    let second = Run {
+        lo: 26_563_600,
+        hi: 26_563_700,
+    };
+    network.graph().arc_count() == 3
+        && network.closure_count(ArcId(1)) == 0
+        && network.closure_count(ArcId(2)) == 2
+        && network.closure(ArcId(2), 0) == first
+        && network.closure(ArcId(2), 1) == second
 }
 
 #[test]
@@ -42,24 +90,42 @@ fn reads_closures_ratings_and_parking(rt: HostRuntime) -> Result<(), NetworkFaul
             (FileKind::Ratings, "rating,weight\nr,2.000\n"),
             (FileKind::Parking, "node,rating\n2,r\n"),
         ],
-    )?;
-    assert_eq!(rt; network.graph().node_count(), 3);
-    assert_eq!(rt; network.graph().arc_count(), 3);
-    assert!(rt; network.weight(NodeId(1)).is_none());
-    assert!(rt; network.weight(NodeId(2)) == Some(2000));
-    assert_eq!(rt; network.closure_count(ArcId(1)), 0);
-    assert_eq!(rt; network.closure_count(ArcId(2)), 2);
-    let first = Run {
-        lo: 26_563_680,
-        hi: 26_563_860,
-    };
-    let second = Run {
-        lo: 26_563_600,
-        hi: 26_563_700,
-    };
-    assert!(rt; network.closure(ArcId(2), 0) == first);
-    assert!(rt; network.closure(ArcId(2), 1) == second);
+    );
+    let (parks, closes) = found(network, |network| {
+        (
+            parks_at_the_second_node(network),
+            closes_the_second_arc(network),
+        )
+    })?;
+    assert!(rt; parks);
+    assert!(rt; closes);
     Ok(())
+}
+
+// The place of the arc's area, and the minutes that local time is ahead there; none where the triangle has no such arc.
+fn local_time(network: &Network, a: u32, minute: Minute) -> Option<(usize, i64)>
+    requires { IsInstant minute }
+{
+    if a == 0 || a > 3 || network.graph().arc_count() != 3 {
+        return None;
+    }
+    let area = network.area_of(ArcId(a));
+    Some((area, network.zone_of(area).offset(minute)))
+}
+
+// The first arc and minute at which the network has another area or local time.
+fn wrong_local_time(network: &Network) -> Option<(u32, Minute)> {
+    for (a, minute, area, ahead) in [
+        (1, 26_563_680, 0, 0),
+        (2, 26_563_679, 1, 60),
+        (2, 26_563_680, 1, 120),
+        (3, 26_563_680, 2, -210),
+    ] {
+        if local_time(network, a, minute) != Some((area, ahead)) {
+            return Some((a, minute));
+        }
+    }
+    None
 }
 
 #[test]
@@ -77,21 +143,16 @@ fn reads_zones_areas_and_roads(rt: HostRuntime) -> Result<(), NetworkFault> {
             ),
             (FileKind::Roads, "arc,area\n2,town\n3,quay\n"),
         ],
-    )?;
-    assert_eq!(rt; network.graph().arc_count(), 3);
-    assert_eq!(rt; network.area_of(ArcId(1)), 0);
-    assert_eq!(rt; network.area_of(ArcId(2)), 1);
-    assert_eq!(rt; network.area_of(ArcId(3)), 2);
-    for (arc, minute, ahead) in [
-        (1, 26_563_680, 0i64),
-        (2, 26_563_679, 60),
-        (2, 26_563_680, 120),
-        (3, 26_563_680, -210),
-    ] {
-        let zone = network.zone_of(network.area_of(ArcId(arc)));
-        assert_eq!(rt; zone.offset(minute), ahead);
-    }
+    );
+    let wrong = found(network, |network| wrong_local_time(network))?;
+    assert_eq!(rt; wrong, None);
     Ok(())
+}
+
+// Whether the first and the third arc are in the default area, whose local time is this many minutes ahead.
+fn has_default_area(network: &Network, ahead: i64) -> bool {
+    let local = Some((0, ahead));
+    local_time(network, 1, 26_563_680) == local && local_time(network, 3, 26_563_680) == local
 }
 
 #[test]
@@ -101,13 +162,40 @@ fn has_a_default_area(rt: HostRuntime) -> Result<(), NetworkFault> {
         let network = read(
             rt.alloc(),
             &[(FileKind::Zones, zones), (FileKind::Roads, roads)],
-        )?;
-        assert_eq!(rt; network.graph().arc_count(), 3);
-        assert_eq!(rt; network.area_of(ArcId(3)), 0);
-        let zone = network.zone_of(network.area_of(ArcId(1)));
-        assert_eq!(rt; zone.offset(26_563_680), ahead);
+        );
+        let has_default = found(network, |network| has_default_area(network, ahead))?;
+        assert!(rt; has_default, "{ahead}");
     }
     Ok(())
+}
+
+// Whether a day is a public holiday and whether it is a school holiday, at an arc; none where the triangle has no such arc.
+fn holidays_on(network: &Network, a: u32, day: u32) -> Option<(bool, bool)> {
+    if a == 0 || a > 3 || network.graph().arc_count() != 3 {
+        return None;
+    }
+    let holidays = network.holidays_of(network.area_of(ArcId(a)));
+    Some((holidays.is_public(day), holidays.is_school(day)))
+}
+
+// The first arc and day on which the network has other holidays.
+fn wrong_holidays(network: &Network) -> Option<(u32, u32)> {
+    for (a, day, public, school) in [
+        (2, 18_261, false, false),
+        (2, 18_262, true, false),
+        (2, 18_263, false, false),
+        (2, 18_449, false, true),
+        (2, 18_620, false, false),
+        (2, 18_621, true, false),
+        (2, 18_622, false, false),
+        (1, 18_621, false, false),
+        (1, 18_449, false, false),
+    ] {
+        if holidays_on(network, a, day) != Some((public, school)) {
+            return Some((a, day));
+        }
+    }
+    None
 }
 
 #[test]
@@ -121,24 +209,9 @@ fn reads_holidays_of_both_kinds(rt: HostRuntime) -> Result<(), NetworkFault> {
             (FileKind::Roads, "arc,area\n2,town\n"),
             (FileKind::Holidays, holidays),
         ],
-    )?;
-    assert_eq!(rt; network.graph().arc_count(), 3);
-    let town = network.holidays_of(network.area_of(ArcId(2)));
-    for (day, public, school) in [
-        (18_261u32, false, false),
-        (18_262, true, false),
-        (18_263, false, false),
-        (18_449, false, true),
-        (18_620, false, false),
-        (18_621, true, false),
-        (18_622, false, false),
-    ] {
-        assert_eq!(rt; town.is_public(day), public, "public holiday {day}");
-        assert_eq!(rt; town.is_school(day), school, "school holiday {day}");
-    }
-    let port = network.holidays_of(network.area_of(ArcId(1)));
-    assert!(rt; !port.is_public(18_621));
-    assert!(rt; !port.is_school(18_449));
+    );
+    let wrong = found(network, |network| wrong_holidays(network))?;
+    assert_eq!(rt; wrong, None);
     Ok(())
 }
 
@@ -171,20 +244,31 @@ fn ruled<'a>(alloc: Global, vehicles: &'a str, rules: &'a str) -> Result<Network
     read(alloc, &texts)
 }
 
+// Whether the vehicles are the one for all and the truck.
+fn has_the_truck(vehicles: &Vehicles) -> bool {
+    if vehicles.len() != 2 {
+        return false;
+    }
+    let truck = vehicles.vehicle(1);
+    vehicles.find(b"any") == Some(0)
+        && vehicles.find(b"truck") == Some(1)
+        && truck.purpose() == Purpose::Delivery
+        && truck.size(Quantity::Weight) == Some(40_000)
+        && truck.size(Quantity::Axleload).is_none()
+        && truck.has_flag(b"hazmat")
+        && truck.has_flag(b"articulated")
+        && !truck.has_flag(b"")
+}
+
 #[test]
 fn reads_vehicles(rt: HostRuntime) -> Result<(), NetworkFault> {
-    let network = ruled(rt.alloc(), TRUCK, "")?;
-    let vehicles = network.vehicles();
-    assert_eq!(rt; vehicles.len(), 2);
-    assert_eq!(rt; vehicles.find(b"any"), Some(0));
-    assert_eq!(rt; vehicles.find(b"truck"), Some(1));
-    let truck = vehicles.vehicle(1);
-    assert_eq!(rt; truck.purpose(), Purpose::Delivery);
-    assert_eq!(rt; truck.size(Quantity::Weight), Some(40_000));
-    assert_eq!(rt; truck.size(Quantity::Axleload), None);
-    assert!(rt; truck.has_flag(b"hazmat") && truck.has_flag(b"articulated"));
-    assert!(rt; !truck.has_flag(b""));
-    assert_eq!(rt; network.passed_over(), 0);
+    let network = ruled(rt.alloc(), TRUCK, "");
+    let (has_truck, passed) = found(
+        network,
+        |network| (has_the_truck(network.vehicles()), network.passed_over()),
+    )?;
+    assert!(rt; has_truck);
+    assert_eq!(rt; passed, 0);
     Ok(())
 }
 
@@ -220,9 +304,8 @@ fn clauses_of(network: &Network, a: u32, key: Key) -> (usize, usize) {
     )
 }
 
-#[test]
-fn reads_plain_rules_of_areas_and_arcs(rt: HostRuntime) -> Result<(), NetworkFault> {
-    let network = ruled(rt.alloc(), "", RULES)?;
+// The first arc and key for which the network has other plain values.
+fn wrong_plain(network: &Network) -> Option<(u32, Key)> {
     for (a, key, area, own) in [
         (1, Key::Hgv, None, None),
         (2, Key::Hgv, Some(Access::Barred), None),
@@ -230,15 +313,26 @@ fn reads_plain_rules_of_areas_and_arcs(rt: HostRuntime) -> Result<(), NetworkFau
         (3, Key::Access, None, Some(Access::Free)),
         (3, Key::Bus, None, None),
     ] {
-        assert_eq!(rt; plain_of(&network, a, key), (area, own), "arc {a}");
+        if plain_of(network, a, key) != (area, own) {
+            return Some((a, key));
+        }
     }
-    assert_eq!(rt; network.passed_over(), 3);
-    Ok(())
+    None
 }
 
 #[test]
-fn reads_conditional_rules_of_areas_and_arcs(rt: HostRuntime) -> Result<(), NetworkFault> {
-    let network = ruled(rt.alloc(), "", RULES)?;
+fn reads_plain_rules_of_areas_and_arcs(rt: HostRuntime) -> Result<(), NetworkFault> {
+    let network = ruled(rt.alloc(), "", RULES);
+    let read = found(
+        network,
+        |network| (wrong_plain(network), network.passed_over()),
+    )?;
+    assert_eq!(rt; read, (None, 3));
+    Ok(())
+}
+
+// The first arc and key for which the network has other numbers of clauses.
+fn wrong_clauses(network: &Network) -> Option<(u32, Key)> {
     for (a, key, area, own) in [
         (1, Key::Hgv, 0, 0),
         (2, Key::Hgv, 2, 0),
@@ -246,8 +340,18 @@ fn reads_conditional_rules_of_areas_and_arcs(rt: HostRuntime) -> Result<(), Netw
         (3, Key::Bus, 0, 1),
         (3, Key::Access, 0, 0),
     ] {
-        assert_eq!(rt; clauses_of(&network, a, key), (area, own), "arc {a}");
+        if clauses_of(network, a, key) != (area, own) {
+            return Some((a, key));
+        }
     }
+    None
+}
+
+#[test]
+fn reads_conditional_rules_of_areas_and_arcs(rt: HostRuntime) -> Result<(), NetworkFault> {
+    let network = ruled(rt.alloc(), "", RULES);
+    let wrong = found(network, |network| wrong_clauses(network))?;
+    assert_eq!(rt; wrong, None);
     Ok(())
 }
 
@@ -258,8 +362,8 @@ fn is_refused(
     row: u64,
     cause: &str,
 ) -> bool {
-    match network {
-        Err(NetworkFault::Bad(fault)) => {
+    match network.err() {
+        Some(NetworkFault::Bad(fault)) => {
             fault.file == file && fault.row == row && fault.cause.name() == cause
         }
         _ => false,
@@ -274,6 +378,18 @@ fn table(alloc: Global, header: &str, rows: &str) -> Result<String, OutOfMemory>
         text.push('\n')?;
     }
     Ok(text)
+}
+
+// The network of the vehicles in these rows.
+fn with_vehicles(alloc: Global, rows: &str) -> Result<Network, NetworkFault> {
+    let text = table(alloc, VEHICLE_HEADER, rows)?;
+    ruled(alloc, &text, "")
+}
+
+// The network of the rules in these rows.
+fn with_rules(alloc: Global, rows: &str) -> Result<Network, NetworkFault> {
+    let text = table(alloc, RULE_HEADER, rows)?;
+    ruled(alloc, "", &text)
 }
 
 // The record, the cause and the data rows.
@@ -300,23 +416,16 @@ const BAD_VEHICLES: &str = "\
 ";
 
 #[test]
-fn refuses_vehicles_with_their_first_fault(rt: HostRuntime) -> Result<(), Fail> {
+fn refuses_vehicles_with_their_first_fault(rt: HostRuntime) {
     let alloc = rt.alloc();
     for case in BAD_VEHICLES.lines() {
-        let Some((row, cause, rows)) = refusal_of(case) else {
-            assert!(rt; false, "no case: {case}");
-            return Ok(());
-        };
-        let text = table(alloc, VEHICLE_HEADER, rows)?;
-        let network = ruled(alloc, &text, "");
-        assert!(rt;
-            is_refused(network, FileKind::Vehicles, row, cause),
-            "{case}"
-        );
+        let refused = refusal_of(case).is_some_and(|(row, cause, rows)| {
+            is_refused(with_vehicles(alloc, rows), FileKind::Vehicles, row, cause)
+        });
+        assert!(rt; refused, "{case}");
     }
     let network = ruled(alloc, "name,class\n", "");
     assert!(rt; is_refused(network, FileKind::Vehicles, 1, "BadHeader"));
-    Ok(())
 }
 
 // Rules that are refused: a scope's fault comes before a value's, and also where the key is passed over.
@@ -348,20 +457,16 @@ const BAD_RULES: &str = "\
 ";
 
 #[test]
-fn refuses_rules_with_their_first_fault(rt: HostRuntime) -> Result<(), Fail> {
+fn refuses_rules_with_their_first_fault(rt: HostRuntime) {
     let alloc = rt.alloc();
     for case in BAD_RULES.lines() {
-        let Some((row, cause, rows)) = refusal_of(case) else {
-            assert!(rt; false, "no case: {case}");
-            return Ok(());
-        };
-        let text = table(alloc, RULE_HEADER, rows)?;
-        let network = ruled(alloc, "", &text);
-        assert!(rt; is_refused(network, FileKind::Rules, row, cause), "{case}");
+        let refused = refusal_of(case).is_some_and(|(row, cause, rows)| {
+            is_refused(with_rules(alloc, rows), FileKind::Rules, row, cause)
+        });
+        assert!(rt; refused, "{case}");
     }
     let network = ruled(alloc, "", "scope,value,key\n");
     assert!(rt; is_refused(network, FileKind::Rules, 1, "BadHeader"));
-    Ok(())
 }
 
 // Rules that are read: the number of rows that are passed over, and the data rows.
@@ -375,20 +480,24 @@ const GOOD_RULES: &str = "\
 2 arc:1,,|arc:1,:conditional,no\n\
 ";
 
+// The number of rows of rules that the network passes over.
+fn passed_over(network: Result<Network, NetworkFault>) -> Result<u64, NetworkFault> {
+    found(network, |network| network.passed_over())
+}
+
+// Whether the rules of this case are read, and as many rows passed over as it says.
+fn is_counted(alloc: Global, case: &str) -> Option<bool> {
+    let (count, rows) = case.split_once(' ')?;
+    let count = read_number(count.as_bytes())?;
+    Some(passed_over(with_rules(alloc, rows)) == Ok(count))
+}
+
 #[test]
-fn counts_the_rows_that_are_passed_over(rt: HostRuntime) -> Result<(), Fail> {
-    let alloc = rt.alloc();
+fn counts_the_rows_that_are_passed_over(rt: HostRuntime) {
     for case in GOOD_RULES.lines() {
-        let Some((count, rows)) = case.split_once(' ') else {
-            assert!(rt; false, "no case: {case}");
-            return Ok(());
-        };
-        let text = table(alloc, RULE_HEADER, rows)?;
-        let network = ruled(alloc, "", &text)?;
-        let passed = read_number(count.as_bytes());
-        assert!(rt; passed == Some(network.passed_over()), "{case}");
+        let counted = is_counted(rt.alloc(), case);
+        assert!(rt; counted == Some(true), "{case}");
     }
-    Ok(())
 }
 
 // A rule of this key whose value is `no @ a` and n blanks.
@@ -401,75 +510,90 @@ fn long_rule(alloc: Global, key: &str, n: usize) -> Result<String, OutOfMemory> 
     Ok(text)
 }
 
+// The network of this rule.
+fn with_long_rule(alloc: Global, key: &str, n: usize) -> Result<Network, NetworkFault> {
+    let text = long_rule(alloc, key, n)?;
+    ruled(alloc, "", &text)
+}
+
 #[test]
-fn reads_values_of_65536_bytes(rt: HostRuntime) -> Result<(), Fail> {
-    let alloc = rt.alloc();
-    let longest = ruled(alloc, "", &long_rule(alloc, "hgv:conditional", 65_530)?)?;
-    assert_eq!(rt; clauses_of(&longest, 1, Key::Hgv), (0, 1));
+fn reads_values_of_65536_bytes(rt: HostRuntime) -> Result<(), NetworkFault> {
+    let longest = with_long_rule(rt.alloc(), "hgv:conditional", 65_530);
+    let counts = found(longest, |network| clauses_of(network, 1, Key::Hgv))?;
+    assert_eq!(rt; counts, (0, 1));
     Ok(())
 }
 
 #[test]
-fn refuses_longer_values(rt: HostRuntime) -> Result<(), Fail> {
-    let alloc = rt.alloc();
+fn refuses_longer_values(rt: HostRuntime) {
     for key in ["hgv:conditional", "hgv"] {
-        let longer = ruled(alloc, "", &long_rule(alloc, key, 65_531)?);
+        let longer = with_long_rule(rt.alloc(), key, 65_531);
         assert!(rt;
             is_refused(longer, FileKind::Rules, 2, "SizeLimit"),
             "{key}"
         );
     }
-    Ok(())
 }
 
 #[test]
-fn passes_over_longer_values_of_other_keys(rt: HostRuntime) -> Result<(), Fail> {
-    let alloc = rt.alloc();
-    let other = ruled(alloc, "", &long_rule(alloc, "maxweight", 65_531)?)?;
-    assert_eq!(rt; other.passed_over(), 1);
+fn passes_over_longer_values_of_other_keys(rt: HostRuntime) -> Result<(), NetworkFault> {
+    let other = with_long_rule(rt.alloc(), "maxweight", 65_531);
+    assert_eq!(rt; passed_over(other)?, 1);
     Ok(())
+}
+
+// A fault in each file, in the order in which they are read.
+const FAULTY: [(FileKind, &str); 9] = [
+    (FileKind::Zones, "x"),
+    (FileKind::Areas, "area,zone\nport,West\n"),
+    (FileKind::Roads, "arc,area\n1,port\n01,port\n"),
+    (FileKind::Vehicles, "x"),
+    (FileKind::Rules, "scope,key,value\narc:4,hgv,no\n"),
+    (FileKind::Closures, "arc,from,to\n4,525600,525601\n"),
+    (FileKind::Ratings, "rating,weight\nr,1\nr,2\nr,x\n"),
+    (FileKind::Parking, "node,rating\n1,r\n01,r\n"),
+    (
+        FileKind::Holidays,
+        "area,kind,date\nport,PH,2020-02-29\nport,PH,2020-02-30\n",
+    ),
+];
+
+// The record and the cause of each of these faults, and the text of the file without it.
+const REFUSED: [(FileKind, u64, Cause, &str); 9] = [
+    (FileKind::Zones, 1, Cause::BadHeader, ""),
+    (FileKind::Areas, 2, Cause::Unknown, AREAS),
+    (FileKind::Roads, 3, Cause::Duplicate, ""),
+    (FileKind::Vehicles, 1, Cause::BadHeader, VEHICLE_HEADER),
+    (FileKind::Rules, 2, Cause::Unknown, ""),
+    (FileKind::Closures, 2, Cause::Unknown, ""),
+    (
+        FileKind::Ratings,
+        3,
+        Cause::Duplicate,
+        "rating,weight\nr,1\n",
+    ),
+    (FileKind::Parking, 3, Cause::Duplicate, ""),
+    (FileKind::Holidays, 3, Cause::BadField, ""),
+];
+
+// The texts of the files, of which the first n have no fault.
+fn mended(n: usize) -> [(FileKind, &'static str); 9] {
+    let mut texts = FAULTY;
+    for (text, (file, _, _, mended)) in texts.iter_mut().zip(&REFUSED).take(n) {
+        *text = (*file, *mended);
+    }
+    texts
 }
 
 #[test]
 fn names_the_first_fault_in_the_order_of_files(rt: HostRuntime) {
-    let mut texts = [
-        (FileKind::Zones, "x"),
-        (FileKind::Areas, "area,zone\nport,West\n"),
-        (FileKind::Roads, "arc,area\n1,port\n01,port\n"),
-        (FileKind::Vehicles, "x"),
-        (FileKind::Rules, "scope,key,value\narc:4,hgv,no\n"),
-        (FileKind::Closures, "arc,from,to\n4,525600,525601\n"),
-        (FileKind::Ratings, "rating,weight\nr,1\nr,2\nr,x\n"),
-        (FileKind::Parking, "node,rating\n1,r\n01,r\n"),
-        (
-            FileKind::Holidays,
-            "area,kind,date\nport,PH,2020-02-29\nport,PH,2020-02-30\n",
-        ),
-    ];
-    let refused = [
-        (FileKind::Zones, 1, Cause::BadHeader, ""),
-        (FileKind::Areas, 2, Cause::Unknown, AREAS),
-        (FileKind::Roads, 3, Cause::Duplicate, ""),
-        (FileKind::Vehicles, 1, Cause::BadHeader, VEHICLE_HEADER),
-        (FileKind::Rules, 2, Cause::Unknown, ""),
-        (FileKind::Closures, 2, Cause::Unknown, ""),
-        (
-            FileKind::Ratings,
-            3,
-            Cause::Duplicate,
-            "rating,weight\nr,1\n",
-        ),
-        (FileKind::Parking, 3, Cause::Duplicate, ""),
-        (FileKind::Holidays, 3, Cause::BadField, ""),
-    ];
-    for (i, (file, row, cause, mended)) in refused.into_iter().enumerate() {
-        let named = NetworkFault::Bad(BadInput { file, row, cause });
-        match read(rt.alloc(), &texts) {
-            Err(fault) => assert!(rt; fault == named, "at record {row}, file {i}"),
-            Ok(_) => assert!(rt; false, "taken: file {i}"),
-        }
-        if i < 9 {
-            texts[i] = (file, mended);
-        }
+    for (i, (file, row, cause, _)) in REFUSED.iter().enumerate() {
+        let named = NetworkFault::Bad(BadInput {
+            file: *file,
+            row: *row,
+            cause: *cause,
+        });
+        let fault = read(rt.alloc(), &mended(i)).err();
+        assert!(rt; fault == Some(named), "at record {row}, file {i}");
     }
 }

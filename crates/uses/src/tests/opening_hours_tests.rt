@@ -1,5 +1,5 @@
 // Texts with their canonical texts, and days with what is covered on them.
-use crate::{Holidays, HoursFault, covers, parse, print, spans_on};
+use opening_hours::{Holidays, HoursFault, covers, parse, print, spans_on};
 use std::alloc::{AllocError, Global};
 use std::test::Fail;
 

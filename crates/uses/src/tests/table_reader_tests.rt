@@ -1,9 +1,9 @@
 // A table of values by number, read from its text.
 ghost use Rattle.std.specs.Prelude.{codes};
 
-use crate::{NameIndex, Naming, NumberedTable, read_table};
 use route_base::{Cause, TableFault};
 use std::alloc::Global;
+use table_reader::{NameIndex, Naming, NumberedTable, read_table};
 
 // Sizes by name.
 #[derive(Drop)]

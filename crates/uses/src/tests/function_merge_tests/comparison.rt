@@ -4,10 +4,10 @@ ghost use Rattle.cost_functions.specs.Building.{AreBuilt};
 ghost use Rattle.route_base.specs.Front.{RiseAndFall};
 
 use super::plain_lists::{is_better, lesser, pruned, shifted, value, waited};
-use crate::{
+use cost_functions::CostFn;
+use function_merge::{
     can_shift, can_wait, cut, improve_in_place, into_pruned, is_improved, least, prune, shift, wait,
 };
-use cost_functions::CostFn;
 use minute_sets::MinuteSet;
 use route_base::{Bound, OutOfMemory, Pair, Run};
 use std::alloc::Global;

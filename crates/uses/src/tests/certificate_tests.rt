@@ -1,5 +1,5 @@
 // Texts that are certificates, and texts that aren't.
-use crate::{CertificateFault, read, write};
+use certificate::{CertificateFault, read, write};
 use route_base::{Bound, NodeId};
 
 // A certificate with all kinds of lines.

@@ -3,9 +3,9 @@ ghost use Rattle.std.specs.Prelude.{◌≡◌, ◌*◌, ◌<◌, ◌↔◌, IsTr
 ghost use Rattle.cost_functions.specs.Lines.{IsPiece};
 ghost use Rattle.certificate_check.specs.Conditions.{AreBoundsInRange};
 
-use crate::{Verdict, check};
 use certificate::limits::LONGEST_BOUND;
 use certificate::{Certificate, NodeBounds, NodeFunctions};
+use certificate_check::{Verdict, check};
 use cost_functions::{CostFn, HIGHEST_PIECE_COST, Piece};
 use route_base::limits::{HIGHEST_COST, LAST_INSTANT};
 use route_base::{

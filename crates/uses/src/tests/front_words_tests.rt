@@ -1,5 +1,5 @@
 // Words that are a command, and words that are none.
-use crate::{Command, WordsFault, read_words};
+use front_words::{Command, WordsFault, read_words};
 use route_base::{Form, Text};
 use std::alloc::Global;
 use std::test::Fail;

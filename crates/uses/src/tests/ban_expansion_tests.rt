@@ -3,7 +3,7 @@ ghost use Rattle.std.specs.Prelude.{◌≤◌};
 
 mod networks;
 
-use crate::{Layer, closed_by, common, covered_minutes};
+use ban_expansion::{Layer, closed_by, common, covered_minutes};
 use minute_sets::MinuteSet;
 use opening_hours::{Holidays, parse};
 use route_base::Run;

@@ -1,7 +1,7 @@
 // When arcs of a small network are closed to two vehicles.
 ghost use Rattle.std.specs.Prelude.{◌≡◌, ◌≤◌, ◌<◌, true, length};
 
-use crate::{closed_at, closed_set, expand_plain, group_arcs};
+use ban_expansion::{closed_at, closed_set, expand_plain, group_arcs};
 use network_tables::{Files, Network, NetworkFault, read_network};
 use route_base::limits::{FIRST_INSTANT, LAST_INSTANT};
 use route_base::{ArcId, FileBytes, FileKind, Minute, OutOfMemory, Run, TimedNet};

@@ -1,5 +1,5 @@
 use Rattle.std.proofs.Common.{◌<◌, ◌≤◌, All, AllPairs}
-use Rattle.function_merge.proofs.tests.comparison.function_of.Given as goal
+use Rattle.uses.proofs.tests.function_merge_tests.comparison.function_of.Given as goal
 
 abbrev pub invariant-loop-t : goal.invariant-loop-t
 invariant-loop-t l = record {

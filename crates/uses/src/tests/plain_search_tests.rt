@@ -3,7 +3,7 @@ ghost use Rattle.std.specs.Prelude.{◌≡◌, ◌-◌, ◌<◌, ◌≤◌, IfOk
 ghost use Rattle.plain_search.specs.Words.{IsAsked};
 ghost use Rattle.plain_search.specs.Inside.SmallNet.{small_arc, small};
 
-use crate::{TableEngine, values};
+use plain_search::{TableEngine, values};
 use route_base::{
     ArcId, FrontSearch, Leg, Minute, NodeId, OutOfMemory, Pair, Request, Run, TimedArc, TimedNet,
 };

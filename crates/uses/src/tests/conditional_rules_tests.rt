@@ -1,5 +1,5 @@
 // Texts with their canonical texts, and the access that clauses give vehicles.
-use crate::{Access, ConditionalFault, decide, lets_in, parse, print, read_value};
+use conditional_rules::{Access, ConditionalFault, decide, lets_in, parse, print, read_value};
 use opening_hours::Holidays;
 use route_base::{OutOfMemory, TableFault, read_number};
 use std::alloc::{AllocError, Global};

@@ -2,10 +2,10 @@
 ghost use Rattle.std.specs.Prelude.{◌≡◌, ◌∷◌, [], IfOk};
 ghost use Rattle.cost_functions.specs.Lines.{IsPiece};
 
-use crate::{
+use cost_functions::{CostFn, Piece};
+use function_merge::{
     can_shift, can_wait, cut, improve, into_pruned, is_improved, least, prune, shift, wait,
 };
-use cost_functions::{CostFn, Piece};
 use minute_sets::MinuteSet;
 use route_base::{Bound, OutOfMemory, Pair, Run};
 use std::alloc::Global;

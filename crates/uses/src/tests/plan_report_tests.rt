@@ -3,7 +3,7 @@ ghost use Rattle.std.specs.Prelude.{◌≡◌, ◌*◌, ◌<◌, All, IfOk};
 ghost use Rattle.plan_report.specs.Inside.{IsLawful};
 ghost use Rattle.route_base.specs.Net.{IsGoodRequest};
 
-use crate::{Refusal, Verdict3, bans_text, check_text, plan_text, refusal_text};
+use plan_report::{Refusal, Verdict3, bans_text, check_text, plan_text, refusal_text};
 use route_base::{
     ArcId, BadInput, Cause, FileKind, Form, Leg, Legs, NodeId, OutOfMemory, Request, Route, Routes,
     Run, TimedArc, TimedNet, replay,

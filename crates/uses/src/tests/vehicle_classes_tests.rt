@@ -1,7 +1,7 @@
 // Rows of the table as they are read, a fault for each cause, and the keys of each class.
-use crate::{Class, Key, Purpose, Quantity, Vehicles, chain_at, read_vehicles};
 use route_base::{Cause, TableFault};
 use std::alloc::{AllocError, Global};
+use vehicle_classes::{Class, Key, Purpose, Quantity, Vehicles, chain_at, read_vehicles};
 
 const HEADER: &str =
     "name,class,weight_kg,axleload_kg,height_cm,width_cm,length_cm,axles,purpose,flags\n";

@@ -1,6 +1,6 @@
 use Rattle.std.proofs.Common.{◌<◌, ◌≤◌, ◌+◌, ◌*◌, All}
 use Rattle.route_base.specs.Front.{RiseAndFall}
-use Rattle.function_merge.proofs.tests.comparison.random_pairs.Given as goal
+use Rattle.uses.proofs.tests.function_merge_tests.comparison.random_pairs.Given as goal
 
 abbrev pub invariant-pairs : goal.invariant-pairs
 invariant-pairs l = record {

@@ -1,0 +1,76 @@
+// One worked case for each caller.
+ghost use Rattle.route_base.specs.Time.{IsInstant};
+
+use crate::{Codes, clock_shows, is_banned, read_lockers};
+use opening_hours::{Holidays, HoursFault};
+use route_base::{Cause, Minute, TableFault};
+use std::alloc::Global;
+use table_reader::NameIndex;
+use zone_rules::{Wall, Zone, ZoneRow};
+
+// A zone that is always two hours ahead of UTC.
+const TWO_HOURS_AHEAD: [ZoneRow; 1] = [ZoneRow {
+    start: 525_600,
+    offset: 120,
+}];
+
+// Whether a ban with these hours holds in that zone at a minute, where there are no holidays.
+fn is_banned_at(alloc: Global, hours: &[u8], minute: Minute) -> Result<bool, HoursFault>
+    requires { IsInstant minute }
+{
+    let Ok(zone) = Zone::from_rows(alloc, &TWO_HOURS_AHEAD) else {
+        return Err(HoursFault::OutOfMemory);
+    };
+    let none = Holidays::from_days(Vec::new(alloc), Vec::new(alloc));
+    is_banned(alloc, hours, &zone, &none, minute)
+}
+
+#[test]
+fn bans_trucks_on_sundays_in_local_time(rt: HostRuntime) -> Result<(), HoursFault> {
+    let alloc = rt.alloc();
+    // 2020-07-04T20:00Z is Saturday 22:00 in this zone, when the ban begins.
+    for (minute, banned) in [
+        (26_564_879, false),
+        (26_564_880, true),
+        (26_566_319, true),
+        (26_566_320, false),
+    ] {
+        let answer = is_banned_at(alloc, b"Sa 22:00-Su 22:00", minute)?;
+        assert!(rt; answer == banned, "at {minute}");
+    }
+    let fault = is_banned_at(alloc, b"Sa 25:00", 26_564_880).err();
+    assert!(rt; fault == Some(HoursFault::NotHours));
+    Ok(())
+}
+
+#[test]
+fn shows_local_time(rt: HostRuntime) {
+    // 2020-07-04T23:00Z is 01:00 on the next day.
+    let wall = Wall {
+        day: 18_448,
+        minute: 60,
+    };
+    assert!(rt; clock_shows(rt.alloc(), &TWO_HOURS_AHEAD, 26_565_060) == Ok(wall));
+}
+
+// The codes of three lockers, of which the second one is red, by these codes of colours.
+fn codes_of(alloc: Global, by_name: NameIndex<u64>) -> Result<Vec<Option<u64>>, TableFault> {
+    read_lockers(alloc, b"locker,colour\n2,red\n", 3, Codes { by_name })
+}
+
+#[test]
+fn reads_codes_of_lockers(rt: HostRuntime) -> Result<(), TableFault> {
+    let alloc = rt.alloc();
+    let mut by_name = NameIndex::new(alloc);
+    assert!(rt; by_name.add(alloc, b"red", 7).is_ok());
+    let codes = codes_of(alloc, by_name);
+    let same = codes.map(|codes| codes.as_slice() == [None, Some(7), None].as_slice())?;
+    assert!(rt; same);
+    let unknown = TableFault::BadRow {
+        row: 2,
+        cause: Cause::Unknown,
+    };
+    let read = codes_of(alloc, NameIndex::new(alloc));
+    assert!(rt; read.err() == Some(unknown));
+    Ok(())
+}
