@@ -20,7 +20,8 @@ mod words;
 
 use front_desk::run;
 use route_base::{
-    FileList, Folder, OutOfMemory, ReadAllFault, Status, SureFolder, SureSink, Text, read_all,
+    FileList, Folder, MemFolder, MemSink, Ordinals, OutOfMemory, ReadAllFault, Status, SureFolder,
+    SureSink, Text, read_all,
 };
 use std::alloc::Global;
 use std::process::Abort;
@@ -81,6 +82,13 @@ fn put_files<F: Folder>(folder: &mut F, files: Texts<'_>) -> Result<(), OutOfMem
     Ok(())
 }
 
+// The list of one ordinal.
+fn just(alloc: Global, ordinal: u64) -> Result<Ordinals, OutOfMemory> {
+    let mut ordinals = Ordinals::new(alloc);
+    ordinals.push(ordinal)?;
+    Ok(ordinals)
+}
+
 // The words of a line, which single blanks separate; an empty line has none.
 fn words_of(alloc: Global, line: &str) -> Result<Vec<Text>, OutOfMemory> {
     let mut words = Vec::new(alloc);
@@ -93,6 +101,15 @@ fn words_of(alloc: Global, line: &str) -> Result<Vec<Text>, OutOfMemory> {
     Ok(words)
 }
 
+// Whether the bytes are those of the text, or the fault is the one that is due.
+fn is_whole(read: &Result<Vec<u8>, ReadAllFault>, want: Result<&str, ReadAllFault>) -> bool {
+    match (read, want) {
+        (Ok(bytes), Ok(text)) => bytes.as_slice() == text.as_bytes(),
+        (Err(fault), Err(due)) => *fault == due,
+        _ => false,
+    }
+}
+
 // Reads a whole file, and compares its bytes or the fault.
 fn expect_whole<R: Abort + AllocGlobal, F: Folder>(
     rt: &R,
@@ -101,15 +118,8 @@ fn expect_whole<R: Abort + AllocGlobal, F: Folder>(
     limit: u64,
     want: Result<&str, ReadAllFault>,
 ) {
-    match (read_all(rt.alloc(), folder, name, limit), want) {
-        (Ok(bytes), Ok(wanted)) => assert!(rt;
-            bytes.as_slice() == wanted.as_bytes(),
-            "{name} to {limit}"
-        ),
-        (Err(fault), Err(wanted)) => assert_eq!(rt; fault, wanted, "{name} to {limit}"),
-        (Ok(_), Err(_)) => assert!(rt; false, "{name} to {limit} is taken"),
-        (Err(fault), Ok(_)) => assert!(rt; false, "{name} to {limit}: {fault:?}"),
-    }
+    let whole = is_whole(&read_all(rt.alloc(), folder, name, limit), want);
+    assert!(rt; whole, "{name} to {limit} isn't {want:?}");
 }
 
 // A run: the files beside those of the base, the words, and the status and the whole text that are due.
@@ -119,6 +129,47 @@ struct Case<'a> {
     words: &'a str,
     status: Status,
     text: &'a str,
+}
+
+// Runs the words over the folder: the status, and whether the whole text is this one.
+fn run_to<R: Threads + Sync + AllocGlobal, F: Folder>(
+    rt: &R,
+    folder: &mut F,
+    line: &str,
+    text: &str,
+) -> Result<(Status, bool), OutOfMemory> {
+    let words = words_of(rt.alloc(), line)?;
+    let mut sink = SureSink::new(rt.alloc());
+    let ended = run(rt, rt.alloc(), words.as_slice(), folder, &mut sink);
+    Ok((ended, sink.written() == text.as_bytes()))
+}
+
+// Runs the words over the folder, where the writing call of this ordinal fails: the status, and whether the whole text is
+// this one.
+fn run_failing<R: Threads + Sync + AllocGlobal>(
+    rt: &R,
+    folder: &mut MemFolder,
+    write: u64,
+    line: &str,
+    text: &str,
+) -> Result<(Status, bool), OutOfMemory> {
+    let words = words_of(rt.alloc(), line)?;
+    let mut sink = MemSink::new(rt.alloc(), just(rt.alloc(), write)?);
+    let ended = run(rt, rt.alloc(), words.as_slice(), folder, &mut sink);
+    Ok((ended, sink.written() == text.as_bytes()))
+}
+
+// Runs the words over the files of both lists: the status, and whether the whole text is this one.
+fn run_over_both<R: Threads + Sync + AllocGlobal>(
+    rt: &R,
+    base: Texts<'_>,
+    more: Texts<'_>,
+    line: &str,
+    text: &str,
+) -> Result<(Status, bool), OutOfMemory> {
+    let mut folder = sure_folder(rt.alloc(), base)?;
+    put_files(&mut folder, more)?;
+    run_to(rt, &mut folder, line, text)
 }
 
 // Runs the words over the files of the base and of the case, and compares the status and the whole text.
@@ -133,17 +184,69 @@ fn expect<R: Abort + Threads + Sync + AllocGlobal>(
         status,
         text,
     } = case;
-    let words = words_of(rt.alloc(), line)?;
-    let mut folder = sure_folder(rt.alloc(), base)?;
-    put_files(&mut folder, more)?;
-    let mut sink = SureSink::new(rt.alloc());
-    let ended = run(rt, rt.alloc(), words.as_slice(), &mut folder, &mut sink);
-    assert_eq!(rt; ended, status, "{line:?} over {base:?} and {more:?}");
-    assert_eq!(rt;
-        sink.written(),
-        text.as_bytes(),
-        "{line:?} over {base:?} and {more:?}"
+    let (ended, same) = run_over_both(rt, base, more, line, text)?;
+    assert!(rt;
+        ended == status && same,
+        "{line:?} over {base:?} and {more:?}: {ended:?}"
     );
+    Ok(())
+}
+
+// Runs the words of each row over the files of both lists, and compares the whole text.
+fn expect_texts<'a, R: Abort + Threads + Sync + AllocGlobal>(
+    rt: &R,
+    base: Texts<'_>,
+    more: Texts<'a>,
+    cases: &[(&'a str, &'a str)],
+) -> Result<(), Fail> {
+    for (words, text) in cases {
+        let case = Case {
+            more,
+            words: *words,
+            status: Status::Done,
+            text: *text,
+        };
+        expect(rt, base, case)?;
+    }
+    Ok(())
+}
+
+// Runs each of these words over the files of both lists, and compares the status and the whole text, which are the same for all.
+fn expect_alike<'a, R: Abort + Threads + Sync + AllocGlobal>(
+    rt: &R,
+    base: Texts<'_>,
+    more: Texts<'a>,
+    lines: &[&'a str],
+    (status, text): (Status, &'a str),
+) -> Result<(), Fail> {
+    for line in lines {
+        let case = Case {
+            more,
+            words: *line,
+            status,
+            text,
+        };
+        expect(rt, base, case)?;
+    }
+    Ok(())
+}
+
+// Runs the words of each row over the files, where the request is refused with the row's cause.
+fn expect_causes<R: Abort + Threads + Sync + AllocGlobal>(
+    rt: &R,
+    files: Texts<'_>,
+    cases: &[(&str, &str)],
+) -> Result<(), Fail> {
+    for (line, cause) in cases {
+        let text = format!(in rt.alloc(); "refused request {cause}\n")?;
+        let case = Case {
+            more: &[],
+            words: *line,
+            status: Status::BadRequest,
+            text: text.as_str(),
+        };
+        expect(rt, files, case)?;
+    }
     Ok(())
 }
 

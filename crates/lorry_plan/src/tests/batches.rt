@@ -1,5 +1,5 @@
 // Tables of jobs, planned on several workers.
-use super::{Case, GRAPH, NETWORK, TRIANGLE, expect};
+use super::{Case, GRAPH, NETWORK, TRIANGLE, expect, expect_alike};
 use route_base::Status;
 use std::test::Fail;
 
@@ -10,25 +10,19 @@ const JOBS: &str =
 const ANSWERS: &str =
     "job 1\npairs 2\npair 26563920 360.000\ndrive 1\nwait 120\ndrive 2\npair 26563980 300.000\ndrive 3\njob 2\nrefused request UnknownVehicle\njob 3\npairs 0\n";
 
+// The same command, on several numbers of workers.
+const WORKERS: &[&str] = &[
+    "batch d jobs.csv",
+    "batch d jobs.csv --workers 1",
+    "batch d jobs.csv --workers 2",
+    "batch --workers=3 d jobs.csv",
+    "batch d --workers 64 jobs.csv",
+];
+
 #[test]
 fn answers_jobs_in_their_order(rt: HostRuntime) -> Result<(), Fail> {
-    let lines = [
-        "batch d jobs.csv",
-        "batch d jobs.csv --workers 1",
-        "batch d jobs.csv --workers 2",
-        "batch --workers=3 d jobs.csv",
-        "batch d --workers 64 jobs.csv",
-    ];
-    for line in lines {
-        let case = Case {
-            more: &[("d/jobs.csv", JOBS)],
-            words: line,
-            status: Status::Done,
-            text: ANSWERS,
-        };
-        expect(&rt, NETWORK, case)?;
-    }
-    Ok(())
+    let jobs = [("d/jobs.csv", JOBS)];
+    expect_alike(&rt, NETWORK, &jobs, WORKERS, (Status::Done, ANSWERS))
 }
 
 #[test]
@@ -61,49 +55,44 @@ fn plans_each_job_for_its_own_vehicle(rt: HostRuntime) -> Result<(), Fail> {
             "vehicle,from,to,depart,until\nlight,1,2,26563680,26563800\nheavy,1,2,26563680,26563800\nlight,1,2,26563690,26563800\n",
         ),
     ];
-    for line in [
+    let lines = [
         "batch d jobs.csv --workers 1",
         "batch d jobs.csv --workers 3",
-    ] {
-        let case = Case {
-            more: &[],
-            words: line,
-            status: Status::Done,
-            text: "job 1\npairs 1\npair 26563740 60.000\ndrive 1\njob 2\npairs 0\njob 3\npairs 1\npair 26563750 60.000\ndrive 1\n",
-        };
-        expect(&rt, &files, case)?;
-    }
-    Ok(())
+    ];
+    let text =
+        "job 1\npairs 1\npair 26563740 60.000\ndrive 1\njob 2\npairs 0\njob 3\npairs 1\npair 26563750 60.000\ndrive 1\n";
+    expect_alike(&rt, &files, &[], &lines, (Status::Done, text))
 }
+
+// Tables of jobs, and each refusal.
+const REFUSED: &[(&str, &str)] = &[
+    ("from,to,depart,until\n", "refused input jobs 1 BadHeader\n"),
+    (
+        "vehicle,from,to,depart,until\nany,1,3,26563680\n",
+        "refused input jobs 2 FieldCount\n",
+    ),
+    (
+        "vehicle,from,to,depart,until\n,1,3,26563680,26564080\n",
+        "refused input jobs 2 BadField\n",
+    ),
+    (
+        "vehicle,from,to,depart,until\nany,1,4294967296,26563680,26564080\n",
+        "refused input jobs 2 BadField\n",
+    ),
+    (
+        "vehicle,from,to,depart,until\nany,1,3,26563680,26564080\nany,1,3,026563680,26564080\n",
+        "refused input jobs 3 BadField\n",
+    ),
+];
 
 #[test]
 fn refuses_a_table_of_jobs_by_its_first_fault(rt: HostRuntime) -> Result<(), Fail> {
-    let cases = [
-        ("from,to,depart,until\n", "1 BadHeader"),
-        (
-            "vehicle,from,to,depart,until\nany,1,3,26563680\n",
-            "2 FieldCount",
-        ),
-        (
-            "vehicle,from,to,depart,until\n,1,3,26563680,26564080\n",
-            "2 BadField",
-        ),
-        (
-            "vehicle,from,to,depart,until\nany,1,4294967296,26563680,26564080\n",
-            "2 BadField",
-        ),
-        (
-            "vehicle,from,to,depart,until\nany,1,3,26563680,26564080\nany,1,3,026563680,26564080\n",
-            "3 BadField",
-        ),
-    ];
-    for (jobs, fault) in cases {
-        let text = format!(in rt.alloc(); "refused input jobs {fault}\n")?;
+    for (jobs, text) in REFUSED {
         let case = Case {
-            more: &[("d/jobs.csv", jobs)],
+            more: &[("d/jobs.csv", *jobs)],
             words: "batch d jobs.csv",
             status: Status::BadInput,
-            text: text.as_str(),
+            text: *text,
         };
         expect(&rt, NETWORK, case)?;
     }

@@ -1,7 +1,6 @@
 // Certificates: written by a plan, and judged.
-use super::{Case, NETWORK, TWO_PAIRS, expect, sure_folder, words_of};
-use front_desk::run;
-use route_base::{Status, SureFolder, SureSink};
+use super::{Case, NETWORK, TWO_PAIRS, expect, run_to, sure_folder};
+use route_base::{Status, SureFolder};
 use std::process::Abort;
 use std::test::Fail;
 use std::thread::Threads;
@@ -30,82 +29,84 @@ const ONE_PAIR: &str = "pairs 1\npair 26563920 360000 3\ndrive 1\nwait 120\ndriv
 const LONG_WAIT: &str =
     "pairs 2\npair 26563920 360000 3\ndrive 1\nwait 120968639\ndrive 2\npair 26563980 300000 1\ndrive 3\n";
 
+// The parts of certificates, and what they are judged to be.
+const JUDGED: &[(&str, &str, &str, &str, &str)] = &[
+    (PAIRS, BOUNDS, PIECES, "end\n", "accepted 2\n"),
+    (
+        PAIRS,
+        "bounds 3\nbound 1 0120 120000\nbound 2 60 60000\nbound 3 0 0\n",
+        PIECES,
+        "end\n",
+        "rejected 0\n",
+    ),
+    (
+        "pairs 4398046511104\n",
+        BOUNDS,
+        PIECES,
+        "end\n",
+        "rejected 0\n",
+    ),
+    (PAIRS, BOUNDS, PIECES, "", "rejected 0\n"),
+    (PAIRS, BOUNDS, PIECES, "end", "rejected 0\n"),
+    (PAIRS, BOUNDS, PIECES, "end\nend\n", "rejected 0\n"),
+    (EXCHANGED, BOUNDS, PIECES, "end\n", "rejected 1\n"),
+    (CHEAPER, BOUNDS, PIECES, "end\n", "rejected 2\n"),
+    (LONG_WAIT, BOUNDS, PIECES, "end\n", "rejected 2\n"),
+    (
+        PAIRS,
+        "bounds 3\nbound 1 121 120000\nbound 2 60 60000\nbound 3 0 0\n",
+        PIECES,
+        "end\n",
+        "rejected 3\n",
+    ),
+    (
+        PAIRS,
+        "bounds 4\nbound 1 120 120000\nbound 2 60 60000\nbound 3 0 0\nbound 500000 0 0\n",
+        PIECES,
+        "end\n",
+        "rejected 3\n",
+    ),
+    (
+        PAIRS,
+        BOUNDS,
+        "pieces 1\npiece 2 26563740 26563859 60000 2000\n",
+        "end\n",
+        "rejected 4\n",
+    ),
+    (ONE_PAIR, BOUNDS, PIECES, "end\n", "rejected 5\n"),
+    (
+        PAIRS,
+        BOUNDS,
+        "pieces 1\npiece 1 26563680 26563680 0 0\n",
+        "end\n",
+        "rejected 5\n",
+    ),
+    (
+        PAIRS,
+        BOUNDS,
+        "pieces 2\npiece 1 26563680 26563680 0 0\npiece 2 26563740 26563740 60000 0\n",
+        "end\n",
+        "rejected 5\n",
+    ),
+    (
+        PAIRS,
+        BOUNDS,
+        "pieces 2\npiece 1 0 120968639 0 0\npiece 2 26563740 26563859 60000 2000\n",
+        "end\n",
+        "rejected 5\n",
+    ),
+    (
+        PAIRS,
+        BOUNDS,
+        "pieces 3\npiece 1 26563680 26563680 0 0\npiece 2 26563740 26563859 60000 2000\npiece 3 26563970 26563970 100 0\n",
+        "end\n",
+        "rejected 6\n",
+    ),
+];
+
 #[test]
 fn judges_certificates(rt: HostRuntime) -> Result<(), Fail> {
-    let cases = [
-        (PAIRS, BOUNDS, PIECES, "end\n", "accepted 2\n"),
-        (
-            PAIRS,
-            "bounds 3\nbound 1 0120 120000\nbound 2 60 60000\nbound 3 0 0\n",
-            PIECES,
-            "end\n",
-            "rejected 0\n",
-        ),
-        (
-            "pairs 4398046511104\n",
-            BOUNDS,
-            PIECES,
-            "end\n",
-            "rejected 0\n",
-        ),
-        (PAIRS, BOUNDS, PIECES, "", "rejected 0\n"),
-        (PAIRS, BOUNDS, PIECES, "end", "rejected 0\n"),
-        (PAIRS, BOUNDS, PIECES, "end\nend\n", "rejected 0\n"),
-        (EXCHANGED, BOUNDS, PIECES, "end\n", "rejected 1\n"),
-        (CHEAPER, BOUNDS, PIECES, "end\n", "rejected 2\n"),
-        (LONG_WAIT, BOUNDS, PIECES, "end\n", "rejected 2\n"),
-        (
-            PAIRS,
-            "bounds 3\nbound 1 121 120000\nbound 2 60 60000\nbound 3 0 0\n",
-            PIECES,
-            "end\n",
-            "rejected 3\n",
-        ),
-        (
-            PAIRS,
-            "bounds 4\nbound 1 120 120000\nbound 2 60 60000\nbound 3 0 0\nbound 500000 0 0\n",
-            PIECES,
-            "end\n",
-            "rejected 3\n",
-        ),
-        (
-            PAIRS,
-            BOUNDS,
-            "pieces 1\npiece 2 26563740 26563859 60000 2000\n",
-            "end\n",
-            "rejected 4\n",
-        ),
-        (ONE_PAIR, BOUNDS, PIECES, "end\n", "rejected 5\n"),
-        (
-            PAIRS,
-            BOUNDS,
-            "pieces 1\npiece 1 26563680 26563680 0 0\n",
-            "end\n",
-            "rejected 5\n",
-        ),
-        (
-            PAIRS,
-            BOUNDS,
-            "pieces 2\npiece 1 26563680 26563680 0 0\npiece 2 26563740 26563740 60000 0\n",
-            "end\n",
-            "rejected 5\n",
-        ),
-        (
-            PAIRS,
-            BOUNDS,
-            "pieces 2\npiece 1 0 120968639 0 0\npiece 2 26563740 26563859 60000 2000\n",
-            "end\n",
-            "rejected 5\n",
-        ),
-        (
-            PAIRS,
-            BOUNDS,
-            "pieces 3\npiece 1 26563680 26563680 0 0\npiece 2 26563740 26563859 60000 2000\npiece 3 26563970 26563970 100 0\n",
-            "end\n",
-            "rejected 6\n",
-        ),
-    ];
-    for (pairs, bounds, pieces, end, text) in cases {
+    for (pairs, bounds, pieces, end, text) in JUDGED {
         let certificate = format!(in rt.alloc();
             "lorry-certificate 1\n{pairs}{bounds}{pieces}{end}"
         )?;
@@ -117,7 +118,7 @@ fn judges_certificates(rt: HostRuntime) -> Result<(), Fail> {
             } else {
                 Status::Rejected
             },
-            text,
+            text: *text,
         };
         expect(&rt, NETWORK, case)?;
     }
@@ -132,30 +133,41 @@ fn expect_over<R: Abort + Threads + Sync + AllocGlobal>(
     status: Status,
     text: &str,
 ) -> Result<(), Fail> {
-    let words = words_of(rt.alloc(), line)?;
-    let mut sink = SureSink::new(rt.alloc());
-    let ended = run(rt, rt.alloc(), words.as_slice(), folder, &mut sink);
-    assert_eq!(rt; ended, status, "{line:?}");
-    assert_eq!(rt; sink.written(), text.as_bytes(), "{line:?}");
+    let (ended, same) = run_to(rt, folder, line, text)?;
+    assert!(rt; ended == status && same, "{line:?}: {ended:?}");
     Ok(())
 }
+
+// The certificate of one trip is none of another's, and the request is checked before the certificate is read.
+const LATER: &str = "check d any 1 3 26563681 26564080 c.cert";
+
+const ORIGIN: &str = "check d any 0 3 26563680 26564080 c.cert";
+
+// A trip without a lawful itinerary has a certificate too.
+const CERTIFY_NONE: &str = "plan d any 1 3 26563680 26563700 --certificate none.cert";
+
+const CHECK_NONE: &str = "check d any 1 3 26563680 26563700 none.cert";
+
+// Runs one after another over one folder.
+const RUNS: &[(&str, Status, &str)] = &[
+    (
+        CHECK,
+        Status::BadInput,
+        "refused input certificate 0 Missing\n",
+    ),
+    (CERTIFY, Status::Done, TWO_PAIRS),
+    (CHECK, Status::Done, "accepted 2\n"),
+    (LATER, Status::Rejected, "rejected 2\n"),
+    (ORIGIN, Status::BadRequest, "refused request OriginRange\n"),
+    (CERTIFY_NONE, Status::Done, "pairs 0\n"),
+    (CHECK_NONE, Status::Done, "accepted 0\n"),
+];
 
 #[test]
 fn accepts_what_a_plan_certifies(rt: HostRuntime) -> Result<(), Fail> {
     let mut folder = sure_folder(rt.alloc(), NETWORK)?;
-    let missing = "refused input certificate 0 Missing\n";
-    expect_over(&rt, &mut folder, CHECK, Status::BadInput, missing)?;
-    expect_over(&rt, &mut folder, CERTIFY, Status::Done, TWO_PAIRS)?;
-    expect_over(&rt, &mut folder, CHECK, Status::Done, "accepted 2\n")?;
-    // The certificate of one trip is none of another's, and the request is checked before the certificate is read.
-    let later = "check d any 1 3 26563681 26564080 c.cert";
-    expect_over(&rt, &mut folder, later, Status::Rejected, "rejected 2\n")?;
-    let origin = "check d any 0 3 26563680 26564080 c.cert";
-    let refused = "refused request OriginRange\n";
-    expect_over(&rt, &mut folder, origin, Status::BadRequest, refused)?;
-    // A trip without a lawful itinerary has a certificate too.
-    let early = "plan d any 1 3 26563680 26563700 --certificate none.cert";
-    expect_over(&rt, &mut folder, early, Status::Done, "pairs 0\n")?;
-    let none = "check d any 1 3 26563680 26563700 none.cert";
-    expect_over(&rt, &mut folder, none, Status::Done, "accepted 0\n")
+    for (line, status, text) in RUNS {
+        expect_over(&rt, &mut folder, line, *status, text)?;
+    }
+    Ok(())
 }

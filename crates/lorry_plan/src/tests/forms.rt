@@ -1,6 +1,5 @@
 // The forms of a report, and where the option for them may stand.
-use super::{Case, NETWORK, TRIP, TWO_PAIRS, expect};
-use route_base::Status;
+use super::{NETWORK, TRIP, TWO_PAIRS, expect_texts};
 use std::test::Fail;
 
 const TABLE: &str = "routes 2\nroute 1 arrive 2020-07-04T04:00Z cost 360.000\n\
@@ -17,30 +16,23 @@ const JSON: &str =
 {\"kind\":\"wait\",\"minutes\":120},{\"arc\":2,\"kind\":\"drive\"}]},\
 {\"arrival\":26563980,\"cost\":300000,\"legs\":[{\"arc\":3,\"kind\":\"drive\"}]}]}\n";
 
+// Words, and their answers.
+const FORMS: &[(&str, &str)] = &[
+    (TRIP, TWO_PAIRS),
+    ("plan d any 1 3 26563680 26564080 --form plain", TWO_PAIRS),
+    ("plan d any --form=table 1 3 26563680 26564080", TABLE),
+    ("plan --form csv d any 1 3 26563680 26564080", CSV),
+    (
+        "plan d any 1 3 26563680 --certificate=c.cert 26564080 --form json",
+        JSON,
+    ),
+    (
+        "plan d any 1 3 26563680 26563700 --form=json",
+        "{\"pairs\":[]}\n",
+    ),
+];
+
 #[test]
 fn prints_each_form(rt: HostRuntime) -> Result<(), Fail> {
-    let cases = [
-        (TRIP, TWO_PAIRS),
-        ("plan d any 1 3 26563680 26564080 --form plain", TWO_PAIRS),
-        ("plan d any --form=table 1 3 26563680 26564080", TABLE),
-        ("plan --form csv d any 1 3 26563680 26564080", CSV),
-        (
-            "plan d any 1 3 26563680 --certificate=c.cert 26564080 --form json",
-            JSON,
-        ),
-        (
-            "plan d any 1 3 26563680 26563700 --form=json",
-            "{\"pairs\":[]}\n",
-        ),
-    ];
-    for (words, text) in cases {
-        let case = Case {
-            more: &[],
-            words,
-            status: Status::Done,
-            text,
-        };
-        expect(&rt, NETWORK, case)?;
-    }
-    Ok(())
+    expect_texts(&rt, NETWORK, &[], FORMS)
 }

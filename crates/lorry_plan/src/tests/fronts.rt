@@ -1,140 +1,129 @@
 // Pareto fronts over the triangle: one way, a wait against a detour, and closures at their ends.
-use super::{CLOSED, Case, GRAPH, NETWORK, ONE_PAIR, TRIP, TWO_PAIRS, expect};
-use route_base::Status;
+use super::{CLOSED, GRAPH, NETWORK, ONE_PAIR, TRIP, TWO_PAIRS, expect_texts};
 use std::test::Fail;
 
 const STRAIGHT: &str = "pairs 1\npair 26563980 300.000\ndrive 3\n";
 
 const FIRST_ARC: &str = "pairs 1\npair 26563740 60.000\ndrive 1\n";
 
+// Words, and their answers over the graph alone.
+const TRIPS: &[(&str, &str)] = &[
+    (TRIP, ONE_PAIR),
+    (
+        "plan d any 1 1 26563680 26563680",
+        "pairs 1\npair 26563680 0.000\n",
+    ),
+    ("plan d any 1 3 26563680 26563800", ONE_PAIR),
+    ("plan d any 1 3 26563680 26563799", "pairs 0\n"),
+    ("plan d any 3 1 26563680 26564080", "pairs 0\n"),
+    ("plan d any 1 3 26563680 26563680", "pairs 0\n"),
+    (
+        "plan d any 1 2 525600 525660",
+        "pairs 1\npair 525660 60.000\ndrive 1\n",
+    ),
+    (
+        "plan d any 1 3 120968519 120968639",
+        "pairs 1\npair 120968639 120.000\ndrive 1\ndrive 2\n",
+    ),
+    ("plan d any 1 3 26563680 26650080", ONE_PAIR),
+];
+
 #[test]
 fn plans_trips_over_a_graph_alone(rt: HostRuntime) -> Result<(), Fail> {
-    let cases = [
-        (TRIP, ONE_PAIR),
-        (
-            "plan d any 1 1 26563680 26563680",
-            "pairs 1\npair 26563680 0.000\n",
-        ),
-        ("plan d any 1 3 26563680 26563800", ONE_PAIR),
-        ("plan d any 1 3 26563680 26563799", "pairs 0\n"),
-        ("plan d any 3 1 26563680 26564080", "pairs 0\n"),
-        ("plan d any 1 3 26563680 26563680", "pairs 0\n"),
-        (
-            "plan d any 1 2 525600 525660",
-            "pairs 1\npair 525660 60.000\ndrive 1\n",
-        ),
-        (
-            "plan d any 1 3 120968519 120968639",
-            "pairs 1\npair 120968639 120.000\ndrive 1\ndrive 2\n",
-        ),
-        ("plan d any 1 3 26563680 26650080", ONE_PAIR),
-    ];
-    for (words, text) in cases {
-        let case = Case {
-            more: &[],
-            words,
-            status: Status::Done,
-            text,
-        };
-        expect(&rt, GRAPH, case)?;
-    }
-    Ok(())
+    expect_texts(&rt, GRAPH, &[], TRIPS)
 }
+
+const SHORTLY: &str = "plan d any 1 2 26563680 26563780";
+
+// A file beside those of the network, words, and their answer.
+const ROUND: &[(&str, &str, &str, &str)] = &[
+    ("d/closures.csv", CLOSED, TRIP, TWO_PAIRS),
+    (
+        "d/closures.csv",
+        CLOSED,
+        "plan d any 1 3 26563680 26650080",
+        TWO_PAIRS,
+    ),
+    // The detour is cheaper than the straight way, and earlier.
+    (
+        "d/ratings.csv",
+        "rating,weight\nr,0.5\n",
+        TRIP,
+        "pairs 1\npair 26563920 180.000\ndrive 1\nwait 120\ndrive 2\n",
+    ),
+    // An arrival in the last minute counts.
+    (
+        "d/closures.csv",
+        CLOSED,
+        "plan d any 1 3 26563680 26563920",
+        "pairs 1\npair 26563920 360.000\ndrive 1\nwait 120\ndrive 2\n",
+    ),
+    (
+        "d/closures.csv",
+        CLOSED,
+        "plan d any 1 3 26563680 26563919",
+        "pairs 0\n",
+    ),
+    (
+        "d/closures.csv",
+        CLOSED,
+        "plan d any 1 1 26563680 26563680",
+        "pairs 1\npair 26563680 0.000\n",
+    ),
+    // A closure that begins as the drive ends doesn't touch it; one of its last minute does.
+    (
+        "d/closures.csv",
+        "arc,from,to\n1,26563740,26563770\n",
+        SHORTLY,
+        FIRST_ARC,
+    ),
+    (
+        "d/closures.csv",
+        "arc,from,to\n1,26563739,26563740\n",
+        SHORTLY,
+        "pairs 0\n",
+    ),
+    // One that ends at the departure doesn't touch the drive either.
+    (
+        "d/closures.csv",
+        "arc,from,to\n1,26563620,26563680\n",
+        SHORTLY,
+        FIRST_ARC,
+    ),
+    (
+        "d/closures.csv",
+        "arc,from,to\n1,26563680,26563681\n",
+        SHORTLY,
+        "pairs 0\n",
+    ),
+    // Without a rated node on the way there's no waiting, nor where the first arc is closed too.
+    ("d/parking.csv", "", TRIP, STRAIGHT),
+    ("d/parking.csv", "node,rating\n3,r\n", TRIP, STRAIGHT),
+    (
+        "d/closures.csv",
+        "arc,from,to\n2,26563740,26563860\n1,26563700,26563710\n",
+        TRIP,
+        STRAIGHT,
+    ),
+    // Two hours at the least weight there is, and at the largest.
+    (
+        "d/ratings.csv",
+        "rating,weight\nr,0.001\n",
+        TRIP,
+        "pairs 1\npair 26563920 120.120\ndrive 1\nwait 120\ndrive 2\n",
+    ),
+    (
+        "d/ratings.csv",
+        "rating,weight\nr,100\n",
+        TRIP,
+        "pairs 2\npair 26563920 12120.000\ndrive 1\nwait 120\ndrive 2\npair 26563980 300.000\ndrive 3\n",
+    ),
+];
 
 #[test]
 fn waits_and_drives_round_closures(rt: HostRuntime) -> Result<(), Fail> {
-    let shortly = "plan d any 1 2 26563680 26563780";
-    let cases = [
-        ("d/closures.csv", CLOSED, TRIP, TWO_PAIRS),
-        (
-            "d/closures.csv",
-            CLOSED,
-            "plan d any 1 3 26563680 26650080",
-            TWO_PAIRS,
-        ),
-        // The detour is cheaper than the straight way, and earlier.
-        (
-            "d/ratings.csv",
-            "rating,weight\nr,0.5\n",
-            TRIP,
-            "pairs 1\npair 26563920 180.000\ndrive 1\nwait 120\ndrive 2\n",
-        ),
-        // An arrival in the last minute counts.
-        (
-            "d/closures.csv",
-            CLOSED,
-            "plan d any 1 3 26563680 26563920",
-            "pairs 1\npair 26563920 360.000\ndrive 1\nwait 120\ndrive 2\n",
-        ),
-        (
-            "d/closures.csv",
-            CLOSED,
-            "plan d any 1 3 26563680 26563919",
-            "pairs 0\n",
-        ),
-        (
-            "d/closures.csv",
-            CLOSED,
-            "plan d any 1 1 26563680 26563680",
-            "pairs 1\npair 26563680 0.000\n",
-        ),
-        // A closure that begins as the drive ends doesn't touch it; one of its last minute does.
-        (
-            "d/closures.csv",
-            "arc,from,to\n1,26563740,26563770\n",
-            shortly,
-            FIRST_ARC,
-        ),
-        (
-            "d/closures.csv",
-            "arc,from,to\n1,26563739,26563740\n",
-            shortly,
-            "pairs 0\n",
-        ),
-        // One that ends at the departure doesn't touch the drive either.
-        (
-            "d/closures.csv",
-            "arc,from,to\n1,26563620,26563680\n",
-            shortly,
-            FIRST_ARC,
-        ),
-        (
-            "d/closures.csv",
-            "arc,from,to\n1,26563680,26563681\n",
-            shortly,
-            "pairs 0\n",
-        ),
-        // Without a rated node on the way there's no waiting, nor where the first arc is closed too.
-        ("d/parking.csv", "", TRIP, STRAIGHT),
-        ("d/parking.csv", "node,rating\n3,r\n", TRIP, STRAIGHT),
-        (
-            "d/closures.csv",
-            "arc,from,to\n2,26563740,26563860\n1,26563700,26563710\n",
-            TRIP,
-            STRAIGHT,
-        ),
-        // Two hours at the least weight there is, and at the largest.
-        (
-            "d/ratings.csv",
-            "rating,weight\nr,0.001\n",
-            TRIP,
-            "pairs 1\npair 26563920 120.120\ndrive 1\nwait 120\ndrive 2\n",
-        ),
-        (
-            "d/ratings.csv",
-            "rating,weight\nr,100\n",
-            TRIP,
-            "pairs 2\npair 26563920 12120.000\ndrive 1\nwait 120\ndrive 2\npair 26563980 300.000\ndrive 3\n",
-        ),
-    ];
-    for (file, table, words, text) in cases {
-        let case = Case {
-            more: &[(file, table)],
-            words,
-            status: Status::Done,
-            text,
-        };
-        expect(&rt, NETWORK, case)?;
+    for (file, table, words, text) in ROUND {
+        expect_texts(&rt, NETWORK, &[(*file, *table)], &[(*words, *text)])?;
     }
     Ok(())
 }
@@ -146,11 +135,6 @@ fn prints_no_later_arrival_of_the_same_cost(rt: HostRuntime) -> Result<(), Fail>
         ("d/ratings.csv", "rating,weight\nz,0\n"),
         ("d/parking.csv", "node,rating\n1,z\n"),
     ];
-    let case = Case {
-        more: &[],
-        words: "plan d any 1 2 26563680 26564080",
-        status: Status::Done,
-        text: FIRST_ARC,
-    };
-    expect(&rt, &free, case)
+    let answer = [("plan d any 1 2 26563680 26564080", FIRST_ARC)];
+    expect_texts(&rt, &free, &[], &answer)
 }

@@ -1,7 +1,7 @@
 // Workers that are at work at once, seen by a gate at which each looks for another.
 use super::{NETWORK, TRIP, Texts, put_files, sure_folder, words_of};
 use front_desk::run_gated;
-use route_base::{Gate, Status, SureSink};
+use route_base::{Gate, OutOfMemory, Status, SureFolder, SureSink};
 use std::process::Abort;
 use std::sync::atomic::{AtomicU64, Ordering};
 use std::test::Fail;
@@ -29,6 +29,39 @@ impl Gate for Meeting {
     }
 }
 
+// Runs the words over the folder and its workers past the gate: the status, and whether the whole text is this one.
+fn run_meeting<R: Threads + Sync + AllocGlobal>(
+    rt: &R,
+    folder: &mut SureFolder,
+    line: &str,
+    text: &str,
+    gate: &Meeting,
+) -> Result<(Status, bool), OutOfMemory> {
+    let words = words_of(rt.alloc(), line)?;
+    let mut sink = SureSink::new(rt.alloc());
+    let ended = run_gated(rt, rt.alloc(), words.as_slice(), folder, &mut sink, gate);
+    Ok((ended, sink.written() == text.as_bytes()))
+}
+
+// Runs the words over the network and these files: the status, whether the whole text is this one, how many workers come, and
+// how many of them are alone.
+fn run_counted<R: Threads + Sync + AllocGlobal>(
+    rt: &R,
+    more: Texts<'_>,
+    line: &str,
+    text: &str,
+) -> Result<(Status, bool, u64, u64), OutOfMemory> {
+    let gate = Meeting {
+        come: AtomicU64::new(0),
+        alone: AtomicU64::new(0),
+    };
+    let mut folder = sure_folder(rt.alloc(), NETWORK)?;
+    put_files(&mut folder, more)?;
+    let (ended, same) = run_meeting(rt, &mut folder, line, text, &gate)?;
+    let come = gate.come.load(Ordering::SeqCst);
+    Ok((ended, same, come, gate.alone.load(Ordering::SeqCst)))
+}
+
 // Runs the words over the network and these files: at least two workers come, and none of them is alone.
 fn expect_meeting<R: Abort + Threads + Sync + AllocGlobal>(
     rt: &R,
@@ -36,29 +69,11 @@ fn expect_meeting<R: Abort + Threads + Sync + AllocGlobal>(
     line: &str,
     text: &str,
 ) -> Result<(), Fail> {
-    let words = words_of(rt.alloc(), line)?;
-    let mut folder = sure_folder(rt.alloc(), NETWORK)?;
-    put_files(&mut folder, more)?;
-    let mut sink = SureSink::new(rt.alloc());
-    let gate = Meeting {
-        come: AtomicU64::new(0),
-        alone: AtomicU64::new(0),
-    };
-    let ended = run_gated(
-        rt,
-        rt.alloc(),
-        words.as_slice(),
-        &mut folder,
-        &mut sink,
-        &gate,
-    );
-    assert_eq!(rt; ended, Status::Done, "{line}");
-    assert_eq!(rt; sink.written(), text.as_bytes(), "{line}");
-    assert!(rt; gate.come.load(Ordering::SeqCst) >= 2, "{line}: one part");
-    assert_eq!(rt;
-        gate.alone.load(Ordering::SeqCst),
-        0,
-        "{line}: one after another"
+    let (ended, same, come, alone) = run_counted(rt, more, line, text)?;
+    assert!(rt; ended == Status::Done && same, "{line}: {ended:?}");
+    assert!(rt;
+        come >= 2 && alone == 0,
+        "{line}: {come} parts, {alone} one after another"
     );
     Ok(())
 }

@@ -52,44 +52,49 @@ fn triangle(alloc: Global) -> Result<TimedNet, OutOfMemory>
     Ok(TimedNet::new(3, arcs, closed, weights))
 }
 
+const REQUEST: Request = Request {
+    origin: NodeId(1),
+    goal: NodeId(3),
+    depart: 26_563_680,
+    until: 26_563_980,
+};
+
+const WAITED: Pair = Pair {
+    arrival: 26_563_920,
+    cost: 360_000,
+};
+
+const DIRECT: Pair = Pair {
+    arrival: 26_563_980,
+    cost: 300_000,
+};
+
+// Legs, and what they come to.
+const CASES: &[(&[Leg], Result<Pair, NotLawful>)] = &[
+    (&[FIRST, Leg::Wait(120), SECOND], Ok(WAITED)),
+    (&[STRAIGHT], Ok(DIRECT)),
+    (&[FIRST, SECOND], Err(NotLawful { index: 1 })),
+    (
+        &[FIRST, Leg::Wait(119), SECOND],
+        Err(NotLawful { index: 2 }),
+    ),
+    (
+        &[FIRST, Leg::Wait(181), SECOND],
+        Err(NotLawful { index: 2 }),
+    ),
+    (&[FIRST, Leg::Wait(0), SECOND], Err(NotLawful { index: 1 })),
+    (&[Leg::Wait(1), STRAIGHT], Err(NotLawful { index: 0 })),
+    (&[SECOND], Err(NotLawful { index: 0 })),
+    (&[FOURTH], Err(NotLawful { index: 0 })),
+    (&[FIRST], Err(NotLawful { index: 1 })),
+    (&[], Err(NotLawful { index: 0 })),
+];
+
 #[test]
 fn replays_legs(rt: HostRuntime) -> Result<(), Fail> {
     let net = triangle(rt.alloc())?;
-    let request = Request {
-        origin: NodeId(1),
-        goal: NodeId(3),
-        depart: 26_563_680,
-        until: 26_563_980,
-    };
-    let waited = Pair {
-        arrival: 26_563_920,
-        cost: 360_000,
-    };
-    let direct = Pair {
-        arrival: 26_563_980,
-        cost: 300_000,
-    };
-    let cases: [(&[Leg], Result<Pair, NotLawful>); 11] = [
-        (&[FIRST, Leg::Wait(120), SECOND], Ok(waited)),
-        (&[STRAIGHT], Ok(direct)),
-        (&[FIRST, SECOND], Err(NotLawful { index: 1 })),
-        (
-            &[FIRST, Leg::Wait(119), SECOND],
-            Err(NotLawful { index: 2 }),
-        ),
-        (
-            &[FIRST, Leg::Wait(181), SECOND],
-            Err(NotLawful { index: 2 }),
-        ),
-        (&[FIRST, Leg::Wait(0), SECOND], Err(NotLawful { index: 1 })),
-        (&[Leg::Wait(1), STRAIGHT], Err(NotLawful { index: 0 })),
-        (&[SECOND], Err(NotLawful { index: 0 })),
-        (&[FOURTH], Err(NotLawful { index: 0 })),
-        (&[FIRST], Err(NotLawful { index: 1 })),
-        (&[], Err(NotLawful { index: 0 })),
-    ];
-    for (legs, want) in cases {
-        assert_eq!(rt; replay(&net, request, legs), want, "{legs:?}");
+    for (legs, want) in CASES {
+        assert_eq!(rt; replay(&net, REQUEST, legs), *want, "{legs:?}");
     }
     Ok(())
 }

@@ -1,9 +1,10 @@
 // Whole files and the lists, each with memory to spare.
-use super::{NETWORK, TRIP, TWO_PAIRS, expect_whole, sure_folder, words_of};
-use front_desk::run;
+use super::{NETWORK, TRIP, TWO_PAIRS, expect_whole, run_to, sure_folder};
 use route_base::{
-    Bound, Bounds, DripFolder, Folder, Listing, NodeId, ReadAllFault, Status, SureSink,
+    Bound, Bounds, DripFolder, Folder, Listing, NodeId, OutOfMemory, ReadAllFault, Status,
+    SureFolder,
 };
+use std::alloc::Global;
 use std::test::Fail;
 
 #[test]
@@ -23,16 +24,29 @@ fn reads_whole_files(rt: HostRuntime) -> Result<(), Fail> {
     Ok(())
 }
 
+// A text of 200,000 letters.
+fn long_text(alloc: Global) -> Result<String, Fail> {
+    let mut text = String::new(alloc);
+    for i in 0..200_000u32 {
+        text.push((b'a' + (i % 26) as u8) as char)?;
+    }
+    Ok(text)
+}
+
+// Whether the file abc is there with its name as its text, and the file ab isn't.
+fn has_abc_alone(folder: &SureFolder) -> bool {
+    match folder.contents("abc") {
+        Some(bytes) => bytes == b"abc".as_slice() && folder.contents("ab").is_none(),
+        None => false,
+    }
+}
+
 #[test]
 fn reads_files_of_several_parts(rt: HostRuntime) -> Result<(), Fail> {
+    let long = long_text(rt.alloc())?;
     let mut folder = sure_folder(rt.alloc(), &[("abc", "abc")])?;
-    let mut long = String::new(rt.alloc());
-    for i in 0..200_000u32 {
-        long.push((b'a' + (i % 26) as u8) as char)?;
-    }
-    assert!(rt; folder.write_file("long", long.as_bytes()).is_ok());
-    assert_eq!(rt; folder.contents("abc"), Some(b"abc".as_slice()));
-    assert_eq!(rt; folder.contents("ab"), None);
+    let written = folder.write_file("long", long.as_bytes()).is_ok();
+    assert!(rt; written && has_abc_alone(&folder));
     expect_whole(&rt, &mut folder, "long", 200_000, Ok(long.as_str()));
     expect_whole(
         &rt,
@@ -47,33 +61,40 @@ fn reads_files_of_several_parts(rt: HostRuntime) -> Result<(), Fail> {
 #[test]
 fn plans_over_files_that_come_in_drops(rt: HostRuntime) -> Result<(), Fail> {
     for most in [1, 2, 7] {
-        let words = words_of(rt.alloc(), TRIP)?;
         let mut folder = DripFolder::new(sure_folder(rt.alloc(), NETWORK)?, most);
-        let mut sink = SureSink::new(rt.alloc());
-        let ended = run(&rt, rt.alloc(), words.as_slice(), &mut folder, &mut sink);
-        assert_eq!(rt; ended, Status::Done, "{most} at once");
-        assert_eq!(rt; sink.written(), TWO_PAIRS.as_bytes(), "{most} at once");
+        let (ended, same) = run_to(&rt, &mut folder, TRIP, TWO_PAIRS)?;
+        assert!(rt; ended == Status::Done && same, "{most} at once: {ended:?}");
     }
     Ok(())
 }
 
-#[test]
-fn lists_grow(rt: HostRuntime) -> Result<(), Fail> {
-    let mut items = Listing::new(rt.alloc());
+// Whether a list with the numbers 7 and 9 has both, and nothing behind them.
+fn keeps_two_numbers(alloc: Global) -> Result<bool, OutOfMemory> {
+    let mut items = Listing::new(alloc);
     items.push(7u64)?;
     items.push(9)?;
-    assert_eq!(rt; items.len(), 2);
-    assert_eq!(rt; items.get(1).copied(), Some(9));
-    assert_eq!(rt; items.get(2).copied(), None);
+    let (second, third) = (items.get(1).copied(), items.get(2).copied());
+    Ok(items.len() == 2 && second == Some(9) && third == None)
+}
+
+// The bounds of two nodes, of which the first has none.
+fn two_bounds(alloc: Global, second: Bound) -> Result<Bounds, OutOfMemory> {
+    let mut bounds = Bounds::new(alloc);
+    bounds.push(None)?;
+    bounds.push(Some(second))?;
+    Ok(bounds)
+}
+
+#[test]
+fn lists_grow(rt: HostRuntime) -> Result<(), Fail> {
+    assert!(rt; keeps_two_numbers(rt.alloc())?);
     let far = Bound {
         minutes: 60,
         cost: 60_000,
     };
-    let mut bounds = Bounds::new(rt.alloc());
-    bounds.push(None)?;
-    bounds.push(Some(far))?;
+    let bounds = two_bounds(rt.alloc(), far)?;
     for (node, bound) in [(0, None), (1, None), (2, Some(far)), (3, None)] {
-        assert_eq!(rt; bounds.get(NodeId(node)), bound, "node {node}");
+        assert!(rt; bounds.get(NodeId(node)) == bound, "node {node}");
     }
     Ok(())
 }

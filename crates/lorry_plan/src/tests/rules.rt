@@ -76,6 +76,45 @@ fn closes_roads_at_local_hours(rt: HostRuntime) -> Result<(), Fail> {
     expect_answers(&rt, &cet, night, &answers)
 }
 
+const OPEN: &str = "bans 0\npassed 0\n";
+
+const CLOSED: &str = "bans 1\nclosed 2020-07-04T00:00Z 2020-07-04T00:10Z\npassed 0\n";
+
+// Rules of holidays and of vehicles, each with words and their answers.
+const RULES: &[(&str, Texts<'static>)] = &[
+    (
+        "area:default,hgv:conditional,no @ (Mo-Fr 22:00-06:00; PH off)\narc:1,maxspeed,80\n",
+        &[(
+            "bans d any 1 2020-07-08T12:00Z 2020-07-10T12:00Z",
+            "bans 1\nclosed 2020-07-08T22:00Z 2020-07-09T06:00Z\npassed 1\n",
+        )],
+    ),
+    (
+        "arc:1,hgv:conditional,no @ (weight>7.5 AND Sa 07:00-20:00)\n",
+        &[
+            ("bans d v1 1 2020-07-04T00:00Z 2020-07-05T00:00Z", OPEN),
+            (
+                "bans d v2 1 2020-07-04T00:00Z 2020-07-05T00:00Z",
+                "bans 1\nclosed 2020-07-04T07:00Z 2020-07-04T20:00Z\npassed 0\n",
+            ),
+        ],
+    ),
+    (
+        "area:default,access:conditional,no @ (24/7)\narc:1,hgv,yes\n",
+        &[
+            ("bans d any 1 26563680 26563690", OPEN),
+            ("bans d coach 1 26563680 26563690", CLOSED),
+        ],
+    ),
+    (
+        "area:default,access,no\narc:1,vehicle,destination\n",
+        &[
+            ("bans d van 1 26563680 26563690", OPEN),
+            ("bans d any 1 26563680 26563690", CLOSED),
+        ],
+    ),
+];
+
 #[test]
 fn closes_roads_by_holiday_and_by_vehicle(rt: HostRuntime) -> Result<(), Fail> {
     let base = [
@@ -83,36 +122,10 @@ fn closes_roads_by_holiday_and_by_vehicle(rt: HostRuntime) -> Result<(), Fail> {
         ("d/vehicles.csv", VEHICLES),
         ("d/holidays.csv", "area,kind,date\ndefault,PH,2020-07-09\n"),
     ];
-    let closed = "bans 1\nclosed 2020-07-04T00:00Z 2020-07-04T00:10Z\npassed 0\n";
-    let open = "bans 0\npassed 0\n";
-    let nights =
-        "area:default,hgv:conditional,no @ (Mo-Fr 22:00-06:00; PH off)\narc:1,maxspeed,80\n";
-    let answers = [(
-        "bans d any 1 2020-07-08T12:00Z 2020-07-10T12:00Z",
-        "bans 1\nclosed 2020-07-08T22:00Z 2020-07-09T06:00Z\npassed 1\n",
-    )];
-    expect_answers(&rt, &base, nights, &answers)?;
-    let heavy = "arc:1,hgv:conditional,no @ (weight>7.5 AND Sa 07:00-20:00)\n";
-    let answers = [
-        ("bans d v1 1 2020-07-04T00:00Z 2020-07-05T00:00Z", open),
-        (
-            "bans d v2 1 2020-07-04T00:00Z 2020-07-05T00:00Z",
-            "bans 1\nclosed 2020-07-04T07:00Z 2020-07-04T20:00Z\npassed 0\n",
-        ),
-    ];
-    expect_answers(&rt, &base, heavy, &answers)?;
-    let lorries_alone = "area:default,access:conditional,no @ (24/7)\narc:1,hgv,yes\n";
-    let answers = [
-        ("bans d any 1 26563680 26563690", open),
-        ("bans d coach 1 26563680 26563690", closed),
-    ];
-    expect_answers(&rt, &base, lorries_alone, &answers)?;
-    let deliveries = "area:default,access,no\narc:1,vehicle,destination\n";
-    let answers = [
-        ("bans d van 1 26563680 26563690", open),
-        ("bans d any 1 26563680 26563690", closed),
-    ];
-    expect_answers(&rt, &base, deliveries, &answers)
+    for (rules, answers) in RULES {
+        expect_answers(&rt, &base, rules, answers)?;
+    }
+    Ok(())
 }
 
 #[test]

@@ -6,27 +6,47 @@ use route_base::{Folder, ReadAllFault, Sink, WriteError};
 use std::cell::Cell;
 use std::fmt::Display;
 use std::io::{self, ErrorKind};
+use std::process::Abort;
+use std::rt::Files;
 use std::test::Fail;
 use std::{env, fs, process};
 
+// The name of the directory of temporary files.
+fn temp_name(rt: &HostRuntime) -> Result<String, Fail> {
+    let parent = env::temp_dir(rt)?;
+    let name = parent.to_str().ok_or("no text")?;
+    Ok(String::from_str(rt.alloc(), name)?)
+}
+
+// Writes a file of this name twice, reads it and removes it.
+fn expect_file<R: Abort + Files + AllocGlobal>(
+    rt: &R,
+    folder: &mut RealFolder<'_, R>,
+    name: &str,
+) -> Result<(), Fail> {
+    expect_whole(rt, folder, name, 3, Err(ReadAllFault::Missing));
+    let longer = folder.write_file(name, b"longer");
+    expect_whole(rt, folder, name, 6, Ok("longer"));
+    let shorter = folder.write_file(name, b"abc");
+    expect_whole(rt, folder, name, 3, Ok("abc"));
+    assert!(rt; longer == Ok(()) && shorter == Ok(()));
+    expect_whole(rt, folder, name, 2, Err(ReadAllFault::TooLong));
+    fs::remove_file(rt, name)?;
+    expect_whole(rt, folder, name, 3, Err(ReadAllFault::Missing));
+    Ok(())
+}
+
 #[test]
 fn writes_and_reads_real_files(rt: HostRuntime) -> Result<(), Fail> {
-    let parent = env::temp_dir(&rt)?;
-    let no_file = parent.to_str().ok_or("no text")?;
+    let parent = temp_name(&rt)?;
     let id = process::id(rt.process());
-    let path = format!(in rt.alloc(); "{no_file}/lorry_plan_{id}")?;
-    let name = path.as_str();
+    let path = format!(in rt.alloc(); "{parent}/lorry_plan_{id}")?;
     let mut folder = RealFolder::new(&rt);
-    expect_whole(&rt, &mut folder, name, 3, Err(ReadAllFault::Missing));
-    assert_eq!(rt; folder.write_file(name, b"longer"), Ok(()));
-    expect_whole(&rt, &mut folder, name, 6, Ok("longer"));
-    assert_eq!(rt; folder.write_file(name, b"abc"), Ok(()));
-    expect_whole(&rt, &mut folder, name, 3, Ok("abc"));
-    expect_whole(&rt, &mut folder, name, 2, Err(ReadAllFault::TooLong));
-    fs::remove_file(&rt, name)?;
-    expect_whole(&rt, &mut folder, name, 3, Err(ReadAllFault::Missing));
+    expect_file(&rt, &mut folder, path.as_str())?;
+    let no_file = parent.as_str();
     expect_whole(&rt, &mut folder, no_file, 3, Err(ReadAllFault::Failed));
-    assert_eq!(rt; folder.write_file(no_file, b"abc"), Err(WriteError::Failed));
+    let written = folder.write_file(no_file, b"abc");
+    assert!(rt; written == Err(WriteError::Failed), "{written:?}");
     Ok(())
 }
 
@@ -67,6 +87,22 @@ impl Print for Pieces<'_> {
     }
 }
 
+// Writes the bytes to an output that takes these pieces: the result, and whether all of them are taken.
+fn write_in_pieces(
+    bytes: &[u8],
+    size: usize,
+    taken: &[u8],
+    at_end: Option<ErrorKind>,
+) -> (Result<(), WriteError>, bool) {
+    let pieces = Pieces {
+        size,
+        left: Cell::new(taken),
+        at_end,
+    };
+    let written = RealOut::new(&pieces).write(bytes);
+    (written, pieces.left.get().is_empty())
+}
+
 #[test]
 fn writes_to_a_real_output(rt: HostRuntime) {
     let text = b"0123456789".as_slice();
@@ -91,19 +127,13 @@ fn writes_to_a_real_output(rt: HostRuntime) {
         ),
     ];
     for (size, taken, at_end, want) in cases {
-        let pieces = Pieces {
-            size,
-            left: Cell::new(taken),
-            at_end,
-        };
-        let mut out = RealOut::new(&pieces);
-        assert_eq!(rt; out.write(text), want, "{taken:?} in pieces of {size}");
+        let (written, whole) = write_in_pieces(text, size, taken, at_end);
         assert!(rt;
-            pieces.left.get().is_empty(),
-            "{taken:?} in pieces of {size}"
+            written == want && whole,
+            "{taken:?} in pieces of {size}: {written:?}"
         );
     }
     let mut out = RealOut::new(&rt);
-    assert_eq!(rt; out.write(b"written\n"), Ok(()));
-    assert_eq!(rt; out.write(b""), Ok(()));
+    let (first, second) = (out.write(b"written\n"), out.write(b""));
+    assert!(rt; first == Ok(()) && second == Ok(()));
 }

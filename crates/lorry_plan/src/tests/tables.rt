@@ -10,7 +10,7 @@ mod vehicles;
 mod zones;
 
 use super::{
-    CLOSED, Case, NETWORK, ONE_PAIR, PARKED, RATED, TRIANGLE, TRIP, expect, expect_refusals,
+    CLOSED, Case, NETWORK, ONE_PAIR, PARKED, RATED, TRIANGLE, TRIP, Texts, expect, expect_refusals,
     expect_reports,
 };
 use route_base::Status;
@@ -25,38 +25,67 @@ const AREAS: &str = "area,zone\nde,cet\nacores,azores\nsea,UTC\n";
 
 const ROADS: &str = "arc,area\n3,sea\n1,acores\n";
 
+const UNKNOWN: &str = "arc,from,to\n4,26563740,26563860\n";
+
+// Tables that all have a fault.
+const FAULTY: Texts<'static> = &[
+    ("d/closures.csv", UNKNOWN),
+    ("d/ratings.csv", "x"),
+    ("d/parking.csv", "x"),
+    ("d/holidays.csv", "x"),
+];
+
+const GRAPHS: &[(&str, &str)] = &[("x", "1 BadForm"), ("p sp 3 3\n", "2 ArcCount")];
+
+// Files with a text, the line and the cause of its refusal, and the files beside it.
+const FIRST: &[(&str, &str, &str, Texts<'static>)] = &[
+    (
+        "closures.csv",
+        UNKNOWN,
+        "2 Unknown",
+        &[
+            ("d/graph.gr", TRIANGLE),
+            ("d/ratings.csv", "x"),
+            ("d/parking.csv", "x"),
+        ],
+    ),
+    (
+        "ratings.csv",
+        "rating,weight\nr,2\nr,2\n",
+        "3 Duplicate",
+        &[
+            ("d/graph.gr", TRIANGLE),
+            ("d/closures.csv", CLOSED),
+            ("d/parking.csv", "x"),
+        ],
+    ),
+    (
+        "parking.csv",
+        "x",
+        "1 BadHeader",
+        &[
+            ("d/graph.gr", TRIANGLE),
+            ("d/ratings.csv", RATED),
+            ("d/holidays.csv", "x"),
+        ],
+    ),
+    (
+        "parking.csv",
+        PARKED,
+        "2 Unknown",
+        &[
+            ("d/graph.gr", TRIANGLE),
+            ("d/closures.csv", CLOSED),
+            ("d/ratings.csv", ""),
+        ],
+    ),
+];
+
 #[test]
 fn tells_the_first_fault_of_all_files(rt: HostRuntime) -> Result<(), Fail> {
-    let unknown = "arc,from,to\n4,26563740,26563860\n";
-    let all = [
-        ("d/closures.csv", unknown),
-        ("d/ratings.csv", "x"),
-        ("d/parking.csv", "x"),
-        ("d/holidays.csv", "x"),
-    ];
-    let graphs = [("x", "1 BadForm"), ("p sp 3 3\n", "2 ArcCount")];
-    expect_refusals(&rt, &all, "graph.gr", &graphs)?;
-    let cases = [
-        (
-            ("closures.csv", unknown, "2 Unknown"),
-            [("d/ratings.csv", "x"), ("d/parking.csv", "x")],
-        ),
-        (
-            ("ratings.csv", "rating,weight\nr,2\nr,2\n", "3 Duplicate"),
-            [("d/closures.csv", CLOSED), ("d/parking.csv", "x")],
-        ),
-        (
-            ("parking.csv", "x", "1 BadHeader"),
-            [("d/ratings.csv", RATED), ("d/holidays.csv", "x")],
-        ),
-        (
-            ("parking.csv", PARKED, "2 Unknown"),
-            [("d/closures.csv", CLOSED), ("d/ratings.csv", "")],
-        ),
-    ];
-    for ((file, text, fault), [first, second]) in cases {
-        let base = [("d/graph.gr", TRIANGLE), first, second];
-        expect_refusals(&rt, &base, file, &[(text, fault)])?;
+    expect_refusals(&rt, FAULTY, "graph.gr", GRAPHS)?;
+    for (file, text, fault, base) in FIRST {
+        expect_refusals(&rt, base, file, &[(*text, *fault)])?;
     }
     Ok(())
 }
@@ -79,20 +108,37 @@ fn tells_faults_of_files_before_those_of_the_request(rt: HostRuntime) -> Result<
     expect(&rt, &[], missing)
 }
 
-#[test]
-fn reads_tables_without_rows(rt: HostRuntime) -> Result<(), Fail> {
-    let closures = ["", "\u{FEFF}", "\n\r\n\n", "arc,from,to", "arc,from,to\n\n"];
-    expect_reports(&rt, NETWORK, "closures.csv", &closures, ONE_PAIR)?;
-    let straight = "pairs 1\npair 26563980 300.000\ndrive 3\n";
-    let closed = [("d/graph.gr", TRIANGLE), ("d/closures.csv", CLOSED)];
-    expect_reports(&rt, &closed, "parking.csv", &["", "node,rating"], straight)?;
-    expect_reports(
-        &rt,
-        &closed,
+const STRAIGHT: &str = "pairs 1\npair 26563980 300.000\ndrive 3\n";
+
+const CLOSED_TRIANGLE: Texts<'static> = &[("d/graph.gr", TRIANGLE), ("d/closures.csv", CLOSED)];
+
+// Files with texts that have no row, and the answer over the files beside them.
+const EMPTY: &[(Texts<'static>, &str, &[&str], &str)] = &[
+    (
+        NETWORK,
+        "closures.csv",
+        &["", "\u{FEFF}", "\n\r\n\n", "arc,from,to", "arc,from,to\n\n"],
+        ONE_PAIR,
+    ),
+    (
+        CLOSED_TRIANGLE,
+        "parking.csv",
+        &["", "node,rating"],
+        STRAIGHT,
+    ),
+    (
+        CLOSED_TRIANGLE,
         "ratings.csv",
         &["rating,weight\r\n"],
-        straight,
-    )?;
-    let parking = ["\u{FEFF}node,rating\n"];
-    expect_reports(&rt, NETWORK, "parking.csv", &parking, straight)
+        STRAIGHT,
+    ),
+    (NETWORK, "parking.csv", &["\u{FEFF}node,rating\n"], STRAIGHT),
+];
+
+#[test]
+fn reads_tables_without_rows(rt: HostRuntime) -> Result<(), Fail> {
+    for (base, file, texts, report) in EMPTY {
+        expect_reports(&rt, base, file, texts, report)?;
+    }
+    Ok(())
 }

@@ -3,22 +3,24 @@ use super::ZONES;
 use crate::tests::{TRIANGLE, expect_refusals};
 use std::test::Fail;
 
+// Texts, and the line and the cause of each refusal.
+const REFUSED: &[(&str, &str)] = &[
+    ("x", "1 BadHeader"),
+    ("area,zone\nde\n", "2 FieldCount"),
+    ("area,zone\nd e,cet\n", "2 BadField"),
+    ("area,zone\nde,-\n", "2 BadField"),
+    ("area,zone\nde,Cet\n", "2 Unknown"),
+    ("area,zone\nde,utc\n", "2 Unknown"),
+    ("area,zone\nde,cet\nde,cet\n", "3 Duplicate"),
+    ("area,zone\nde,cet\nde,wet\n", "3 Unknown"),
+];
+
 #[test]
 fn refuses_areas_with_their_first_fault(rt: HostRuntime) -> Result<(), Fail> {
-    let cases = [
-        ("x", "1 BadHeader"),
-        ("area,zone\nde\n", "2 FieldCount"),
-        ("area,zone\nd e,cet\n", "2 BadField"),
-        ("area,zone\nde,-\n", "2 BadField"),
-        ("area,zone\nde,Cet\n", "2 Unknown"),
-        ("area,zone\nde,utc\n", "2 Unknown"),
-        ("area,zone\nde,cet\nde,cet\n", "3 Duplicate"),
-        ("area,zone\nde,cet\nde,wet\n", "3 Unknown"),
-    ];
     let base = [
         ("d/graph.gr", TRIANGLE),
         ("d/zones.csv", ZONES),
         ("d/roads.csv", "x"),
     ];
-    expect_refusals(&rt, &base, "areas.csv", &cases)
+    expect_refusals(&rt, &base, "areas.csv", REFUSED)
 }

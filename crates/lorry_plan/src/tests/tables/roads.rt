@@ -3,24 +3,26 @@ use super::{AREAS, ZONES};
 use crate::tests::{TRIANGLE, expect_refusals};
 use std::test::Fail;
 
+// Texts, and the line and the cause of each refusal.
+const REFUSED: &[(&str, &str)] = &[
+    ("area,arc\n", "1 BadHeader"),
+    ("arc,area\n1,de,\n", "2 FieldCount"),
+    ("arc,area\nx,de\n", "2 BadField"),
+    ("arc,area\n1,\n", "2 BadField"),
+    ("arc,area\n0,de\n", "2 Unknown"),
+    ("arc,area\n4,de\n", "2 Unknown"),
+    ("arc,area\n1,default\n", "2 Unknown"),
+    ("arc,area\n2,de\n02,sea\n", "3 Duplicate"),
+];
+
 #[test]
 fn refuses_roads_with_their_first_fault(rt: HostRuntime) -> Result<(), Fail> {
-    let cases = [
-        ("area,arc\n", "1 BadHeader"),
-        ("arc,area\n1,de,\n", "2 FieldCount"),
-        ("arc,area\nx,de\n", "2 BadField"),
-        ("arc,area\n1,\n", "2 BadField"),
-        ("arc,area\n0,de\n", "2 Unknown"),
-        ("arc,area\n4,de\n", "2 Unknown"),
-        ("arc,area\n1,default\n", "2 Unknown"),
-        ("arc,area\n2,de\n02,sea\n", "3 Duplicate"),
-    ];
     let base = [
         ("d/graph.gr", TRIANGLE),
         ("d/zones.csv", ZONES),
         ("d/areas.csv", AREAS),
     ];
-    expect_refusals(&rt, &base, "roads.csv", &cases)?;
+    expect_refusals(&rt, &base, "roads.csv", REFUSED)?;
     // Without rows for areas there is the area default alone.
     let without = [
         ("d/graph.gr", TRIANGLE),
