@@ -6,7 +6,7 @@ mod networks;
 use ban_expansion::{Layer, closed_by, common, covered_minutes};
 use minute_sets::MinuteSet;
 use opening_hours::{Holidays, parse};
-use route_base::Run;
+use route_base::{OutOfMemory, Run};
 use std::alloc::Global;
 use std::test::Fail;
 use zone_rules::{Zone, ZoneRow};
@@ -71,24 +71,35 @@ fn covers_a_span_that_began_before_the_window(rt: HostRuntime) -> Result<(), Fai
     Ok(())
 }
 
-#[test]
-fn lays_layers_over_one_another(rt: HostRuntime) -> Result<(), Fail> {
-    let alloc = rt.alloc();
-    let window = Run { lo: 0, hi: 60 };
-    let free = Run { lo: 20, hi: 30 };
+const WINDOW: Run = Run { lo: 0, hi: 60 };
+
+// What is closed where a layer bars the window and the next one frees the minutes from 20 to 30.
+fn closed_by_layers(alloc: Global) -> Result<MinuteSet, OutOfMemory> {
     let layers = [
         Layer {
             bars: true,
-            minutes: MinuteSet::whole(alloc, window)?,
+            minutes: MinuteSet::whole(alloc, WINDOW)?,
         },
         Layer {
             bars: false,
-            minutes: MinuteSet::whole(alloc, free)?,
+            minutes: MinuteSet::whole(alloc, Run { lo: 20, hi: 30 })?,
         },
     ];
-    let closed = closed_by(alloc, &layers)?;
+    closed_by(alloc, &layers)
+}
+
+// The minutes from 10 to 25 that the set has too.
+fn common_with(alloc: Global, set: MinuteSet) -> Result<MinuteSet, OutOfMemory> {
+    let sets = [set, MinuteSet::whole(alloc, Run { lo: 10, hi: 25 })?];
+    common(alloc, &sets, WINDOW)
+}
+
+#[test]
+fn lays_layers_over_one_another(rt: HostRuntime) -> Result<(), Fail> {
+    let alloc = rt.alloc();
+    let closed = closed_by_layers(alloc)?;
     assert!(rt; closed.runs() == [Run { lo: 0, hi: 20 }, Run { lo: 30, hi: 60 }].as_slice());
-    let sets = [closed, MinuteSet::whole(alloc, Run { lo: 10, hi: 25 })?];
-    assert!(rt; common(alloc, &sets, window)?.runs() == [Run { lo: 10, hi: 20 }].as_slice());
+    let both = common_with(alloc, closed)?;
+    assert!(rt; both.runs() == [Run { lo: 10, hi: 20 }].as_slice());
     Ok(())
 }

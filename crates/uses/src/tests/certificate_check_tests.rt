@@ -2,6 +2,7 @@
 ghost use Rattle.std.specs.Prelude.{◌≡◌, ◌*◌, ◌<◌, ◌↔◌, IsTrue, IfOk};
 ghost use Rattle.cost_functions.specs.Lines.{IsPiece};
 ghost use Rattle.certificate_check.specs.Conditions.{AreBoundsInRange};
+ghost use Rattle.route_base.specs.Net.{IsGoodRequest};
 
 use certificate::limits::LONGEST_BOUND;
 use certificate::{Certificate, NodeBounds, NodeFunctions};
@@ -138,14 +139,84 @@ fn are_in_range(bounds: &NodeBounds) -> bool
             .all(|entry| entry.1.cost <= HIGHEST_PIECE_COST)
 }
 
-fn piece(lo: Minute, hi: Minute, cost: Cost, slope: u64) -> Piece {
-    Piece {
-        lo,
-        hi,
-        cost,
-        slope,
-    }
+// Two routes, the minutes of the bounds of node 1, and pieces by their nodes.
+type CertificateRow = ([Option<RouteRow>; 2], u64, [Option<(u32, Piece)>; 3]);
+
+// The certificate of a row.
+fn certificate_of(alloc: Global, row: &CertificateRow) -> Result<Certificate, OutOfMemory> {
+    let (routes, minutes, pieces) = row;
+    Ok(Certificate {
+        routes: routes_of(alloc, routes)?,
+        bounds: bounds_of(alloc, *minutes)?,
+        functions: functions_of(alloc, pieces)?,
+    })
 }
+
+// What is found of a row's certificate; none where its bounds are out of range.
+fn verdict_of(
+    alloc: Global,
+    net: &TimedNet,
+    request: Request,
+    row: &CertificateRow,
+) -> Result<Option<Verdict>, OutOfMemory>
+    requires { IsGoodRequest net.now request }
+{
+    let certificate = certificate_of(alloc, row)?;
+    if !are_in_range(&certificate.bounds) {
+        return Ok(None);
+    }
+    Ok(Some(check(alloc, net, request, &certificate)?))
+}
+
+// The way over node 2 with a wait there, the same for too little, and the straight way.
+const WAITS: Option<RouteRow> = Some((26563920, 360000, Leg::Drive(ArcId(1)), LATER));
+
+const CHEAPER: Option<RouteRow> = Some((26563920, 359000, Leg::Drive(ArcId(1)), LATER));
+
+const DRIVES: Option<RouteRow> = Some((26563980, 300000, Leg::Drive(ArcId(3)), None));
+
+const LATER: Option<(Leg, Leg)> = Some((Leg::Wait(120), Leg::Drive(ArcId(2))));
+
+// The departure, the wait at node 2, the arrival there, and an arrival at node 3 for less.
+const START: Option<(u32, Piece)> = Some((
+    1,
+    Piece {
+        lo: 26563680,
+        hi: 26563680,
+        cost: 0,
+        slope: 0,
+    },
+));
+
+const PARKED: Option<(u32, Piece)> = Some((
+    2,
+    Piece {
+        lo: 26563740,
+        hi: 26563859,
+        cost: 60000,
+        slope: 2000,
+    },
+));
+
+const ARRIVED: Option<(u32, Piece)> = Some((
+    2,
+    Piece {
+        lo: 26563740,
+        hi: 26563740,
+        cost: 60000,
+        slope: 0,
+    },
+));
+
+const EARLY: Option<(u32, Piece)> = Some((
+    3,
+    Piece {
+        lo: 26563970,
+        hi: 26563970,
+        cost: 100,
+        slope: 0,
+    },
+));
 
 #[test]
 fn finds_the_first_condition_that_fails(rt: HostRuntime) -> Result<(), Fail> {
@@ -157,39 +228,48 @@ fn finds_the_first_condition_that_fails(rt: HostRuntime) -> Result<(), Fail> {
         depart: 26563680,
         until: 26564080,
     };
-    let first = Leg::Drive(ArcId(1));
-    let more = Some((Leg::Wait(120), Leg::Drive(ArcId(2))));
-    let waits = Some((26563920, 360000, first, more));
-    let cheaper = Some((26563920, 359000, first, more));
-    let drives = Some((26563980, 300000, Leg::Drive(ArcId(3)), None));
-    let start = Some((1, piece(26563680, 26563680, 0, 0)));
-    let parked = Some((2, piece(26563740, 26563859, 60000, 2000)));
-    let arrived = Some((2, piece(26563740, 26563740, 60000, 0)));
-    let early = Some((3, piece(26563970, 26563970, 100, 0)));
-    // The number of the condition that fails first, or 0.
-    let table = [
-        ([waits, drives], 120, [start, parked, None], 0),
-        ([drives, waits], 120, [start, parked, None], 1),
-        ([cheaper, drives], 120, [start, parked, None], 2),
-        ([waits, drives], 121, [start, parked, None], 3),
-        ([waits, drives], 120, [None, parked, None], 4),
-        ([waits, None], 120, [start, parked, None], 5),
-        ([waits, drives], 120, [start, None, None], 5),
-        ([waits, drives], 120, [start, arrived, None], 5),
-        ([waits, drives], 120, [start, parked, early], 6),
+    // Certificates, and what is found of them: the first condition that fails, if one does.
+    let judged: [(CertificateRow, Verdict); 9] = [
+        (
+            ([WAITS, DRIVES], 120, [START, PARKED, None]),
+            Verdict::Accepted,
+        ),
+        (
+            ([DRIVES, WAITS], 120, [START, PARKED, None]),
+            Verdict::Rejected(1),
+        ),
+        (
+            ([CHEAPER, DRIVES], 120, [START, PARKED, None]),
+            Verdict::Rejected(2),
+        ),
+        (
+            ([WAITS, DRIVES], 121, [START, PARKED, None]),
+            Verdict::Rejected(3),
+        ),
+        (
+            ([WAITS, DRIVES], 120, [None, PARKED, None]),
+            Verdict::Rejected(4),
+        ),
+        (
+            ([WAITS, None], 120, [START, PARKED, None]),
+            Verdict::Rejected(5),
+        ),
+        (
+            ([WAITS, DRIVES], 120, [START, None, None]),
+            Verdict::Rejected(5),
+        ),
+        (
+            ([WAITS, DRIVES], 120, [START, ARRIVED, None]),
+            Verdict::Rejected(5),
+        ),
+        (
+            ([WAITS, DRIVES], 120, [START, PARKED, EARLY]),
+            Verdict::Rejected(6),
+        ),
     ];
-    for (routes, minutes, pieces, number) in &table {
-        let certificate = Certificate {
-            routes: routes_of(alloc, routes)?,
-            bounds: bounds_of(alloc, *minutes)?,
-            functions: functions_of(alloc, pieces)?,
-        };
-        assert!(rt; are_in_range(&certificate.bounds));
-        let wanted = match *number {
-            0 => Verdict::Accepted,
-            k => Verdict::Rejected(k),
-        };
-        assert_eq!(rt; check(alloc, &net, request, &certificate)?, wanted);
+    for (row, verdict) in &judged {
+        let found = verdict_of(alloc, &net, request, row)?;
+        assert_eq!(rt; found, Some(*verdict));
     }
     Ok(())
 }

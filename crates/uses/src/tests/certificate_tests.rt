@@ -1,5 +1,5 @@
 // Texts that are certificates, and texts that aren't.
-use certificate::{CertificateFault, read, write};
+use certificate::{Certificate, CertificateFault, read, write};
 use route_base::{Bound, NodeId};
 
 // A certificate with all kinds of lines.
@@ -51,68 +51,71 @@ fn reads_and_writes_back(rt: HostRuntime) {
     }
 }
 
-#[test]
-fn finds_by_node(rt: HostRuntime) {
-    match read(rt.alloc(), SAMPLE.as_bytes()) {
-        Ok(certificate) => {
-            assert_eq!(rt; certificate.routes.len(), 2);
-            let bound = Bound {
-                minutes: 60,
-                cost: 60_000,
-            };
-            assert!(rt; certificate.bounds.get(NodeId(2)).copied() == Some(bound));
-            assert!(rt; certificate.bounds.get(NodeId(4)).is_none());
-            match certificate.functions.get(NodeId(2)) {
-                Some(function) => assert!(rt; function.at(26_563_742) == Some(64_000)),
-                None => assert!(rt; false, "no function"),
-            }
-        }
-        Err(_) => assert!(rt; false, "refused"),
-    }
+// Whether the routes, bounds and functions of the sample are found.
+fn has_sample(certificate: &Certificate) -> bool {
+    let bound = Bound {
+        minutes: 60,
+        cost: 60_000,
+    };
+    let Some(function) = certificate.functions.get(NodeId(2)) else {
+        return false;
+    };
+    certificate.routes.len() == 2
+        && certificate.bounds.get(NodeId(2)).copied() == Some(bound)
+        && certificate.bounds.get(NodeId(4)).is_none()
+        && function.at(26_563_742) == Some(64_000)
 }
 
 #[test]
+fn finds_by_node(rt: HostRuntime) {
+    let found = read(rt.alloc(), SAMPLE.as_bytes()).map(|certificate| has_sample(&certificate));
+    assert!(rt; found == Ok(true));
+}
+
+// Texts of no certificate.
+const OTHERS: &[&str] = &[
+    "",
+    "\n",
+    "\0\0\0",
+    "lorry-certificate 1\npairs 0\nbounds 0\npieces 0\nend",
+    "lorry-certificate 1\r\npairs 0\r\nbounds 0\r\npieces 0\r\nend\r\n",
+    "lorry-certificate 1\npairs 0\nbounds 0\npieces 0\nend\n\n",
+    "lorry-certificate 1\npairs 0\nbounds 0\npieces 0\nend\nend\n",
+    "lorry-certificate 1\npairs 0\nbounds 0\nend\n",
+    "lorry-certificate 1\npairs 0\nbounds 0\npieces 0\n",
+    "lorry-certificate 2\npairs 0\nbounds 0\npieces 0\nend\n",
+    "lorry-certificate 1\npairs 4398046511104\nbounds 0\npieces 0\nend\n",
+    "lorry-certificate 1\npairs 0\nbounds 4294967295\npieces 0\nend\n",
+    "lorry-certificate 1\npairs 00\nbounds 0\npieces 0\nend\n",
+    "lorry-certificate 1\npairs 0 \nbounds 0\npieces 0\nend\n",
+    "lorry-certificate 1\npairs  0\nbounds 0\npieces 0\nend\n",
+    "lorry-certificate 1\npairs 1\nbounds 0\npieces 0\nend\n",
+    "lorry-certificate 1\npairs 0\npair 1 1 0\nbounds 0\npieces 0\nend\n",
+    "lorry-certificate 1\npairs 1\npair 1 1 1\nbounds 0\npieces 0\nend\n",
+    "lorry-certificate 1\npairs 1\npair 1 1 0\ndrive 1\nbounds 0\npieces 0\nend\n",
+    "lorry-certificate 1\npairs 1\npair 1 1 1\nwait 0\nbounds 0\npieces 0\nend\n",
+    "lorry-certificate 1\npairs 1\npair 1 1 2\nwait 1\nwait 1\nbounds 0\npieces 0\nend\n",
+    "lorry-certificate 1\npairs 1\npair 1 1 1\ndrive 0\nbounds 0\npieces 0\nend\n",
+    "lorry-certificate 1\npairs 1\npair 1 1 1\ndrive 1000001\nbounds 0\npieces 0\nend\n",
+    "lorry-certificate 1\npairs 1\npair 120968640 1 0\nbounds 0\npieces 0\nend\n",
+    "lorry-certificate 1\npairs 1\npair 1 10000000000001 0\nbounds 0\npieces 0\nend\n",
+    "lorry-certificate 1\npairs 0\nbounds 1\nbound 1 0120 0\npieces 0\nend\n",
+    "lorry-certificate 1\npairs 0\nbounds 2\nbound 1 0 0\nbound 1 0 0\npieces 0\nend\n",
+    "lorry-certificate 1\npairs 0\nbounds 2\nbound 2 0 0\nbound 1 0 0\npieces 0\nend\n",
+    "lorry-certificate 1\npairs 0\nbounds 1\nbound 500001 0 0\npieces 0\nend\n",
+    "lorry-certificate 1\npairs 0\nbounds 1\nbound 1 10000000001 0\npieces 0\nend\n",
+    "lorry-certificate 1\npairs 0\nbounds 0\npieces 1\npiece 1 5 5 0 1\nend\n",
+    "lorry-certificate 1\npairs 0\nbounds 0\npieces 1\npiece 1 6 5 0 0\nend\n",
+    "lorry-certificate 1\npairs 0\nbounds 0\npieces 1\npiece 1 5 6 0 10000000001\nend\n",
+    "lorry-certificate 1\npairs 0\nbounds 0\npieces 2\npiece 1 5 6 0 0\npiece 1 6 7 0 0\nend\n",
+    "lorry-certificate 1\npairs 0\nbounds 0\npieces 2\npiece 2 5 6 0 0\npiece 1 5 6 0 0\nend\n",
+    "lorry-certificate 1\npairs 0\nbounds 0\npieces 3\npiece 1 5 6 0 0\npiece 2 5 6 0 0\npiece 1 8 8 0 0\nend\n",
+    "lorry-certificate 1\npairs 0\nbounds 0\npieces 1\npiece 1 5 6 0 0 0\nend\n",
+];
+
+#[test]
 fn refuses_other_texts(rt: HostRuntime) {
-    let texts = [
-        "",
-        "\n",
-        "\0\0\0",
-        "lorry-certificate 1\npairs 0\nbounds 0\npieces 0\nend",
-        "lorry-certificate 1\r\npairs 0\r\nbounds 0\r\npieces 0\r\nend\r\n",
-        "lorry-certificate 1\npairs 0\nbounds 0\npieces 0\nend\n\n",
-        "lorry-certificate 1\npairs 0\nbounds 0\npieces 0\nend\nend\n",
-        "lorry-certificate 1\npairs 0\nbounds 0\nend\n",
-        "lorry-certificate 1\npairs 0\nbounds 0\npieces 0\n",
-        "lorry-certificate 2\npairs 0\nbounds 0\npieces 0\nend\n",
-        "lorry-certificate 1\npairs 4398046511104\nbounds 0\npieces 0\nend\n",
-        "lorry-certificate 1\npairs 0\nbounds 4294967295\npieces 0\nend\n",
-        "lorry-certificate 1\npairs 00\nbounds 0\npieces 0\nend\n",
-        "lorry-certificate 1\npairs 0 \nbounds 0\npieces 0\nend\n",
-        "lorry-certificate 1\npairs  0\nbounds 0\npieces 0\nend\n",
-        "lorry-certificate 1\npairs 1\nbounds 0\npieces 0\nend\n",
-        "lorry-certificate 1\npairs 0\npair 1 1 0\nbounds 0\npieces 0\nend\n",
-        "lorry-certificate 1\npairs 1\npair 1 1 1\nbounds 0\npieces 0\nend\n",
-        "lorry-certificate 1\npairs 1\npair 1 1 0\ndrive 1\nbounds 0\npieces 0\nend\n",
-        "lorry-certificate 1\npairs 1\npair 1 1 1\nwait 0\nbounds 0\npieces 0\nend\n",
-        "lorry-certificate 1\npairs 1\npair 1 1 2\nwait 1\nwait 1\nbounds 0\npieces 0\nend\n",
-        "lorry-certificate 1\npairs 1\npair 1 1 1\ndrive 0\nbounds 0\npieces 0\nend\n",
-        "lorry-certificate 1\npairs 1\npair 1 1 1\ndrive 1000001\nbounds 0\npieces 0\nend\n",
-        "lorry-certificate 1\npairs 1\npair 120968640 1 0\nbounds 0\npieces 0\nend\n",
-        "lorry-certificate 1\npairs 1\npair 1 10000000000001 0\nbounds 0\npieces 0\nend\n",
-        "lorry-certificate 1\npairs 0\nbounds 1\nbound 1 0120 0\npieces 0\nend\n",
-        "lorry-certificate 1\npairs 0\nbounds 2\nbound 1 0 0\nbound 1 0 0\npieces 0\nend\n",
-        "lorry-certificate 1\npairs 0\nbounds 2\nbound 2 0 0\nbound 1 0 0\npieces 0\nend\n",
-        "lorry-certificate 1\npairs 0\nbounds 1\nbound 500001 0 0\npieces 0\nend\n",
-        "lorry-certificate 1\npairs 0\nbounds 1\nbound 1 10000000001 0\npieces 0\nend\n",
-        "lorry-certificate 1\npairs 0\nbounds 0\npieces 1\npiece 1 5 5 0 1\nend\n",
-        "lorry-certificate 1\npairs 0\nbounds 0\npieces 1\npiece 1 6 5 0 0\nend\n",
-        "lorry-certificate 1\npairs 0\nbounds 0\npieces 1\npiece 1 5 6 0 10000000001\nend\n",
-        "lorry-certificate 1\npairs 0\nbounds 0\npieces 2\npiece 1 5 6 0 0\npiece 1 6 7 0 0\nend\n",
-        "lorry-certificate 1\npairs 0\nbounds 0\npieces 2\npiece 2 5 6 0 0\npiece 1 5 6 0 0\nend\n",
-        "lorry-certificate 1\npairs 0\nbounds 0\npieces 3\npiece 1 5 6 0 0\npiece 2 5 6 0 0\npiece 1 8 8 0 0\nend\n",
-        "lorry-certificate 1\npairs 0\nbounds 0\npieces 1\npiece 1 5 6 0 0 0\nend\n",
-    ];
-    for text in texts {
+    for text in OTHERS {
         match read(rt.alloc(), text.as_bytes()) {
             Err(fault) => {
                 assert!(rt; fault == CertificateFault::NotACertificate, "at {text}");

@@ -227,19 +227,35 @@ fn is_decided(
     Ok(access == read_value(row.access.as_bytes()))
 }
 
-#[test]
-fn the_last_clause_that_holds_decides(rt: HostRuntime) -> Result<(), Fail> {
-    let alloc = rt.alloc();
+// The first row whose text gives its vehicle another access, or that has no decision.
+fn wrong_row(
+    alloc: Global,
+    vehicles: &Vehicles,
+    holidays: &Holidays,
+) -> Result<Option<&'static str>, ConditionalFault> {
+    for row in DECISIONS.lines() {
+        let decided = match decision_of(row) {
+            Some(decision) => is_decided(alloc, vehicles, holidays, &decision)?,
+            None => false,
+        };
+        if !decided {
+            return Ok(Some(row));
+        }
+    }
+    Ok(None)
+}
+
+// The same, of the vehicles and holidays of the rows.
+fn wrong_decision(alloc: Global) -> Result<Option<&'static str>, Fail> {
     let vehicles = read_vehicles(alloc, VEHICLES.as_bytes())?;
     let holidays = two_holidays(alloc)?;
-    for row in DECISIONS.lines() {
-        let Some(decision) = decision_of(row) else {
-            assert!(rt; false, "a row has no decision: {row}");
-            return Ok(());
-        };
-        let decided = is_decided(alloc, &vehicles, &holidays, &decision)?;
-        assert!(rt; decided, "{row}");
-    }
+    Ok(wrong_row(alloc, &vehicles, &holidays)?)
+}
+
+#[test]
+fn the_last_clause_that_holds_decides(rt: HostRuntime) -> Result<(), Fail> {
+    let wrong = wrong_decision(rt.alloc())?;
+    assert_eq!(rt; wrong, None);
     Ok(())
 }
 
@@ -263,16 +279,34 @@ fn values_give_these_accesses(rt: HostRuntime) {
     assert!(rt; read_value(b"").is_none() && read_value(b"yes ").is_none());
 }
 
+// Whether an access lets the truck and the van in; none where a vehicle isn't found.
+fn lets_truck_and_van_in(vehicles: &Vehicles, access: Access) -> Option<(bool, bool)> {
+    let truck = vehicles.find(b"truck")?;
+    let van = vehicles.find(b"van")?;
+    Some((
+        lets_in(access, vehicles.vehicle(truck)),
+        lets_in(access, vehicles.vehicle(van)),
+    ))
+}
+
+// The first access that lets others in.
+fn wrong_access(vehicles: &Vehicles) -> Option<Access> {
+    for (access, through, delivery) in [
+        (Access::Free, true, true),
+        (Access::Barred, false, false),
+        (Access::Purpose, false, true),
+    ] {
+        if lets_truck_and_van_in(vehicles, access) != Some((through, delivery)) {
+            return Some(access);
+        }
+    }
+    None
+}
+
 #[test]
 fn accesses_let_these_purposes_in(rt: HostRuntime) -> Result<(), TableFault> {
     let vehicles = read_vehicles(rt.alloc(), VEHICLES.as_bytes())?;
-    let (Some(truck), Some(van)) = (vehicles.find(b"truck"), vehicles.find(b"van")) else {
-        assert!(rt; false, "a vehicle isn't found");
-        return Ok(());
-    };
-    let (through, delivery) = (vehicles.vehicle(truck), vehicles.vehicle(van));
-    assert!(rt; lets_in(Access::Free, through) && lets_in(Access::Free, delivery));
-    assert!(rt; !lets_in(Access::Barred, through) && !lets_in(Access::Barred, delivery));
-    assert!(rt; !lets_in(Access::Purpose, through) && lets_in(Access::Purpose, delivery));
+    let wrong = wrong_access(&vehicles);
+    assert_eq!(rt; wrong, None);
     Ok(())
 }

@@ -1,11 +1,11 @@
 // Words that are a command, and words that are none.
 use front_words::{Command, WordsFault, read_words};
-use route_base::{Form, Text};
+use route_base::{Form, OutOfMemory, Text};
 use std::alloc::Global;
 use std::test::Fail;
 
 // Words with `|` between them, and the command that they are.
-const CASES: [(&str, &str); 77] = [
+const CASES: &[(&str, &str)] = &[
     ("", "no"),
     ("plan", "no"),
     ("Plan|d|any|1|3|26563680|26564080", "no"),
@@ -167,7 +167,7 @@ const CASES: [(&str, &str); 77] = [
 ];
 
 // The same of batches.
-const BATCHES: [(&str, &str); 35] = [
+const BATCHES: &[(&str, &str)] = &[
     ("batch|d|jobs.csv", "batch d jobs.csv 4"),
     ("batch|a b/c|any", "batch a b/c any 4"),
     ("batch|d|.", "batch d . 4"),
@@ -212,7 +212,7 @@ const BATCHES: [(&str, &str); 35] = [
 ];
 
 // The same of networks that are drawn.
-const NETWORKS: [(&str, &str); 29] = [
+const NETWORKS: &[(&str, &str)] = &[
     ("gen|d|7|1|2", "gen d 7 1 2"),
     ("gen|a b/c|1|1|1", "gen a b/c 1 1 1"),
     ("gen|d|2147483646|150|150", "gen d 2147483646 150 150"),
@@ -256,131 +256,142 @@ fn words_of(alloc: Global, line: &str) -> Result<Vec<Text>, Fail> {
     Ok(words)
 }
 
-// The command as a line; `no` for words that are none.
-fn line_of(alloc: Global, words: &[Text]) -> Result<String, Fail> {
-    let line = match read_words(alloc, words) {
-        Ok(
-            Command::Plan {
-                dir,
-                vehicle,
-                from,
-                to,
-                depart,
-                until,
-                form,
-                certificate,
-            },
-        ) => {
-            let form = match form {
-                Form::Plain => "plain",
-                Form::Table => "table",
-                Form::Csv => "csv",
-                Form::Json => "json",
-            };
-            let name = match &certificate {
-                Some(name) => name.as_str(),
-                None => "-",
-            };
-            let dir = dir.as_str();
-            let vehicle = vehicle.as_str();
+// The word for a form.
+fn word_of(form: Form) -> &'static str {
+    match form {
+        Form::Plain => "plain",
+        Form::Table => "table",
+        Form::Csv => "csv",
+        Form::Json => "json",
+    }
+}
+
+// The name that is given, or a dash.
+fn name_of(name: &Option<Text>) -> &str {
+    match name {
+        Some(name) => name.as_str(),
+        None => "-",
+    }
+}
+
+// A command as a line.
+fn line_of(alloc: Global, command: &Command) -> Result<String, OutOfMemory> {
+    let line = match command {
+        Command::Plan {
+            dir,
+            vehicle,
+            from,
+            to,
+            depart,
+            until,
+            form,
+            certificate,
+        } => {
+            let (dir, vehicle) = (dir.as_str(), vehicle.as_str());
+            let (form, name) = (word_of(*form), name_of(certificate));
             format!(in alloc; "plan {dir} {vehicle} {from} {to} {depart} {until} {form} {name}")?
         }
-        Ok(
-            Command::Check {
-                dir,
-                vehicle,
-                from,
-                to,
-                depart,
-                until,
-                name,
-            },
-        ) => {
-            let dir = dir.as_str();
-            let vehicle = vehicle.as_str();
-            let name = name.as_str();
+        Command::Check {
+            dir,
+            vehicle,
+            from,
+            to,
+            depart,
+            until,
+            name,
+        } => {
+            let (dir, vehicle, name) = (dir.as_str(), vehicle.as_str(), name.as_str());
             format!(in alloc; "check {dir} {vehicle} {from} {to} {depart} {until} {name}")?
         }
-        Ok(
-            Command::Bans {
-                dir,
-                vehicle,
-                arc,
-                depart,
-                until,
-            },
-        ) => {
-            let dir = dir.as_str();
-            let vehicle = vehicle.as_str();
+        Command::Bans {
+            dir,
+            vehicle,
+            arc,
+            depart,
+            until,
+        } => {
+            let (dir, vehicle) = (dir.as_str(), vehicle.as_str());
             format!(in alloc; "bans {dir} {vehicle} {arc} {depart} {until}")?
         }
-        Ok(Command::Batch { dir, jobs, workers }) => {
-            let dir = dir.as_str();
-            let jobs = jobs.as_str();
+        Command::Batch { dir, jobs, workers } => {
+            let (dir, jobs) = (dir.as_str(), jobs.as_str());
             format!(in alloc; "batch {dir} {jobs} {workers}")?
         }
-        Ok(
-            Command::Gen {
-                dir,
-                number,
-                rows,
-                columns,
-            },
-        ) => {
+        Command::Gen {
+            dir,
+            number,
+            rows,
+            columns,
+        } => {
             let dir = dir.as_str();
             format!(in alloc; "gen {dir} {number} {rows} {columns}")?
         }
-        Err(WordsFault::NotACommand) => String::from_str(alloc, "no")?,
-        Err(WordsFault::OutOfMemory) => String::from_str(alloc, "out of memory")?,
     };
     Ok(line)
 }
 
+// Whether the words are the command of this line; `no` is the line of words that are none.
+fn are_read(alloc: Global, words: &[Text], wanted: &str) -> Result<bool, OutOfMemory> {
+    match read_words(alloc, words) {
+        Ok(command) => Ok(line_of(alloc, &command)?.as_str() == wanted),
+        Err(WordsFault::NotACommand) => Ok(wanted == "no"),
+        Err(WordsFault::OutOfMemory) => Err(OutOfMemory),
+    }
+}
+
+// The first words that are read as something else.
+fn first_misread<'a>(alloc: Global, cases: &[(&'a str, &str)]) -> Result<Option<&'a str>, Fail> {
+    for (line, wanted) in cases {
+        let words = words_of(alloc, line)?;
+        if !are_read(alloc, words.as_slice(), wanted)? {
+            return Ok(Some(*line));
+        }
+    }
+    Ok(None)
+}
+
 #[test]
 fn reads_commands(rt: HostRuntime) -> Result<(), Fail> {
-    let alloc = rt.alloc();
-    for (line, wanted) in CASES {
-        let words = words_of(alloc, line)?;
-        let read = line_of(alloc, words.as_slice())?;
-        assert_eq!(rt; read.as_str(), wanted, "{line}");
-    }
+    let misread = first_misread(rt.alloc(), CASES)?;
+    assert_eq!(rt; misread, None);
     Ok(())
 }
 
 #[test]
 fn reads_batches(rt: HostRuntime) -> Result<(), Fail> {
-    let alloc = rt.alloc();
-    for (line, wanted) in BATCHES {
-        let words = words_of(alloc, line)?;
-        let read = line_of(alloc, words.as_slice())?;
-        assert_eq!(rt; read.as_str(), wanted, "{line}");
-    }
+    let misread = first_misread(rt.alloc(), BATCHES)?;
+    assert_eq!(rt; misread, None);
     Ok(())
 }
 
 #[test]
 fn reads_networks(rt: HostRuntime) -> Result<(), Fail> {
-    let alloc = rt.alloc();
-    for (line, wanted) in NETWORKS {
-        let words = words_of(alloc, line)?;
-        let read = line_of(alloc, words.as_slice())?;
-        assert_eq!(rt; read.as_str(), wanted, "{line}");
-    }
+    let misread = first_misread(rt.alloc(), NETWORKS)?;
+    assert_eq!(rt; misread, None);
     Ok(())
+}
+
+// The words of a command whose folder has a name of this length.
+fn words_with_folder(alloc: Global, length: u32) -> Result<Vec<Text>, Fail> {
+    let mut dir = String::new(alloc);
+    for _ in 0..length {
+        dir.push('d')?;
+    }
+    let line = format!(in alloc; "bans|{dir}|any|2|26563680|26564080")?;
+    words_of(alloc, line.as_str())
+}
+
+// Whether these words are a command.
+fn is_command(alloc: Global, length: u32) -> Result<bool, Fail> {
+    let words = words_with_folder(alloc, length)?;
+    Ok(read_words(alloc, words.as_slice()).is_ok())
 }
 
 #[test]
 fn takes_folders_of_4096_bytes(rt: HostRuntime) -> Result<(), Fail> {
-    let alloc = rt.alloc();
     for (length, wanted) in [(4096, true), (4097, false)] {
-        let mut dir = String::new(alloc);
-        for _ in 0..length {
-            dir.push('d')?;
-        }
-        let line = format!(in alloc; "bans|{dir}|any|2|26563680|26564080")?;
-        let words = words_of(alloc, line.as_str())?;
-        let read = read_words(alloc, words.as_slice());
-        assert!(rt; read.is_ok() == wanted);
+        let taken = is_command(rt.alloc(), length)?;
+        assert!(rt; taken == wanted, "{length}");
     }
     Ok(())
 }

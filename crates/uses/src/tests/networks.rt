@@ -35,7 +35,7 @@ fn put_texts(
     Ok(())
 }
 
-// The network of these tables over the triangle.
+// The network of these tables over the triangle, or over the graph that is among them.
 pub fn read(alloc: Global, texts: &[(FileKind, &str)]) -> Result<Network, NetworkFault> {
     let mut files = Files::new(alloc);
     put_texts(alloc, &mut files, texts)?;

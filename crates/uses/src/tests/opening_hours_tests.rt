@@ -1,5 +1,5 @@
 // Texts with their canonical texts, and days with what is covered on them.
-use opening_hours::{Holidays, HoursFault, covers, parse, print, spans_on};
+use opening_hours::{Holidays, Hours, HoursFault, covers, parse, print, spans_on};
 use std::alloc::{AllocError, Global};
 use std::test::Fail;
 
@@ -144,72 +144,106 @@ fn one_holiday(alloc: Global, day: u32) -> Result<Holidays, AllocError> {
     Ok(Holidays::from_days(public, Vec::new(alloc)))
 }
 
+// Whether there are two rules, by number.
+fn has_two_rules(hours: &Hours) -> bool {
+    hours.len() == 2 && hours.get(1).is_some() && hours.get(2).is_none()
+}
+
+// The starts and the lengths of the spans that begin on a day: whether they are all this one, and how many there are.
+fn spans_like(
+    alloc: Global,
+    hours: &Hours,
+    holidays: &Holidays,
+    day: u32,
+    wanted: (u32, u32),
+) -> Result<(bool, usize), HoursFault> {
+    if day > 84370 {
+        return Ok((false, 0));
+    }
+    let spans = spans_on(alloc, hours, day, holidays)?;
+    let alike = spans
+        .as_slice()
+        .iter()
+        .all(|span| span.start == wanted.0 && span.length == wanted.1);
+    Ok((alike, spans.len()))
+}
+
 #[test]
 fn the_governing_rule_of_a_day_has_its_spans(rt: HostRuntime) -> Result<(), Fail> {
-    let hours = parse(rt.alloc(), b"Mo-Fr 22:00-06:00; PH off")?;
-    assert_eq!(rt; hours.len(), 2);
-    assert!(rt; hours.get(1).is_some());
-    assert!(rt; hours.get(2).is_none());
-    let holidays = one_holiday(rt.alloc(), 18452)?;
-    assert!(rt; holidays.is_public(18452));
-    assert!(rt; !holidays.is_school(18452));
-    let spans = spans_on(rt.alloc(), &hours, 18451, &holidays)?;
-    assert_eq!(rt; spans.len(), 1);
-    for span in spans.as_slice() {
-        assert_eq!(rt; span.start, 1320);
-        assert_eq!(rt; span.length, 480);
-    }
-    let none = spans_on(rt.alloc(), &hours, 18452, &holidays)?;
-    assert_eq!(rt; none.len(), 0);
+    let alloc = rt.alloc();
+    let holidays = one_holiday(alloc, 18452)?;
+    assert!(rt; holidays.is_public(18452) && !holidays.is_school(18452));
+    let hours = parse(alloc, b"Mo-Fr 22:00-06:00; PH off")?;
+    assert!(rt; has_two_rules(&hours));
+    let night = (1320, 480);
+    let weekday = spans_like(alloc, &hours, &holidays, 18451, night)?;
+    assert_eq!(rt; weekday, (true, 1));
+    let holiday = spans_like(alloc, &hours, &holidays, 18452, night)?;
+    assert_eq!(rt; holiday, (true, 0));
     Ok(())
 }
 
-// Day 18447 is 2020-07-04, a Saturday.
+// Hours, and whether they cover minutes of days. Day 18447 is 2020-07-04, a Saturday.
+const COVERED: &[(&str, &[(u32, u32, bool)])] = &[
+    // An off day doesn't cut the evening before.
+    (
+        "Mo-Fr 22:00-06:00; PH off",
+        &[
+            (18451, 1319, false),
+            (18451, 1320, true),
+            (18452, 359, true),
+            (18452, 360, false),
+            (18452, 1320, false),
+            (18453, 100, false),
+            (18453, 1320, true),
+            (18454, 359, true),
+        ],
+    ),
+    // A weekend.
+    (
+        "Sa 22:00-Su 22:00",
+        &[
+            (18447, 1319, false),
+            (18447, 1320, true),
+            (18448, 1319, true),
+            (18448, 1320, false),
+        ],
+    ),
+    // A whole week.
+    (
+        "Jul 06: Mo 08:00-Mo 08:00",
+        &[
+            (18449, 479, false),
+            (18449, 480, true),
+            (18456, 479, true),
+            (18456, 480, false),
+        ],
+    ),
+    // Dates across the end of the year.
+    (
+        "Dec 24-Jan 06 08:00-09:00",
+        &[
+            (18619, 480, false),
+            (18620, 480, true),
+            (18627, 539, true),
+            (18628, 480, true),
+            (18633, 480, true),
+            (18634, 480, false),
+        ],
+    ),
+    // A later rule replaces the whole day.
+    (
+        "Mo-Fr 08:00-12:00; Mo 13:00-17:00",
+        &[(18449, 500, false), (18449, 800, true), (18450, 500, true)],
+    ),
+];
+
 #[test]
 fn these_minutes_are_covered_and_those_are_not(rt: HostRuntime) -> Result<(), Fail> {
-    let alloc = rt.alloc();
-    let holidays = one_holiday(alloc, 18452)?;
-    let nights = [
-        (18451, 1319, false),
-        (18451, 1320, true),
-        (18452, 359, true),
-        (18452, 360, false),
-        (18452, 1320, false),
-        (18453, 100, false),
-        (18453, 1320, true),
-        (18454, 359, true),
-    ];
-    let told = covers_as_told(alloc, "Mo-Fr 22:00-06:00; PH off", &holidays, &nights)?;
-    assert!(rt; told, "an off day doesn't cut the evening before");
-    let weekend = [
-        (18447, 1319, false),
-        (18447, 1320, true),
-        (18448, 1319, true),
-        (18448, 1320, false),
-    ];
-    let told = covers_as_told(alloc, "Sa 22:00-Su 22:00", &holidays, &weekend)?;
-    assert!(rt; told, "a weekend");
-    let week = [
-        (18449, 479, false),
-        (18449, 480, true),
-        (18456, 479, true),
-        (18456, 480, false),
-    ];
-    let told = covers_as_told(alloc, "Jul 06: Mo 08:00-Mo 08:00", &holidays, &week)?;
-    assert!(rt; told, "a whole week");
-    let winter = [
-        (18619, 480, false),
-        (18620, 480, true),
-        (18627, 539, true),
-        (18628, 480, true),
-        (18633, 480, true),
-        (18634, 480, false),
-    ];
-    let told = covers_as_told(alloc, "Dec 24-Jan 06 08:00-09:00", &holidays, &winter)?;
-    assert!(rt; told, "dates across the end of the year");
-    let replaced = [(18449, 500, false), (18449, 800, true), (18450, 500, true)];
-    let text = "Mo-Fr 08:00-12:00; Mo 13:00-17:00";
-    let told = covers_as_told(alloc, text, &holidays, &replaced)?;
-    assert!(rt; told, "a later rule replaces the whole day");
+    let holidays = one_holiday(rt.alloc(), 18452)?;
+    for (text, rows) in COVERED {
+        let told = covers_as_told(rt.alloc(), text, &holidays, rows)?;
+        assert!(rt; told, "{text}");
+    }
     Ok(())
 }

@@ -3,12 +3,12 @@ ghost use Rattle.std.specs.Prelude.{◌≡◌, ◌-◌, ◌<◌, ◌≤◌, IfOk
 ghost use Rattle.plain_search.specs.Words.{IsAsked};
 ghost use Rattle.plain_search.specs.Inside.SmallNet.{small_arc, small};
 
-use plain_search::{TableEngine, values};
+use plain_search::{NodePoints, TableEngine, values};
 use route_base::{
-    ArcId, FrontSearch, Leg, Minute, NodeId, OutOfMemory, Pair, Request, Run, TimedArc, TimedNet,
+    ArcId, Cost, FrontSearch, Leg, Minute, NodeId, OutOfMemory, Pair, Request, Routes, Run,
+    TimedArc, TimedNet,
 };
 use std::alloc::Global;
-use std::process::Abort;
 use std::test::Fail;
 
 const ALWAYS_OPEN: u32 = 0;
@@ -48,25 +48,26 @@ fn small_net(alloc: Global) -> Result<TimedNet, OutOfMemory>
     Ok(TimedNet::new(3, arcs, closed, weights))
 }
 
-// Expects an engine to find exactly these pairs, each with these legs.
-fn expect_front<E: FrontSearch>(
-    rt: &impl Abort,
+// Whether the routes have these pairs and legs, in this order.
+fn are_routes(routes: &Routes, wants: &[(Pair, &[Leg])]) -> bool {
+    routes.len() == wants.len()
+        && routes.as_slice().iter().zip(wants).all(|(route, (pair, legs))| route.pair == *pair
+            && route.legs.as_slice() == *legs)
+}
+
+// Whether an engine finds exactly these pairs, each with these legs.
+fn has_front<E: FrontSearch>(
     alloc: Global,
     engine: &E,
     net: &TimedNet,
     request: Request,
     wants: &[(Pair, &[Leg])],
-) -> Result<(), Fail>
+) -> Result<bool, OutOfMemory>
     requires asked { IsAsked net.now request }
     requires horizon { request.until - request.depart ≤ 86400 }
 {
     let routes = engine.front(alloc, net, request)?;
-    assert_eq!(rt; routes.len(), wants.len());
-    for (route, (pair, legs)) in routes.as_slice().iter().zip(wants) {
-        assert_eq!(rt; route.pair, *pair);
-        assert_eq!(rt; route.legs.as_slice(), *legs);
-    }
-    Ok(())
+    Ok(are_routes(&routes, wants))
 }
 
 // The trip from node 1 to node 3 at midnight.
@@ -105,19 +106,29 @@ fn waits_for_an_arc_or_goes_round(rt: HostRuntime) -> Result<(), Fail> {
             [Leg::Drive(ArcId(3))].as_slice(),
         ),
     ];
-    expect_front(&rt, alloc, &TableEngine, &net, request, &wants)
+    let found = has_front(alloc, &TableEngine, &net, request, &wants)?;
+    assert!(rt; found);
+    Ok(())
+}
+
+// Whether these nodes are reached, each with this one point.
+fn are_points(found: &NodePoints, wants: &[(NodeId, Minute, Cost)]) -> bool {
+    found.len() == wants.len()
+        && found.as_slice().iter().zip(wants).all(|(entry, (node, minute, cost))| entry.0 == *node
+            && entry.1.as_slice() == [(*minute, *cost)].as_slice())
+}
+
+// Whether the trip until the second arc closes has these points.
+fn has_points(alloc: Global, wants: &[(NodeId, Minute, Cost)]) -> Result<bool, OutOfMemory> {
+    let net = small_net(alloc)?;
+    let found = values(alloc, &net, trip_until(26563740))?;
+    Ok(are_points(&found, wants))
 }
 
 #[test]
 fn reads_the_points_of_reached_nodes(rt: HostRuntime) -> Result<(), Fail> {
-    let alloc = rt.alloc();
-    let net = small_net(alloc)?;
-    let found = values(alloc, &net, trip_until(26563740))?;
     let wants = [(NodeId(1), 26563680, 0), (NodeId(2), 26563740, 60000)];
-    assert_eq!(rt; found.len(), wants.len());
-    for (entry, (node, minute, cost)) in found.as_slice().iter().zip(&wants) {
-        assert_eq!(rt; entry.0, *node);
-        assert_eq!(rt; entry.1.as_slice(), [(*minute, *cost)].as_slice());
-    }
+    let found = has_points(rt.alloc(), &wants)?;
+    assert!(rt; found);
     Ok(())
 }

@@ -2,6 +2,7 @@
 ghost use Rattle.std.specs.Prelude.{◌≡◌, ◌*◌, ◌<◌, All, IfOk};
 ghost use Rattle.plan_report.specs.Inside.{IsLawful};
 ghost use Rattle.route_base.specs.Net.{IsGoodRequest};
+ghost use Rattle.route_base.specs.Time.{IsInstant};
 
 use plan_report::{Refusal, Verdict3, bans_text, check_text, plan_text, refusal_text};
 use route_base::{
@@ -92,6 +93,47 @@ fn add_route(
     Ok(())
 }
 
+// Adds the two routes of the worked trip, if they are lawful.
+fn add_routes(
+    alloc: Global,
+    net: &TimedNet,
+    request: Request,
+    routes: &mut Routes,
+) -> Result<(), OutOfMemory>
+    requires good { IsGoodRequest net.now request }
+    requires lawful { All (IsLawful net.now request) routes.old }
+    ensures { All (IsLawful net.now request) routes.new }
+{
+    let legs = [Leg::Drive(ArcId(1)), Leg::Wait(120), Leg::Drive(ArcId(2))];
+    add_route(alloc, net, request, routes, &legs)?;
+    add_route(alloc, net, request, routes, &[Leg::Drive(ArcId(3))])
+}
+
+// The first form in which the routes have another text.
+fn wrong_form(
+    alloc: Global,
+    net: &TimedNet,
+    request: Request,
+    routes: &Routes,
+) -> Result<Option<Form>, OutOfMemory>
+    requires lawful { All (IsLawful net.now request) routes.now }
+    requires depart { IsInstant request.depart }
+    requires until { IsInstant request.until }
+{
+    for (form, text) in [
+        (Form::Plain, PLAIN),
+        (Form::Table, TABLE),
+        (Form::Csv, CSV),
+        (Form::Json, JSON),
+    ] {
+        let written = plan_text(alloc, form, net, request, routes)?;
+        if written.as_slice() != text.as_bytes() {
+            return Ok(Some(form));
+        }
+    }
+    Ok(None)
+}
+
 #[test]
 fn writes_each_form(rt: HostRuntime) -> Result<(), Fail> {
     let alloc = rt.alloc();
@@ -103,19 +145,9 @@ fn writes_each_form(rt: HostRuntime) -> Result<(), Fail> {
         until: 26564080,
     };
     let mut routes = Routes::new(alloc);
-    let legs = [Leg::Drive(ArcId(1)), Leg::Wait(120), Leg::Drive(ArcId(2))];
-    add_route(alloc, &net, request, &mut routes, &legs)?;
-    add_route(alloc, &net, request, &mut routes, &[Leg::Drive(ArcId(3))])?;
-    let forms = [
-        (Form::Plain, PLAIN),
-        (Form::Table, TABLE),
-        (Form::Csv, CSV),
-        (Form::Json, JSON),
-    ];
-    for (form, text) in forms {
-        let written = plan_text(alloc, form, &net, request, &routes)?;
-        assert!(rt; written.as_slice() == text.as_bytes(), "at {text}");
-    }
+    add_routes(alloc, &net, request, &mut routes)?;
+    let wrong = wrong_form(alloc, &net, request, &routes)?;
+    assert_eq!(rt; wrong, None);
     Ok(())
 }
 

@@ -56,20 +56,29 @@ fn fault_of(alloc: Global, text: &str) -> Option<(u64, Cause)> {
     }
 }
 
+// Whether a text states these sizes.
+fn has_sizes(alloc: Global, text: &str, sizes: &[Option<u64>]) -> Result<bool, TableFault> {
+    let values = sizes_of(alloc, text)?;
+    Ok(values.as_slice() == sizes)
+}
+
+// Texts that are refused: the record and the cause.
+const BAD_TEXTS: [(&str, u64, Cause); 6] = [
+    ("size,box\n", 1, Cause::BadHeader),
+    ("box,size\n1,small\n2\n", 3, Cause::FieldCount),
+    ("box,size\n1,small\nx,small\n", 3, Cause::BadField),
+    ("box,size\n4,small\n", 2, Cause::Unknown),
+    ("box,size\n1,tiny\n", 2, Cause::Unknown),
+    ("box,size\n1,small\n1,large\n", 3, Cause::Duplicate),
+];
+
 #[test]
 fn reads_values_by_number(rt: HostRuntime) -> Result<(), TableFault> {
     let alloc = rt.alloc();
-    let values = sizes_of(alloc, "box,size\n3,small\n1,large\n")?;
-    assert_eq!(rt; values.as_slice(), [Some(40), None, Some(2)].as_slice());
-    let cases = [
-        ("size,box\n", 1, Cause::BadHeader),
-        ("box,size\n1,small\n2\n", 3, Cause::FieldCount),
-        ("box,size\n1,small\nx,small\n", 3, Cause::BadField),
-        ("box,size\n4,small\n", 2, Cause::Unknown),
-        ("box,size\n1,tiny\n", 2, Cause::Unknown),
-        ("box,size\n1,small\n1,large\n", 3, Cause::Duplicate),
-    ];
-    for (text, row, cause) in cases {
+    let sizes = [Some(40), None, Some(2)];
+    let read = has_sizes(alloc, "box,size\n3,small\n1,large\n", &sizes)?;
+    assert!(rt; read);
+    for (text, row, cause) in BAD_TEXTS {
         assert_eq!(rt; fault_of(alloc, text), Some((row, cause)));
     }
     Ok(())

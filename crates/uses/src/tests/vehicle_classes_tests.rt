@@ -1,7 +1,7 @@
 // Rows of the table as they are read, a fault for each cause, and the keys of each class.
 use route_base::{Cause, TableFault};
-use std::alloc::{AllocError, Global};
-use vehicle_classes::{Class, Key, Purpose, Quantity, Vehicles, chain_at, read_vehicles};
+use std::alloc::Global;
+use vehicle_classes::{Class, Key, Purpose, Quantity, Vehicle, Vehicles, chain_at, read_vehicles};
 
 const HEADER: &str =
     "name,class,weight_kg,axleload_kg,height_cm,width_cm,length_cm,axles,purpose,flags\n";
@@ -20,30 +20,59 @@ fn fault_of(alloc: Global, rows: &str) -> Option<(u64, Cause)> {
     }
 }
 
+// The sizes of the truck.
+const SIZES: &[(Quantity, Option<u64>)] = &[
+    (Quantity::Weight, Some(40_000)),
+    (Quantity::Axleload, None),
+    (Quantity::Height, Some(400)),
+    (Quantity::Width, Some(255)),
+    (Quantity::Length, Some(1_875)),
+    (Quantity::Axles, Some(5)),
+];
+
+// Whether the vehicles are the one for all, which has no sizes, and the truck.
+fn are_any_and_the_truck(vehicles: &Vehicles) -> bool {
+    if vehicles.len() != 2 {
+        return false;
+    }
+    let (any, truck) = (vehicles.vehicle(0), vehicles.vehicle(1));
+    vehicles.find(b"any") == Some(0)
+        && vehicles.find(b"truck") == Some(1)
+        && vehicles.find(b"Truck").is_none()
+        && truck.class() == Class::Hgv
+        && truck.purpose() == Purpose::Through
+        && !truck.has_flag(b"")
+        && SIZES.iter().all(|row| truck.size(row.0) == row.1 && any.size(row.0).is_none())
+}
+
 #[test]
 fn reads_a_vehicle(rt: HostRuntime) -> Result<(), TableFault> {
     let vehicles = vehicles_of(rt.alloc(), "truck,hgv,40000,,400,255,1875,5,,\n")?;
-    assert_eq!(rt; vehicles.len(), 2);
-    assert_eq!(rt; vehicles.find(b"any"), Some(0));
-    assert_eq!(rt; vehicles.find(b"truck"), Some(1));
-    assert_eq!(rt; vehicles.find(b"Truck"), None);
-    let truck = vehicles.vehicle(1);
-    assert_eq!(rt; truck.class(), Class::Hgv);
-    assert_eq!(rt; truck.purpose(), Purpose::Through);
-    let sizes = [
-        (Quantity::Weight, Some(40_000)),
-        (Quantity::Axleload, None),
-        (Quantity::Height, Some(400)),
-        (Quantity::Width, Some(255)),
-        (Quantity::Length, Some(1_875)),
-        (Quantity::Axles, Some(5)),
-    ];
-    for (quantity, size) in sizes {
-        assert_eq!(rt; truck.size(quantity), size);
-        assert_eq!(rt; vehicles.vehicle(0).size(quantity), None);
-    }
-    assert!(rt; !truck.has_flag(b""));
+    assert!(rt; are_any_and_the_truck(&vehicles));
     Ok(())
+}
+
+// Whether this is the bus of two axles that delivers.
+fn is_the_bus(a: &Vehicle) -> bool {
+    a.class() == Class::Bus
+        && a.purpose() == Purpose::Delivery
+        && a.size(Quantity::Axles) == Some(2)
+        && a.has_flag(b"hazmat")
+        && a.has_flag(b"low_emission")
+        && !a.has_flag(b"low")
+        && !a.has_flag(b"")
+}
+
+// Whether the vehicles behind the one for all are the bus and the heaviest van.
+fn are_the_bus_and_the_van(vehicles: &Vehicles) -> bool {
+    if vehicles.len() != 3 {
+        return false;
+    }
+    let b = vehicles.vehicle(2);
+    is_the_bus(vehicles.vehicle(1))
+        && b.purpose() == Purpose::Through
+        && b.size(Quantity::Weight) == Some(1_000_000)
+        && !b.has_flag(b"hazmat")
 }
 
 #[test]
@@ -52,58 +81,62 @@ fn reads_flags_purposes_and_large_sizes(rt: HostRuntime) -> Result<(), TableFaul
         rt.alloc(),
         "a,bus,,,,,,0000000002,delivery,hazmat  low_emission\nb,goods,1000000,,,,,,through,\n",
     )?;
-    assert_eq!(rt; vehicles.len(), 3);
-    let (a, b) = (vehicles.vehicle(1), vehicles.vehicle(2));
-    assert_eq!(rt; a.class(), Class::Bus);
-    assert_eq!(rt; a.purpose(), Purpose::Delivery);
-    assert_eq!(rt; a.size(Quantity::Axles), Some(2));
-    assert!(rt; a.has_flag(b"hazmat") && a.has_flag(b"low_emission"));
-    assert!(rt; !a.has_flag(b"low") && !a.has_flag(b"") && !b.has_flag(b"hazmat"));
-    assert_eq!(rt; b.purpose(), Purpose::Through);
-    assert_eq!(rt; b.size(Quantity::Weight), Some(1_000_000));
+    assert!(rt; are_the_bus_and_the_van(&vehicles));
     Ok(())
 }
 
+// Rows, and the record and the cause of each refusal.
+const REFUSED: &[(&str, u64, Cause)] = &[
+    ("a,hgv,,,,,,,\n", 2, Cause::FieldCount),
+    ("a,HGV,,,,,,,,\n", 2, Cause::BadField),
+    ("a,,,,,,,,,\n", 2, Cause::BadField),
+    ("-a,hgv,,,,,,,,\n", 2, Cause::BadField),
+    (",hgv,,,,,,,,\n", 2, Cause::BadField),
+    ("a,hgv,1000001,,,,,,,\n", 2, Cause::BadField),
+    ("a,hgv,,00000000001,,,,,,\n", 2, Cause::BadField),
+    ("a,hgv,,,4.0,,,,,\n", 2, Cause::BadField),
+    ("a,hgv,,,,,,,Through,\n", 2, Cause::BadField),
+    ("a,hgv,,,,,,,, hazmat\n", 2, Cause::BadField),
+    ("a,hgv,,,,,,,,hazmat\t\n", 2, Cause::BadField),
+    ("a,hgv,,,,,,,, \n", 2, Cause::BadField),
+    ("a,hgv,,,,,,,,Hazmat\n", 2, Cause::BadField),
+    ("any,bus,,,,,,,,\n", 2, Cause::Duplicate),
+    ("a,hgv,,,,,,,,\na,bus,,,,,,,,\n", 3, Cause::Duplicate),
+    ("a,hgv,,,,,,,,\na,lorry,,,,,,,,\n", 3, Cause::BadField),
+];
+
+// The number of vehicles that a whole text states.
+fn count_in(alloc: Global, text: &str) -> Result<usize, TableFault> {
+    Ok(read_vehicles(alloc, text.as_bytes())?.len())
+}
+
 #[test]
-fn refuses_rows(rt: HostRuntime) -> Result<(), TableFault> {
+fn refuses_rows(rt: HostRuntime) {
     let alloc = rt.alloc();
-    let cases = [
-        ("a,hgv,,,,,,,\n", 2, Cause::FieldCount),
-        ("a,HGV,,,,,,,,\n", 2, Cause::BadField),
-        ("a,,,,,,,,,\n", 2, Cause::BadField),
-        ("-a,hgv,,,,,,,,\n", 2, Cause::BadField),
-        (",hgv,,,,,,,,\n", 2, Cause::BadField),
-        ("a,hgv,1000001,,,,,,,\n", 2, Cause::BadField),
-        ("a,hgv,,00000000001,,,,,,\n", 2, Cause::BadField),
-        ("a,hgv,,,4.0,,,,,\n", 2, Cause::BadField),
-        ("a,hgv,,,,,,,Through,\n", 2, Cause::BadField),
-        ("a,hgv,,,,,,,, hazmat\n", 2, Cause::BadField),
-        ("a,hgv,,,,,,,,hazmat\t\n", 2, Cause::BadField),
-        ("a,hgv,,,,,,,, \n", 2, Cause::BadField),
-        ("a,hgv,,,,,,,,Hazmat\n", 2, Cause::BadField),
-        ("any,bus,,,,,,,,\n", 2, Cause::Duplicate),
-        ("a,hgv,,,,,,,,\na,bus,,,,,,,,\n", 3, Cause::Duplicate),
-        ("a,hgv,,,,,,,,\na,lorry,,,,,,,,\n", 3, Cause::BadField),
-    ];
-    for (rows, row, cause) in cases {
-        assert_eq!(rt; fault_of(alloc, rows), Some((row, cause)));
+    for (rows, row, cause) in REFUSED {
+        let refused = fault_of(alloc, rows) == Some((*row, *cause));
+        assert!(rt; refused, "{rows}");
     }
-    let header = read_vehicles(alloc, b"name,class\n");
-    assert!(rt;
-        matches!(
-            header,
-            Err(TableFault::BadRow {
-                row: 1,
-                cause: Cause::BadHeader
-            })
-        )
-    );
-    assert_eq!(rt; read_vehicles(alloc, b"")?.len(), 1);
-    Ok(())
+    let bad_header = TableFault::BadRow {
+        row: 1,
+        cause: Cause::BadHeader,
+    };
+    assert!(rt; count_in(alloc, "name,class\n") == Err(bad_header));
+    assert!(rt; count_in(alloc, "") == Ok(1));
+}
+
+// Whether the keys of a class are the general ones, its own, and this last one.
+fn has_keys(class: Class, own: Key, last: Option<Key>) -> bool {
+    chain_at(class, 0) == Some(Key::Access)
+        && chain_at(class, 1) == Some(Key::Vehicle)
+        && chain_at(class, 2) == Some(Key::MotorVehicle)
+        && chain_at(class, 3) == Some(own)
+        && chain_at(class, 4) == last
+        && chain_at(class, 5).is_none()
 }
 
 #[test]
-fn goes_from_general_keys_to_special_ones(rt: HostRuntime) -> Result<(), AllocError> {
+fn goes_from_general_keys_to_special_ones(rt: HostRuntime) {
     let classes = [
         (Class::Hgv, Key::Hgv, None),
         (Class::HgvArticulated, Key::Hgv, Some(Key::HgvArticulated)),
@@ -111,12 +144,6 @@ fn goes_from_general_keys_to_special_ones(rt: HostRuntime) -> Result<(), AllocEr
         (Class::Bus, Key::Bus, None),
     ];
     for (class, own, last) in classes {
-        assert_eq!(rt; chain_at(class, 0), Some(Key::Access));
-        assert_eq!(rt; chain_at(class, 1), Some(Key::Vehicle));
-        assert_eq!(rt; chain_at(class, 2), Some(Key::MotorVehicle));
-        assert_eq!(rt; chain_at(class, 3), Some(own));
-        assert_eq!(rt; chain_at(class, 4), last);
-        assert_eq!(rt; chain_at(class, 5), None);
+        assert!(rt; has_keys(class, own, last), "{own:?}");
     }
-    Ok(())
 }

@@ -1,10 +1,11 @@
 // When arcs of a small network are closed to two vehicles.
 ghost use Rattle.std.specs.Prelude.{◌≡◌, ◌≤◌, ◌<◌, true, length};
 
+use crate::tests::networks::{found, read};
 use ban_expansion::{closed_at, closed_set, expand_plain, group_arcs};
-use network_tables::{Files, Network, NetworkFault, read_network};
+use network_tables::{Network, NetworkFault};
 use route_base::limits::{FIRST_INSTANT, LAST_INSTANT};
-use route_base::{ArcId, FileBytes, FileKind, Minute, OutOfMemory, Run, TimedNet};
+use route_base::{ArcId, FileKind, Minute, OutOfMemory, Run, TimedNet};
 use std::alloc::Global;
 
 const RULES: &str =
@@ -32,10 +33,6 @@ const WITHOUT_DELIVERY: [Run; 2] = [
     },
 ];
 
-fn file(alloc: Global, text: &str) -> Result<FileBytes, OutOfMemory> {
-    Ok(FileBytes::from_vec(Vec::from_slice(alloc, text.as_bytes())?))
-}
-
 // Arcs in the areas `port` and `town`, in this zone. Those that no road names are in the first.
 fn network_of<'a>(
     alloc: Global,
@@ -44,8 +41,7 @@ fn network_of<'a>(
     rules: &'a str,
     closures: &'a str,
 ) -> Result<Network, NetworkFault> {
-    let mut files = Files::new(alloc);
-    for (kind, text) in [
+    let texts = [
         (FileKind::Graph, graph),
         (FileKind::Zones, "zone,from,offset\nHere,525600,+01:00\n"),
         (FileKind::Areas, "area,zone\nport,Here\ntown,Here\n"),
@@ -53,10 +49,8 @@ fn network_of<'a>(
         (FileKind::Vehicles, VEHICLES),
         (FileKind::Rules, rules),
         (FileKind::Closures, closures),
-    ] {
-        files.put(kind, file(alloc, text)?);
-    }
-    read_network(alloc, &files)
+    ];
+    read(alloc, &texts)
 }
 
 // Four arcs in one area. The third has a closure that ends after the day.
@@ -95,25 +89,43 @@ fn are_closed(
     Ok(closed.runs() == runs)
 }
 
-#[test]
-fn closes_arcs_by_the_last_value_that_is_given(rt: HostRuntime) -> Result<(), NetworkFault> {
-    let alloc = rt.alloc();
-    let network = port(alloc)?;
-    assert!(rt; network.graph().arc_count() == 4);
-    assert!(rt; network.vehicles().len() == 2);
+// Whether the network has four arcs and two vehicles.
+fn has_four_arcs_and_two_vehicles(network: &Network) -> bool {
+    network.graph().arc_count() == 4 && network.vehicles().len() == 2
+}
+
+// The first vehicle and arc at which other minutes of the day are closed. A value for a more general key stands before those of the
+// area for `hgv`.
+fn wrong_minutes(alloc: Global, network: &Network) -> Result<Option<(usize, u32)>, OutOfMemory> {
     let closure = Run {
         lo: 26_565_100,
         hi: 26_565_120,
     };
-    // A value for a more general key stands before those of the area for `hgv`.
     for (place, arc, runs) in [
         (0, 1, [DAY].as_slice()),
         (1, 1, WITHOUT_DELIVERY.as_slice()),
         (1, 2, WITHOUT_DELIVERY.as_slice()),
         (0, 3, [closure].as_slice()),
     ] {
-        assert!(rt; are_closed(alloc, &network, place, arc, runs)?, "arc {arc}");
+        if !are_closed(alloc, network, place, arc, runs)? {
+            return Ok(Some((place, arc)));
+        }
     }
+    Ok(None)
+}
+
+#[test]
+fn closes_arcs_by_the_last_value_that_is_given(rt: HostRuntime) -> Result<(), NetworkFault> {
+    let alloc = rt.alloc();
+    let (whole, wrong) = found(
+        port(alloc),
+        |network| (
+            has_four_arcs_and_two_vehicles(network),
+            wrong_minutes(alloc, network),
+        ),
+    )?;
+    assert!(rt; whole);
+    assert_eq!(rt; wrong?, None);
     Ok(())
 }
 
@@ -126,9 +138,8 @@ fn is_closed(network: &Network, place: usize, arc: u32, minute: Minute) -> Optio
     Some(closed_at(network, vehicle, ArcId(arc), minute))
 }
 
-#[test]
-fn closes_arcs_at_the_same_instants(rt: HostRuntime) -> Result<(), NetworkFault> {
-    let network = port(rt.alloc())?;
+// The first arc and instant at which the network has another answer.
+fn wrong_instant(network: &Network) -> Option<(u32, Minute)> {
     for (place, arc, minute, closed) in [
         (1, 1, 26_563_979, true),
         (1, 1, 26_563_980, false),
@@ -136,11 +147,17 @@ fn closes_arcs_at_the_same_instants(rt: HostRuntime) -> Result<(), NetworkFault>
         (0, 3, 26_565_199, true),
         (0, 3, 26_565_200, false),
     ] {
-        assert!(rt;
-            is_closed(&network, place, arc, minute) == Some(closed),
-            "at {minute}"
-        );
+        if is_closed(network, place, arc, minute) != Some(closed) {
+            return Some((arc, minute));
+        }
     }
+    None
+}
+
+#[test]
+fn closes_arcs_at_the_same_instants(rt: HostRuntime) -> Result<(), NetworkFault> {
+    let wrong = found(port(rt.alloc()), |network| wrong_instant(network))?;
+    assert_eq!(rt; wrong, None);
     Ok(())
 }
 
@@ -149,32 +166,57 @@ fn place_of(net: &TimedNet, arc: u32) -> Option<u32> {
     Some(net.arc(ArcId(arc))?.closed)
 }
 
+// Whether the first and the last of four arcs share their closed minutes, which the second one doesn't.
+fn has_shared_sets(net: &TimedNet) -> bool {
+    let second = place_of(net, 2);
+    let Some(last) = net.arc(ArcId(4)) else {
+        return false;
+    };
+    second.is_some()
+        && place_of(net, 1) != second
+        && place_of(net, 1) == Some(last.closed)
+        && last.cost == 300_000
+        && net.closed_runs(ArcId(4)) == WITHOUT_DELIVERY.as_slice()
+}
+
+// Whether this is so after the expansion for the second of two vehicles.
+fn shares_sets(alloc: Global, network: &Network) -> Result<bool, OutOfMemory> {
+    if network.vehicles().len() != 2 {
+        return Ok(false);
+    }
+    let net = expand_plain(alloc, network, network.vehicles().vehicle(1), DAY)?;
+    Ok(has_shared_sets(&net))
+}
+
 #[test]
 fn shares_sets_within_an_area(rt: HostRuntime) -> Result<(), NetworkFault> {
     let alloc = rt.alloc();
-    let network = port(alloc)?;
-    assert!(rt; network.vehicles().len() == 2);
-    let net = expand_plain(alloc, &network, network.vehicles().vehicle(1), DAY)?;
-    let second = place_of(&net, 2);
-    assert!(rt; second.is_some());
-    assert!(rt; place_of(&net, 1) != second);
-    let Some(last) = net.arc(ArcId(4)) else {
-        assert!(rt; false, "an arc is missing");
-        return Ok(());
-    };
-    assert!(rt; place_of(&net, 1) == Some(last.closed));
-    assert!(rt; last.cost == 300_000);
-    assert!(rt; net.closed_runs(ArcId(4)) == WITHOUT_DELIVERY.as_slice());
+    let shared = found(port(alloc), |network| shares_sets(alloc, network))??;
+    assert!(rt; shared);
     Ok(())
+}
+
+// Whether the arcs are in these groups, with these first arcs.
+fn are_grouped(
+    alloc: Global,
+    network: &Network,
+    groups: &[u32],
+    firsts: &[ArcId],
+) -> Result<bool, OutOfMemory> {
+    let grouped = group_arcs(alloc, network)?;
+    Ok(grouped.groups() == groups && grouped.firsts() == firsts)
 }
 
 #[test]
 fn groups_arcs_that_have_nothing_of_their_own(rt: HostRuntime) -> Result<(), NetworkFault> {
     let alloc = rt.alloc();
-    let network = port(alloc)?;
-    let groups = group_arcs(alloc, &network)?;
-    assert!(rt; groups.groups() == [0, 1, 2, 0].as_slice());
-    assert!(rt; groups.firsts() == [ArcId(1), ArcId(2), ArcId(3)].as_slice());
+    let groups = [0, 1, 2, 0];
+    let firsts = [ArcId(1), ArcId(2), ArcId(3)];
+    let grouped = found(
+        port(alloc),
+        |network| are_grouped(alloc, network, &groups, &firsts),
+    )??;
+    assert!(rt; grouped);
     Ok(())
 }
 
@@ -200,9 +242,12 @@ fn port_with_rules_of_arcs(alloc: Global) -> Result<Network, NetworkFault> {
 #[test]
 fn groups_arcs_that_have_the_same_of_their_own(rt: HostRuntime) -> Result<(), NetworkFault> {
     let alloc = rt.alloc();
-    let network = port_with_rules_of_arcs(alloc)?;
-    let groups = group_arcs(alloc, &network)?;
-    assert!(rt; groups.groups() == [0, 0, 0, 1, 2, 3, 3].as_slice());
-    assert!(rt; groups.firsts() == [ArcId(1), ArcId(4), ArcId(5), ArcId(6)].as_slice());
+    let groups = [0, 0, 0, 1, 2, 3, 3];
+    let firsts = [ArcId(1), ArcId(4), ArcId(5), ArcId(6)];
+    let grouped = found(
+        port_with_rules_of_arcs(alloc),
+        |network| are_grouped(alloc, network, &groups, &firsts),
+    )??;
+    assert!(rt; grouped);
     Ok(())
 }

@@ -133,6 +133,36 @@ fn has_values(f: &CostFn, values: &[Option<u64>]) -> bool {
     f.is_reduced()
 }
 
+// Whether the function has the lesser values of the two lists, and is reduced.
+fn is_least(f: &CostFn, a: &[Option<u64>], b: &[Option<u64>]) -> bool {
+    for t in 0..COMPARED {
+        if f.at(t) != lesser(value(a, t), value(b, t)) {
+            return false;
+        }
+    }
+    f.is_reduced()
+}
+
+// Whether the set has the minutes at which the second list is better.
+fn has_better(set: &MinuteSet, a: &[Option<u64>], b: &[Option<u64>]) -> bool {
+    for t in 0..COMPARED {
+        if set.contains(t) != is_better(value(a, t), value(b, t)) {
+            return false;
+        }
+    }
+    true
+}
+
+// Whether the second list is better at some minute.
+fn is_any_better(a: &[Option<u64>], b: &[Option<u64>]) -> bool {
+    for t in 0..COMPARED {
+        if is_better(value(a, t), value(b, t)) {
+            return true;
+        }
+    }
+    false
+}
+
 fn merges_as_lists(
     alloc: Global,
     f: &CostFn,
@@ -144,22 +174,68 @@ fn merges_as_lists(
     requires second { AreBuilt g.now }
 {
     let merged = least(alloc, f, g)?;
+    Ok(
+        is_least(&merged.function, a, b)
+            && has_better(&merged.improved, a, b)
+            && is_improved(f, g) == is_any_better(a, b),
+    )
+}
+
+fn merges_in_place_as_lists(
+    alloc: Global,
+    f: &CostFn,
+    a: &[Option<u64>],
+    g: &CostFn,
+    b: &[Option<u64>],
+) -> Result<bool, OutOfMemory>
+    requires first { AreBuilt f.now }
+    requires second { AreBuilt g.now }
+{
     let mut in_place = f.reduce(alloc)?;
     let improved = improve_in_place(alloc, &mut in_place, g)?;
-    let mut is_any = false;
+    Ok(is_least(&in_place, a, b) && has_better(&improved, a, b))
+}
+
+// Whether the function has the values that are kept, later and at a cost, and is reduced.
+fn is_shifted(f: &CostFn, a: &[Option<u64>], kept: &[bool], minutes: u64, cost: u64) -> bool {
     for t in 0..COMPARED {
-        let wanted = lesser(value(a, t), value(b, t));
-        let better = is_better(value(a, t), value(b, t));
-        is_any = is_any || better;
-        if merged.function.at(t) != wanted || in_place.at(t) != wanted {
-            return Ok(false);
-        }
-        if merged.improved.contains(t) != better || improved.contains(t) != better {
-            return Ok(false);
+        if f.at(t) != shifted(a, kept, minutes, cost, t) {
+            return false;
         }
     }
-    let reduced = merged.function.is_reduced() && in_place.is_reduced();
-    Ok(reduced && is_improved(f, g) == is_any)
+    f.is_reduced()
+}
+
+fn shifts_as_lists(
+    alloc: Global,
+    random: &mut Random,
+    f: &CostFn,
+    a: &[Option<u64>],
+    kept: &[bool],
+    keep: &MinuteSet,
+) -> Result<bool, OutOfMemory>
+    requires { AreBuilt f.now }
+{
+    let minutes = random.below(12);
+    let cost = random.below(30);
+    if !can_shift(f, minutes, cost) {
+        return Ok(false);
+    }
+    let moved = shift(alloc, f, keep, minutes, cost)?;
+    Ok(is_shifted(&moved, a, kept, minutes, cost))
+}
+
+fn cuts_as_lists(
+    alloc: Global,
+    f: &CostFn,
+    a: &[Option<u64>],
+    kept: &[bool],
+    keep: &MinuteSet,
+) -> Result<bool, OutOfMemory>
+    requires { AreBuilt f.now }
+{
+    let part = cut(alloc, f, keep)?;
+    Ok(is_shifted(&part, a, kept, 0, 0))
 }
 
 fn moves_as_lists(
@@ -172,22 +248,8 @@ fn moves_as_lists(
 {
     let kept = random_keep(alloc, random)?;
     let keep = set_of(alloc, &kept)?;
-    let minutes = random.below(12);
-    let cost = random.below(30);
-    if !can_shift(f, minutes, cost) {
-        return Ok(false);
-    }
-    let moved = shift(alloc, f, &keep, minutes, cost)?;
-    let part = cut(alloc, f, &keep)?;
-    for t in 0..COMPARED {
-        if moved.at(t) != shifted(a, &kept, minutes, cost, t) {
-            return Ok(false);
-        }
-        if part.at(t) != shifted(a, &kept, 0, 0, t) {
-            return Ok(false);
-        }
-    }
-    Ok(moved.is_reduced() && part.is_reduced())
+    let shifts = shifts_as_lists(alloc, random, f, a, &kept, &keep)?;
+    Ok(shifts && cuts_as_lists(alloc, f, a, &kept, &keep)?)
 }
 
 fn waits_as_lists(
@@ -237,17 +299,42 @@ fn prunes_as_lists(
     Ok(made.is_reduced())
 }
 
+// Whether the calls on one function are right.
+fn changes_as_lists(
+    alloc: Global,
+    random: &mut Random,
+    f: &CostFn,
+    a: &[Option<u64>],
+) -> Result<bool, OutOfMemory>
+    requires { AreBuilt f.now }
+{
+    Ok(
+        has_values(f, a)
+            && moves_as_lists(alloc, random, f, a)?
+            && waits_as_lists(alloc, random, f, a)?
+            && prunes_as_lists(alloc, random, f, a)?,
+    )
+}
+
+// Whether the calls on the functions of these values are right.
+fn are_right(
+    alloc: Global,
+    random: &mut Random,
+    a: &[Option<u64>],
+    b: &[Option<u64>],
+) -> Result<bool, OutOfMemory> {
+    let f = function_of(alloc, a)?;
+    let g = function_of(alloc, b)?;
+    let right = changes_as_lists(alloc, random, &f, a)?
+        && merges_as_lists(alloc, &f, a, &g, b)?
+        && merges_in_place_as_lists(alloc, &f, a, &g, b)?;
+    Ok(right)
+}
+
 fn is_right(alloc: Global, random: &mut Random) -> Result<bool, OutOfMemory> {
     let a = random_values(alloc, random)?;
     let b = random_values(alloc, random)?;
-    let f = function_of(alloc, &a)?;
-    let g = function_of(alloc, &b)?;
-    let right = has_values(&f, &a)
-        && merges_as_lists(alloc, &f, &a, &g, &b)?
-        && moves_as_lists(alloc, random, &f, &a)?
-        && waits_as_lists(alloc, random, &f, &a)?
-        && prunes_as_lists(alloc, random, &f, &a)?;
-    Ok(right)
+    are_right(alloc, random, &a, &b)
 }
 
 #[test]

@@ -4,7 +4,7 @@ ghost use Rattle.cost_functions.specs.Lines.{IsPiece};
 
 use cost_functions::{CostFn, Piece};
 use function_merge::{
-    can_shift, can_wait, cut, improve, into_pruned, is_improved, least, prune, shift, wait,
+    Merged, can_shift, can_wait, cut, improve, into_pruned, is_improved, least, prune, shift, wait,
 };
 use minute_sets::MinuteSet;
 use route_base::{Bound, OutOfMemory, Pair, Run};
@@ -34,36 +34,54 @@ fn of_one(alloc: Global, piece: Piece) -> Result<CostFn, OutOfMemory>
     Ok(CostFn::from_pieces(pieces))
 }
 
+// The rising line up to minute 4, and the flat one from minute 5 on.
+const LESSER: [Piece; 2] = [Piece { hi: 4, ..RISING }, Piece { lo: 5, ..FLAT }];
+
+// Whether the merged function is the lesser of both, which is better in these runs.
+fn is_lesser(merged: &Merged, improved: &[Run]) -> bool {
+    merged.function.pieces() == LESSER.as_slice() && merged.improved.runs() == improved
+}
+
 #[test]
 fn merges_where_lines_cross(rt: HostRuntime) -> Result<(), Fail> {
     let f = of_one(rt.alloc(), RISING)?;
     let g = of_one(rt.alloc(), FLAT)?;
     assert!(rt; is_improved(&f, &g));
     let merged = least(rt.alloc(), &f, &g)?;
-    let pieces = [Piece { hi: 4, ..RISING }, Piece { lo: 5, ..FLAT }];
-    assert!(rt; merged.function.pieces() == pieces.as_slice());
-    assert!(rt; merged.improved.runs() == [Run { lo: 5, hi: 11 }].as_slice());
+    assert!(rt; is_lesser(&merged, &[Run { lo: 5, hi: 11 }]));
     let again = improve(rt.alloc(), merged.function, &g)?;
-    assert!(rt; again.function.pieces() == pieces.as_slice());
-    assert_eq!(rt; again.improved.runs().len(), 0);
+    assert!(rt; is_lesser(&again, &[]));
     Ok(())
 }
 
-#[test]
-fn moves_and_prunes(rt: HostRuntime) -> Result<(), Fail> {
-    let f = of_one(rt.alloc(), RISING)?;
-    let entries = MinuteSet::whole(rt.alloc(), Run { lo: 3, hi: 6 })?;
-    assert!(rt; can_shift(&f, 60, 60000));
-    let moved = shift(rt.alloc(), &f, &entries, 60, 60000)?;
+// Whether the entries of the rising line from minute 3 on arrive an hour later, at a cost.
+fn moves(alloc: Global) -> Result<bool, OutOfMemory> {
+    let f = of_one(alloc, RISING)?;
+    if !can_shift(&f, 60, 60000) {
+        return Ok(false);
+    }
+    let entries = MinuteSet::whole(alloc, Run { lo: 3, hi: 6 })?;
+    let moved = shift(alloc, &f, &entries, 60, 60000)?;
     let later = Piece {
         lo: 63,
         hi: 65,
         cost: 60006,
         slope: 2,
     };
-    assert!(rt; moved.pieces() == [later].as_slice());
-    let keep = MinuteSet::whole(rt.alloc(), Run { lo: 0, hi: 2 })?;
-    assert!(rt; cut(rt.alloc(), &f, &keep)?.pieces() == [Piece { hi: 1, ..RISING }].as_slice());
+    Ok(moved.pieces() == [later].as_slice())
+}
+
+// Whether the rising line is cut to its first two minutes.
+fn cuts(alloc: Global) -> Result<bool, OutOfMemory> {
+    let f = of_one(alloc, RISING)?;
+    let keep = MinuteSet::whole(alloc, Run { lo: 0, hi: 2 })?;
+    let kept = cut(alloc, &f, &keep)?;
+    Ok(kept.pieces() == [Piece { hi: 1, ..RISING }].as_slice())
+}
+
+// Whether the rising line ends at minute 4, by the horizon and by a pair.
+fn prunes(alloc: Global) -> Result<bool, OutOfMemory> {
+    let f = of_one(alloc, RISING)?;
     let bound = Bound {
         minutes: 5,
         cost: 100,
@@ -72,10 +90,17 @@ fn moves_and_prunes(rt: HostRuntime) -> Result<(), Fail> {
         arrival: 9,
         cost: 110,
     };
-    let in_time = prune(rt.alloc(), &f, 9, &[], bound)?;
-    assert!(rt; in_time.pieces() == [Piece { hi: 4, ..RISING }].as_slice());
+    let in_time = prune(alloc, &f, 9, &[], bound)?;
     let cheap = into_pruned(f, 100, &[pair], bound);
-    assert!(rt; cheap.pieces() == [Piece { hi: 4, ..RISING }].as_slice());
+    let kept = [Piece { hi: 4, ..RISING }];
+    Ok(in_time.pieces() == kept.as_slice() && cheap.pieces() == kept.as_slice())
+}
+
+#[test]
+fn moves_and_prunes(rt: HostRuntime) -> Result<(), Fail> {
+    assert!(rt; moves(rt.alloc())?);
+    assert!(rt; cuts(rt.alloc())?);
+    assert!(rt; prunes(rt.alloc())?);
     Ok(())
 }
 
