@@ -14,6 +14,7 @@ use Rattle.table_reader.specs.NameIndex.{value_under}
 use Rattle.network_tables.specs.Zones.{ZoneEntry, ZoneList, rows_of_zone, some_rows, given_zone, zone_named, HasRows, HasZones}
 use Rattle.table_reader.proofs.HeaderLists.{same_name}
 use Rattle.table_reader.proofs.Lists.{lookup-other, lookup-new}
+use Rattle.network_tables.proofs.FirstFaults.{or_none}
 
 name_same : (a b : List ℕ) → a ≡ b → bytes_eq a b ≡ true
 name_same a b = (bytes_eq-Decides a b).1
@@ -98,10 +99,6 @@ HasRows-more old new entries e has added name =
       | false ↦ λ is. has name ∙ ap some_rows (sym (append-nil (rows_of_zone entries name)))
     ] refl
     ∙ ap some_rows (sym (rows_more entries e name))
-
-or_none : {A : Type 0} (o : Option A) → option_or o None ≡ o
-or_none None = refl
-or_none (Some x) = refl
 
 or_some : {A : Type 0} (o p : Option A) → IsSome o → option_or o p ≡ o
 or_some None p h = absurd (cc)

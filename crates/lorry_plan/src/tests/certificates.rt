@@ -29,7 +29,7 @@ const ONE_PAIR: &str = "pairs 1\npair 26563920 360000 3\ndrive 1\nwait 120\ndriv
 const LONG_WAIT: &str =
     "pairs 2\npair 26563920 360000 3\ndrive 1\nwait 120968639\ndrive 2\npair 26563980 300000 1\ndrive 3\n";
 
-// The parts of certificates, and what they are judged to be.
+// The parts of certificates, and the text of the verdict.
 const JUDGED: &[(&str, &str, &str, &str, &str)] = &[
     (PAIRS, BOUNDS, PIECES, "end\n", "accepted 2\n"),
     (

@@ -69,7 +69,7 @@ const DIRECT: Pair = Pair {
     cost: 300_000,
 };
 
-// Legs, and what they come to.
+// Legs, and their pair or the first unlawful one.
 const CASES: &[(&[Leg], Result<Pair, NotLawful>)] = &[
     (&[FIRST, Leg::Wait(120), SECOND], Ok(WAITED)),
     (&[STRAIGHT], Ok(DIRECT)),

@@ -73,7 +73,7 @@ fn covers_a_span_that_began_before_the_window(rt: HostRuntime) -> Result<(), Fai
 
 const WINDOW: Run = Run { lo: 0, hi: 60 };
 
-// What is closed where a layer bars the window and the next one frees the minutes from 20 to 30.
+// The closed minutes where a layer bars the window and the next one frees the minutes from 20 to 30.
 fn closed_by_layers(alloc: Global) -> Result<MinuteSet, OutOfMemory> {
     let layers = [
         Layer {

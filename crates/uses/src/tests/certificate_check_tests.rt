@@ -152,7 +152,7 @@ fn certificate_of(alloc: Global, row: &CertificateRow) -> Result<Certificate, Ou
     })
 }
 
-// What is found of a row's certificate; none where its bounds are out of range.
+// The verdict on a row's certificate; none where its bounds are out of range.
 fn verdict_of(
     alloc: Global,
     net: &TimedNet,
@@ -228,7 +228,7 @@ fn finds_the_first_condition_that_fails(rt: HostRuntime) -> Result<(), Fail> {
         depart: 26563680,
         until: 26564080,
     };
-    // Certificates, and what is found of them: the first condition that fails, if one does.
+    // Certificates, and the verdict on each: the first condition that fails, if one does.
     let judged: [(CertificateRow, Verdict); 9] = [
         (
             ([WAITS, DRIVES], 120, [START, PARKED, None]),

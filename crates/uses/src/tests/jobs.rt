@@ -124,7 +124,7 @@ fn refuses_jobs_with_their_first_fault(rt: HostRuntime) {
     assert!(rt; fault_of(header) == Some((1, Cause::BadHeader)));
 }
 
-// The most jobs, which are all equal, and what these rows state after them.
+// The most jobs, which are all equal, and the jobs of these rows after them.
 fn most_jobs_and(alloc: Global, rows: &str) -> Result<Jobs, TableFault> {
     let mut text = String::new(alloc);
     for _ in 0..MOST_JOBS {

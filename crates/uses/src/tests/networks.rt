@@ -42,7 +42,7 @@ pub fn read(alloc: Global, texts: &[(FileKind, &str)]) -> Result<Network, Networ
     read_network(alloc, &files)
 }
 
-// What this function finds in the network, where one is read.
+// The answer of this function to the network, where one is read.
 pub fn found<T, F: FnOnce(&Network) -> T>(
     network: Result<Network, NetworkFault>,
     find: F,
