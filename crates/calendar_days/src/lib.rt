@@ -9,8 +9,6 @@
 mod days;
 mod digits;
 mod instants;
-#[cfg(test)]
-mod tests;
 mod threads;
 mod weekday;
 

@@ -30,6 +30,3 @@ pub use pieces::Piece;
 
 /// The highest cost at the first minute of a piece, in thousandths.
 pub const HIGHEST_PIECE_COST: u64 = 10_000_000_000_000;
-
-#[cfg(test)]
-mod tests;

@@ -9,8 +9,6 @@
 mod files;
 mod laws;
 mod network;
-#[cfg(test)]
-mod tests;
 
 pub use laws::drawn_files_are_good;
 pub use network::{DrawnNetwork, draw_network};

@@ -14,6 +14,3 @@ mod heap;
 mod queue;
 
 pub use queue::LabelQueue;
-
-#[cfg(test)]
-mod tests;

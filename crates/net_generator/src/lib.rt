@@ -10,8 +10,6 @@ mod draws;
 mod files;
 mod layout;
 mod limits;
-#[cfg(test)]
-mod tests;
 mod texts;
 
 pub use files::{Generated, generate};

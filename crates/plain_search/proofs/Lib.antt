@@ -1,6 +1,5 @@
 pub mod ArcPlaces
 pub mod Backward
-pub mod Cheapness
 pub mod Columns
 pub mod Founding
 pub mod Lowering

@@ -3,6 +3,5 @@ pub mod CostTable
 pub mod Costs
 pub mod Predecessors
 pub mod Routes
-pub mod SmallNet
 pub mod Soundness
 pub mod Tidiness

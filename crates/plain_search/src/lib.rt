@@ -13,7 +13,7 @@
 //! `specs/Inside` is no law. It has the three facts that the proof keeps (`Costs`): each label but the first comes by a lawful
 //! step, at exactly its cost, from an earlier minute (`ComesBySteps`); the steps of a minute change later minutes alone
 //! (`ChangesLater`); and every step from an earlier minute is relaxed (`IsRelaxedBefore`). `Soundness`, `CostTable`,
-//! `Predecessors`, `Routes`, `Tidiness` and `SmallNet` name the rest; `Words` passes on the words of the clauses.
+//! `Predecessors`, `Routes` and `Tidiness` name the rest; `Words` passes on the words of the clauses.
 #![tactic(auto)]
 
 mod cost_table;

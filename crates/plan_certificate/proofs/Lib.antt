@@ -1,4 +1,3 @@
-pub mod CheapNets
 pub mod Choosing
 pub mod FoundEntries
 pub mod GoodParts

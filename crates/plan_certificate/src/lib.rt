@@ -24,6 +24,3 @@ mod laws;
 
 pub use certifier::certify;
 pub use laws::certificates_agree;
-
-#[cfg(test)]
-mod tests;

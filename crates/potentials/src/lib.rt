@@ -15,6 +15,3 @@ mod proportion;
 mod sums;
 
 pub use bounds::{to_goal, to_goal_over};
-
-#[cfg(test)]
-mod tests;

@@ -2,7 +2,7 @@
 ghost use Rattle.std.specs.Prelude.{◌≡◌, ◌<◌, ◌∷◌, ◌++◌, [], None, Some, List, length, is_some, IfSome, IfErr, OnOk, ◌^◌};
 ghost use Rattle.table_reader.specs.Inside.RecordReader.{records_left, IsRecordReader};
 ghost use Rattle.table_reader.specs.Words.{fields_of, IsOfContents, Schema, IsHeader, is_header, cause_after};
-ghost use Rattle.table_reader.specs.Words.{row_fault_from, first_table_fault, Record, records_of, header_of, rows_of};
+ghost use Rattle.table_reader.specs.Words.{row_fault_from, first_table_fault, Record, records_of, header_in, header_of, rows_in, rows_of};
 ghost use Rattle.table_reader.specs.Words.{words_of, headers_of, IfBadCause, ReadsRows};
 
 use crate::faults::RowFault;
@@ -78,24 +78,24 @@ fn add_row<T: Table>(
     table.add(alloc, header, row)
 }
 
-// Adds all data rows of a file with this header, of which one is in memory at a time.
+// Adds the data rows that a reader has left, of which one is in memory at a time.
 fn add_rows<T: Table>(
     alloc: Global,
-    mut table: T,
+    table: &mut T,
     header: &[&str],
-    mut reader: Reader<&[u8]>,
-) -> Result<T, TableFault>
-    requires start { T.becomes table table (words_of header.now) [] }
-    requires known { IsHeader (T.schema table).headers (words_of header.now) }
-    requires ready { IsRecordReader reader }
+    reader: &mut Reader<&[u8]>,
+    row: &mut ByteRecord,
+) -> Result<(), TableFault>
+    requires start { T.becomes table.old table.old (words_of header.now) [] }
+    requires known { IsHeader (T.schema table.old).headers (words_of header.now) }
+    requires ready { IsRecordReader reader.old }
     ensures { ReadsRows result
-        (row_fault_from (T.schema table) (words_of header.now) [] (records_left reader.entry))
-        (λ read. T.becomes table read (words_of header.now) (records_left reader.entry)) }
+        (row_fault_from (T.schema table.old) (words_of header.now) [] (records_left reader.old))
+        (λ _. T.becomes table.old table.new (words_of header.now) (records_left reader.old)) }
 {
-    let mut row = ByteRecord::new(alloc);
     let mut count = 0;
-    'rows: while read_record(&mut reader, &mut row)? {
-        match add_row(alloc, &mut table, header, count, &row) {
+    'rows: while read_record(reader, row)? {
+        match add_row(alloc, table, header, count, row) {
             Ok(()) => count += 1,
             Err(RowFault::Bad(cause)) => {
                 return Err(TableFault::BadRow {
@@ -106,7 +106,7 @@ fn add_rows<T: Table>(
             Err(RowFault::OutOfMemory) => return Err(TableFault::OutOfMemory),
         }
     }
-    Ok(table)
+    Ok(())
 }
 
 // The header that the first record is, if it is one of these.
@@ -124,26 +124,43 @@ fn header_among<'a>(first: &ByteRecord, headers: &'a [&'a [&'a str]]) -> Option<
     None
 }
 
-/// Adds all data rows of a file to an empty table, by the header that the file has; a file without records has no rows. Linear
-/// in the bytes, beside what the rows take.
-///
-/// `BadRow` names the first record that has a fault, from 1, and its cause, which is never `Missing` or `TooLong`.
+// Reads the header, and then adds all data rows to an empty table. A row's memory is used for each.
 #[tactic(auto, unfolding(crate::specs::Schema::first_table_fault))]
-pub fn read_table<T: Table>(alloc: Global, bytes: &[u8], table: T) -> Result<T, TableFault>
-    requires { (header : Record) → T.becomes table table header [] }
-    ensures { ReadsRows result (first_table_fault (T.schema table) (records_of bytes.now))
-        (λ read. T.becomes table read (header_of bytes.now) (rows_of bytes.now)) }
+fn read_rows<T: Table>(
+    alloc: Global,
+    table: &mut T,
+    reader: &mut Reader<&[u8]>,
+    row: &mut ByteRecord,
+) -> Result<(), TableFault>
+    requires empty { (header : Record) → T.becomes table.old table.old header [] }
+    requires ready { IsRecordReader reader.old }
+    ensures { ReadsRows result (first_table_fault (T.schema table.old) (records_left reader.old))
+        (λ _. T.becomes table.old table.new
+        (header_in (records_left reader.old)) (rows_in (records_left reader.old))) }
 {
-    let mut reader = record_reader(alloc, bytes);
-    let mut first = ByteRecord::new(alloc);
-    if !read_record(&mut reader, &mut first)? {
-        return Ok(table);
+    if !read_record(reader, row)? {
+        return Ok(());
     }
-    match header_among(&first, table.headers()) {
-        Some(header) => add_rows(alloc, table, header, reader),
+    match header_among(row, table.headers()) {
+        Some(header) => add_rows(alloc, table, header, reader, row),
         None => Err(TableFault::BadRow {
             row: 1,
             cause: Cause::BadHeader,
         }),
     }
+}
+
+/// Adds all data rows of a file to an empty table, by the header that the file has; a file without records has no rows. Linear
+/// in the bytes, beside what the rows take.
+///
+/// `BadRow` names the first record that has a fault, from 1, and its cause, which is never `Missing` or `TooLong`.
+pub fn read_table<T: Table>(alloc: Global, bytes: &[u8], mut table: T) -> Result<T, TableFault>
+    requires { (header : Record) → T.becomes table table header [] }
+    ensures { ReadsRows result (first_table_fault (T.schema table) (records_of bytes.now))
+        (λ read. T.becomes table read (header_of bytes.now) (rows_of bytes.now)) }
+{
+    let mut reader = record_reader(alloc, bytes);
+    let mut row = ByteRecord::new(alloc);
+    read_rows(alloc, &mut table, &mut reader, &mut row)?;
+    Ok(table)
 }

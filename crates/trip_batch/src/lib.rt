@@ -9,8 +9,6 @@
 
 mod parts;
 mod planner;
-#[cfg(test)]
-mod tests;
 
 pub use parts::run_batch;
 pub use planner::{JobPlanner, JobTexts};

@@ -6,8 +6,6 @@
 
 mod faults;
 mod rows;
-#[cfg(test)]
-mod tests;
 mod threads;
 mod zone;
 

@@ -1,56 +1,21 @@
 // A certificate of a worked trip, and changes of it with the numbers of the conditions that they break.
-ghost use Rattle.std.specs.Prelude.{◌≡◌, ◌*◌, ◌<◌, ◌↔◌, IsTrue, IfOk};
+ghost use Rattle.std.specs.Prelude.{◌↔◌, IsTrue};
 ghost use Rattle.cost_functions.specs.Lines.{IsPiece};
 ghost use Rattle.certificate_check.specs.Conditions.{AreBoundsInRange};
 ghost use Rattle.route_base.specs.Net.{IsGoodRequest};
 
+use crate::tests::nets::worked_net;
 use certificate::limits::LONGEST_BOUND;
 use certificate::{Certificate, NodeBounds, NodeFunctions};
 use certificate_check::{Verdict, check};
 use cost_functions::{CostFn, HIGHEST_PIECE_COST, Piece};
 use route_base::limits::{HIGHEST_COST, LAST_INSTANT};
 use route_base::{
-    ArcId, Bound, Cost, Leg, Legs, Minute, NodeId, OutOfMemory, Pair, Request, Route, Routes, Run,
-    TimedArc, TimedNet,
+    ArcId, Bound, Cost, Leg, Legs, Minute, NodeId, OutOfMemory, Pair, Request, Route, Routes,
+    TimedNet,
 };
 use std::alloc::Global;
 use std::test::Fail;
-
-fn arc(tail: u32, head: u32, minutes: u64, closed: u32) -> TimedArc
-    requires { minutes < 1000 }
-    ensures { result ≡ record {
-      tail = record { 0 = tail };
-      head = record { 0 = head };
-      minutes = minutes;
-      cost = 1000 * minutes;
-      closed = closed;
-    } }
-{
-    TimedArc {
-        tail: NodeId(tail),
-        head: NodeId(head),
-        minutes,
-        cost: 1000 * minutes,
-        closed,
-    }
-}
-
-// Three nodes; the arc from 2 to 3 is closed for two hours, and waiting is allowed at 2.
-fn small_net(alloc: Global) -> Result<TimedNet, OutOfMemory>
-    ensures { IfOk result (λ net. net.nodes ≡ 3) }
-{
-    let arcs = vec![in alloc; arc(1, 2, 60, 0), arc(2, 3, 60, 1), arc(1, 3, 300, 0)]?;
-    let mut closed = Vec::new(alloc);
-    closed.push(Vec::new(alloc))?;
-    closed.push(vec![in alloc;
-        Run {
-            lo: 26563740,
-            hi: 26563860
-        },
-    ]?)?;
-    let weights = vec![in alloc; None, Some(2000), None]?;
-    Ok(TimedNet::new(3, arcs, closed, weights))
-}
 
 // Arrival, cost, the first leg, and two more.
 type RouteRow = (Minute, Cost, Leg, Option<(Leg, Leg)>);
@@ -221,7 +186,7 @@ const EARLY: Option<(u32, Piece)> = Some((
 #[test]
 fn finds_the_first_condition_that_fails(rt: HostRuntime) -> Result<(), Fail> {
     let alloc = rt.alloc();
-    let net = small_net(alloc)?;
+    let net = worked_net(alloc)?;
     let request = Request {
         origin: NodeId(1),
         goal: NodeId(3),

@@ -1,52 +1,15 @@
 // Worked cases: a wait until an arc opens, against a longer way that is never closed, and the points before it opens.
-ghost use Rattle.std.specs.Prelude.{◌≡◌, ◌-◌, ◌<◌, ◌≤◌, IfOk};
+ghost use Rattle.std.specs.Prelude.{◌-◌, ◌≤◌};
 ghost use Rattle.plain_search.specs.Words.{IsAsked};
-ghost use Rattle.plain_search.specs.Inside.SmallNet.{small_arc, small};
+ghost use Rattle.uses.specs.Inside.WorkedNet.{worked};
 
+use crate::tests::nets::worked_net;
 use plain_search::{NodePoints, TableEngine, values};
 use route_base::{
-    ArcId, Cost, FrontSearch, Leg, Minute, NodeId, OutOfMemory, Pair, Request, Routes, Run,
-    TimedArc, TimedNet,
+    ArcId, Cost, FrontSearch, Leg, Minute, NodeId, OutOfMemory, Pair, Request, Routes, TimedNet,
 };
 use std::alloc::Global;
 use std::test::Fail;
-
-const ALWAYS_OPEN: u32 = 0;
-
-const CLOSED_AT_FIRST: u32 = 1;
-
-fn arc(tail: u32, head: u32, minutes: u64, closed: u32) -> TimedArc
-    requires { minutes < 1000 }
-    ensures { result ≡ small_arc tail head minutes closed }
-{
-    TimedArc {
-        tail: NodeId(tail),
-        head: NodeId(head),
-        minutes,
-        cost: 1000 * minutes,
-        closed,
-    }
-}
-
-fn small_net(alloc: Global) -> Result<TimedNet, OutOfMemory>
-    ensures { IfOk result (λ net. net ≡ small) }
-{
-    let arcs = vec![in alloc;
-        arc(1, 2, 60, ALWAYS_OPEN),
-        arc(2, 3, 60, CLOSED_AT_FIRST),
-        arc(1, 3, 300, ALWAYS_OPEN),
-    ]?;
-    let mut closed = Vec::new(alloc);
-    closed.push(Vec::new(alloc))?;
-    closed.push(vec![in alloc;
-        Run {
-            lo: 26563740,
-            hi: 26563860
-        },
-    ]?)?;
-    let weights = vec![in alloc; None, Some(2000), None]?;
-    Ok(TimedNet::new(3, arcs, closed, weights))
-}
 
 // Whether the routes have these pairs and legs, in this order.
 fn are_routes(routes: &Routes, wants: &[(Pair, &[Leg])]) -> bool {
@@ -74,7 +37,7 @@ fn has_front<E: FrontSearch>(
 fn trip_until(until: Minute) -> Request
     requires from { 26563680 ≤ until }
     requires upto { until ≤ 26650080 }
-    ensures asked { IsAsked small result }
+    ensures asked { IsAsked worked result }
     ensures horizon { result.until - result.depart ≤ 86400 }
 {
     Request {
@@ -88,7 +51,7 @@ fn trip_until(until: Minute) -> Request
 #[test]
 fn waits_for_an_arc_or_goes_round(rt: HostRuntime) -> Result<(), Fail> {
     let alloc = rt.alloc();
-    let net = small_net(alloc)?;
+    let net = worked_net(alloc)?;
     let request = trip_until(26564080);
     let wants = [
         (
@@ -120,7 +83,7 @@ fn are_points(found: &NodePoints, wants: &[(NodeId, Minute, Cost)]) -> bool {
 
 // Whether the trip until the second arc closes has these points.
 fn has_points(alloc: Global, wants: &[(NodeId, Minute, Cost)]) -> Result<bool, OutOfMemory> {
-    let net = small_net(alloc)?;
+    let net = worked_net(alloc)?;
     let found = values(alloc, &net, trip_until(26563740))?;
     Ok(are_points(&found, wants))
 }

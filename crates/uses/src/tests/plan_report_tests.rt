@@ -1,13 +1,14 @@
 // The texts of a worked trip in each form, and one of each other text.
-ghost use Rattle.std.specs.Prelude.{◌≡◌, ◌*◌, ◌<◌, All, IfOk};
+ghost use Rattle.std.specs.Prelude.{All};
 ghost use Rattle.plan_report.specs.Inside.{IsLawful};
 ghost use Rattle.route_base.specs.Net.{IsGoodRequest};
 ghost use Rattle.route_base.specs.Time.{IsInstant};
 
+use crate::tests::nets::worked_net;
 use plan_report::{Refusal, Verdict3, bans_text, check_text, plan_text, refusal_text};
 use route_base::{
     ArcId, BadInput, Cause, FileKind, Form, Leg, Legs, NodeId, OutOfMemory, Request, Route, Routes,
-    Run, TimedArc, TimedNet, replay,
+    Run, TimedNet, replay,
 };
 use std::alloc::Global;
 use std::test::Fail;
@@ -43,36 +44,6 @@ const JSON: &str = "{\"pairs\":[\
 {\"arrival\":26563920,\"cost\":360000,\"legs\":[\
 {\"arc\":1,\"kind\":\"drive\"},{\"kind\":\"wait\",\"minutes\":120},{\"arc\":2,\"kind\":\"drive\"}]},\
 {\"arrival\":26563980,\"cost\":300000,\"legs\":[{\"arc\":3,\"kind\":\"drive\"}]}]}\n";
-
-fn arc(tail: u32, head: u32, minutes: u64) -> TimedArc
-    requires { minutes < 1000 }
-    ensures { result ≡ record {
-      tail = record { 0 = tail };
-      head = record { 0 = head };
-      minutes = minutes;
-      cost = 1000 * minutes;
-      closed = 0;
-    } }
-{
-    TimedArc {
-        tail: NodeId(tail),
-        head: NodeId(head),
-        minutes,
-        cost: 1000 * minutes,
-        closed: 0,
-    }
-}
-
-// Three nodes with arcs that are never closed; waiting is allowed at 2.
-fn small_net(alloc: Global) -> Result<TimedNet, OutOfMemory>
-    ensures { IfOk result (λ net. net.nodes ≡ 3) }
-{
-    let arcs = vec![in alloc; arc(1, 2, 60), arc(2, 3, 60), arc(1, 3, 300)]?;
-    let mut closed = Vec::new(alloc);
-    closed.push(Vec::new(alloc))?;
-    let weights = vec![in alloc; None, Some(2000), None]?;
-    Ok(TimedNet::new(3, arcs, closed, weights))
-}
 
 // Adds the route of these legs, if they are lawful.
 fn add_route(
@@ -137,7 +108,7 @@ fn wrong_form(
 #[test]
 fn writes_each_form(rt: HostRuntime) -> Result<(), Fail> {
     let alloc = rt.alloc();
-    let net = small_net(alloc)?;
+    let net = worked_net(alloc)?;
     let request = Request {
         origin: NodeId(1),
         goal: NodeId(3),

@@ -1,6 +1,6 @@
 use Rattle.std.proofs.Common.{arith}
 use Rattle.route_base.specs.declared.types.Request.{Request}
-use Rattle.plain_search.proofs.Cheapness.{small_fits}
+use Rattle.uses.proofs.WorkedNet.{worked_fits}
 use Rattle.uses.proofs.tests.plain_search_tests.trip_until.Goals as goal
 
 pub returns-clause-asked : goal.returns-clause-asked
@@ -9,5 +9,5 @@ returns-clause-asked c =
     record {
       ends = record { origin = (omega arith, omega arith); goal = (omega arith, omega arith); depart = omega arith; until = omega arith };
       in_time = omega arith;
-      fit = small_fits request (omega arith) (omega arith);
+      fit = worked_fits request (omega arith) (omega arith);
     }

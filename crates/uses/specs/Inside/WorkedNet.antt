@@ -1,4 +1,4 @@
--- The net of the tests (source: own; no law).
+-- The net of several tests (source: own; no law).
 use Rattle.std.specs.Prelude.{ℕ, ◌*◌, Some, None, [], ◌∷◌}
 use Rattle.route_base.specs.Net.{Net}
 use Rattle.route_base.specs.declared.types.Run.{Run}
@@ -9,21 +9,20 @@ abbrev pub two_hours : Run
 two_hours = record { lo = 26563740; hi = 26563860 }
 
 -- an arc at 1000 a minute
-abbrev pub small_arc : ℕ → ℕ → ℕ → ℕ → TimedArc
-small_arc tail head minutes closed = record {
+abbrev pub worked_arc : ℕ → ℕ → ℕ → ℕ → TimedArc
+worked_arc tail head minutes closed = record {
   tail = record { 0 = tail };
   head = record { 0 = head };
   minutes = minutes;
-  cost = 1000 *
-      minutes;
+  cost = 1000 * minutes;
   closed = closed;
 }
 
 -- three nodes; the arc from 2 to 3 is closed for two hours, and waiting is open at 2
-abbrev pub small : Net
-small = record {
+abbrev pub worked : Net
+worked = record {
   nodes = 3;
-  arcs = small_arc 1 2 60 0 ∷ small_arc 2 3 60 1 ∷ small_arc 1 3 300 0 ∷ [];
+  arcs = worked_arc 1 2 60 0 ∷ worked_arc 2 3 60 1 ∷ worked_arc 1 3 300 0 ∷ [];
   closed = [] ∷ (two_hours ∷ []) ∷ [];
   weights = None ∷ Some 2000 ∷ None ∷ [];
 }

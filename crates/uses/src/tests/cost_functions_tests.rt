@@ -1,7 +1,7 @@
 // Functions of a few pieces, against values that were worked out by hand.
 ghost use Rattle.std.specs.Prelude.{◌≡◌};
 
-use crate::{Builder, CostFn, Piece, held_for};
+use cost_functions::{Builder, CostFn, Piece, held_for};
 use std::test::Fail;
 
 const LONG: Piece = Piece {

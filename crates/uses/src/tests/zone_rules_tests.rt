@@ -1,5 +1,6 @@
-use crate::{Wall, Zone, ZoneFault, ZoneRow};
+// The fault of rows, and what the wall shows at some minutes.
 use std::alloc::Global;
+use zone_rules::{Wall, Zone, ZoneFault, ZoneRow};
 
 fn row(start: u64, offset: i64) -> ZoneRow {
     ZoneRow { start, offset }

@@ -1,6 +1,7 @@
+// Nodes come out of the queue by their keys, and by their numbers at equal keys.
 ghost use Rattle.std.specs.Prelude.{◌≡◌, ◌≤◌, length};
 
-use crate::LabelQueue;
+use label_queue::LabelQueue;
 use route_base::NodeId;
 use std::test::Fail;
 

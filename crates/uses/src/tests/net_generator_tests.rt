@@ -1,5 +1,5 @@
 // The files of two small networks.
-use crate::generate;
+use net_generator::generate;
 use route_base::FileBytes;
 use std::test::Fail;
 

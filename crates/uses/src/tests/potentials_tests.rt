@@ -1,7 +1,7 @@
 // Bounds over one net whose costs are in proportion to minutes, and over one with a dearer arc.
 ghost use Rattle.std.specs.Prelude.{◌≡◌, ◌≤◌, IfOk};
 
-use crate::to_goal;
+use potentials::to_goal;
 use route_base::{Bound, Cost, NodeId, OutOfMemory, TimedArc, TimedNet};
 use std::alloc::Global;
 use std::test::Fail;

@@ -1,5 +1,5 @@
 // The smallest network with a road.
-use crate::draw_network;
+use drawn_network::draw_network;
 use std::test::Fail;
 
 #[test]

@@ -1,7 +1,7 @@
 // Days, dates and instants that are known from elsewhere, and the whole calendar against a table stepped day by day.
 ghost use Rattle.std.specs.Prelude.{◌≤◌};
 
-use crate::{
+use calendar_days::{
     CivilDate, NotADate, NotAnInstant, Weekday, date_of, day_of, instant_text, read_date,
     read_instant, weekday_of,
 };

@@ -1,10 +1,10 @@
 // The texts of jobs on several numbers of workers.
 ghost use Rattle.std.specs.Prelude.{◌≡◌, length};
 
-use crate::{JobPlanner, run_batch};
 use route_base::{JobText, NoGate, OutOfMemory};
 use std::alloc::Global;
 use std::test::Fail;
+use trip_batch::{JobPlanner, run_batch};
 
 // Plans job k as a text of k bytes.
 #[derive(Drop)]
