@@ -61,14 +61,7 @@ impl Builder {
         ensures kept { OnErr result (self.new ≡ self.old) }
     {
         let next = plain(piece);
-        match joined_with_last(&self.held, next) {
-            Some(joined) => {
-                let last = self.held.len() - 1;
-                self.held[last] = joined;
-            }
-            None => self.held.push(next)?,
-        }
-        Ok(())
+        append(&mut self.held, next)
     }
 
     /// Adds the values of built pieces behind all others: the first by `push`, the others in one copy. Out of memory leaves a
@@ -96,6 +89,25 @@ impl Builder {
     {
         CostFn::from_pieces(self.held)
     }
+}
+
+// Appends a piece, as one with the last where they are on one line.
+fn append(held: &mut Vec<Piece>, next: Piece) -> Result<(), OutOfMemory>
+    requires built { AreBuilt held.old.items }
+    requires piece { IsPiece next }
+    requires small { IsSmallPiece next }
+    requires later { All (λ q. q.hi < next.lo) held.old.items }
+    ensures extended { OnOk result (IsExtended held.old.items next held.new.items) }
+    ensures kept { OnErr result (held.new.items ≡ held.old.items) }
+{
+    match joined_with_last(held, next) {
+        Some(joined) => {
+            let last = held.len() - 1;
+            held[last] = joined;
+        }
+        None => held.push(next)?,
+    }
+    Ok(())
 }
 
 // Appends pieces in one copy.
