@@ -1,6 +1,6 @@
 // The words of hours and their tokens.
-ghost use Rattle.std.specs.Prelude.{◌≡◌};
-ghost use Rattle.opening_hours.specs.Tokens.{other_token, weekday_token, word_token};
+ghost use Rattle.std.specs.Prelude.{◌≡◌, drop};
+ghost use Rattle.opening_hours.specs.Tokens.{months, other_token, token_in, weekday_token, word_token};
 
 use crate::tokens::Token;
 use calendar_days::Weekday;
@@ -37,36 +37,33 @@ fn weekday_word(letters: &[u8]) -> Token
     }
 }
 
+// The token of a word that is no month of the first half of a year.
+fn later_word(letters: &[u8]) -> Token
+    ensures { result ≡ token_in (drop 6 months) (weekday_token letters.now) letters.now }
+{
+    match letters {
+        b"Jul" => Token::Month(7),
+        b"Aug" => Token::Month(8),
+        b"Sep" => Token::Month(9),
+        b"Oct" => Token::Month(10),
+        b"Nov" => Token::Month(11),
+        b"Dec" => Token::Month(12),
+        _ => weekday_word(letters),
+    }
+}
+
 /// The token of a word of letters.
 #[tactic(auto, unfolding(crate::specs::Tokens::word_token))]
 pub(crate) fn word(letters: &[u8]) -> Token
     ensures { result ≡ word_token letters.now }
 {
-    if letters == b"Jan".as_slice() {
-        Token::Month(1)
-    } else if letters == b"Feb".as_slice() {
-        Token::Month(2)
-    } else if letters == b"Mar".as_slice() {
-        Token::Month(3)
-    } else if letters == b"Apr".as_slice() {
-        Token::Month(4)
-    } else if letters == b"May".as_slice() {
-        Token::Month(5)
-    } else if letters == b"Jun".as_slice() {
-        Token::Month(6)
-    } else if letters == b"Jul".as_slice() {
-        Token::Month(7)
-    } else if letters == b"Aug".as_slice() {
-        Token::Month(8)
-    } else if letters == b"Sep".as_slice() {
-        Token::Month(9)
-    } else if letters == b"Oct".as_slice() {
-        Token::Month(10)
-    } else if letters == b"Nov".as_slice() {
-        Token::Month(11)
-    } else if letters == b"Dec".as_slice() {
-        Token::Month(12)
-    } else {
-        weekday_word(letters)
+    match letters {
+        b"Jan" => Token::Month(1),
+        b"Feb" => Token::Month(2),
+        b"Mar" => Token::Month(3),
+        b"Apr" => Token::Month(4),
+        b"May" => Token::Month(5),
+        b"Jun" => Token::Month(6),
+        _ => later_word(letters),
     }
 }
