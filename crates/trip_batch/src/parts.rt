@@ -28,6 +28,15 @@ fn run_part<P: JobPlanner, G: Gate>(
     Ok(texts)
 }
 
+// The jobs of the first of all workers: each has its share, and the first ones one more until none is left over.
+fn jobs_of_first(jobs: usize, workers: usize, first: usize) -> usize
+    requires some { 1 ≤ workers }
+    requires within { first ≤ workers }
+    ensures { result ≤ jobs }
+{
+    first * (jobs / workers) + first.min(jobs % workers)
+}
+
 // The jobs of several parts, a worker for each: half of the workers beside the other half.
 fn run_parts<R: Threads + Sync, P: JobPlanner, G: Gate>(
     rt: &R,
@@ -47,9 +56,7 @@ fn run_parts<R: Threads + Sync, P: JobPlanner, G: Gate>(
         return run_part(alloc, planner, from, to, gate);
     }
     let left_workers = workers / 2;
-    let share = (to - from) / workers;
-    let longer = (to - from) % workers;
-    let middle = from + left_workers * share + left_workers.min(longer);
+    let middle = from + jobs_of_first(to - from, workers, left_workers);
     let (left, right) = join(
         rt,
         || -> Result<Vec<JobText>, OutOfMemory>
