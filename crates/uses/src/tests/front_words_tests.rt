@@ -289,7 +289,7 @@ fn line_of(alloc: Global, command: &Command) -> Result<String, OutOfMemory> {
         } => {
             let (dir, vehicle) = (dir.as_str(), vehicle.as_str());
             let (form, name) = (word_of(*form), name_of(certificate));
-            format!(in alloc; "plan {dir} {vehicle} {from} {to} {depart} {until} {form} {name}")?
+            format!(in alloc; "plan {dir} {vehicle} {from} {to} {depart} {until} {form} {name}")
         }
         Command::Check {
             dir,
@@ -301,7 +301,7 @@ fn line_of(alloc: Global, command: &Command) -> Result<String, OutOfMemory> {
             name,
         } => {
             let (dir, vehicle, name) = (dir.as_str(), vehicle.as_str(), name.as_str());
-            format!(in alloc; "check {dir} {vehicle} {from} {to} {depart} {until} {name}")?
+            format!(in alloc; "check {dir} {vehicle} {from} {to} {depart} {until} {name}")
         }
         Command::Bans {
             dir,
@@ -311,11 +311,11 @@ fn line_of(alloc: Global, command: &Command) -> Result<String, OutOfMemory> {
             until,
         } => {
             let (dir, vehicle) = (dir.as_str(), vehicle.as_str());
-            format!(in alloc; "bans {dir} {vehicle} {arc} {depart} {until}")?
+            format!(in alloc; "bans {dir} {vehicle} {arc} {depart} {until}")
         }
         Command::Batch { dir, jobs, workers } => {
             let (dir, jobs) = (dir.as_str(), jobs.as_str());
-            format!(in alloc; "batch {dir} {jobs} {workers}")?
+            format!(in alloc; "batch {dir} {jobs} {workers}")
         }
         Command::Gen {
             dir,
@@ -324,16 +324,22 @@ fn line_of(alloc: Global, command: &Command) -> Result<String, OutOfMemory> {
             columns,
         } => {
             let dir = dir.as_str();
-            format!(in alloc; "gen {dir} {number} {rows} {columns}")?
+            format!(in alloc; "gen {dir} {number} {rows} {columns}")
         }
     };
-    Ok(line)
+    Ok(line?)
+}
+
+// Whether a command has this line.
+fn has_line(alloc: Global, command: &Command, wanted: &str) -> Result<bool, OutOfMemory> {
+    let line = line_of(alloc, command)?;
+    Ok(line.as_str() == wanted)
 }
 
 // Whether the words are the command of this line; `no` is the line of words that are none.
 fn are_read(alloc: Global, words: &[Text], wanted: &str) -> Result<bool, OutOfMemory> {
     match read_words(alloc, words) {
-        Ok(command) => Ok(line_of(alloc, &command)?.as_str() == wanted),
+        Ok(command) => has_line(alloc, &command, wanted),
         Err(WordsFault::NotACommand) => Ok(wanted == "no"),
         Err(WordsFault::OutOfMemory) => Err(OutOfMemory),
     }
