@@ -3,7 +3,6 @@
 //! `open_roads` asks opening hours for an instant of a zone, `clocks` reads local time, `trips` judges an itinerary, `lockers`
 //! reads a table of its own, and `plans` plans a trip over a network. Each call says over the definitions of the library what it
 //! answers; `Words` passes their names on, and the crate has no definitions of its own but the schema of its table (`Lockers`).
-//! The tests of the libraries stand here too, as a stranger calls them; `specs/Inside` has a net of theirs, and is no law.
 #![tactic(auto)]
 
 mod clocks;

@@ -1,29 +1,2 @@
-// The tests of the libraries, by the names of these; `networks` and `jobs` are those of network_tables, and `callers` and `plans`
-// those of this crate. `nets` has the net of several tests.
-mod ban_expansion_tests;
-mod calendar_days_tests;
 mod callers;
-mod certificate_check_tests;
-mod certificate_tests;
-mod conditional_rules_tests;
-mod cost_functions_tests;
-mod dimacs_reader_tests;
-mod drawn_network_tests;
-mod front_words_tests;
-mod function_merge_tests;
-mod jobs;
-mod label_queue_tests;
-mod minute_sets_tests;
-mod net_generator_tests;
-mod nets;
-mod networks;
-mod opening_hours_tests;
-mod plain_search_tests;
-mod plan_certificate_tests;
-mod plan_report_tests;
 mod plans;
-mod potentials_tests;
-mod table_reader_tests;
-mod trip_batch_tests;
-mod vehicle_classes_tests;
-mod zone_rules_tests;

@@ -1,20 +1,31 @@
 // A trip over a network of three nodes, planned by a caller of the libraries.
-use super::networks::{found, read};
 use crate::plan_trip;
-use network_tables::{Network, NetworkFault};
-use route_base::{FileKind, NodeId, Pair, Request};
+use network_tables::{Files, Network, NetworkFault, read_network};
+use route_base::{FileBytes, FileKind, NodeId, OutOfMemory, Pair, Request};
 use std::alloc::Global;
 
 // The second road is closed from 2020-07-04T01:00Z to 03:00Z, and a lorry may wait at its beginning.
+const TEXTS: &[(FileKind, &str)] = &[
+    (FileKind::Graph, "p sp 3 3\na 1 2 60\na 2 3 60\na 1 3 300\n"),
+    (FileKind::Closures, "arc,from,to\n2,26563740,26563860\n"),
+    (FileKind::Ratings, "rating,weight\nyard,2.000\n"),
+    (FileKind::Parking, "node,rating\n2,yard\n"),
+];
+
+// Puts the bytes of a text among the files.
+fn put(alloc: Global, files: &mut Files, file: FileKind, text: &str) -> Result<(), OutOfMemory> {
+    let bytes = Vec::from_slice(alloc, text.as_bytes())?;
+    files.put(file, FileBytes::from_vec(bytes));
+    Ok(())
+}
+
+// The network of these texts.
 fn pass(alloc: Global) -> Result<Network, NetworkFault> {
-    read(
-        alloc,
-        &[
-            (FileKind::Closures, "arc,from,to\n2,26563740,26563860\n"),
-            (FileKind::Ratings, "rating,weight\nyard,2.000\n"),
-            (FileKind::Parking, "node,rating\n2,yard\n"),
-        ],
-    )
+    let mut files = Files::new(alloc);
+    for (file, text) in TEXTS {
+        put(alloc, &mut files, *file, text)?;
+    }
+    read_network(alloc, &files)
 }
 
 // Whether the trip from the first node to the third one has these options, for any vehicle.
@@ -52,7 +63,8 @@ fn waits_for_the_pass_or_drives_around_it(rt: HostRuntime) -> Result<(), Network
             cost: 300_000,
         },
     ];
-    let planned = found(pass(alloc), |network| has_options(alloc, network, &due))??;
+    let network = pass(alloc)?;
+    let planned = has_options(alloc, &network, &due)?;
     assert!(rt; planned);
     Ok(())
 }

@@ -1,0 +1,10 @@
+mod certificate_check_tests;
+mod certificate_tests;
+mod cost_functions_tests;
+mod function_merge_tests;
+mod label_queue_tests;
+mod nets;
+mod plain_search_tests;
+mod plan_certificate_tests;
+mod plan_report_tests;
+mod potentials_tests;

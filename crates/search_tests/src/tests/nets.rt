@@ -1,0 +1,44 @@
+// The worked net of several tests: a way over node 2, whose second arc is closed for two hours, and one straight on.
+ghost use Rattle.std.specs.Prelude.{◌≡◌, ◌<◌, IfOk};
+ghost use Rattle.search_tests.specs.WorkedNet.{worked_arc, worked};
+
+use route_base::{NodeId, OutOfMemory, Run, TimedArc, TimedNet};
+use std::alloc::Global;
+
+const ALWAYS_OPEN: u32 = 0;
+
+const CLOSED_AT_FIRST: u32 = 1;
+
+fn arc(tail: u32, head: u32, minutes: u64, closed: u32) -> TimedArc
+    requires { minutes < 1000 }
+    ensures { result ≡ worked_arc tail head minutes closed }
+{
+    TimedArc {
+        tail: NodeId(tail),
+        head: NodeId(head),
+        minutes,
+        cost: 1000 * minutes,
+        closed,
+    }
+}
+
+// Waiting is allowed at node 2.
+pub fn worked_net(alloc: Global) -> Result<TimedNet, OutOfMemory>
+    ensures { IfOk result (λ net. net ≡ worked) }
+{
+    let arcs = vec![in alloc;
+        arc(1, 2, 60, ALWAYS_OPEN),
+        arc(2, 3, 60, CLOSED_AT_FIRST),
+        arc(1, 3, 300, ALWAYS_OPEN),
+    ]?;
+    let mut closed = Vec::new(alloc);
+    closed.push(Vec::new(alloc))?;
+    closed.push(vec![in alloc;
+        Run {
+            lo: 26563740,
+            hi: 26563860
+        },
+    ]?)?;
+    let weights = vec![in alloc; None, Some(2000), None]?;
+    Ok(TimedNet::new(3, arcs, closed, weights))
+}

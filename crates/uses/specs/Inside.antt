@@ -1,2 +1,0 @@
--- What the tests use, which is no law (source: own).
-pub mod WorkedNet
