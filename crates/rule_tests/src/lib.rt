@@ -1,8 +1,5 @@
-//! Tests of the libraries that read graphs, dates, zones, tables, hours and rules, as a stranger calls them. The crate has no calls of
-//! its own.
-//!
-//! Each library's tests are in a module by its name. They stand together here because a check of tests proves once
-//! more all that their crate has.
+//! Tests of the libraries that read graphs, dates, zones, tables, hours and rules, as a stranger calls them. Each library's tests are
+//! in a module by its name. The crate has no calls of its own.
 #![tactic(auto)]
 
 #[cfg(test)]
