@@ -1,17 +1,19 @@
 -- How `clap` walks over words that begin with no dash.
-use Rattle.std.proofs.Common.{Bor, ◌≡◌, subst, true, false, eqb, ℕ, Bool, List, Option, Some, None, [], ◌∷◌, ap, ap₂, sym, ◌∙◌}
+use Rattle.std.proofs.Common.{Bor, ◌≡◌, ◌<◌, ◌+◌, get_or, length, take, refl, subst, true, false, eqb, ℕ, Bool, List, Option, Some, None, [], ◌∷◌, ap, ap₂, sym, ◌∙◌}
 use Rattle.std.specs.Prelude.{◌&&◌, drop, if◌then◌else◌, map}
 use Rattle.std.specs.List.{fold}
 use Rattle.std.specs.List.{list_all}
 use Rattle.std.specs.Option.{IsSome}
 use Rattle.std.specs.Prelude.{is_some}
-use Rattle.clap.specs.Simple.{App, Shape, argument_words, built, is_simple, label_of, matches_of}
+use Rattle.std.proofs.lemmas.List.{map_more}
+use Rattle.std.proofs.lemmas.List.Sums.{fold_push}
+use Rattle.clap.specs.Simple.{App, Shape, argument_words, built, is_simple, label_of, matches_of, with_rule}
 use Rattle.clap.specs.Takes.{walk_passes, positional_passes, turn_passes, settle_passes, default_passes, is_valid, level_passes, built_takes, takes}
 use Rattle.clap.proofs.TakesLemmas.{leaf_takes}
 use Rattle.clap.specs.Words.{HasMatchesOf, first_of, first_value, found_of}
 use Rattle.clap.specs.declared.parser.matches.ArgMatches.{ArgMatches}
 use Rattle.clap.proofs.WalkLemmas.{first_value-rows}
-use Rattle.front_words.specs.ClapCommands.{IsTaken, text_found}
+use Rattle.front_words.specs.ClapCommands.{IsTaken, text_found, with_rules}
 use Rattle.front_words.proofs.Shown.{IsShown}
 use Rattle.clap.specs.Walk.{finished, nothing_held, rows_after, Held, Names, Rule, Text, Walk, idle}
 use Rattle.clap.specs.Walk.{option, value, next, arg_by_id, arg_by_index, option_word, to_positional, after_step, walked, word_met}
@@ -116,12 +118,28 @@ finds_at a name words p end l r =
     ap₂ (λ (names : Names) (ws : List Text). rows_after (built a).top.rules names ws) (ap (map label_of) l.alone) (arguments a name words l)
     ∙ ap (λ (w : Walk). finished (built a).top.rules w.held) r.walks
 
+both_left : (x y : Bool) → (x && y) ≡ true → x ≡ true
+both_left true y e = refl
+both_left false y e = e
+
+-- the arguments of texts that the code holds
+pub of_texts : (f : Text → Rule) (words : List (Bor Text)) → map (λ w. f w.now) words ≡ map f (map (λ w. w.now) words)
+of_texts f [] = refl
+of_texts f (word ∷ words) = ap (λ (rs : List Rule). f word.now ∷ rs) (of_texts f words)
+
+-- one argument more
+pub one_rule_more : {X : Type 0} (f : X → Rule) (a b c : App) (xs : List X) (i : ℕ) (d : X) → i < length xs
+    → b ≡ with_rules a (map f (take i xs)) → c ≡ with_rule b (f (get_or xs i d)) → c ≡ with_rules a (map f (take (i + 1) xs))
+one_rule_more f a b c xs i d h e g =
+    g ∙ ap (λ (v : App). with_rule v (f (get_or xs i d))) e
+    ∙ sym (ap (with_rules a) (map_more f xs i d h) ∙ fold_push with_rule a (map f (take i xs)) (f (get_or xs i d)))
+
 -- what a parse finds, and that it refuses the words for want of memory alone, by what the command is
-pub is_found : (a app : App) (words : List Text) (m : ArgMatches) → a ≡ app → is_simple app ≡ true → HasMatchesOf a words m
+pub is_found : (a app : App) (words : List Text) (m : ArgMatches) → a ≡ app → IsTaken app words → HasMatchesOf a words m
     → (id : Text) → first_value (found_of m) id ≡ text_found app words id
-unfolding text_found
-is_found a app words m e i h id =
-    first_value-rows (found_of m) id ∙ ap (first_of id) ((h (ap is_simple e ∙ i)).0 ∙ ap (λ (b : App). matches_of b words) e)
+unfolding IsTaken text_found
+is_found a app words m e t h id =
+    first_value-rows (found_of m) id ∙ ap (first_of id) ((h (ap is_simple e ∙ both_left (is_simple app) _ t)).0 ∙ ap (λ (b : App). matches_of b words) e)
 
 pub is_refused : (a app : App) (words : List Text) → a ≡ app → IsTaken app words → takes a words ≡ true
 unfolding IsTaken
