@@ -2,9 +2,9 @@
 ghost use Rattle.std.specs.Prelude.{◌≡◌, [], IfOk, IfSome, Some, codes, map, option_map};
 ghost use Rattle.front_words.specs.ClapCommands.{HasText};
 ghost use Rattle.front_words.specs.Commands.{AsksSupported, bans_usage, command_in};
-ghost use Rattle.front_words.specs.Inside.{AnswersWith, bans_values};
+ghost use Rattle.front_words.specs.Inside.{AnswersWith, bans_values, split_of_words};
 ghost use Rattle.route_base.specs.Time.{IsInstant};
-ghost use Rattle.front_words.specs.Usages.{made_by, places_read};
+ghost use Rattle.front_words.specs.Usages.{made_by, made_of, places_read};
 
 use crate::clap_words::{dir_and_vehicle, line_of, matches_for};
 use crate::forms::{instant_word, is_folder_word, is_name_word, number_word};
@@ -75,13 +75,20 @@ fn bans_by_clap(alloc: Global, bans: &Bans, places: &[&str]) -> Result<FrontComm
     bans_found(alloc, &matches, bans)
 }
 
+// The bans of positional words.
+fn bans_of_split(alloc: Global, places: &[&str]) -> Result<FrontCommand, WordsFault>
+    ensures bans { AnswersWith command_in (made_of bans_usage (split_of_words places.now [])) result }
+    ensures supported { IfOk result (λ c. AsksSupported (command_in c)) }
+{
+    let bans = bans_of(places).ok_or(WordsFault::NotACommand)?;
+    Ok(bans_by_clap(alloc, &bans, places)?)
+}
+
 // The bans of the words behind the command's name.
 pub fn read_bans(alloc: Global, words: &[Text]) -> Result<FrontCommand, WordsFault>
     ensures bans { AnswersWith command_in (made_by bans_usage words.now) result }
     ensures supported { IfOk result (λ c. AsksSupported (command_in c)) }
 {
     let split = split_words(alloc, &[], words)?;
-    let places = split.places.as_slice();
-    let bans = bans_of(places).ok_or(WordsFault::NotACommand)?;
-    Ok(bans_by_clap(alloc, &bans, places)?)
+    bans_of_split(alloc, split.places.as_slice())
 }

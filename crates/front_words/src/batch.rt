@@ -3,8 +3,8 @@ ghost use Rattle.std.specs.Prelude.{◌≡◌, IfOk, IfSome, Some, codes, map, o
 ghost use Rattle.front_words.specs.ClapCommands.{HasText};
 ghost use Rattle.front_words.specs.Commands.{AsksSupported, batch_usage, command_in, workers_in};
 ghost use Rattle.front_words.specs.Forms.{count, of_number};
-ghost use Rattle.front_words.specs.Inside.{AnswersWith, IsFit, IsUpTo, batch_values, given_in, line_of_batch, workers_values};
-ghost use Rattle.front_words.specs.Usages.{made_by, options_read, places_read, value_if};
+ghost use Rattle.front_words.specs.Inside.{AnswersWith, IsFit, IsUpTo, batch_values, given_in, line_of_batch, split_of_words, workers_values};
+ghost use Rattle.front_words.specs.Usages.{made_by, made_of, options_read, places_read, value_if};
 ghost use Rattle.front_words.specs.declared.limits.TheConstants.{MOST_WORKERS};
 
 use crate::clap_words::{line_of, matches_for, push_option, text_of};
@@ -141,14 +141,25 @@ fn batch_by_clap(
     batch_found(alloc, &matches, batch, workers)
 }
 
+// The batch of positional words and options.
+fn batch_of_split(
+    alloc: Global,
+    places: &[&str],
+    given: &[Given],
+) -> Result<FrontCommand, WordsFault>
+    ensures batch { AnswersWith command_in (made_of batch_usage (split_of_words places.now given.now)) result }
+    ensures supported { IfOk result (λ c. AsksSupported (command_in c)) }
+{
+    let batch = batch_of(places).ok_or(WordsFault::NotACommand)?;
+    let workers = workers_of(given).ok_or(WordsFault::NotACommand)?;
+    Ok(batch_by_clap(alloc, &batch, &workers, places)?)
+}
+
 // The batch of the words behind the command's name.
 pub fn read_batch(alloc: Global, words: &[Text]) -> Result<FrontCommand, WordsFault>
     ensures batch { AnswersWith command_in (made_by batch_usage words.now) result }
     ensures supported { IfOk result (λ c. AsksSupported (command_in c)) }
 {
     let split = split_words(alloc, &["--workers"], words)?;
-    let places = split.places.as_slice();
-    let batch = batch_of(places).ok_or(WordsFault::NotACommand)?;
-    let workers = workers_of(split.given.as_slice()).ok_or(WordsFault::NotACommand)?;
-    Ok(batch_by_clap(alloc, &batch, &workers, places)?)
+    batch_of_split(alloc, split.places.as_slice(), split.given.as_slice())
 }

@@ -2,9 +2,9 @@
 ghost use Rattle.std.specs.Prelude.{◌≡◌, [], IfOk, IfSome, Some, codes, map, option_map};
 ghost use Rattle.front_words.specs.ClapCommands.{HasText};
 ghost use Rattle.front_words.specs.Commands.{AsksSupported, check_usage, command_in};
-ghost use Rattle.front_words.specs.Inside.{AnswersWith, check_values};
+ghost use Rattle.front_words.specs.Inside.{AnswersWith, check_values, split_of_words};
 ghost use Rattle.route_base.specs.Time.{IsInstant};
-ghost use Rattle.front_words.specs.Usages.{made_by, places_read};
+ghost use Rattle.front_words.specs.Usages.{made_by, made_of, places_read};
 
 use crate::clap_words::{dir_and_vehicle, line_of, matches_for, text_of};
 use crate::forms::{instant_word, is_certificate_word, is_folder_word, is_name_word, number_word};
@@ -94,13 +94,20 @@ fn check_by_clap(alloc: Global, check: &Check, places: &[&str]) -> Result<FrontC
     check_found(alloc, &matches, check)
 }
 
+// The check of positional words.
+fn check_of_split(alloc: Global, places: &[&str]) -> Result<FrontCommand, WordsFault>
+    ensures check { AnswersWith command_in (made_of check_usage (split_of_words places.now [])) result }
+    ensures supported { IfOk result (λ c. AsksSupported (command_in c)) }
+{
+    let check = check_of(places).ok_or(WordsFault::NotACommand)?;
+    Ok(check_by_clap(alloc, &check, places)?)
+}
+
 // The check of the words behind the command's name.
 pub fn read_check(alloc: Global, words: &[Text]) -> Result<FrontCommand, WordsFault>
     ensures check { AnswersWith command_in (made_by check_usage words.now) result }
     ensures supported { IfOk result (λ c. AsksSupported (command_in c)) }
 {
     let split = split_words(alloc, &[], words)?;
-    let places = split.places.as_slice();
-    let check = check_of(places).ok_or(WordsFault::NotACommand)?;
-    Ok(check_by_clap(alloc, &check, places)?)
+    check_of_split(alloc, split.places.as_slice())
 }

@@ -2,8 +2,8 @@
 ghost use Rattle.std.specs.Prelude.{◌≡◌, ◌*◌, [], IfOk, IfSome, Some, codes, map, nat_le, option_map};
 ghost use Rattle.front_words.specs.ClapCommands.{HasText};
 ghost use Rattle.front_words.specs.Commands.{AsksSupported, gen_usage, command_in};
-ghost use Rattle.front_words.specs.Inside.{AnswersWith, AreCounted, gen_values};
-ghost use Rattle.front_words.specs.Usages.{made_by, places_read};
+ghost use Rattle.front_words.specs.Inside.{AnswersWith, AreCounted, gen_values, split_of_words};
+ghost use Rattle.front_words.specs.Usages.{made_by, made_of, places_read};
 ghost use Rattle.net_generator.specs.Sizes.{IsDrawable};
 ghost use Rattle.net_generator.specs.declared.limits.TheConstants.{MOST_GENERATED_NODES};
 
@@ -91,16 +91,23 @@ fn gen_by_clap(alloc: Global, network: &Gen, places: &[&str]) -> Result<FrontCom
     gen_found(alloc, &matches, network)
 }
 
+// The generation of positional words.
+fn gen_of_split(alloc: Global, places: &[&str]) -> Result<FrontCommand, WordsFault>
+    ensures network { AnswersWith command_in (made_of gen_usage (split_of_words places.now [])) result }
+    ensures supported { IfOk result (λ c. AsksSupported (command_in c)) }
+{
+    let network = gen_of(places).ok_or(WordsFault::NotACommand)?;
+    if !has_few_nodes(&network) {
+        return Err(WordsFault::NotACommand);
+    }
+    Ok(gen_by_clap(alloc, &network, places)?)
+}
+
 // The generation of the words behind the command's name.
 pub fn read_gen(alloc: Global, words: &[Text]) -> Result<FrontCommand, WordsFault>
     ensures network { AnswersWith command_in (made_by gen_usage words.now) result }
     ensures supported { IfOk result (λ c. AsksSupported (command_in c)) }
 {
     let split = split_words(alloc, &[], words)?;
-    let places = split.places.as_slice();
-    let network = gen_of(places).ok_or(WordsFault::NotACommand)?;
-    if !has_few_nodes(&network) {
-        return Err(WordsFault::NotACommand);
-    }
-    Ok(gen_by_clap(alloc, &network, places)?)
+    gen_of_split(alloc, split.places.as_slice())
 }

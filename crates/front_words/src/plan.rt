@@ -4,9 +4,9 @@ ghost use Rattle.clap.specs.Words.{first_value, found_of};
 ghost use Rattle.front_words.specs.ClapCommands.{HasText};
 ghost use Rattle.front_words.specs.Commands.{AsksSupported, command_in, plan_usage, report_in};
 ghost use Rattle.front_words.specs.Forms.{certificate, of_report, of_text, report};
-ghost use Rattle.front_words.specs.Inside.{AllIn, AnswersWith, AreFit, choice_values, given_in, line_of_plan, trip_values};
+ghost use Rattle.front_words.specs.Inside.{AllIn, AnswersWith, AreFit, choice_values, given_in, line_of_plan, split_of_words, trip_values};
 ghost use Rattle.route_base.specs.Time.{IsInstant};
-ghost use Rattle.front_words.specs.Usages.{made_by, options_read, places_read, value_if};
+ghost use Rattle.front_words.specs.Usages.{made_by, made_of, options_read, places_read, value_if};
 
 use crate::clap_words::{dir_and_vehicle, line_of, matches_for, push_option, text_if};
 use crate::forms::{
@@ -175,14 +175,25 @@ fn plan_by_clap(
     plan_found(alloc, &matches, trip, choices)
 }
 
+// The plan of positional words and options.
+fn plan_of_split(
+    alloc: Global,
+    places: &[&str],
+    given: &[Given],
+) -> Result<FrontCommand, WordsFault>
+    ensures plan { AnswersWith command_in (made_of plan_usage (split_of_words places.now given.now)) result }
+    ensures supported { IfOk result (λ c. AsksSupported (command_in c)) }
+{
+    let trip = trip_of(places).ok_or(WordsFault::NotACommand)?;
+    let choices = choices_of(given).ok_or(WordsFault::NotACommand)?;
+    Ok(plan_by_clap(alloc, &trip, &choices, places)?)
+}
+
 // The plan of the words behind the command's name.
 pub fn read_plan(alloc: Global, words: &[Text]) -> Result<FrontCommand, WordsFault>
     ensures plan { AnswersWith command_in (made_by plan_usage words.now) result }
     ensures supported { IfOk result (λ c. AsksSupported (command_in c)) }
 {
     let split = split_words(alloc, &["--form", "--certificate"], words)?;
-    let places = split.places.as_slice();
-    let trip = trip_of(places).ok_or(WordsFault::NotACommand)?;
-    let choices = choices_of(split.given.as_slice()).ok_or(WordsFault::NotACommand)?;
-    Ok(plan_by_clap(alloc, &trip, &choices, places)?)
+    plan_of_split(alloc, split.places.as_slice(), split.given.as_slice())
 }
