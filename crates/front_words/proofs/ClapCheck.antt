@@ -1,5 +1,5 @@
 -- The words of `check` pass `clap`, which gives them back.
-use Rattle.std.proofs.Common.{◌≡◌, refl, codes, true, ℕ, List, Some, [], ◌∷◌, length, ap, ◌∙◌, arith}
+use Rattle.std.proofs.Common.{◌≡◌, refl, codes, ℕ, List, Some, [], ◌∷◌, length, ap, ◌∙◌, arith}
 use Rattle.std.specs.Prelude.{unwrap_or}
 use Rattle.clap.specs.Walk.{Held, Rule, Text, arg_by_index, first_of, nothing_held, positional_held}
 use Rattle.clap.specs.Simple.{App, Shape, built, new_rule}

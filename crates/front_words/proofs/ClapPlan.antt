@@ -1,13 +1,12 @@
 -- The words of `plan` pass `clap`, which gives them back.
-use Rattle.std.proofs.Common.{Bor, ◌≡◌, refl, codes, true, ℕ, List, Option, Some, None, [], ◌∷◌, ◌++◌, length, ap, ◌∙◌, arith, ap₂}
+use Rattle.std.proofs.Common.{◌≡◌, refl, codes, true, ℕ, List, Option, Some, None, [], ◌∷◌, ◌++◌, length, ap, ◌∙◌, arith}
 use Rattle.std.specs.Prelude.{unwrap_or, option_map, IfSome}
 use Rattle.clap.specs.Walk.{Held, Rule, Text, arg_by_id, arg_by_index, first_of, nothing_held, positional_held, pushed, settled, walked}
 use Rattle.clap.specs.Simple.{App, Shape, built, new_rule}
 use Rattle.clap.specs.Takes.{positional_passes, turn_passes}
 use Rattle.clap.proofs.OnLiterals.{clap_on_literals}
 use Rattle.front_words.specs.ClapCommands.{IsTaken, app_with, option_line, plan_app, plan_choices, plan_places, text_found, written_out}
-use Rattle.front_words.specs.Commands.{Command, name_in, plan_usage, to_plan, trip_to}
-use Rattle.route_base.specs.declared.types.Form.{Form}
+use Rattle.front_words.specs.Commands.{plan_usage}
 use Rattle.front_words.specs.Forms.{certificate, is_folder_name, of_text, of_number, report}
 use Rattle.front_words.specs.Inside.{AreFit, trip_values}
 use Rattle.front_words.specs.declared.plan.Choices.{Choices}
@@ -211,19 +210,3 @@ pub plan_passes : (t : Trip) (c : Choices) (words : List Text) → AreFit c → 
     → PassesPlan (option_map (λ w. w.now) c.form_word) (option_map (λ w. w.now) c.certificate) words t.dir.now t.vehicle.now
 plan_passes t c words f e = passes_plan (option_map (λ w. w.now) c.form_word) (option_map (λ w. w.now) c.certificate) words t.dir.now t.vehicle.now
     t.from t.to t.depart t.until (all_in report _ f.form) (all_in certificate _ f.certificate) e
-
--- the command of a plan
-abbrev plan_with : Text → Text → ℕ → ℕ → ℕ → ℕ → Form → Option Text → Option Command
-plan_with d v origin goal start end f n =
-    Some (to_plan (record { dir = d; trip = trip_to v origin goal start end; form = f; certificate = n }))
-
--- the certificate's name, as the values of the options have it
-pub same_name : (name : Option (Bor Text)) → name_in (option_map (λ n. of_text n.now) name) ≡ option_map (λ n. n.now) name
-same_name None = refl
-same_name (Some name) = refl
-
-pub same_plan : (d e v w : Text) (origin goal start end : ℕ) (f g : Form) (n m : Option Text) → d ≡ e → v ≡ w → f ≡ g → n ≡ m
-    → plan_with d v origin goal start end f n ≡ plan_with e w origin goal start end g m
-same_plan d e v w origin goal start end f g n m h i j k =
-    ap₂ (λ (x y : Text). plan_with x y origin goal start end f n) h i
-    ∙ ap₂ (λ (x : Form) (y : Option Text). plan_with e w origin goal start end x y) j k

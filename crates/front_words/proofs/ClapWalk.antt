@@ -3,8 +3,6 @@ use Rattle.std.proofs.Common.{Bor, ◌≡◌, ◌<◌, ◌+◌, get_or, length, 
 use Rattle.std.specs.Prelude.{◌&&◌, drop, if◌then◌else◌, map}
 use Rattle.std.specs.List.{fold}
 use Rattle.std.specs.List.{list_all}
-use Rattle.std.specs.Option.{IsSome}
-use Rattle.std.specs.Prelude.{is_some}
 use Rattle.std.proofs.lemmas.List.{map_more}
 use Rattle.std.proofs.lemmas.List.Sums.{fold_push}
 use Rattle.clap.specs.Simple.{App, Shape, argument_words, built, is_simple, label_of, matches_of, with_rule}
@@ -16,7 +14,7 @@ use Rattle.clap.proofs.WalkLemmas.{first_value-rows}
 use Rattle.front_words.specs.ClapCommands.{IsTaken, text_found, with_rules}
 use Rattle.front_words.proofs.Shown.{IsShown}
 use Rattle.clap.specs.Walk.{finished, nothing_held, rows_after, Held, Names, Rule, Text, Walk, idle}
-use Rattle.clap.specs.Walk.{option, value, next, arg_by_id, arg_by_index, option_word, to_positional, after_step, walked, word_met}
+use Rattle.clap.specs.Walk.{option, next, arg_by_id, arg_by_index, option_word, to_positional, after_step, walked}
 
 -- between two words, with the next positional word's number
 abbrev pub walk_at : ℕ → Held → Walk
@@ -25,9 +23,6 @@ walk_at p h = record { held = h; waiting = idle; position = p; is_trailing = fal
 -- between an option and its value
 abbrev pub awaiting : Text → ℕ → Held → Walk
 awaiting id p h = record { held = h; waiting = option id; position = p; is_trailing = false; stopped = None }
-
-no_names : Names
-no_names = []
 
 -- the walk over some words comes to the walk over the others
 pub record WalksOn (s : Shape) (w : Walk) (words : List Text) (end : Walk) (rest : List Text) : Type 0 where
@@ -45,9 +40,6 @@ step s w end word rest p e = record {
   passes = ap₂ (λ (b : Bool) (v : Walk). b && walk_passes s [] v rest) p e;
   walks = ap (λ (v : Walk). fold (walked s.rules []) v rest) e;
 }
-
-met_place : (c : List Rule) (p : ℕ) (h : Held) (x : ℕ) (xs : Text) → eqb x 45 ≡ false → word_met c [] false idle p (x ∷ xs) h ≡ (h, value)
-met_place c p h x xs e = simp e
 
 place_turns : (s : Shape) (p : ℕ) (h : Held) (a : Rule) (x : ℕ) (xs : Text) → eqb x 45 ≡ false → arg_by_index s.rules p ≡ Some a
     → positional_passes s.rules s.args_override_self a h ≡ true → turn_passes s [] (walk_at p h) (x ∷ xs) ≡ true
@@ -122,11 +114,6 @@ both_left : (x y : Bool) → (x && y) ≡ true → x ≡ true
 both_left true y e = refl
 both_left false y e = e
 
--- the arguments of texts that the code holds
-pub of_texts : (f : Text → Rule) (words : List (Bor Text)) → map (λ w. f w.now) words ≡ map f (map (λ w. w.now) words)
-of_texts f [] = refl
-of_texts f (word ∷ words) = ap (λ (rs : List Rule). f word.now ∷ rs) (of_texts f words)
-
 -- one argument more
 pub one_rule_more : {X : Type 0} (f : X → Rule) (a b c : App) (xs : List X) (i : ℕ) (d : X) → i < length xs
     → b ≡ with_rules a (map f (take i xs)) → c ≡ with_rule b (f (get_or xs i d)) → c ≡ with_rules a (map f (take (i + 1) xs))
@@ -149,9 +136,6 @@ is_refused a app words e t = ap (λ (b : App). takes b words) e ∙ t
 pub is_text : (app : App) (line words : List Text) (id : Text) (o : Option Text) (text : Text) → line ≡ words → o ≡ text_found app line id
     → text_found app words id ≡ Some text → o ≡ Some text
 is_text app line words id o text l e f = e ∙ ap (λ ws. text_found app ws id) l ∙ f
-
-pub is_there : (o : Option Text) (text : Text) → o ≡ Some text → IsSome o
-is_there o text e = ap is_some e
 
 -- the line is the name and the words
 pub same_line : (name : Text) (items slice : List (Bor Text)) (words : List (Bor Text)) → slice ≡ items

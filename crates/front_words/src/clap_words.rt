@@ -77,7 +77,7 @@ fn command_for<'a>(
 }
 
 // The matches of a line of a command, which `clap` refuses only when it is out of memory.
-fn parsed<'a>(
+fn parse_line<'a>(
     alloc: Global,
     name: &'a str,
     places: &[&'a str],
@@ -94,7 +94,7 @@ fn parsed<'a>(
     command.try_get_matches_from(line)
 }
 
-// The same, with the error of this crate.
+// The matches of a line of a command, or out of memory.
 pub fn matches_for<'a>(
     alloc: Global,
     name: &'a str,
@@ -107,7 +107,7 @@ pub fn matches_for<'a>(
         IfOk result (λ m. (id : List ℕ) → first_value (found_of m) id
         ≡ text_found app (map (λ w. w.now) line.entry.now) id) }
 {
-    match parsed(alloc, name, places, choices, line) {
+    match parse_line(alloc, name, places, choices, line) {
         Ok(matches) => Ok(matches),
         Err(_) => Err(OutOfMemory),
     }

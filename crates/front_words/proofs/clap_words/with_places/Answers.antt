@@ -1,4 +1,4 @@
-use Rattle.std.proofs.Common.{arith, rules, get_or}
+use Rattle.std.proofs.Common.{rules}
 use Rattle.clap.specs.Words.{app_of}
 use Rattle.front_words.specs.ClapCommands.{place}
 use Rattle.front_words.proofs.ClapWalk.{one_rule_more}

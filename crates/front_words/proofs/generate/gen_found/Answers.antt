@@ -1,4 +1,3 @@
-use Rattle.std.proofs.Common.{codes}
 use Rattle.front_words.proofs.ClapGen.{same_gen}
 use Rattle.front_words.proofs.ClapWalk.{one_text}
 use Rattle.front_words.proofs.generate.gen_found.Goals as goal

@@ -1,6 +1,5 @@
 use Rattle.std.proofs.Common.{Bor, ◌∙◌, codes, ap, sym, subst, map, List, ℕ}
 use Rattle.front_words.specs.ClapCommands.{IsTaken, plan_app, text_found}
-use Rattle.front_words.specs.Inside.{line_of_plan}
 use Rattle.front_words.proofs.ClapPlan.{plan_passes}
 use Rattle.front_words.proofs.ClapWalk.{is_text}
 use Rattle.front_words.proofs.plan.plan_by_clap.Goals as goal

@@ -1,8 +1,7 @@
-use Rattle.std.proofs.Common.{◌≡◌}
 use Rattle.std.proofs.lemmas.Result.{IfErr-weaker, IfOk-weaker}
 use Rattle.front_words.specs.ClapCommands.{app_in}
 use Rattle.front_words.proofs.ClapWalk.{is_found, is_refused}
-use Rattle.front_words.proofs.clap_words.parsed.Goals as goal
+use Rattle.front_words.proofs.clap_words.parse_line.Goals as goal
 
 pub returns : goal.returns
 returns c =
