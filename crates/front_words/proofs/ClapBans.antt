@@ -1,9 +1,9 @@
 -- The words of `bans` pass `clap`, which gives them back.
-use Rattle.std.proofs.Common.{◌≡◌, refl, codes, true, ℕ, List, Some, [], ◌∷◌, length, ap, ◌∙◌, arith}
+use Rattle.std.proofs.Common.{◌≡◌, refl, codes, ℕ, List, Some, [], ◌∷◌, length, ap, ◌∙◌, arith}
 use Rattle.std.specs.Prelude.{unwrap_or}
 use Rattle.clap.specs.Walk.{Held, Rule, Text, arg_by_index, first_of, nothing_held, positional_held}
-use Rattle.clap.specs.Simple.{App, Shape, built, is_simple, new_app, new_rule, with_rule}
-use Rattle.front_words.specs.ClapCommands.{IsTaken, bans_app, place, text_found}
+use Rattle.clap.specs.Simple.{App, Shape, built, new_rule}
+use Rattle.front_words.specs.ClapCommands.{IsTaken, app_with, bans_app, bans_places, text_found, written_out}
 use Rattle.front_words.specs.Commands.{bans_usage}
 use Rattle.front_words.specs.Forms.{is_folder_name, of_text, of_number}
 use Rattle.front_words.specs.Usages.{places_read}
@@ -15,17 +15,7 @@ use Rattle.front_words.proofs.Shown.{AllRead, AllShown, all_read, all_shown, own
 
 -- the command, written out
 abbrev app : App
-app = with_rule (with_rule (with_rule (with_rule (with_rule (new_app (codes "bans")) (place (codes "dir"))) (place (codes "vehicle"))) (place
-    (codes "arc"))) (place (codes "depart"))) (place (codes "until"))
-
-pub bans_built : with_rule (with_rule (with_rule (with_rule (with_rule (new_app (codes "bans")) (place (codes "dir"))) (place (codes "vehicle"))) (place
-    (codes "arc"))) (place (codes "depart"))) (place (codes "until")) ≡ bans_app
-unfolding bans_app
-bans_built = refl
-
-pub bans_simple : is_simple bans_app ≡ true
-unfolding bans_app
-bans_simple = refl
+app = written_out (codes "bans") bans_places []
 
 leaf : IsLeaf app
 leaf = record { simple = refl; named = refl; alone = refl }
@@ -74,7 +64,7 @@ pub record PassesBans (words : List Text) (dir lorry : Text) : Type 0 where
 passes : (words : List Text) (dir lorry : Text) (arc t u : ℕ) → length words ≡ 5
     → AllRead bans_usage.places words (of_text dir ∷ of_text lorry ∷ of_number arc ∷ of_number t ∷ of_number u ∷ [])
     → PassesBans words dir lorry
-unfolding bans_app IsTaken text_found
+unfolding app_with IsTaken text_found
 passes (a ∷ b ∷ c ∷ d ∷ e ∷ []) dir lorry arc t u n r =
     let w = walks a b c d e (all_shown bans_usage.places (a ∷ b ∷ c ∷ d ∷ e ∷ [])
     (of_text dir ∷ of_text lorry ∷ of_number arc ∷ of_number t ∷ of_number u ∷ []) r) in

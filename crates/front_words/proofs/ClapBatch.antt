@@ -2,10 +2,10 @@
 use Rattle.std.proofs.Common.{◌≡◌, refl, codes, true, ℕ, List, Option, Some, None, [], ◌∷◌, ◌++◌, length, ap, ◌∙◌, arith}
 use Rattle.std.specs.Prelude.{unwrap_or, option_map, IfSome}
 use Rattle.clap.specs.Walk.{Held, Rule, Text, arg_by_id, arg_by_index, first_of, nothing_held, positional_held, pushed, settled, walked}
-use Rattle.clap.specs.Simple.{App, Shape, built, is_simple, new_app, new_rule, with_rule}
+use Rattle.clap.specs.Simple.{App, Shape, built, new_rule}
 use Rattle.clap.specs.Takes.{positional_passes, turn_passes}
 use Rattle.clap.proofs.OnLiterals.{clap_on_literals}
-use Rattle.front_words.specs.ClapCommands.{IsTaken, batch_app, choice, option_line, place, text_found}
+use Rattle.front_words.specs.ClapCommands.{IsTaken, app_with, batch_app, batch_choices, batch_places, option_line, text_found, written_out}
 use Rattle.front_words.specs.Commands.{batch_usage}
 use Rattle.front_words.specs.Forms.{count, is_folder_name, of_text}
 use Rattle.front_words.specs.Inside.{IsFit, batch_values}
@@ -19,16 +19,7 @@ use Rattle.front_words.proofs.Shown.{AllRead, AllShown, IsShown, all_in, all_rea
 
 -- the command, written out
 abbrev app : App
-app = with_rule (with_rule (with_rule (new_app (codes "batch")) (place (codes "dir"))) (place (codes "jobs"))) (choice (codes "workers"))
-
-pub batch_built : with_rule (with_rule (with_rule (new_app (codes "batch")) (place (codes "dir"))) (place (codes "jobs"))) (choice (codes "workers"))
-    ≡ batch_app
-unfolding batch_app
-batch_built = refl
-
-pub batch_simple : is_simple batch_app ≡ true
-unfolding batch_app
-batch_simple = refl
+app = written_out (codes "batch") batch_places batch_choices
 
 leaf : IsLeaf app
 leaf = record { simple = refl; named = refl; alone = refl }
@@ -88,7 +79,7 @@ pub record PassesBatch (workers : Option Text) (words : List Text) (dir file : T
 
 passes : (workers : Option Text) (words : List Text) (dir file : Text) → IfSome workers IsShown → length words ≡ 2
     → AllRead batch_usage.places words (of_text dir ∷ of_text file ∷ []) → PassesBatch workers words dir file
-unfolding batch_app IsTaken text_found
+unfolding app_with IsTaken text_found
 passes None (a ∷ b ∷ []) dir file s k r =
     let w = then_reaches (walks_option None (a ∷ b ∷ []) s)
     (walks_places (after_option None) a b (all_shown batch_usage.places (a ∷ b ∷ []) (of_text dir ∷ of_text file ∷ []) r) refl refl) in

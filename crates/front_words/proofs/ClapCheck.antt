@@ -1,9 +1,9 @@
 -- The words of `check` pass `clap`, which gives them back.
-use Rattle.std.proofs.Common.{◌≡◌, refl, codes, true, ℕ, List, Some, [], ◌∷◌, length, ap, ◌∙◌, arith}
+use Rattle.std.proofs.Common.{◌≡◌, refl, codes, ℕ, List, Some, [], ◌∷◌, length, ap, ◌∙◌, arith}
 use Rattle.std.specs.Prelude.{unwrap_or}
 use Rattle.clap.specs.Walk.{Held, Rule, Text, arg_by_index, first_of, nothing_held, positional_held}
-use Rattle.clap.specs.Simple.{App, Shape, built, is_simple, new_app, new_rule, with_rule}
-use Rattle.front_words.specs.ClapCommands.{IsTaken, check_app, place, text_found}
+use Rattle.clap.specs.Simple.{App, Shape, built, new_rule}
+use Rattle.front_words.specs.ClapCommands.{IsTaken, app_with, check_app, check_places, text_found, written_out}
 use Rattle.front_words.specs.Commands.{check_usage}
 use Rattle.front_words.specs.Forms.{is_certificate_name, is_folder_name, of_text, of_number}
 use Rattle.front_words.specs.Usages.{places_read}
@@ -15,17 +15,7 @@ use Rattle.front_words.proofs.Shown.{AllRead, AllShown, all_read, all_shown, own
 
 -- the command, written out
 abbrev app : App
-app = with_rule (with_rule (with_rule (with_rule (with_rule (with_rule (with_rule (new_app (codes "check")) (place (codes "dir"))) (place
-    (codes "vehicle"))) (place (codes "from"))) (place (codes "to"))) (place (codes "depart"))) (place (codes "until"))) (place (codes "name"))
-
-pub check_built : with_rule (with_rule (with_rule (with_rule (with_rule (with_rule (with_rule (new_app (codes "check")) (place (codes "dir"))) (place
-    (codes "vehicle"))) (place (codes "from"))) (place (codes "to"))) (place (codes "depart"))) (place (codes "until"))) (place (codes "name")) ≡ check_app
-unfolding check_app
-check_built = refl
-
-pub check_simple : is_simple check_app ≡ true
-unfolding check_app
-check_simple = refl
+app = written_out (codes "check") check_places []
 
 leaf : IsLeaf app
 leaf = record { simple = refl; named = refl; alone = refl }
@@ -85,7 +75,7 @@ pub record PassesCheck (words : List Text) (dir lorry name : Text) : Type 0 wher
 passes : (words : List Text) (dir lorry name : Text) (from to t u : ℕ) → length words ≡ 7
     → AllRead check_usage.places words (of_text dir ∷ of_text lorry ∷ of_number from ∷ of_number to ∷ of_number t ∷ of_number u ∷ of_text name ∷ [])
     → PassesCheck words dir lorry name
-unfolding check_app IsTaken text_found
+unfolding app_with IsTaken text_found
 passes (a ∷ b ∷ c ∷ d ∷ e ∷ f ∷ g ∷ []) dir lorry name from to t u n r =
     let w = walks a b c d e f g (all_shown check_usage.places (a ∷ b ∷ c ∷ d ∷ e ∷ f ∷ g ∷ [])
     (of_text dir ∷ of_text lorry ∷ of_number from ∷ of_number to ∷ of_number t ∷ of_number u ∷ of_text name ∷ []) r) in

@@ -1,10 +1,10 @@
 -- The words of `gen` pass `clap`, which gives them back.
-use Rattle.std.proofs.Common.{◌≡◌, ◌≤◌, ◌*◌, refl, codes, true, ℕ, List, Some, [], ◌∷◌, length, ap, ◌∙◌, arith}
+use Rattle.std.proofs.Common.{◌≡◌, ◌≤◌, ◌*◌, refl, codes, ℕ, List, Some, [], ◌∷◌, length, ap, ◌∙◌, arith}
 use Rattle.std.specs.Prelude.{unwrap_or}
 use Rattle.std.proofs.lemmas.Bool.{le-leb}
 use Rattle.clap.specs.Walk.{Held, Rule, Text, arg_by_index, first_of, nothing_held, positional_held}
-use Rattle.clap.specs.Simple.{App, Shape, built, is_simple, new_app, new_rule, with_rule}
-use Rattle.front_words.specs.ClapCommands.{IsTaken, gen_app, place, text_found}
+use Rattle.clap.specs.Simple.{App, Shape, built, new_rule}
+use Rattle.front_words.specs.ClapCommands.{IsTaken, app_with, gen_app, gen_places, text_found, written_out}
 use Rattle.front_words.specs.Commands.{gen_of, gen_usage, to_gen}
 use Rattle.front_words.specs.Forms.{is_folder_name, of_text, of_number}
 use Rattle.front_words.specs.Usages.{places_read}
@@ -16,17 +16,7 @@ use Rattle.front_words.proofs.Shown.{AllRead, AllShown, all_read, all_shown, own
 
 -- the command, written out
 abbrev app : App
-app = with_rule (with_rule (with_rule (with_rule (new_app (codes "gen")) (place (codes "dir"))) (place (codes "number"))) (place (codes "rows"))) (place
-    (codes "columns"))
-
-pub gen_built : with_rule (with_rule (with_rule (with_rule (new_app (codes "gen")) (place (codes "dir"))) (place (codes "number"))) (place
-    (codes "rows"))) (place (codes "columns")) ≡ gen_app
-unfolding gen_app
-gen_built = refl
-
-pub gen_simple : is_simple gen_app ≡ true
-unfolding gen_app
-gen_simple = refl
+app = written_out (codes "gen") gen_places []
 
 leaf : IsLeaf app
 leaf = record { simple = refl; named = refl; alone = refl }
@@ -69,7 +59,7 @@ pub record PassesGen (words : List Text) (dir : Text) : Type 0 where
 passes : (words : List Text) (dir : Text) (from rows columns : ℕ) → length words ≡ 4
     → AllRead gen_usage.places words (of_text dir ∷ of_number from ∷ of_number rows ∷ of_number columns ∷ [])
     → PassesGen words dir
-unfolding gen_app IsTaken text_found
+unfolding app_with IsTaken text_found
 passes (a ∷ b ∷ c ∷ d ∷ []) dir from rows columns n r =
     let w = walks a b c d (all_shown gen_usage.places (a ∷ b ∷ c ∷ d ∷ [])
     (of_text dir ∷ of_number from ∷ of_number rows ∷ of_number columns ∷ []) r) in

@@ -1,13 +1,12 @@
 -- The words of `plan` pass `clap`, which gives them back.
-use Rattle.std.proofs.Common.{Bor, ◌≡◌, refl, codes, true, ℕ, List, Option, Some, None, [], ◌∷◌, ◌++◌, length, ap, ◌∙◌, arith, ap₂}
+use Rattle.std.proofs.Common.{◌≡◌, refl, codes, true, ℕ, List, Option, Some, None, [], ◌∷◌, ◌++◌, length, ap, ◌∙◌, arith}
 use Rattle.std.specs.Prelude.{unwrap_or, option_map, IfSome}
 use Rattle.clap.specs.Walk.{Held, Rule, Text, arg_by_id, arg_by_index, first_of, nothing_held, positional_held, pushed, settled, walked}
-use Rattle.clap.specs.Simple.{App, Shape, built, is_simple, new_app, new_rule, with_rule}
+use Rattle.clap.specs.Simple.{App, Shape, built, new_rule}
 use Rattle.clap.specs.Takes.{positional_passes, turn_passes}
 use Rattle.clap.proofs.OnLiterals.{clap_on_literals}
-use Rattle.front_words.specs.ClapCommands.{IsTaken, choice, option_line, plan_app, place, text_found}
-use Rattle.front_words.specs.Commands.{Command, name_in, plan_usage, to_plan, trip_to}
-use Rattle.route_base.specs.declared.types.Form.{Form}
+use Rattle.front_words.specs.ClapCommands.{IsTaken, app_with, option_line, plan_app, plan_choices, plan_places, text_found, written_out}
+use Rattle.front_words.specs.Commands.{plan_usage}
 use Rattle.front_words.specs.Forms.{certificate, is_folder_name, of_text, of_number, report}
 use Rattle.front_words.specs.Inside.{AreFit, trip_values}
 use Rattle.front_words.specs.declared.plan.Choices.{Choices}
@@ -19,19 +18,7 @@ use Rattle.front_words.proofs.Shown.{AllRead, AllShown, IsShown, all_in, all_rea
 
 -- the command, written out
 abbrev app : App
-app = with_rule (with_rule (with_rule (with_rule (with_rule (with_rule (with_rule (with_rule (new_app (codes "plan")) (place (codes "dir"))) (place
-    (codes "vehicle"))) (place (codes "from"))) (place (codes "to"))) (place (codes "depart"))) (place (codes "until"))) (choice (codes "form"))) (choice
-    (codes "certificate"))
-
-pub plan_built : with_rule (with_rule (with_rule (with_rule (with_rule (with_rule (with_rule (with_rule (new_app (codes "plan")) (place (codes "dir")))
-    (place (codes "vehicle"))) (place (codes "from"))) (place (codes "to"))) (place (codes "depart"))) (place (codes "until"))) (choice (codes "form")))
-    (choice (codes "certificate")) ≡ plan_app
-unfolding plan_app
-plan_built = refl
-
-pub plan_simple : is_simple plan_app ≡ true
-unfolding plan_app
-plan_simple = refl
+app = written_out (codes "plan") plan_places plan_choices
 
 leaf : IsLeaf app
 leaf = record { simple = refl; named = refl; alone = refl }
@@ -155,7 +142,7 @@ pub record PassesPlan (form name : Option Text) (words : List Text) (dir lorry :
 passes : (form name : Option Text) (words : List Text) (dir lorry : Text) (from to t u : ℕ) → IfSome form IsShown → IfSome name IsShown
     → length words ≡ 6 → AllRead plan_usage.places words (of_text dir ∷ of_text lorry ∷ of_number from ∷ of_number to ∷ of_number t ∷ of_number u ∷ [])
     → PassesPlan form name words dir lorry
-unfolding plan_app IsTaken text_found
+unfolding app_with IsTaken text_found
 passes None None (a ∷ b ∷ c ∷ d ∷ e ∷ f ∷ []) dir lorry from to t u sf sn k r =
     let s = all_shown plan_usage.places (a ∷ b ∷ c ∷ d ∷ e ∷ f ∷ [])
     (of_text dir ∷ of_text lorry ∷ of_number from ∷ of_number to ∷ of_number t ∷ of_number u ∷ []) r in
@@ -223,19 +210,3 @@ pub plan_passes : (t : Trip) (c : Choices) (words : List Text) → AreFit c → 
     → PassesPlan (option_map (λ w. w.now) c.form_word) (option_map (λ w. w.now) c.certificate) words t.dir.now t.vehicle.now
 plan_passes t c words f e = passes_plan (option_map (λ w. w.now) c.form_word) (option_map (λ w. w.now) c.certificate) words t.dir.now t.vehicle.now
     t.from t.to t.depart t.until (all_in report _ f.form) (all_in certificate _ f.certificate) e
-
--- the command of a plan
-abbrev plan_with : Text → Text → ℕ → ℕ → ℕ → ℕ → Form → Option Text → Option Command
-plan_with d v origin goal start end f n =
-    Some (to_plan (record { dir = d; trip = trip_to v origin goal start end; form = f; certificate = n }))
-
--- the certificate's name, as the values of the options have it
-pub same_name : (name : Option (Bor Text)) → name_in (option_map (λ n. of_text n.now) name) ≡ option_map (λ n. n.now) name
-same_name None = refl
-same_name (Some name) = refl
-
-pub same_plan : (d e v w : Text) (origin goal start end : ℕ) (f g : Form) (n m : Option Text) → d ≡ e → v ≡ w → f ≡ g → n ≡ m
-    → plan_with d v origin goal start end f n ≡ plan_with e w origin goal start end g m
-same_plan d e v w origin goal start end f g n m h i j k =
-    ap₂ (λ (x y : Text). plan_with x y origin goal start end f n) h i
-    ∙ ap₂ (λ (x : Form) (y : Option Text). plan_with e w origin goal start end x y) j k

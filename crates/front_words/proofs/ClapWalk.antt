@@ -1,20 +1,20 @@
 -- How `clap` walks over words that begin with no dash.
-use Rattle.std.proofs.Common.{Bor, ◌≡◌, subst, true, false, eqb, ℕ, Bool, List, Option, Some, None, [], ◌∷◌, ap, ap₂, sym, ◌∙◌}
+use Rattle.std.proofs.Common.{Bor, ◌≡◌, ◌<◌, ◌+◌, get_or, length, take, refl, subst, true, false, eqb, ℕ, Bool, List, Option, Some, None, [], ◌∷◌, ap, ap₂, sym, ◌∙◌}
 use Rattle.std.specs.Prelude.{◌&&◌, drop, if◌then◌else◌, map}
 use Rattle.std.specs.List.{fold}
 use Rattle.std.specs.List.{list_all}
-use Rattle.std.specs.Option.{IsSome}
-use Rattle.std.specs.Prelude.{is_some}
-use Rattle.clap.specs.Simple.{App, Shape, argument_words, built, is_simple, label_of, matches_of}
+use Rattle.std.proofs.lemmas.List.{map_more}
+use Rattle.std.proofs.lemmas.List.Sums.{fold_push}
+use Rattle.clap.specs.Simple.{App, Shape, argument_words, built, is_simple, label_of, matches_of, with_rule}
 use Rattle.clap.specs.Takes.{walk_passes, positional_passes, turn_passes, settle_passes, default_passes, is_valid, level_passes, built_takes, takes}
 use Rattle.clap.proofs.TakesLemmas.{leaf_takes}
 use Rattle.clap.specs.Words.{HasMatchesOf, first_of, first_value, found_of}
 use Rattle.clap.specs.declared.parser.matches.ArgMatches.{ArgMatches}
 use Rattle.clap.proofs.WalkLemmas.{first_value-rows}
-use Rattle.front_words.specs.ClapCommands.{IsTaken, text_found}
+use Rattle.front_words.specs.ClapCommands.{IsTaken, text_found, with_rules}
 use Rattle.front_words.proofs.Shown.{IsShown}
 use Rattle.clap.specs.Walk.{finished, nothing_held, rows_after, Held, Names, Rule, Text, Walk, idle}
-use Rattle.clap.specs.Walk.{option, value, next, arg_by_id, arg_by_index, option_word, to_positional, after_step, walked, word_met}
+use Rattle.clap.specs.Walk.{option, next, arg_by_id, arg_by_index, option_word, to_positional, after_step, walked}
 
 -- between two words, with the next positional word's number
 abbrev pub walk_at : ℕ → Held → Walk
@@ -23,9 +23,6 @@ walk_at p h = record { held = h; waiting = idle; position = p; is_trailing = fal
 -- between an option and its value
 abbrev pub awaiting : Text → ℕ → Held → Walk
 awaiting id p h = record { held = h; waiting = option id; position = p; is_trailing = false; stopped = None }
-
-no_names : Names
-no_names = []
 
 -- the walk over some words comes to the walk over the others
 pub record WalksOn (s : Shape) (w : Walk) (words : List Text) (end : Walk) (rest : List Text) : Type 0 where
@@ -43,9 +40,6 @@ step s w end word rest p e = record {
   passes = ap₂ (λ (b : Bool) (v : Walk). b && walk_passes s [] v rest) p e;
   walks = ap (λ (v : Walk). fold (walked s.rules []) v rest) e;
 }
-
-met_place : (c : List Rule) (p : ℕ) (h : Held) (x : ℕ) (xs : Text) → eqb x 45 ≡ false → word_met c [] false idle p (x ∷ xs) h ≡ (h, value)
-met_place c p h x xs e = simp e
 
 place_turns : (s : Shape) (p : ℕ) (h : Held) (a : Rule) (x : ℕ) (xs : Text) → eqb x 45 ≡ false → arg_by_index s.rules p ≡ Some a
     → positional_passes s.rules s.args_override_self a h ≡ true → turn_passes s [] (walk_at p h) (x ∷ xs) ≡ true
@@ -116,12 +110,23 @@ finds_at a name words p end l r =
     ap₂ (λ (names : Names) (ws : List Text). rows_after (built a).top.rules names ws) (ap (map label_of) l.alone) (arguments a name words l)
     ∙ ap (λ (w : Walk). finished (built a).top.rules w.held) r.walks
 
+both_left : (x y : Bool) → (x && y) ≡ true → x ≡ true
+both_left true y e = refl
+both_left false y e = e
+
+-- one argument more
+pub one_rule_more : {X : Type 0} (f : X → Rule) (a b c : App) (xs : List X) (i : ℕ) (d : X) → i < length xs
+    → b ≡ with_rules a (map f (take i xs)) → c ≡ with_rule b (f (get_or xs i d)) → c ≡ with_rules a (map f (take (i + 1) xs))
+one_rule_more f a b c xs i d h e g =
+    g ∙ ap (λ (v : App). with_rule v (f (get_or xs i d))) e
+    ∙ sym (ap (with_rules a) (map_more f xs i d h) ∙ fold_push with_rule a (map f (take i xs)) (f (get_or xs i d)))
+
 -- what a parse finds, and that it refuses the words for want of memory alone, by what the command is
-pub is_found : (a app : App) (words : List Text) (m : ArgMatches) → a ≡ app → is_simple app ≡ true → HasMatchesOf a words m
+pub is_found : (a app : App) (words : List Text) (m : ArgMatches) → a ≡ app → IsTaken app words → HasMatchesOf a words m
     → (id : Text) → first_value (found_of m) id ≡ text_found app words id
-unfolding text_found
-is_found a app words m e i h id =
-    first_value-rows (found_of m) id ∙ ap (first_of id) ((h (ap is_simple e ∙ i)).0 ∙ ap (λ (b : App). matches_of b words) e)
+unfolding IsTaken text_found
+is_found a app words m e t h id =
+    first_value-rows (found_of m) id ∙ ap (first_of id) ((h (ap is_simple e ∙ both_left (is_simple app) _ t)).0 ∙ ap (λ (b : App). matches_of b words) e)
 
 pub is_refused : (a app : App) (words : List Text) → a ≡ app → IsTaken app words → takes a words ≡ true
 unfolding IsTaken
@@ -131,9 +136,6 @@ is_refused a app words e t = ap (λ (b : App). takes b words) e ∙ t
 pub is_text : (app : App) (line words : List Text) (id : Text) (o : Option Text) (text : Text) → line ≡ words → o ≡ text_found app line id
     → text_found app words id ≡ Some text → o ≡ Some text
 is_text app line words id o text l e f = e ∙ ap (λ ws. text_found app ws id) l ∙ f
-
-pub is_there : (o : Option Text) (text : Text) → o ≡ Some text → IsSome o
-is_there o text e = ap is_some e
 
 -- the line is the name and the words
 pub same_line : (name : Text) (items slice : List (Bor Text)) (words : List (Bor Text)) → slice ≡ items

@@ -1,6 +1,9 @@
 -- The commands as `clap` has them, and the words that go to it; no law.
-use Rattle.std.specs.Prelude.{ℕ, ◌≡◌, Option, Some, None, List, [], ◌∷◌, true, codes}
-use Rattle.clap.specs.Words.{App, Rule, first_of, matches_of, new_app, new_rule, takes, with_rule}
+use Rattle.std.specs.Prelude.{ℕ, ◌≡◌, Option, Some, None, List, [], ◌∷◌, true, codes, map}
+use Rattle.std.specs.Borrow.{Bor}
+use Rattle.std.specs.List.{fold}
+use Rattle.clap.specs.declared.parser.matches.ArgMatches.{ArgMatches}
+use Rattle.clap.specs.Words.{App, Rule, first_of, first_value, found_of, matches_of, new_app, new_rule, takes, with_rule}
 
 -- a positional word that must be there
 abbrev pub place : List ℕ → Rule
@@ -10,31 +13,69 @@ place id = record (new_rule id) { required = true }
 abbrev pub choice : List ℕ → Rule
 choice id = record (new_rule id) { long = Some id }
 
+-- the command with arguments more
+abbrev pub with_rules : App → List Rule → App
+with_rules app rules = fold with_rule app rules
+
+-- a command of this name, with these positional words and options
+abbrev pub written_out : List ℕ → List (List ℕ) → List (List ℕ) → App
+written_out name places choices = with_rules (with_rules (new_app name) (map place places)) (map choice choices)
+
+-- the same, which only a proof that computes opens
+unfoldable pub app_with : List ℕ → List (List ℕ) → List (List ℕ) → App
+app_with = written_out
+
+-- the same, of the texts that the code holds
+abbrev pub app_in : List ℕ → List (Bor (List ℕ)) → List (Bor (List ℕ)) → App
+app_in name places choices = app_with name (map (λ w. w.now) places) (map (λ w. w.now) choices)
+
+-- the positional words of `plan`
+abbrev pub plan_places : List (List ℕ)
+plan_places = codes "dir" ∷ codes "vehicle" ∷ codes "from" ∷ codes "to" ∷ codes "depart" ∷ codes "until" ∷ []
+
+-- its options
+abbrev pub plan_choices : List (List ℕ)
+plan_choices = codes "form" ∷ codes "certificate" ∷ []
+
 -- `plan DIR VEHICLE FROM TO DEPART UNTIL [--form F] [--certificate NAME]`
-unfoldable pub plan_app : App
-plan_app = with_rule (with_rule (with_rule (with_rule (with_rule (with_rule (with_rule (with_rule (new_app (codes "plan"))
-    (place (codes "dir"))) (place (codes "vehicle"))) (place (codes "from"))) (place (codes "to"))) (place (codes "depart")))
-    (place (codes "until"))) (choice (codes "form"))) (choice (codes "certificate"))
+abbrev pub plan_app : App
+plan_app = app_with (codes "plan") plan_places plan_choices
+
+-- the positional words of `check`
+abbrev pub check_places : List (List ℕ)
+check_places = codes "dir" ∷ codes "vehicle" ∷ codes "from" ∷ codes "to" ∷ codes "depart" ∷ codes "until" ∷ codes "name" ∷ []
 
 -- `check DIR VEHICLE FROM TO DEPART UNTIL NAME`
-unfoldable pub check_app : App
-check_app = with_rule (with_rule (with_rule (with_rule (with_rule (with_rule (with_rule (new_app (codes "check"))
-    (place (codes "dir"))) (place (codes "vehicle"))) (place (codes "from"))) (place (codes "to"))) (place (codes "depart")))
-    (place (codes "until"))) (place (codes "name"))
+abbrev pub check_app : App
+check_app = app_with (codes "check") check_places []
+
+-- the positional words of `bans`
+abbrev pub bans_places : List (List ℕ)
+bans_places = codes "dir" ∷ codes "vehicle" ∷ codes "arc" ∷ codes "depart" ∷ codes "until" ∷ []
 
 -- `bans DIR VEHICLE ARC DEPART UNTIL`
-unfoldable pub bans_app : App
-bans_app = with_rule (with_rule (with_rule (with_rule (with_rule (new_app (codes "bans"))
-    (place (codes "dir"))) (place (codes "vehicle"))) (place (codes "arc"))) (place (codes "depart"))) (place (codes "until"))
+abbrev pub bans_app : App
+bans_app = app_with (codes "bans") bans_places []
+
+-- the positional words of `batch`
+abbrev pub batch_places : List (List ℕ)
+batch_places = codes "dir" ∷ codes "jobs" ∷ []
+
+-- its options
+abbrev pub batch_choices : List (List ℕ)
+batch_choices = codes "workers" ∷ []
 
 -- `batch DIR JOBS [--workers N]`
-unfoldable pub batch_app : App
-batch_app = with_rule (with_rule (with_rule (new_app (codes "batch")) (place (codes "dir"))) (place (codes "jobs"))) (choice (codes "workers"))
+abbrev pub batch_app : App
+batch_app = app_with (codes "batch") batch_places batch_choices
+
+-- the positional words of `gen`
+abbrev pub gen_places : List (List ℕ)
+gen_places = codes "dir" ∷ codes "number" ∷ codes "rows" ∷ codes "columns" ∷ []
 
 -- `gen DIR NUMBER ROWS COLUMNS`
-unfoldable pub gen_app : App
-gen_app = with_rule (with_rule (with_rule (with_rule (new_app (codes "gen")) (place (codes "dir"))) (place (codes "number")))
-    (place (codes "rows"))) (place (codes "columns"))
+abbrev pub gen_app : App
+gen_app = app_with (codes "gen") gen_places []
 
 -- `clap` refuses the words for want of memory alone
 unfoldable pub IsTaken : App → List (List ℕ) → Type 0
@@ -43,6 +84,10 @@ IsTaken app words = takes app words ≡ true
 -- the text that `clap` finds for an argument
 unfoldable pub text_found : App → List (List ℕ) → List ℕ → Option (List ℕ)
 text_found app words id = first_of id (matches_of app words)
+
+-- the matches hold this text for an argument
+abbrev pub HasText : ArgMatches → List ℕ → List ℕ → Type 0
+HasText matches id text = first_value (found_of matches) id ≡ Some text
 
 -- an option and its value, where it is given
 abbrev pub option_line : List ℕ → Option (List ℕ) → List (List ℕ)

@@ -31,9 +31,13 @@ abbrev pub text_in : Option (Bor (List ℕ)) → List (List ℕ)
 text_in None = []
 text_in (Some word) = word.now ∷ []
 
+-- the split of words that the code holds apart
+abbrev pub split_of_words : List (Bor (List ℕ)) → List GivenWords → Split
+split_of_words places given = record { places = map (λ word. word.now) places; given = map given_in given }
+
 -- the split that the code holds
 abbrev pub split_in : SplitWords → Split
-split_in s = record { places = map (λ word. word.now) s.places.items; given = map given_in s.given.items }
+split_in s = split_of_words s.places.items s.given.items
 
 -- the piece that the code holds
 abbrev pub piece_of_word : PieceWord → Piece

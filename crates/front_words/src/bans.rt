@@ -1,20 +1,21 @@
 // The words of `bans DIR VEHICLE ARC DEPART UNTIL`.
-ghost use Rattle.std.specs.Prelude.{◌≡◌, ℕ, List, [], IfErr, IfOk, IfSome, Some, map, option_map};
-ghost use Rattle.clap.specs.Words.{first_value, found_of, kind_of};
-ghost use Rattle.front_words.specs.ClapCommands.{IsTaken, bans_app, text_found};
+ghost use Rattle.std.specs.Prelude.{◌≡◌, [], IfOk, IfSome, Some, codes, map, option_map};
+ghost use Rattle.front_words.specs.ClapCommands.{HasText};
 ghost use Rattle.front_words.specs.Commands.{AsksSupported, bans_usage, command_in};
-ghost use Rattle.front_words.specs.Inside.{AnswersWith, bans_values};
+ghost use Rattle.front_words.specs.Inside.{AnswersWith, bans_values, split_of_words};
 ghost use Rattle.route_base.specs.Time.{IsInstant};
-ghost use Rattle.front_words.specs.Usages.{made_by, places_read};
+ghost use Rattle.front_words.specs.Usages.{made_by, made_of, places_read};
 
-use crate::clap_words::{line_of, text_of, with_place};
+use crate::clap_words::{dir_and_vehicle, line_of, matches_for};
 use crate::forms::{instant_word, is_folder_word, is_name_word, number_word};
 use crate::splitting::split_words;
 use crate::{Command as FrontCommand, WordsFault};
-use clap::error::ErrorKind;
-use clap::{ArgMatches, Command, Error};
+use clap::ArgMatches;
 use route_base::{Minute, OutOfMemory, Text};
 use std::alloc::Global;
+
+// The positional words, by the names that `clap` has for them.
+const PLACES: &[&str] = &["dir", "vehicle", "arc", "depart", "until"];
 
 // The words of bans that are texts, and the values of the others.
 #[derive(Clone, Copy)]
@@ -47,35 +48,13 @@ fn bans_of<'a>(places: &[&'a str]) -> Option<Bans<'a>>
     })
 }
 
-// The matches of a line of bans, which `clap` refuses only when it is out of memory.
-fn bans_matches<'a>(alloc: Global, line: &'a [&'a str]) -> Result<ArgMatches<'a>, Error>
-    requires { IsTaken bans_app (map (λ w. w.now) line.now) }
-    ensures found { IfOk result (λ m. (id : List ℕ) → first_value (found_of m) id
-        ≡ text_found bans_app (map (λ w. w.now) line.entry.now) id) }
-    ensures refused { IfErr result (λ e. kind_of e ≡ ErrorKind.OutOfMemory) }
-{
-    let command = Command::new(alloc, "bans");
-    let command = with_place(alloc, command, "dir")?;
-    let command = with_place(alloc, command, "vehicle")?;
-    let command = with_place(alloc, command, "arc")?;
-    let command = with_place(alloc, command, "depart")?;
-    let command = with_place(alloc, command, "until")?;
-    command.try_get_matches_from(line)
-}
-
-// The command of bans, with the texts that `clap` gives back.
-fn bans_by_clap(alloc: Global, bans: &Bans, places: &[&str]) -> Result<FrontCommand, OutOfMemory>
-    requires { places_read bans_usage.places (map (λ w. w.now) places.now)
-        ≡ Some (bans_values bans.now) }
+// The command of bans, with the texts that `clap` found.
+fn bans_found(alloc: Global, matches: &ArgMatches, bans: &Bans) -> Result<FrontCommand, OutOfMemory>
+    requires dir { HasText matches.now (codes "dir") bans.now.dir.now }
+    requires vehicle { HasText matches.now (codes "vehicle") bans.now.vehicle.now }
     ensures { IfOk result (λ c. bans_usage.make (bans_values bans.now) [] ≡ Some (command_in c)) }
 {
-    let line = line_of(alloc, "bans", &[], places)?;
-    let matches = match bans_matches(alloc, line.as_slice()) {
-        Ok(matches) => matches,
-        Err(_) => return Err(OutOfMemory),
-    };
-    let dir = text_of(alloc, &matches, "dir")?;
-    let vehicle = text_of(alloc, &matches, "vehicle")?;
+    let (dir, vehicle) = dir_and_vehicle(alloc, matches)?;
     Ok(FrontCommand::Bans {
         dir,
         vehicle,
@@ -85,13 +64,31 @@ fn bans_by_clap(alloc: Global, bans: &Bans, places: &[&str]) -> Result<FrontComm
     })
 }
 
+// The command of bans, by `clap`.
+fn bans_by_clap(alloc: Global, bans: &Bans, places: &[&str]) -> Result<FrontCommand, OutOfMemory>
+    requires { places_read bans_usage.places (map (λ w. w.now) places.now)
+        ≡ Some (bans_values bans.now) }
+    ensures { IfOk result (λ c. bans_usage.make (bans_values bans.now) [] ≡ Some (command_in c)) }
+{
+    let line = line_of(alloc, "bans", &[], places)?;
+    let matches = matches_for(alloc, "bans", PLACES, &[], line.as_slice())?;
+    bans_found(alloc, &matches, bans)
+}
+
+// The bans of positional words.
+fn bans_of_split(alloc: Global, places: &[&str]) -> Result<FrontCommand, WordsFault>
+    ensures bans { AnswersWith command_in (made_of bans_usage (split_of_words places.now [])) result }
+    ensures supported { IfOk result (λ c. AsksSupported (command_in c)) }
+{
+    let bans = bans_of(places).ok_or(WordsFault::NotACommand)?;
+    Ok(bans_by_clap(alloc, &bans, places)?)
+}
+
 // The bans of the words behind the command's name.
 pub fn read_bans(alloc: Global, words: &[Text]) -> Result<FrontCommand, WordsFault>
     ensures bans { AnswersWith command_in (made_by bans_usage words.now) result }
     ensures supported { IfOk result (λ c. AsksSupported (command_in c)) }
 {
     let split = split_words(alloc, &[], words)?;
-    let places = split.places.as_slice();
-    let bans = bans_of(places).ok_or(WordsFault::NotACommand)?;
-    Ok(bans_by_clap(alloc, &bans, places)?)
+    bans_of_split(alloc, split.places.as_slice())
 }

@@ -1,23 +1,27 @@
 // The words of `batch DIR JOBS [--workers N]`.
-ghost use Rattle.std.specs.Prelude.{◌≡◌, ℕ, List, IfErr, IfOk, IfSome, Some, map, option_map};
-ghost use Rattle.clap.specs.Words.{first_value, found_of, kind_of};
-ghost use Rattle.front_words.specs.ClapCommands.{IsTaken, batch_app, text_found};
+ghost use Rattle.std.specs.Prelude.{◌≡◌, IfOk, IfSome, Some, codes, map, option_map};
+ghost use Rattle.front_words.specs.ClapCommands.{HasText};
 ghost use Rattle.front_words.specs.Commands.{AsksSupported, batch_usage, command_in, workers_in};
 ghost use Rattle.front_words.specs.Forms.{count, of_number};
-ghost use Rattle.front_words.specs.Inside.{AnswersWith, IsFit, IsUpTo, batch_values, given_in, line_of_batch, workers_values};
-ghost use Rattle.front_words.specs.Usages.{made_by, options_read, places_read, value_if};
+ghost use Rattle.front_words.specs.Inside.{AnswersWith, IsFit, IsUpTo, batch_values, given_in, line_of_batch, split_of_words, workers_values};
+ghost use Rattle.front_words.specs.Usages.{made_by, made_of, options_read, places_read, value_if};
 ghost use Rattle.front_words.specs.declared.limits.TheConstants.{MOST_WORKERS};
 
-use crate::clap_words::{line_of, push_option, text_of, with_choice, with_place};
+use crate::clap_words::{line_of, matches_for, push_option, text_of};
 use crate::forms::{is_folder_word, is_name_word, small_count_word};
 use crate::limits::{MOST_WORKERS, USUAL_WORKERS};
 use crate::options::value_of_option;
 use crate::splitting::{Given, split_words};
 use crate::{Command as FrontCommand, WordsFault};
-use clap::error::ErrorKind;
-use clap::{ArgMatches, Command, Error};
+use clap::ArgMatches;
 use route_base::{OutOfMemory, Text};
 use std::alloc::Global;
+
+// The positional words, by the names that `clap` has for them.
+const PLACES: &[&str] = &["dir", "jobs"];
+
+// The options, by their names.
+const CHOICES: &[&str] = &["workers"];
 
 // The positional words of a batch.
 #[derive(Clone, Copy)]
@@ -80,20 +84,6 @@ fn number_or_usual(number: Option<u32>) -> u32
     number.unwrap_or(USUAL_WORKERS)
 }
 
-// The matches of a line of a batch, which `clap` refuses only when it is out of memory.
-fn batch_matches<'a>(alloc: Global, line: &'a [&'a str]) -> Result<ArgMatches<'a>, Error>
-    requires { IsTaken batch_app (map (λ w. w.now) line.now) }
-    ensures found { IfOk result (λ m. (id : List ℕ) → first_value (found_of m) id
-        ≡ text_found batch_app (map (λ w. w.now) line.entry.now) id) }
-    ensures refused { IfErr result (λ e. kind_of e ≡ ErrorKind.OutOfMemory) }
-{
-    let command = Command::new(alloc, "batch");
-    let command = with_place(alloc, command, "dir")?;
-    let command = with_place(alloc, command, "jobs")?;
-    let command = with_choice(alloc, command, "workers")?;
-    command.try_get_matches_from(line)
-}
-
 // The line of a batch: its option with its value, and its positional words.
 fn batch_line<'a>(
     alloc: Global,
@@ -108,7 +98,30 @@ fn batch_line<'a>(
     line_of(alloc, "batch", options.as_slice(), places)
 }
 
-// The command of a batch, with the texts that `clap` gives back.
+// The command of a batch, with the texts that `clap` found.
+fn batch_found(
+    alloc: Global,
+    matches: &ArgMatches,
+    batch: &Batch,
+    workers: &Workers,
+) -> Result<FrontCommand, OutOfMemory>
+    requires dir { HasText matches.now (codes "dir") batch.now.dir.now }
+    requires jobs { HasText matches.now (codes "jobs") batch.now.jobs.now }
+    requires within { IfSome workers.now.number (IsUpTo MOST_WORKERS) }
+    ensures made { IfOk result (λ c.
+        batch_usage.make (batch_values batch.now) (workers_values workers.now) ≡ Some (command_in c)) }
+    ensures supported { IfOk result (λ c. AsksSupported (command_in c)) }
+{
+    let dir = text_of(alloc, matches, "dir")?;
+    let jobs = text_of(alloc, matches, "jobs")?;
+    Ok(FrontCommand::Batch {
+        dir,
+        jobs,
+        workers: number_or_usual(workers.number),
+    })
+}
+
+// The command of a batch, by `clap`.
 fn batch_by_clap(
     alloc: Global,
     batch: &Batch,
@@ -124,17 +137,22 @@ fn batch_by_clap(
     ensures supported { IfOk result (λ c. AsksSupported (command_in c)) }
 {
     let line = batch_line(alloc, workers, places)?;
-    let matches = match batch_matches(alloc, line.as_slice()) {
-        Ok(matches) => matches,
-        Err(_) => return Err(OutOfMemory),
-    };
-    let dir = text_of(alloc, &matches, "dir")?;
-    let jobs = text_of(alloc, &matches, "jobs")?;
-    Ok(FrontCommand::Batch {
-        dir,
-        jobs,
-        workers: number_or_usual(workers.number),
-    })
+    let matches = matches_for(alloc, "batch", PLACES, CHOICES, line.as_slice())?;
+    batch_found(alloc, &matches, batch, workers)
+}
+
+// The batch of positional words and options.
+fn batch_of_split(
+    alloc: Global,
+    places: &[&str],
+    given: &[Given],
+) -> Result<FrontCommand, WordsFault>
+    ensures batch { AnswersWith command_in (made_of batch_usage (split_of_words places.now given.now)) result }
+    ensures supported { IfOk result (λ c. AsksSupported (command_in c)) }
+{
+    let batch = batch_of(places).ok_or(WordsFault::NotACommand)?;
+    let workers = workers_of(given).ok_or(WordsFault::NotACommand)?;
+    Ok(batch_by_clap(alloc, &batch, &workers, places)?)
 }
 
 // The batch of the words behind the command's name.
@@ -143,8 +161,5 @@ pub fn read_batch(alloc: Global, words: &[Text]) -> Result<FrontCommand, WordsFa
     ensures supported { IfOk result (λ c. AsksSupported (command_in c)) }
 {
     let split = split_words(alloc, &["--workers"], words)?;
-    let places = split.places.as_slice();
-    let batch = batch_of(places).ok_or(WordsFault::NotACommand)?;
-    let workers = workers_of(split.given.as_slice()).ok_or(WordsFault::NotACommand)?;
-    Ok(batch_by_clap(alloc, &batch, &workers, places)?)
+    batch_of_split(alloc, split.places.as_slice(), split.given.as_slice())
 }

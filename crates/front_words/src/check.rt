@@ -1,20 +1,21 @@
 // The words of `check DIR VEHICLE FROM TO DEPART UNTIL NAME`.
-ghost use Rattle.std.specs.Prelude.{◌≡◌, ℕ, List, [], IfErr, IfOk, IfSome, Some, map, option_map};
-ghost use Rattle.clap.specs.Words.{first_value, found_of, kind_of};
-ghost use Rattle.front_words.specs.ClapCommands.{IsTaken, check_app, text_found};
+ghost use Rattle.std.specs.Prelude.{◌≡◌, [], IfOk, IfSome, Some, codes, map, option_map};
+ghost use Rattle.front_words.specs.ClapCommands.{HasText};
 ghost use Rattle.front_words.specs.Commands.{AsksSupported, check_usage, command_in};
-ghost use Rattle.front_words.specs.Inside.{AnswersWith, check_values};
+ghost use Rattle.front_words.specs.Inside.{AnswersWith, check_values, split_of_words};
 ghost use Rattle.route_base.specs.Time.{IsInstant};
-ghost use Rattle.front_words.specs.Usages.{made_by, places_read};
+ghost use Rattle.front_words.specs.Usages.{made_by, made_of, places_read};
 
-use crate::clap_words::{line_of, text_of, with_place};
+use crate::clap_words::{dir_and_vehicle, line_of, matches_for, text_of};
 use crate::forms::{instant_word, is_certificate_word, is_folder_word, is_name_word, number_word};
 use crate::splitting::split_words;
 use crate::{Command as FrontCommand, WordsFault};
-use clap::error::ErrorKind;
-use clap::{ArgMatches, Command, Error};
+use clap::ArgMatches;
 use route_base::{Minute, OutOfMemory, Text};
 use std::alloc::Global;
+
+// The positional words, by the names that `clap` has for them.
+const PLACES: &[&str] = &["dir", "vehicle", "from", "to", "depart", "until", "name"];
 
 // The words of a check that are texts, and the values of the others.
 #[derive(Clone, Copy)]
@@ -58,38 +59,19 @@ fn check_of<'a>(places: &[&'a str]) -> Option<Check<'a>>
     })
 }
 
-// The matches of a line of a check, which `clap` refuses only when it is out of memory.
-fn check_matches<'a>(alloc: Global, line: &'a [&'a str]) -> Result<ArgMatches<'a>, Error>
-    requires { IsTaken check_app (map (λ w. w.now) line.now) }
-    ensures found { IfOk result (λ m. (id : List ℕ) → first_value (found_of m) id
-        ≡ text_found check_app (map (λ w. w.now) line.entry.now) id) }
-    ensures refused { IfErr result (λ e. kind_of e ≡ ErrorKind.OutOfMemory) }
-{
-    let command = Command::new(alloc, "check");
-    let command = with_place(alloc, command, "dir")?;
-    let command = with_place(alloc, command, "vehicle")?;
-    let command = with_place(alloc, command, "from")?;
-    let command = with_place(alloc, command, "to")?;
-    let command = with_place(alloc, command, "depart")?;
-    let command = with_place(alloc, command, "until")?;
-    let command = with_place(alloc, command, "name")?;
-    command.try_get_matches_from(line)
-}
-
-// The command of a check, with the texts that `clap` gives back.
-fn check_by_clap(alloc: Global, check: &Check, places: &[&str]) -> Result<FrontCommand, OutOfMemory>
-    requires { places_read check_usage.places (map (λ w. w.now) places.now)
-        ≡ Some (check_values check.now) }
+// The command of a check, with the texts that `clap` found.
+fn check_found(
+    alloc: Global,
+    matches: &ArgMatches,
+    check: &Check,
+) -> Result<FrontCommand, OutOfMemory>
+    requires dir { HasText matches.now (codes "dir") check.now.dir.now }
+    requires vehicle { HasText matches.now (codes "vehicle") check.now.vehicle.now }
+    requires name { HasText matches.now (codes "name") check.now.name.now }
     ensures { IfOk result (λ c. check_usage.make (check_values check.now) [] ≡ Some (command_in c)) }
 {
-    let line = line_of(alloc, "check", &[], places)?;
-    let matches = match check_matches(alloc, line.as_slice()) {
-        Ok(matches) => matches,
-        Err(_) => return Err(OutOfMemory),
-    };
-    let dir = text_of(alloc, &matches, "dir")?;
-    let vehicle = text_of(alloc, &matches, "vehicle")?;
-    let name = text_of(alloc, &matches, "name")?;
+    let (dir, vehicle) = dir_and_vehicle(alloc, matches)?;
+    let name = text_of(alloc, matches, "name")?;
     Ok(FrontCommand::Check {
         dir,
         vehicle,
@@ -101,13 +83,31 @@ fn check_by_clap(alloc: Global, check: &Check, places: &[&str]) -> Result<FrontC
     })
 }
 
+// The command of a check, by `clap`.
+fn check_by_clap(alloc: Global, check: &Check, places: &[&str]) -> Result<FrontCommand, OutOfMemory>
+    requires { places_read check_usage.places (map (λ w. w.now) places.now)
+        ≡ Some (check_values check.now) }
+    ensures { IfOk result (λ c. check_usage.make (check_values check.now) [] ≡ Some (command_in c)) }
+{
+    let line = line_of(alloc, "check", &[], places)?;
+    let matches = matches_for(alloc, "check", PLACES, &[], line.as_slice())?;
+    check_found(alloc, &matches, check)
+}
+
+// The check of positional words.
+fn check_of_split(alloc: Global, places: &[&str]) -> Result<FrontCommand, WordsFault>
+    ensures check { AnswersWith command_in (made_of check_usage (split_of_words places.now [])) result }
+    ensures supported { IfOk result (λ c. AsksSupported (command_in c)) }
+{
+    let check = check_of(places).ok_or(WordsFault::NotACommand)?;
+    Ok(check_by_clap(alloc, &check, places)?)
+}
+
 // The check of the words behind the command's name.
 pub fn read_check(alloc: Global, words: &[Text]) -> Result<FrontCommand, WordsFault>
     ensures check { AnswersWith command_in (made_by check_usage words.now) result }
     ensures supported { IfOk result (λ c. AsksSupported (command_in c)) }
 {
     let split = split_words(alloc, &[], words)?;
-    let places = split.places.as_slice();
-    let check = check_of(places).ok_or(WordsFault::NotACommand)?;
-    Ok(check_by_clap(alloc, &check, places)?)
+    check_of_split(alloc, split.places.as_slice())
 }

@@ -1,14 +1,15 @@
 // The line of words that goes to `clap`, and the texts that it gives back.
-ghost use Rattle.std.specs.Prelude.{◌≡◌, ◌∷◌, ◌++◌, IfOk, IsSome, Some, map, option_map};
-ghost use Rattle.clap.specs.Words.{app_of, first_value, found_of, with_rule};
-ghost use Rattle.front_words.specs.ClapCommands.{choice, option_line, place};
+ghost use Rattle.std.specs.Prelude.{◌≡◌, ◌∷◌, ◌++◌, ℕ, List, IfErr, IfOk, IsSome, Some, codes, map, option_map};
+ghost use Rattle.clap.specs.Words.{app_of, first_value, found_of, kind_of, with_rule};
+ghost use Rattle.front_words.specs.ClapCommands.{HasText, IsTaken, app_in, choice, option_line, place, text_found, with_rules};
 
-use clap::{Arg, ArgMatches, Command};
+use clap::error::ErrorKind;
+use clap::{Arg, ArgMatches, Command, Error};
 use route_base::{OutOfMemory, Text};
 use std::alloc::{AllocError, Global};
 
 // The command with a positional word more, which must be there.
-pub fn with_place<'a>(
+fn with_place<'a>(
     alloc: Global,
     command: Command<'a>,
     id: &'a str,
@@ -19,8 +20,23 @@ pub fn with_place<'a>(
     command.arg(arg)
 }
 
+// The command with positional words more, in their order.
+fn with_places<'a>(
+    alloc: Global,
+    mut command: Command<'a>,
+    ids: &[&'a str],
+) -> Result<Command<'a>, AllocError>
+    ensures { IfOk result (λ c. app_of c
+        ≡ with_rules (app_of command.entry) (map (λ id. place id.now) ids.now)) }
+{
+    for id in ids {
+        command = with_place(alloc, command, *id)?;
+    }
+    Ok(command)
+}
+
 // The command with an option more, which has a value.
-pub fn with_choice<'a>(
+fn with_choice<'a>(
     alloc: Global,
     command: Command<'a>,
     id: &'a str,
@@ -29,6 +45,72 @@ pub fn with_choice<'a>(
 {
     let arg = Arg::new(alloc, id).long(id);
     command.arg(arg)
+}
+
+// The command with options more, in their order.
+fn with_choices<'a>(
+    alloc: Global,
+    mut command: Command<'a>,
+    ids: &[&'a str],
+) -> Result<Command<'a>, AllocError>
+    ensures { IfOk result (λ c. app_of c
+        ≡ with_rules (app_of command.entry) (map (λ id. choice id.now) ids.now)) }
+{
+    for id in ids {
+        command = with_choice(alloc, command, *id)?;
+    }
+    Ok(command)
+}
+
+// The command of this name, with its positional words and its options.
+fn command_for<'a>(
+    alloc: Global,
+    name: &'a str,
+    places: &[&'a str],
+    choices: &[&'a str],
+) -> Result<Command<'a>, AllocError>
+    ensures { IfOk result (λ c. app_of c
+        ≡ app_in name.entry.now places.entry.now choices.entry.now) }
+{
+    let command = with_places(alloc, Command::new(alloc, name), places)?;
+    with_choices(alloc, command, choices)
+}
+
+// The matches of a line of a command, which `clap` refuses only when it is out of memory.
+fn parse_line<'a>(
+    alloc: Global,
+    name: &'a str,
+    places: &[&'a str],
+    choices: &[&'a str],
+    line: &'a [&'a str],
+) -> Result<ArgMatches<'a>, Error>
+    requires { IsTaken (app_in name.now places.now choices.now) (map (λ w. w.now) line.now) }
+    ensures found { let app = app_in name.entry.now places.entry.now choices.entry.now in
+        IfOk result (λ m. (id : List ℕ) → first_value (found_of m) id
+        ≡ text_found app (map (λ w. w.now) line.entry.now) id) }
+    ensures refused { IfErr result (λ e. kind_of e ≡ ErrorKind.OutOfMemory) }
+{
+    let command = command_for(alloc, name, places, choices)?;
+    command.try_get_matches_from(line)
+}
+
+// The matches of a line of a command, or out of memory.
+pub fn matches_for<'a>(
+    alloc: Global,
+    name: &'a str,
+    places: &[&'a str],
+    choices: &[&'a str],
+    line: &'a [&'a str],
+) -> Result<ArgMatches<'a>, OutOfMemory>
+    requires { IsTaken (app_in name.now places.now choices.now) (map (λ w. w.now) line.now) }
+    ensures { let app = app_in name.entry.now places.entry.now choices.entry.now in
+        IfOk result (λ m. (id : List ℕ) → first_value (found_of m) id
+        ≡ text_found app (map (λ w. w.now) line.entry.now) id) }
+{
+    match parse_line(alloc, name, places, choices, line) {
+        Ok(matches) => Ok(matches),
+        Err(_) => Err(OutOfMemory),
+    }
 }
 
 // Appends words to a line.
@@ -84,6 +166,17 @@ pub fn text_of(alloc: Global, matches: &ArgMatches, id: &str) -> Result<Text, Ou
         Some(text) => Text::of(alloc, text),
         None => unreachable!(),
     }
+}
+
+// Copies of the texts of the folder and of the vehicle.
+pub fn dir_and_vehicle(alloc: Global, matches: &ArgMatches) -> Result<(Text, Text), OutOfMemory>
+    requires dir { IsSome (first_value (found_of matches.now) (codes "dir")) }
+    requires vehicle { IsSome (first_value (found_of matches.now) (codes "vehicle")) }
+    ensures { IfOk result (λ t. HasText matches.now (codes "dir") t.0
+        × HasText matches.now (codes "vehicle") t.1) }
+{
+    let dir = text_of(alloc, matches, "dir")?;
+    Ok((dir, text_of(alloc, matches, "vehicle")?))
 }
 
 // A copy of the text of an argument, if it is there.

@@ -1,22 +1,23 @@
 // The words of `gen DIR NUMBER ROWS COLUMNS`.
-ghost use Rattle.std.specs.Prelude.{◌≡◌, ◌*◌, ℕ, List, [], IfErr, IfOk, IfSome, Some, map, nat_le, option_map};
-ghost use Rattle.clap.specs.Words.{first_value, found_of, kind_of};
-ghost use Rattle.front_words.specs.ClapCommands.{IsTaken, gen_app, text_found};
+ghost use Rattle.std.specs.Prelude.{◌≡◌, ◌*◌, [], IfOk, IfSome, Some, codes, map, nat_le, option_map};
+ghost use Rattle.front_words.specs.ClapCommands.{HasText};
 ghost use Rattle.front_words.specs.Commands.{AsksSupported, gen_usage, command_in};
-ghost use Rattle.front_words.specs.Inside.{AnswersWith, AreCounted, gen_values};
-ghost use Rattle.front_words.specs.Usages.{made_by, places_read};
+ghost use Rattle.front_words.specs.Inside.{AnswersWith, AreCounted, gen_values, split_of_words};
+ghost use Rattle.front_words.specs.Usages.{made_by, made_of, places_read};
 ghost use Rattle.net_generator.specs.Sizes.{IsDrawable};
 ghost use Rattle.net_generator.specs.declared.limits.TheConstants.{MOST_GENERATED_NODES};
 
-use crate::clap_words::{line_of, text_of, with_place};
+use crate::clap_words::{line_of, matches_for, text_of};
 use crate::forms::{count_word, is_folder_word, small_count_word};
 use crate::splitting::split_words;
 use crate::{Command as FrontCommand, WordsFault};
-use clap::error::ErrorKind;
-use clap::{ArgMatches, Command, Error};
+use clap::ArgMatches;
 use net_generator::{LAST_NUMBER, MOST_GENERATED_NODES, MOST_LINES};
 use route_base::{OutOfMemory, Text};
 use std::alloc::Global;
+
+// The positional words, by the names that `clap` has for them.
+const PLACES: &[&str] = &["dir", "number", "rows", "columns"];
 
 // The word of a generation that is a text, and the values of the others.
 #[derive(Clone, Copy)]
@@ -55,22 +56,28 @@ fn has_few_nodes(network: &Gen) -> bool
     network.rows * network.columns <= MOST_GENERATED_NODES
 }
 
-// The matches of a line of a generation, which `clap` refuses only when it is out of memory.
-fn gen_matches<'a>(alloc: Global, line: &'a [&'a str]) -> Result<ArgMatches<'a>, Error>
-    requires { IsTaken gen_app (map (λ w. w.now) line.now) }
-    ensures found { IfOk result (λ m. (id : List ℕ) → first_value (found_of m) id
-        ≡ text_found gen_app (map (λ w. w.now) line.entry.now) id) }
-    ensures refused { IfErr result (λ e. kind_of e ≡ ErrorKind.OutOfMemory) }
+// The command of a generation, with the text that `clap` found.
+fn gen_found(
+    alloc: Global,
+    matches: &ArgMatches,
+    network: &Gen,
+) -> Result<FrontCommand, OutOfMemory>
+    requires dir { HasText matches.now (codes "dir") network.now.dir.now }
+    requires drawable { IsDrawable network.now.number network.now.rows network.now.columns }
+    ensures made { IfOk result (λ c. gen_usage.make (gen_values network.now) []
+        ≡ Some (command_in c)) }
+    ensures supported { IfOk result (λ c. AsksSupported (command_in c)) }
 {
-    let command = Command::new(alloc, "gen");
-    let command = with_place(alloc, command, "dir")?;
-    let command = with_place(alloc, command, "number")?;
-    let command = with_place(alloc, command, "rows")?;
-    let command = with_place(alloc, command, "columns")?;
-    command.try_get_matches_from(line)
+    let dir = text_of(alloc, matches, "dir")?;
+    Ok(FrontCommand::Gen {
+        dir,
+        number: network.number,
+        rows: network.rows,
+        columns: network.columns,
+    })
 }
 
-// The command of a generation, with the text that `clap` gives back.
+// The command of a generation, by `clap`.
 fn gen_by_clap(alloc: Global, network: &Gen, places: &[&str]) -> Result<FrontCommand, OutOfMemory>
     requires values { places_read gen_usage.places (map (λ w. w.now) places.now)
         ≡ Some (gen_values network.now) }
@@ -80,17 +87,20 @@ fn gen_by_clap(alloc: Global, network: &Gen, places: &[&str]) -> Result<FrontCom
     ensures supported { IfOk result (λ c. AsksSupported (command_in c)) }
 {
     let line = line_of(alloc, "gen", &[], places)?;
-    let matches = match gen_matches(alloc, line.as_slice()) {
-        Ok(matches) => matches,
-        Err(_) => return Err(OutOfMemory),
-    };
-    let dir = text_of(alloc, &matches, "dir")?;
-    Ok(FrontCommand::Gen {
-        dir,
-        number: network.number,
-        rows: network.rows,
-        columns: network.columns,
-    })
+    let matches = matches_for(alloc, "gen", PLACES, &[], line.as_slice())?;
+    gen_found(alloc, &matches, network)
+}
+
+// The generation of positional words.
+fn gen_of_split(alloc: Global, places: &[&str]) -> Result<FrontCommand, WordsFault>
+    ensures network { AnswersWith command_in (made_of gen_usage (split_of_words places.now [])) result }
+    ensures supported { IfOk result (λ c. AsksSupported (command_in c)) }
+{
+    let network = gen_of(places).ok_or(WordsFault::NotACommand)?;
+    if !has_few_nodes(&network) {
+        return Err(WordsFault::NotACommand);
+    }
+    Ok(gen_by_clap(alloc, &network, places)?)
 }
 
 // The generation of the words behind the command's name.
@@ -99,10 +109,5 @@ pub fn read_gen(alloc: Global, words: &[Text]) -> Result<FrontCommand, WordsFaul
     ensures supported { IfOk result (λ c. AsksSupported (command_in c)) }
 {
     let split = split_words(alloc, &[], words)?;
-    let places = split.places.as_slice();
-    let network = gen_of(places).ok_or(WordsFault::NotACommand)?;
-    if !has_few_nodes(&network) {
-        return Err(WordsFault::NotACommand);
-    }
-    Ok(gen_by_clap(alloc, &network, places)?)
+    gen_of_split(alloc, split.places.as_slice())
 }

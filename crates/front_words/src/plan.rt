@@ -1,24 +1,29 @@
 // The words of `plan DIR VEHICLE FROM TO DEPART UNTIL [--form F] [--certificate NAME]`.
-ghost use Rattle.std.specs.Prelude.{◌≡◌, ℕ, List, IfErr, IfOk, IfSome, Some, map, option_map};
-ghost use Rattle.clap.specs.Words.{first_value, found_of, kind_of};
-ghost use Rattle.front_words.specs.ClapCommands.{IsTaken, plan_app, text_found};
+ghost use Rattle.std.specs.Prelude.{◌≡◌, IfOk, IfSome, Some, codes, map, option_map};
+ghost use Rattle.clap.specs.Words.{first_value, found_of};
+ghost use Rattle.front_words.specs.ClapCommands.{HasText};
 ghost use Rattle.front_words.specs.Commands.{AsksSupported, command_in, plan_usage, report_in};
 ghost use Rattle.front_words.specs.Forms.{certificate, of_report, of_text, report};
-ghost use Rattle.front_words.specs.Inside.{AllIn, AnswersWith, AreFit, choice_values, given_in, line_of_plan, trip_values};
+ghost use Rattle.front_words.specs.Inside.{AllIn, AnswersWith, AreFit, choice_values, given_in, line_of_plan, split_of_words, trip_values};
 ghost use Rattle.route_base.specs.Time.{IsInstant};
-ghost use Rattle.front_words.specs.Usages.{made_by, options_read, places_read, value_if};
+ghost use Rattle.front_words.specs.Usages.{made_by, made_of, options_read, places_read, value_if};
 
-use crate::clap_words::{line_of, push_option, text_if, text_of, with_choice, with_place};
+use crate::clap_words::{dir_and_vehicle, line_of, matches_for, push_option, text_if};
 use crate::forms::{
     instant_word, is_certificate_word, is_folder_word, is_name_word, number_word, report_word,
 };
 use crate::options::value_of_option;
 use crate::splitting::{Given, split_words};
 use crate::{Command as FrontCommand, WordsFault};
-use clap::error::ErrorKind;
-use clap::{ArgMatches, Command, Error};
+use clap::ArgMatches;
 use route_base::{Form, Minute, OutOfMemory, Text};
 use std::alloc::Global;
+
+// The positional words, by the names that `clap` has for them.
+const PLACES: &[&str] = &["dir", "vehicle", "from", "to", "depart", "until"];
+
+// The options, by their names.
+const CHOICES: &[&str] = &["form", "certificate"];
 
 // The positional words that are texts, and the values of the others.
 #[derive(Clone, Copy)]
@@ -110,25 +115,6 @@ fn form_or_plain(form: Option<Form>) -> Form
     }
 }
 
-// The matches of a line of a plan, which `clap` refuses only when it is out of memory.
-fn plan_matches<'a>(alloc: Global, line: &'a [&'a str]) -> Result<ArgMatches<'a>, Error>
-    requires { IsTaken plan_app (map (λ w. w.now) line.now) }
-    ensures found { IfOk result (λ m. (id : List ℕ) → first_value (found_of m) id
-        ≡ text_found plan_app (map (λ w. w.now) line.entry.now) id) }
-    ensures refused { IfErr result (λ e. kind_of e ≡ ErrorKind.OutOfMemory) }
-{
-    let command = Command::new(alloc, "plan");
-    let command = with_place(alloc, command, "dir")?;
-    let command = with_place(alloc, command, "vehicle")?;
-    let command = with_place(alloc, command, "from")?;
-    let command = with_place(alloc, command, "to")?;
-    let command = with_place(alloc, command, "depart")?;
-    let command = with_place(alloc, command, "until")?;
-    let command = with_choice(alloc, command, "form")?;
-    let command = with_choice(alloc, command, "certificate")?;
-    command.try_get_matches_from(line)
-}
-
 // The line of a plan: its options with their values, and its positional words.
 fn plan_line<'a>(
     alloc: Global,
@@ -144,7 +130,34 @@ fn plan_line<'a>(
     line_of(alloc, "plan", options.as_slice(), places)
 }
 
-// The command of a plan, with the texts that `clap` gives back.
+// The command of a plan, with the texts that `clap` found.
+fn plan_found(
+    alloc: Global,
+    matches: &ArgMatches,
+    trip: &Trip,
+    choices: &Choices,
+) -> Result<FrontCommand, OutOfMemory>
+    requires dir { HasText matches.now (codes "dir") trip.now.dir.now }
+    requires vehicle { HasText matches.now (codes "vehicle") trip.now.vehicle.now }
+    requires certificate { first_value (found_of matches.now) (codes "certificate")
+        ≡ option_map (λ w. w.now) choices.now.certificate }
+    ensures { IfOk result (λ c. plan_usage.make (trip_values trip.now) (choice_values choices.now)
+        ≡ Some (command_in c)) }
+{
+    let (dir, vehicle) = dir_and_vehicle(alloc, matches)?;
+    Ok(FrontCommand::Plan {
+        dir,
+        vehicle,
+        from: trip.from,
+        to: trip.to,
+        depart: trip.depart,
+        until: trip.until,
+        form: form_or_plain(choices.form),
+        certificate: text_if(alloc, matches, "certificate")?,
+    })
+}
+
+// The command of a plan, by `clap`.
 fn plan_by_clap(
     alloc: Global,
     trip: &Trip,
@@ -158,23 +171,22 @@ fn plan_by_clap(
         ≡ Some (command_in c)) }
 {
     let line = plan_line(alloc, choices, places)?;
-    let matches = match plan_matches(alloc, line.as_slice()) {
-        Ok(matches) => matches,
-        Err(_) => return Err(OutOfMemory),
-    };
-    let dir = text_of(alloc, &matches, "dir")?;
-    let vehicle = text_of(alloc, &matches, "vehicle")?;
-    let certificate = text_if(alloc, &matches, "certificate")?;
-    Ok(FrontCommand::Plan {
-        dir,
-        vehicle,
-        from: trip.from,
-        to: trip.to,
-        depart: trip.depart,
-        until: trip.until,
-        form: form_or_plain(choices.form),
-        certificate,
-    })
+    let matches = matches_for(alloc, "plan", PLACES, CHOICES, line.as_slice())?;
+    plan_found(alloc, &matches, trip, choices)
+}
+
+// The plan of positional words and options.
+fn plan_of_split(
+    alloc: Global,
+    places: &[&str],
+    given: &[Given],
+) -> Result<FrontCommand, WordsFault>
+    ensures plan { AnswersWith command_in (made_of plan_usage (split_of_words places.now given.now)) result }
+    ensures supported { IfOk result (λ c. AsksSupported (command_in c)) }
+{
+    let trip = trip_of(places).ok_or(WordsFault::NotACommand)?;
+    let choices = choices_of(given).ok_or(WordsFault::NotACommand)?;
+    Ok(plan_by_clap(alloc, &trip, &choices, places)?)
 }
 
 // The plan of the words behind the command's name.
@@ -183,8 +195,5 @@ pub fn read_plan(alloc: Global, words: &[Text]) -> Result<FrontCommand, WordsFau
     ensures supported { IfOk result (λ c. AsksSupported (command_in c)) }
 {
     let split = split_words(alloc, &["--form", "--certificate"], words)?;
-    let places = split.places.as_slice();
-    let trip = trip_of(places).ok_or(WordsFault::NotACommand)?;
-    let choices = choices_of(split.given.as_slice()).ok_or(WordsFault::NotACommand)?;
-    Ok(plan_by_clap(alloc, &trip, &choices, places)?)
+    plan_of_split(alloc, split.places.as_slice(), split.given.as_slice())
 }

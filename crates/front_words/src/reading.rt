@@ -31,21 +31,12 @@ pub fn read_words(alloc: Global, words: &[Text]) -> Result<Command, WordsFault>
     let Some((name, rest)) = words.split_first() else {
         return Err(WordsFault::NotACommand);
     };
-    let name = name.as_str();
-    if name == "plan" {
-        return read_plan(alloc, rest);
+    match name.as_str() {
+        "plan" => read_plan(alloc, rest),
+        "check" => read_check(alloc, rest),
+        "bans" => read_bans(alloc, rest),
+        "batch" => read_batch(alloc, rest),
+        "gen" => read_gen(alloc, rest),
+        _ => Err(WordsFault::NotACommand),
     }
-    if name == "check" {
-        return read_check(alloc, rest);
-    }
-    if name == "bans" {
-        return read_bans(alloc, rest);
-    }
-    if name == "batch" {
-        return read_batch(alloc, rest);
-    }
-    if name == "gen" {
-        return read_gen(alloc, rest);
-    }
-    Err(WordsFault::NotACommand)
 }
