@@ -20,12 +20,11 @@ mod words;
 
 use front_desk::run;
 use route_base::{
-    FileList, Folder, MemFolder, MemSink, Ordinals, OutOfMemory, ReadAllFault, Status, SureFolder,
-    SureSink, Text, read_all,
+    FileList, Folder, MemFolder, MemSink, Ordinals, OutOfMemory, ReadAllFault, Sink, Status,
+    SureFolder, SureSink, Text, read_all,
 };
 use std::alloc::Global;
 use std::process::Abort;
-use std::test::Fail;
 use std::thread::Threads;
 
 // A triangle in which the way over node 2 takes 120 minutes, and the straight one 300.
@@ -60,14 +59,29 @@ const NETWORK: Texts<'static> = &[
     ("d/parking.csv", PARKED),
 ];
 
+// The list of the first of these files alone.
+fn first_of(alloc: Global, files: Texts<'_>) -> Result<FileList, OutOfMemory> {
+    let mut list = FileList::new(alloc);
+    if let [(name, text), ..] = files {
+        list.push(name, text.as_bytes())?;
+    }
+    Ok(list)
+}
+
 // A folder that never fails and holds these files, of which a later one replaces an earlier one of its name.
 fn sure_folder(alloc: Global, files: Texts<'_>) -> Result<SureFolder, OutOfMemory> {
-    let mut list = FileList::new(alloc);
-    let [(name, text), more @ ..] = files else {
-        return Ok(SureFolder::new(list));
-    };
-    list.push(name, text.as_bytes())?;
-    let mut folder = SureFolder::new(list);
+    let mut folder = SureFolder::new(first_of(alloc, files)?);
+    put_files(&mut folder, files)?;
+    Ok(folder)
+}
+
+// A folder that never fails and holds the files of both lists.
+fn folder_of_both(
+    alloc: Global,
+    base: Texts<'_>,
+    more: Texts<'_>,
+) -> Result<SureFolder, OutOfMemory> {
+    let mut folder = sure_folder(alloc, base)?;
     put_files(&mut folder, more)?;
     Ok(folder)
 }
@@ -89,16 +103,29 @@ fn just(alloc: Global, ordinal: u64) -> Result<Ordinals, OutOfMemory> {
     Ok(ordinals)
 }
 
-// The words of a line, which single blanks separate; an empty line has none.
-fn words_of(alloc: Global, line: &str) -> Result<Vec<Text>, OutOfMemory> {
-    let mut words = Vec::new(alloc);
-    if line.is_empty() {
-        return Ok(words);
-    }
+// Pushes the words of a line, which single blanks separate.
+fn push_words(alloc: Global, words: &mut Vec<Text>, line: &str) -> Result<(), OutOfMemory> {
     for word in line.split(' ') {
         words.push(Text::of(alloc, word)?)?;
     }
+    Ok(())
+}
+
+// The words of a line; an empty line has none.
+fn words_of(alloc: Global, line: &str) -> Result<Vec<Text>, OutOfMemory> {
+    let mut words = Vec::new(alloc);
+    if !line.is_empty() {
+        push_words(alloc, &mut words, line)?;
+    }
     Ok(words)
+}
+
+// Whether the bytes are there and have this text.
+fn is_text(bytes: Option<&[u8]>, text: &str) -> bool {
+    match bytes {
+        Some(bytes) => bytes == text.as_bytes(),
+        None => false,
+    }
 }
 
 // Whether the bytes are those of the text, or the fault is the one that is due.
@@ -110,6 +137,17 @@ fn is_whole(read: &Result<Vec<u8>, ReadAllFault>, want: Result<&str, ReadAllFaul
     }
 }
 
+// Whether reading a whole file gives the bytes of the text, or the fault that is due.
+fn reads_to<F: Folder>(
+    alloc: Global,
+    folder: &mut F,
+    name: &str,
+    limit: u64,
+    want: Result<&str, ReadAllFault>,
+) -> bool {
+    is_whole(&read_all(alloc, folder, name, limit), want)
+}
+
 // Reads a whole file, and compares its bytes or the fault.
 fn expect_whole<R: Abort + AllocGlobal, F: Folder>(
     rt: &R,
@@ -118,7 +156,7 @@ fn expect_whole<R: Abort + AllocGlobal, F: Folder>(
     limit: u64,
     want: Result<&str, ReadAllFault>,
 ) {
-    let whole = is_whole(&read_all(rt.alloc(), folder, name, limit), want);
+    let whole = reads_to(rt.alloc(), folder, name, limit, want);
     assert!(rt; whole, "{name} to {limit} isn't {want:?}");
 }
 
@@ -131,6 +169,17 @@ struct Case<'a> {
     text: &'a str,
 }
 
+// Runs the words over the folder, and writes to the sink.
+fn run_into<R: Threads + Sync + AllocGlobal, F: Folder, S: Sink>(
+    rt: &R,
+    folder: &mut F,
+    line: &str,
+    sink: &mut S,
+) -> Result<Status, OutOfMemory> {
+    let words = words_of(rt.alloc(), line)?;
+    Ok(run(rt, rt.alloc(), words.as_slice(), folder, sink))
+}
+
 // Runs the words over the folder: the status, and whether the whole text is this one.
 fn run_to<R: Threads + Sync + AllocGlobal, F: Folder>(
     rt: &R,
@@ -138,10 +187,20 @@ fn run_to<R: Threads + Sync + AllocGlobal, F: Folder>(
     line: &str,
     text: &str,
 ) -> Result<(Status, bool), OutOfMemory> {
-    let words = words_of(rt.alloc(), line)?;
     let mut sink = SureSink::new(rt.alloc());
-    let ended = run(rt, rt.alloc(), words.as_slice(), folder, &mut sink);
+    let ended = run_into(rt, folder, line, &mut sink)?;
     Ok((ended, sink.written() == text.as_bytes()))
+}
+
+// Runs the words over the folder, and compares the status and the whole text.
+fn expect_over<R: Abort + Threads + Sync + AllocGlobal, F: Folder>(
+    rt: &R,
+    folder: &mut F,
+    line: &str,
+    (status, text): (Status, &str),
+) {
+    let got = run_to(rt, folder, line, text);
+    assert!(rt; got == Ok((status, true)), "{line:?}: {got:?}");
 }
 
 // Runs the words over the folder, where the writing call of this ordinal fails: the status, and whether the whole text is
@@ -153,9 +212,8 @@ fn run_failing<R: Threads + Sync + AllocGlobal>(
     line: &str,
     text: &str,
 ) -> Result<(Status, bool), OutOfMemory> {
-    let words = words_of(rt.alloc(), line)?;
     let mut sink = MemSink::new(rt.alloc(), just(rt.alloc(), write)?);
-    let ended = run(rt, rt.alloc(), words.as_slice(), folder, &mut sink);
+    let ended = run_into(rt, folder, line, &mut sink)?;
     Ok((ended, sink.written() == text.as_bytes()))
 }
 
@@ -167,29 +225,34 @@ fn run_over_both<R: Threads + Sync + AllocGlobal>(
     line: &str,
     text: &str,
 ) -> Result<(Status, bool), OutOfMemory> {
-    let mut folder = sure_folder(rt.alloc(), base)?;
-    put_files(&mut folder, more)?;
+    let mut folder = folder_of_both(rt.alloc(), base, more)?;
     run_to(rt, &mut folder, line, text)
 }
 
 // Runs the words over the files of the base and of the case, and compares the status and the whole text.
-fn expect<R: Abort + Threads + Sync + AllocGlobal>(
-    rt: &R,
-    base: Texts<'_>,
-    case: Case<'_>,
-) -> Result<(), Fail> {
+fn expect<R: Abort + Threads + Sync + AllocGlobal>(rt: &R, base: Texts<'_>, case: Case<'_>) {
     let Case {
         more,
-        words: line,
+        words,
         status,
         text,
     } = case;
-    let (ended, same) = run_over_both(rt, base, more, line, text)?;
+    let got = run_over_both(rt, base, more, words, text);
     assert!(rt;
-        ended == status && same,
-        "{line:?} over {base:?} and {more:?}: {ended:?}"
+        got == Ok((status, true)),
+        "{words:?} over {base:?} and {more:?}: {got:?}"
     );
-    Ok(())
+}
+
+// Makes each run over the base.
+fn expect_cases<R: Abort + Threads + Sync + AllocGlobal>(
+    rt: &R,
+    base: Texts<'_>,
+    cases: &[Case<'_>],
+) {
+    for case in cases {
+        expect(rt, base, *case);
+    }
 }
 
 // Runs the words of each row over the files of both lists, and compares the whole text.
@@ -198,7 +261,7 @@ fn expect_texts<'a, R: Abort + Threads + Sync + AllocGlobal>(
     base: Texts<'_>,
     more: Texts<'a>,
     cases: &[(&'a str, &'a str)],
-) -> Result<(), Fail> {
+) {
     for (words, text) in cases {
         let case = Case {
             more,
@@ -206,9 +269,8 @@ fn expect_texts<'a, R: Abort + Threads + Sync + AllocGlobal>(
             status: Status::Done,
             text: *text,
         };
-        expect(rt, base, case)?;
+        expect(rt, base, case);
     }
-    Ok(())
 }
 
 // Runs each of these words over the files of both lists, and compares the status and the whole text, which are the same for all.
@@ -218,7 +280,7 @@ fn expect_alike<'a, R: Abort + Threads + Sync + AllocGlobal>(
     more: Texts<'a>,
     lines: &[&'a str],
     (status, text): (Status, &'a str),
-) -> Result<(), Fail> {
+) {
     for line in lines {
         let case = Case {
             more,
@@ -226,9 +288,25 @@ fn expect_alike<'a, R: Abort + Threads + Sync + AllocGlobal>(
             status,
             text,
         };
-        expect(rt, base, case)?;
+        expect(rt, base, case);
     }
-    Ok(())
+}
+
+// Runs the words over the files, where the request is refused with this cause.
+fn expect_cause<R: Abort + Threads + Sync + AllocGlobal>(
+    rt: &R,
+    files: Texts<'_>,
+    line: &str,
+    cause: &str,
+) {
+    let text = format!(in rt.alloc(); "refused request {cause}\n").expect(rt, "memory");
+    let case = Case {
+        more: &[],
+        words: line,
+        status: Status::BadRequest,
+        text: text.as_str(),
+    };
+    expect(rt, files, case);
 }
 
 // Runs the words of each row over the files, where the request is refused with the row's cause.
@@ -236,18 +314,39 @@ fn expect_causes<R: Abort + Threads + Sync + AllocGlobal>(
     rt: &R,
     files: Texts<'_>,
     cases: &[(&str, &str)],
-) -> Result<(), Fail> {
+) {
     for (line, cause) in cases {
-        let text = format!(in rt.alloc(); "refused request {cause}\n")?;
-        let case = Case {
-            more: &[],
-            words: *line,
-            status: Status::BadRequest,
-            text: text.as_str(),
-        };
-        expect(rt, files, case)?;
+        expect_cause(rt, files, line, cause);
     }
-    Ok(())
+}
+
+// Runs the words over the base and this file, and compares the status and the whole text.
+fn expect_beside<R: Abort + Threads + Sync + AllocGlobal>(
+    rt: &R,
+    base: Texts<'_>,
+    file: (&str, &str),
+    words: &str,
+    (status, text): (Status, &str),
+) {
+    let case = Case {
+        more: &[file],
+        words,
+        status,
+        text,
+    };
+    expect(rt, base, case);
+}
+
+// Runs the trip over the base with this text of the file, and compares the status and the whole text.
+fn expect_trip<R: Abort + Threads + Sync + AllocGlobal>(
+    rt: &R,
+    base: Texts<'_>,
+    (file, text): (&str, &str),
+    status: Status,
+    report: &str,
+) {
+    let path = format!(in rt.alloc(); "d/{file}").expect(rt, "memory");
+    expect_beside(rt, base, (path.as_str(), text), TRIP, (status, report));
 }
 
 // Runs the trip over the base with each text of this file, and compares the report.
@@ -257,18 +356,21 @@ fn expect_reports<R: Abort + Threads + Sync + AllocGlobal>(
     file: &str,
     texts: &[&str],
     report: &str,
-) -> Result<(), Fail> {
-    let path = format!(in rt.alloc(); "d/{file}")?;
+) {
     for text in texts {
-        let case = Case {
-            more: &[(path.as_str(), *text)],
-            words: TRIP,
-            status: Status::Done,
-            text: report,
-        };
-        expect(rt, base, case)?;
+        expect_trip(rt, base, (file, *text), Status::Done, report);
     }
-    Ok(())
+}
+
+// Runs the trip over the base with this text of the file, which is refused at this line or record with this cause.
+fn expect_refusal<R: Abort + Threads + Sync + AllocGlobal>(
+    rt: &R,
+    base: Texts<'_>,
+    (file, text): (&str, &str),
+    fault: &str,
+) {
+    let refusal = format!(in rt.alloc(); "refused input {file} {fault}\n").expect(rt, "memory");
+    expect_trip(rt, base, (file, text), Status::BadInput, refusal.as_str());
 }
 
 // Runs the trip over the base with each text of this file, which is refused at this line or record with this cause.
@@ -277,17 +379,8 @@ fn expect_refusals<R: Abort + Threads + Sync + AllocGlobal>(
     base: Texts<'_>,
     file: &str,
     cases: &[(&str, &str)],
-) -> Result<(), Fail> {
-    let path = format!(in rt.alloc(); "d/{file}")?;
+) {
     for (text, fault) in cases {
-        let refusal = format!(in rt.alloc(); "refused input {file} {fault}\n")?;
-        let case = Case {
-            more: &[(path.as_str(), *text)],
-            words: TRIP,
-            status: Status::BadInput,
-            text: refusal.as_str(),
-        };
-        expect(rt, base, case)?;
+        expect_refusal(rt, base, (file, *text), fault);
     }
-    Ok(())
 }

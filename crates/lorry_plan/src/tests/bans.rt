@@ -1,7 +1,6 @@
 // The closed minutes of an arc, over closures alone.
 use super::{GRAPH, NETWORK, expect_alike, expect_causes, expect_texts};
 use route_base::Status;
-use std::test::Fail;
 
 const CLOSURES: &str =
     "arc,from,to\n2,26563740,26563860\n1,26563700,26563710\n2,26563860,26563900\n2,26563950,26563960\n";
@@ -33,8 +32,8 @@ const WINDOWS: &[(&str, &str)] = &[
 ];
 
 #[test]
-fn prints_the_closed_minutes_of_a_window(rt: HostRuntime) -> Result<(), Fail> {
-    expect_texts(&rt, GRAPH, &[("d/closures.csv", CLOSURES)], WINDOWS)
+fn prints_the_closed_minutes_of_a_window(rt: HostRuntime) {
+    expect_texts(&rt, GRAPH, &[("d/closures.csv", CLOSURES)], WINDOWS);
 }
 
 // Words, and the cause of each refusal.
@@ -47,8 +46,8 @@ const REFUSED: &[(&str, &str)] = &[
 ];
 
 #[test]
-fn refuses_bans_at_their_first_failed_check(rt: HostRuntime) -> Result<(), Fail> {
-    expect_causes(&rt, NETWORK, REFUSED)
+fn refuses_bans_at_their_first_failed_check(rt: HostRuntime) {
+    expect_causes(&rt, NETWORK, REFUSED);
 }
 
 // Words that are no command.
@@ -62,12 +61,12 @@ const NO_BANS: &[&str] = &[
 ];
 
 #[test]
-fn refuses_words_that_are_no_bans(rt: HostRuntime) -> Result<(), Fail> {
+fn refuses_words_that_are_no_bans(rt: HostRuntime) {
     expect_alike(
         &rt,
         NETWORK,
         &[],
         NO_BANS,
         (Status::Usage, "refused usage\n"),
-    )
+    );
 }

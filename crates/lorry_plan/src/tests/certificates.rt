@@ -1,8 +1,7 @@
 // Certificates: written by a plan, and judged.
-use super::{Case, NETWORK, TWO_PAIRS, expect, run_to, sure_folder};
+use super::{NETWORK, TWO_PAIRS, expect_beside, expect_over, sure_folder};
 use route_base::{Status, SureFolder};
 use std::process::Abort;
-use std::test::Fail;
 use std::thread::Threads;
 
 const CHECK: &str = "check d any 1 3 26563680 26564080 c.cert";
@@ -104,38 +103,30 @@ const JUDGED: &[(&str, &str, &str, &str, &str)] = &[
     ),
 ];
 
+// Judges the certificate, and compares the text of the verdict and the status that goes with it.
+fn expect_verdict<R: Abort + Threads + Sync + AllocGlobal>(rt: &R, certificate: &str, text: &str) {
+    let status = if text.starts_with("accepted") {
+        Status::Done
+    } else {
+        Status::Rejected
+    };
+    expect_beside(
+        rt,
+        NETWORK,
+        ("d/c.cert", certificate),
+        CHECK,
+        (status, text),
+    );
+}
+
 #[test]
-fn judges_certificates(rt: HostRuntime) -> Result<(), Fail> {
+fn judges_certificates(rt: HostRuntime) {
     for (pairs, bounds, pieces, end, text) in JUDGED {
         let certificate = format!(in rt.alloc();
             "lorry-certificate 1\n{pairs}{bounds}{pieces}{end}"
-        )?;
-        let case = Case {
-            more: &[("d/c.cert", certificate.as_str())],
-            words: CHECK,
-            status: if text.starts_with("accepted") {
-                Status::Done
-            } else {
-                Status::Rejected
-            },
-            text: *text,
-        };
-        expect(&rt, NETWORK, case)?;
+        ).expect(&rt, "memory");
+        expect_verdict(&rt, certificate.as_str(), text);
     }
-    Ok(())
-}
-
-// Runs the words over the folder, and compares the status and the whole text.
-fn expect_over<R: Abort + Threads + Sync + AllocGlobal>(
-    rt: &R,
-    folder: &mut SureFolder,
-    line: &str,
-    status: Status,
-    text: &str,
-) -> Result<(), Fail> {
-    let (ended, same) = run_to(rt, folder, line, text)?;
-    assert!(rt; ended == status && same, "{line:?}: {ended:?}");
-    Ok(())
 }
 
 // The certificate of one trip is none of another's, and the request is checked before the certificate is read.
@@ -163,11 +154,15 @@ const RUNS: &[(&str, Status, &str)] = &[
     (CHECK_NONE, Status::Done, "accepted 0\n"),
 ];
 
-#[test]
-fn accepts_what_a_plan_certifies(rt: HostRuntime) -> Result<(), Fail> {
-    let mut folder = sure_folder(rt.alloc(), NETWORK)?;
+// Makes these runs over the folder, and compares each status and whole text.
+fn expect_runs<R: Abort + Threads + Sync + AllocGlobal>(rt: &R, folder: &mut SureFolder) {
     for (line, status, text) in RUNS {
-        expect_over(&rt, &mut folder, line, *status, text)?;
+        expect_over(rt, folder, line, (*status, *text));
     }
-    Ok(())
+}
+
+#[test]
+fn accepts_what_a_plan_certifies(rt: HostRuntime) {
+    let mut folder = sure_folder(rt.alloc(), NETWORK).expect(&rt, "memory");
+    expect_runs(&rt, &mut folder);
 }

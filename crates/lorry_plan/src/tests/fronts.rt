@@ -1,6 +1,8 @@
 // Pareto fronts over the triangle: one way, a wait against a detour, and closures at their ends.
-use super::{CLOSED, GRAPH, NETWORK, ONE_PAIR, TRIP, TWO_PAIRS, expect_texts};
-use std::test::Fail;
+use super::{
+    CLOSED, GRAPH, NETWORK, ONE_PAIR, TRIP, TWO_PAIRS, Texts, expect_beside, expect_texts,
+};
+use route_base::Status;
 
 const STRAIGHT: &str = "pairs 1\npair 26563980 300.000\ndrive 3\n";
 
@@ -29,8 +31,8 @@ const TRIPS: &[(&str, &str)] = &[
 ];
 
 #[test]
-fn plans_trips_over_a_graph_alone(rt: HostRuntime) -> Result<(), Fail> {
-    expect_texts(&rt, GRAPH, &[], TRIPS)
+fn plans_trips_over_a_graph_alone(rt: HostRuntime) {
+    expect_texts(&rt, GRAPH, &[], TRIPS);
 }
 
 const SHORTLY: &str = "plan d any 1 2 26563680 26563780";
@@ -121,20 +123,22 @@ const ROUND: &[(&str, &str, &str, &str)] = &[
 ];
 
 #[test]
-fn waits_and_drives_round_closures(rt: HostRuntime) -> Result<(), Fail> {
+fn waits_and_drives_round_closures(rt: HostRuntime) {
     for (file, table, words, text) in ROUND {
-        expect_texts(&rt, NETWORK, &[(*file, *table)], &[(*words, *text)])?;
+        expect_beside(&rt, NETWORK, (*file, *table), words, (Status::Done, *text));
     }
-    Ok(())
 }
 
+// An arc at whose tail waiting costs nothing.
+const FREE: Texts<'static> = &[
+    ("d/graph.gr", "p sp 2 1\na 1 2 60\n"),
+    ("d/ratings.csv", "rating,weight\nz,0\n"),
+    ("d/parking.csv", "node,rating\n1,z\n"),
+];
+
+const AT_ONCE: &[(&str, &str)] = &[("plan d any 1 2 26563680 26564080", FIRST_ARC)];
+
 #[test]
-fn prints_no_later_arrival_of_the_same_cost(rt: HostRuntime) -> Result<(), Fail> {
-    let free = [
-        ("d/graph.gr", "p sp 2 1\na 1 2 60\n"),
-        ("d/ratings.csv", "rating,weight\nz,0\n"),
-        ("d/parking.csv", "node,rating\n1,z\n"),
-    ];
-    let answer = [("plan d any 1 2 26563680 26564080", FIRST_ARC)];
-    expect_texts(&rt, &free, &[], &answer)
+fn prints_no_later_arrival_of_the_same_cost(rt: HostRuntime) {
+    expect_texts(&rt, FREE, &[], AT_ONCE);
 }

@@ -1,6 +1,8 @@
 // The graph file: its lawful forms, and each cause for which it is refused.
-use super::{NETWORK, ONE_PAIR, TWO_PAIRS, expect_refusals, expect_reports};
-use std::test::Fail;
+use super::{
+    Case, NETWORK, ONE_PAIR, TRIP, TWO_PAIRS, expect_cases, expect_refusals, expect_reports,
+};
+use route_base::Status;
 
 // Texts of the triangle.
 const LAWFUL: &[&str] = &[
@@ -18,8 +20,8 @@ const LAWFUL: &[&str] = &[
 ];
 
 #[test]
-fn reads_graphs_in_any_lawful_form(rt: HostRuntime) -> Result<(), Fail> {
-    expect_reports(&rt, &[], "graph.gr", LAWFUL, ONE_PAIR)
+fn reads_graphs_in_any_lawful_form(rt: HostRuntime) {
+    expect_reports(&rt, &[], "graph.gr", LAWFUL, ONE_PAIR);
 }
 
 // Texts, and the line and the cause of each refusal.
@@ -71,8 +73,8 @@ const REFUSED: &[(&str, &str)] = &[
 ];
 
 #[test]
-fn refuses_graphs_with_their_first_fault(rt: HostRuntime) -> Result<(), Fail> {
-    expect_refusals(&rt, &[], "graph.gr", REFUSED)
+fn refuses_graphs_with_their_first_fault(rt: HostRuntime) {
+    expect_refusals(&rt, &[], "graph.gr", REFUSED);
 }
 
 // Cut texts, and the line and the cause of each refusal.
@@ -89,15 +91,30 @@ const CUT: &[(&str, &str)] = &[
     ("p sp 3 3\na 1 2 60\na 2 3 60\na 1 3 ", "4 BadForm"),
 ];
 
+// Graphs that are cut within the last number or behind it.
+const SHORTER: &[Case<'static>] = &[
+    Case {
+        more: &[("d/graph.gr", "p sp 3 3\na 1 2 60\na 2 3 60\na 1 3 3")],
+        words: TRIP,
+        status: Status::Done,
+        text: "pairs 1\npair 26563683 3.000\ndrive 3\n",
+    },
+    Case {
+        more: &[("d/graph.gr", "p sp 3 3\na 1 2 60\na 2 3 60\na 1 3 30")],
+        words: TRIP,
+        status: Status::Done,
+        text: "pairs 1\npair 26563710 30.000\ndrive 3\n",
+    },
+    Case {
+        more: &[("d/graph.gr", "p sp 3 3\na 1 2 60\na 2 3 60\na 1 3 300")],
+        words: TRIP,
+        status: Status::Done,
+        text: TWO_PAIRS,
+    },
+];
+
 #[test]
-fn answers_as_far_as_a_graph_is_cut(rt: HostRuntime) -> Result<(), Fail> {
-    expect_refusals(&rt, NETWORK, "graph.gr", CUT)?;
-    let shortest = ["p sp 3 3\na 1 2 60\na 2 3 60\na 1 3 3"];
-    let three = "pairs 1\npair 26563683 3.000\ndrive 3\n";
-    expect_reports(&rt, NETWORK, "graph.gr", &shortest, three)?;
-    let shorter = ["p sp 3 3\na 1 2 60\na 2 3 60\na 1 3 30"];
-    let thirty = "pairs 1\npair 26563710 30.000\ndrive 3\n";
-    expect_reports(&rt, NETWORK, "graph.gr", &shorter, thirty)?;
-    let whole = ["p sp 3 3\na 1 2 60\na 2 3 60\na 1 3 300"];
-    expect_reports(&rt, NETWORK, "graph.gr", &whole, TWO_PAIRS)
+fn answers_as_far_as_a_graph_is_cut(rt: HostRuntime) {
+    expect_cases(&rt, NETWORK, SHORTER);
+    expect_refusals(&rt, NETWORK, "graph.gr", CUT);
 }

@@ -1,97 +1,141 @@
 // The limits of tables.
-use super::{Case, TRIP, Texts, expect};
-use route_base::Status;
+use super::{TRIP, put_files, run_to, sure_folder};
+use route_base::{OutOfMemory, Status, SureFolder};
 use std::alloc::Global;
-use std::ops::Range;
-use std::process::Abort;
-use std::test::Fail;
 use std::thread::Threads;
 
 const ARC: &str = "p sp 500000 1\na 1 2 60\n";
 
-const ONE_ARC: Texts<'static> = &[("d/graph.gr", ARC)];
-
-// A table with a row for each of the numbers, which stands between these texts.
-fn table_of(
-    alloc: Global,
-    header: &str,
-    before: &str,
-    numbers: Range<u64>,
-    after: &str,
-) -> Result<String, Fail> {
-    let mut table = String::from_str(alloc, header)?;
-    for number in numbers {
-        let row = format!(in alloc; "\n{before}{number}{after}")?;
-        table.push_str(row.as_str())?;
-    }
-    Ok(table)
-}
-
-// Refuses the table with this row more.
-fn expect_refusal_of_more<'a, R: Abort + Threads + Sync + AllocGlobal>(
-    rt: &R,
-    base: Texts<'_>,
+// A table with a row for each number up to, but not including, `end`, which stands between these texts.
+#[derive(Clone, Copy)]
+struct Table<'a> {
     path: &'a str,
-    (table, row): (&str, &str),
-    text: &'a str,
-) -> Result<(), Fail> {
-    let more = format!(in rt.alloc(); "{table}\n{row}")?;
-    let case = Case {
-        more: &[(path, more.as_str())],
-        words: TRIP,
-        status: Status::BadInput,
-        text,
-    };
-    expect(rt, base, case)
+    header: &'a str,
+    before: &'a str,
+    start: u64,
+    end: u64,
+    after: &'a str,
 }
 
-// Takes these tables, which have as many rows as there may be.
-fn expect_full<'a, R: Abort + Threads + Sync + AllocGlobal>(
-    rt: &R,
-    closures: &'a str,
-    ratings: &'a str,
-    parking: &'a str,
-) -> Result<(), Fail> {
-    let tables = [
-        ("d/closures.csv", closures),
-        ("d/ratings.csv", ratings),
-        ("d/parking.csv", parking),
-    ];
-    let origin = Case {
-        more: &tables,
-        words: "plan d any 0 2 26563680 26564080",
-        status: Status::BadRequest,
-        text: "refused request OriginRange\n",
-    };
-    expect(rt, ONE_ARC, origin)
+// Tables that have as many rows as there may be.
+const CLOSURES: Table<'static> = Table {
+    path: "d/closures.csv",
+    header: "arc,from,to",
+    before: "1,525600,",
+    start: 600_000,
+    end: 700_000,
+    after: "",
+};
+
+const RATINGS: Table<'static> = Table {
+    path: "d/ratings.csv",
+    header: "rating,weight",
+    before: "",
+    start: 1,
+    end: 1_001,
+    after: ",2",
+};
+
+const PARKING: Table<'static> = Table {
+    path: "d/parking.csv",
+    header: "node,rating",
+    before: "",
+    start: 1,
+    end: 500_001,
+    after: ",1",
+};
+
+// Pushes the rows of the table.
+fn push_rows(alloc: Global, text: &mut String, table: Table<'_>) -> Result<(), OutOfMemory> {
+    let Table { before, after, .. } = table;
+    for number in table.start..table.end {
+        let row = format!(in alloc; "\n{before}{number}{after}")?;
+        text.push_str(row.as_str())?;
+    }
+    Ok(())
 }
 
-// Refuses a row more than there may be, but for a fault of its own that stands before.
-fn expect_limits<'a, R: Abort + Threads + Sync + AllocGlobal>(
+// The text of the table, and these rows behind its own.
+fn text_of(alloc: Global, table: Table<'_>, more: &str) -> Result<String, OutOfMemory> {
+    let mut text = String::from_str(alloc, table.header)?;
+    push_rows(alloc, &mut text, table)?;
+    text.push_str(more)?;
+    Ok(text)
+}
+
+// Puts the table into the folder, with these rows behind its own.
+fn put_table(
+    alloc: Global,
+    folder: &mut SureFolder,
+    table: Table<'_>,
+    more: &str,
+) -> Result<(), OutOfMemory> {
+    let text = text_of(alloc, table, more)?;
+    put_files(folder, &[(table.path, text.as_str())])
+}
+
+// Tables, each with rows behind its own.
+type Tables<'a> = &'a [(Table<'a>, &'a str)];
+
+// A folder of a graph with one arc and of these tables.
+fn folder_with(alloc: Global, tables: Tables<'_>) -> Result<SureFolder, OutOfMemory> {
+    let mut folder = sure_folder(alloc, &[("d/graph.gr", ARC)])?;
+    for (table, more) in tables {
+        put_table(alloc, &mut folder, *table, more)?;
+    }
+    Ok(folder)
+}
+
+// Tables, words, and the status and the text that are due.
+const CASES: &[(Tables<'static>, &str, Status, &str)] = &[
+    (
+        &[(CLOSURES, ""), (RATINGS, ""), (PARKING, "")],
+        "plan d any 0 2 26563680 26564080",
+        Status::BadRequest,
+        "refused request OriginRange\n",
+    ),
+    // A row more is refused, but for a fault of its own that stands before.
+    (
+        &[(CLOSURES, "\n1,525600,525601")],
+        TRIP,
+        Status::BadInput,
+        "refused input closures.csv 100002 SizeLimit\n",
+    ),
+    (
+        &[(RATINGS, "\nr s,x")],
+        TRIP,
+        Status::BadInput,
+        "refused input ratings.csv 1002 SizeLimit\n",
+    ),
+    (
+        &[(RATINGS, "\nr")],
+        TRIP,
+        Status::BadInput,
+        "refused input ratings.csv 1002 FieldCount\n",
+    ),
+    (
+        &[(RATINGS, ""), (PARKING, "\n1,1")],
+        TRIP,
+        Status::BadInput,
+        "refused input parking.csv 500002 SizeLimit\n",
+    ),
+];
+
+// Runs the words over the tables: the status, and whether the whole text is this one.
+fn run_over_tables<R: Threads + Sync + AllocGlobal>(
     rt: &R,
-    closures: &'a str,
-    ratings: &'a str,
-    parking: &'a str,
-) -> Result<(), Fail> {
-    let path = "d/closures.csv";
-    let text = "refused input closures.csv 100002 SizeLimit\n";
-    expect_refusal_of_more(rt, ONE_ARC, path, (closures, "1,525600,525601"), text)?;
-    let path = "d/ratings.csv";
-    let text = "refused input ratings.csv 1002 SizeLimit\n";
-    expect_refusal_of_more(rt, ONE_ARC, path, (ratings, "r s,x"), text)?;
-    let text = "refused input ratings.csv 1002 FieldCount\n";
-    expect_refusal_of_more(rt, ONE_ARC, path, (ratings, "r"), text)?;
-    let rated = [("d/graph.gr", ARC), ("d/ratings.csv", ratings)];
-    let text = "refused input parking.csv 500002 SizeLimit\n";
-    expect_refusal_of_more(rt, &rated, "d/parking.csv", (parking, "1,1"), text)
+    tables: Tables<'_>,
+    line: &str,
+    text: &str,
+) -> Result<(Status, bool), OutOfMemory> {
+    let mut folder = folder_with(rt.alloc(), tables)?;
+    run_to(rt, &mut folder, line, text)
 }
 
 #[test]
-fn limits_the_rows_of_tables(rt: HostRuntime) -> Result<(), Fail> {
-    let alloc = rt.alloc();
-    let closures = table_of(alloc, "arc,from,to", "1,525600,", 600_000..700_000, "")?;
-    let ratings = table_of(alloc, "rating,weight", "", 1..1_001, ",2")?;
-    let parking = table_of(alloc, "node,rating", "", 1..500_001, ",1")?;
-    expect_full(&rt, closures.as_str(), ratings.as_str(), parking.as_str())?;
-    expect_limits(&rt, closures.as_str(), ratings.as_str(), parking.as_str())
+fn limits_the_rows_of_tables(rt: HostRuntime) {
+    for (tables, line, status, text) in CASES {
+        let got = run_over_tables(&rt, tables, line, text);
+        assert!(rt; got == Ok((*status, true)), "{text:?} is due: {got:?}");
+    }
 }

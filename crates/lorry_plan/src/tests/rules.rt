@@ -1,8 +1,6 @@
 // Rules of access: the closed minutes that they make, and the trips that obey them.
-use super::{Case, Texts, expect};
-use route_base::Status;
+use super::{Texts, expect_texts};
 use std::process::Abort;
-use std::test::Fail;
 use std::thread::Threads;
 
 const VEHICLES: &str =
@@ -20,60 +18,61 @@ fn expect_answers<R: Abort + Threads + Sync + AllocGlobal>(
     rt: &R,
     base: Texts<'_>,
     rules: &str,
-    answers: &[(&str, &str)],
-) -> Result<(), Fail> {
-    let table = format!(in rt.alloc(); "scope,key,value\n{rules}")?;
-    for (words, text) in answers {
-        let case = Case {
-            more: &[("d/rules.csv", table.as_str())],
-            words: *words,
-            status: Status::Done,
-            text: *text,
-        };
-        expect(rt, base, case)?;
-    }
-    Ok(())
+    answers: Texts<'_>,
+) {
+    let table = format!(in rt.alloc(); "scope,key,value\n{rules}").expect(rt, "memory");
+    expect_texts(rt, base, &[("d/rules.csv", table.as_str())], answers);
 }
 
+const LANE: &str = "p sp 2 1\na 1 2 60\n";
+
+// Tables of zones and areas, rules, and words with their answers.
+const LOCAL_HOURS: &[(Texts<'static>, &str, Texts<'static>)] = &[
+    (
+        &[
+            ("d/graph.gr", LANE),
+            ("d/zones.csv", BERLIN),
+            ("d/areas.csv", "area,zone\nde,berlin\n"),
+        ],
+        "area:de,hgv:conditional,no @ (Sa 22:00-Su 22:00)\n",
+        // The second window begins within the ban.
+        &[
+            (
+                "bans d any 1 2020-07-04T00:00Z 2020-07-06T00:00Z",
+                "bans 1\nclosed 2020-07-04T20:00Z 2020-07-05T20:00Z\npassed 0\n",
+            ),
+            (
+                "bans d any 1 2020-07-05T10:00Z 2020-07-06T00:00Z",
+                "bans 1\nclosed 2020-07-05T10:00Z 2020-07-05T20:00Z\npassed 0\n",
+            ),
+        ],
+    ),
+    (
+        &[
+            ("d/graph.gr", LANE),
+            ("d/zones.csv", CET),
+            ("d/areas.csv", "area,zone\na,cet\n"),
+        ],
+        "area:a,access:conditional,no @ (02:00-03:00)\n",
+        // The hour is repeated in autumn, and skipped in spring.
+        &[
+            (
+                "bans d any 1 2020-10-24T12:00Z 2020-10-25T12:00Z",
+                "bans 1\nclosed 2020-10-25T00:00Z 2020-10-25T02:00Z\npassed 0\n",
+            ),
+            (
+                "bans d any 1 2020-03-28T12:00Z 2020-03-29T12:00Z",
+                "bans 0\npassed 0\n",
+            ),
+        ],
+    ),
+];
+
 #[test]
-fn closes_roads_at_local_hours(rt: HostRuntime) -> Result<(), Fail> {
-    let lane = ("d/graph.gr", "p sp 2 1\na 1 2 60\n");
-    let berlin = [
-        lane,
-        ("d/zones.csv", BERLIN),
-        ("d/areas.csv", "area,zone\nde,berlin\n"),
-    ];
-    let weekend = "area:de,hgv:conditional,no @ (Sa 22:00-Su 22:00)\n";
-    // The second window begins within the ban.
-    let answers = [
-        (
-            "bans d any 1 2020-07-04T00:00Z 2020-07-06T00:00Z",
-            "bans 1\nclosed 2020-07-04T20:00Z 2020-07-05T20:00Z\npassed 0\n",
-        ),
-        (
-            "bans d any 1 2020-07-05T10:00Z 2020-07-06T00:00Z",
-            "bans 1\nclosed 2020-07-05T10:00Z 2020-07-05T20:00Z\npassed 0\n",
-        ),
-    ];
-    expect_answers(&rt, &berlin, weekend, &answers)?;
-    let cet = [
-        lane,
-        ("d/zones.csv", CET),
-        ("d/areas.csv", "area,zone\na,cet\n"),
-    ];
-    let night = "area:a,access:conditional,no @ (02:00-03:00)\n";
-    // The hour is repeated in autumn, and skipped in spring.
-    let answers = [
-        (
-            "bans d any 1 2020-10-24T12:00Z 2020-10-25T12:00Z",
-            "bans 1\nclosed 2020-10-25T00:00Z 2020-10-25T02:00Z\npassed 0\n",
-        ),
-        (
-            "bans d any 1 2020-03-28T12:00Z 2020-03-29T12:00Z",
-            "bans 0\npassed 0\n",
-        ),
-    ];
-    expect_answers(&rt, &cet, night, &answers)
+fn closes_roads_at_local_hours(rt: HostRuntime) {
+    for (base, rules, answers) in LOCAL_HOURS {
+        expect_answers(&rt, base, rules, answers);
+    }
 }
 
 const OPEN: &str = "bans 0\npassed 0\n";
@@ -115,44 +114,48 @@ const RULES: &[(&str, Texts<'static>)] = &[
     ),
 ];
 
-#[test]
-fn closes_roads_by_holiday_and_by_vehicle(rt: HostRuntime) -> Result<(), Fail> {
-    let base = [
-        ("d/graph.gr", "p sp 2 1\na 1 2 60\n"),
-        ("d/vehicles.csv", VEHICLES),
-        ("d/holidays.csv", "area,kind,date\ndefault,PH,2020-07-09\n"),
-    ];
-    for (rules, answers) in RULES {
-        expect_answers(&rt, &base, rules, answers)?;
-    }
-    Ok(())
-}
+const HOLIDAY: Texts<'static> = &[
+    ("d/graph.gr", LANE),
+    ("d/vehicles.csv", VEHICLES),
+    ("d/holidays.csv", "area,kind,date\ndefault,PH,2020-07-09\n"),
+];
 
 #[test]
-fn waits_for_the_end_of_a_ban(rt: HostRuntime) -> Result<(), Fail> {
-    let base = [
-        ("d/graph.gr", "p sp 3 2\na 1 2 180\na 2 3 300\n"),
-        ("d/zones.csv", BERLIN),
-        ("d/areas.csv", "area,zone\nde,berlin\n"),
-        ("d/vehicles.csv", VEHICLES),
-        ("d/ratings.csv", "rating,weight\nr,0.500\n"),
-        ("d/parking.csv", "node,rating\n2,r\n"),
-    ];
-    let bans = "area:de,hgv:conditional,\"no @ (weight>7.5 AND Su,PH 00:00-22:00); \
-        no @ (weight>7.5 AND Jul-Aug Sa 07:00-20:00)\"\n";
-    let answers = [
-        (
-            "plan d truck 1 3 2020-07-04T02:00Z 2020-07-08T00:00Z",
-            "pairs 1\npair 26566620 1650.000\ndrive 1\nwait 2340\ndrive 2\n",
-        ),
-        (
-            "plan d truck 1 3 2020-07-04T02:00Z 2020-07-08T00:00Z --form table",
-            "routes 1\nroute 1 arrive 2020-07-06T01:00Z cost 1650.000\n2020-07-04T02:00Z drive 1 1 2 180\n2020-07-04T05:00Z wait 2 2340\n2020-07-05T20:00Z drive 2 2 3 300\n",
-        ),
-        (
-            "plan d any 1 3 2020-07-04T02:00Z 2020-07-08T00:00Z",
-            "pairs 1\npair 26564280 480.000\ndrive 1\ndrive 2\n",
-        ),
-    ];
-    expect_answers(&rt, &base, bans, &answers)
+fn closes_roads_by_holiday_and_by_vehicle(rt: HostRuntime) {
+    for (rules, answers) in RULES {
+        expect_answers(&rt, HOLIDAY, rules, answers);
+    }
+}
+
+const TWO_DRIVES: Texts<'static> = &[
+    ("d/graph.gr", "p sp 3 2\na 1 2 180\na 2 3 300\n"),
+    ("d/zones.csv", BERLIN),
+    ("d/areas.csv", "area,zone\nde,berlin\n"),
+    ("d/vehicles.csv", VEHICLES),
+    ("d/ratings.csv", "rating,weight\nr,0.500\n"),
+    ("d/parking.csv", "node,rating\n2,r\n"),
+];
+
+const SUMMER_BANS: &str = "area:de,hgv:conditional,\"no @ (weight>7.5 AND Su,PH 00:00-22:00); \
+    no @ (weight>7.5 AND Jul-Aug Sa 07:00-20:00)\"\n";
+
+// Words, and their answers over the two drives and the bans of summer.
+const IN_SUMMER: &[(&str, &str)] = &[
+    (
+        "plan d truck 1 3 2020-07-04T02:00Z 2020-07-08T00:00Z",
+        "pairs 1\npair 26566620 1650.000\ndrive 1\nwait 2340\ndrive 2\n",
+    ),
+    (
+        "plan d truck 1 3 2020-07-04T02:00Z 2020-07-08T00:00Z --form table",
+        "routes 1\nroute 1 arrive 2020-07-06T01:00Z cost 1650.000\n2020-07-04T02:00Z drive 1 1 2 180\n2020-07-04T05:00Z wait 2 2340\n2020-07-05T20:00Z drive 2 2 3 300\n",
+    ),
+    (
+        "plan d any 1 3 2020-07-04T02:00Z 2020-07-08T00:00Z",
+        "pairs 1\npair 26564280 480.000\ndrive 1\ndrive 2\n",
+    ),
+];
+
+#[test]
+fn waits_for_the_end_of_a_ban(rt: HostRuntime) {
+    expect_answers(&rt, TWO_DRIVES, SUMMER_BANS, IN_SUMMER);
 }

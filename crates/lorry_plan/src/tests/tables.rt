@@ -10,11 +10,10 @@ mod vehicles;
 mod zones;
 
 use super::{
-    CLOSED, Case, NETWORK, ONE_PAIR, PARKED, RATED, TRIANGLE, TRIP, Texts, expect, expect_refusals,
+    CLOSED, Case, NETWORK, ONE_PAIR, PARKED, RATED, TRIANGLE, TRIP, Texts, expect, expect_refusal,
     expect_reports,
 };
 use route_base::Status;
-use std::test::Fail;
 
 const ZONES: &str = "zone,from,offset\n\
     cet,2019-10-27T01:00Z,+01:00\n\
@@ -35,10 +34,10 @@ const FAULTY: Texts<'static> = &[
     ("d/holidays.csv", "x"),
 ];
 
-const GRAPHS: &[(&str, &str)] = &[("x", "1 BadForm"), ("p sp 3 3\n", "2 ArcCount")];
-
 // Files with a text, the line and the cause of its refusal, and the files beside it.
 const FIRST: &[(&str, &str, &str, Texts<'static>)] = &[
+    ("graph.gr", "x", "1 BadForm", FAULTY),
+    ("graph.gr", "p sp 3 3\n", "2 ArcCount", FAULTY),
     (
         "closures.csv",
         UNKNOWN,
@@ -82,30 +81,39 @@ const FIRST: &[(&str, &str, &str, Texts<'static>)] = &[
 ];
 
 #[test]
-fn tells_the_first_fault_of_all_files(rt: HostRuntime) -> Result<(), Fail> {
-    expect_refusals(&rt, FAULTY, "graph.gr", GRAPHS)?;
+fn tells_the_first_fault_of_all_files(rt: HostRuntime) {
     for (file, text, fault, base) in FIRST {
-        expect_refusals(&rt, base, file, &[(*text, *fault)])?;
+        expect_refusal(&rt, base, (*file, *text), fault);
     }
-    Ok(())
 }
 
+// The files of a base, and runs with a fault of a file.
+const BEFORE: &[(Texts<'static>, Case<'static>)] = &[
+    (
+        NETWORK,
+        Case {
+            more: &[("d/parking.csv", "x")],
+            words: "plan d any 0 0 26563680 26563679",
+            status: Status::BadInput,
+            text: "refused input parking.csv 1 BadHeader\n",
+        },
+    ),
+    (
+        &[],
+        Case {
+            more: &[("d/closures.csv", "x")],
+            words: TRIP,
+            status: Status::BadInput,
+            text: "refused input graph.gr 0 Missing\n",
+        },
+    ),
+];
+
 #[test]
-fn tells_faults_of_files_before_those_of_the_request(rt: HostRuntime) -> Result<(), Fail> {
-    let parking = Case {
-        more: &[("d/parking.csv", "x")],
-        words: "plan d any 0 0 26563680 26563679",
-        status: Status::BadInput,
-        text: "refused input parking.csv 1 BadHeader\n",
-    };
-    expect(&rt, NETWORK, parking)?;
-    let missing = Case {
-        more: &[("d/closures.csv", "x")],
-        words: TRIP,
-        status: Status::BadInput,
-        text: "refused input graph.gr 0 Missing\n",
-    };
-    expect(&rt, &[], missing)
+fn tells_faults_of_files_before_those_of_the_request(rt: HostRuntime) {
+    for (base, case) in BEFORE {
+        expect(&rt, base, *case);
+    }
 }
 
 const STRAIGHT: &str = "pairs 1\npair 26563980 300.000\ndrive 3\n";
@@ -136,9 +144,8 @@ const EMPTY: &[(Texts<'static>, &str, &[&str], &str)] = &[
 ];
 
 #[test]
-fn reads_tables_without_rows(rt: HostRuntime) -> Result<(), Fail> {
+fn reads_tables_without_rows(rt: HostRuntime) {
     for (base, file, texts, report) in EMPTY {
-        expect_reports(&rt, base, file, texts, report)?;
+        expect_reports(&rt, base, file, texts, report);
     }
-    Ok(())
 }

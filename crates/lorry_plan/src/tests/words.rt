@@ -1,7 +1,6 @@
 // The words of the command line.
 use super::{GRAPH, NETWORK, TWO_PAIRS, expect_alike, expect_causes};
 use route_base::Status;
-use std::test::Fail;
 
 // Words that are no command.
 const NO_COMMAND: &[&str] = &[
@@ -78,14 +77,14 @@ const NO_COMMAND: &[&str] = &[
 ];
 
 #[test]
-fn refuses_words_that_are_no_command(rt: HostRuntime) -> Result<(), Fail> {
+fn refuses_words_that_are_no_command(rt: HostRuntime) {
     expect_alike(
         &rt,
         GRAPH,
         &[],
         NO_COMMAND,
         (Status::Usage, "refused usage\n"),
-    )
+    );
 }
 
 // The words of the trip, with instants as texts.
@@ -95,12 +94,13 @@ const INSTANTS: &[&str] = &[
     "plan d any 1 3 26563680 2020-07-04T06:40:00Z",
 ];
 
+const FAR: &[(&str, &str)] = &[(
+    "plan d any 1 3 2020-07-04T00:00Z 2020-09-02T00:01Z",
+    "HorizonTooLong",
+)];
+
 #[test]
-fn takes_instants_as_texts(rt: HostRuntime) -> Result<(), Fail> {
-    expect_alike(&rt, NETWORK, &[], INSTANTS, (Status::Done, TWO_PAIRS))?;
-    let far = [(
-        "plan d any 1 3 2020-07-04T00:00Z 2020-09-02T00:01Z",
-        "HorizonTooLong",
-    )];
-    expect_causes(&rt, NETWORK, &far)
+fn takes_instants_as_texts(rt: HostRuntime) {
+    expect_alike(&rt, NETWORK, &[], INSTANTS, (Status::Done, TWO_PAIRS));
+    expect_causes(&rt, NETWORK, FAR);
 }

@@ -1,7 +1,6 @@
 // areas.csv: each cause for which it is refused.
 use super::ZONES;
-use crate::tests::{TRIANGLE, expect_refusals};
-use std::test::Fail;
+use crate::tests::{TRIANGLE, Texts, expect_refusals};
 
 // Texts, and the line and the cause of each refusal.
 const REFUSED: &[(&str, &str)] = &[
@@ -15,12 +14,13 @@ const REFUSED: &[(&str, &str)] = &[
     ("area,zone\nde,cet\nde,wet\n", "3 Unknown"),
 ];
 
+const BASE: Texts<'static> = &[
+    ("d/graph.gr", TRIANGLE),
+    ("d/zones.csv", ZONES),
+    ("d/roads.csv", "x"),
+];
+
 #[test]
-fn refuses_areas_with_their_first_fault(rt: HostRuntime) -> Result<(), Fail> {
-    let base = [
-        ("d/graph.gr", TRIANGLE),
-        ("d/zones.csv", ZONES),
-        ("d/roads.csv", "x"),
-    ];
-    expect_refusals(&rt, &base, "areas.csv", REFUSED)
+fn refuses_areas_with_their_first_fault(rt: HostRuntime) {
+    expect_refusals(&rt, BASE, "areas.csv", REFUSED);
 }

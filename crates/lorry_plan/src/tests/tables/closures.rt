@@ -1,6 +1,5 @@
 // closures.csv: its lawful forms, and each cause for which it is refused.
 use crate::tests::{CLOSED, NETWORK, TWO_PAIRS, expect_refusals, expect_reports};
-use std::test::Fail;
 
 // Texts that say the same.
 const LAWFUL: &[&str] = &[
@@ -18,8 +17,8 @@ const LAWFUL: &[&str] = &[
 ];
 
 #[test]
-fn reads_closures_in_any_lawful_form(rt: HostRuntime) -> Result<(), Fail> {
-    expect_reports(&rt, NETWORK, "closures.csv", LAWFUL, TWO_PAIRS)
+fn reads_closures_in_any_lawful_form(rt: HostRuntime) {
+    expect_reports(&rt, NETWORK, "closures.csv", LAWFUL, TWO_PAIRS);
 }
 
 // Texts, and the line and the cause of each refusal.
@@ -82,6 +81,6 @@ const REFUSED: &[(&str, &str)] = &[
 ];
 
 #[test]
-fn refuses_closures_with_their_first_fault(rt: HostRuntime) -> Result<(), Fail> {
-    expect_refusals(&rt, NETWORK, "closures.csv", REFUSED)
+fn refuses_closures_with_their_first_fault(rt: HostRuntime) {
+    expect_refusals(&rt, NETWORK, "closures.csv", REFUSED);
 }

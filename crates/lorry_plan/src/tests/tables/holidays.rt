@@ -1,7 +1,6 @@
 // holidays.csv: its lawful forms, and each cause for which it is refused.
 use super::{AREAS, ZONES};
 use crate::tests::{GRAPH, ONE_PAIR, TRIANGLE, Texts, expect_refusals, expect_reports};
-use std::test::Fail;
 
 // The triangle with areas.
 const BASE: Texts<'static> = &[
@@ -10,17 +9,20 @@ const BASE: Texts<'static> = &[
     ("d/areas.csv", AREAS),
 ];
 
+// Lawful texts.
+const LAWFUL: &[&str] = &[
+    "",
+    "area,kind,date\n",
+    "area,kind,date\nsea,SH,2200-12-31\nde,PH,1970-01-01\nde,PH,1970-01-01\nde,SH,1970-01-01\n",
+];
+
+// A text that is lawful without rows for areas, since the area default has holidays then.
+const OF_DEFAULT: &[&str] = &["area,kind,date\ndefault,PH,2020-07-09\n"];
+
 #[test]
-fn reads_holidays_of_areas(rt: HostRuntime) -> Result<(), Fail> {
-    let texts = [
-        "",
-        "area,kind,date\n",
-        "area,kind,date\nsea,SH,2200-12-31\nde,PH,1970-01-01\nde,PH,1970-01-01\nde,SH,1970-01-01\n",
-    ];
-    expect_reports(&rt, BASE, "holidays.csv", &texts, ONE_PAIR)?;
-    // Without rows for areas, the area default has holidays too.
-    let default = ["area,kind,date\ndefault,PH,2020-07-09\n"];
-    expect_reports(&rt, GRAPH, "holidays.csv", &default, ONE_PAIR)
+fn reads_holidays_of_areas(rt: HostRuntime) {
+    expect_reports(&rt, BASE, "holidays.csv", LAWFUL, ONE_PAIR);
+    expect_reports(&rt, GRAPH, "holidays.csv", OF_DEFAULT, ONE_PAIR);
 }
 
 // Texts, and the line and the cause of each refusal.
@@ -44,6 +46,6 @@ const REFUSED: &[(&str, &str)] = &[
 ];
 
 #[test]
-fn refuses_holidays_with_their_first_fault(rt: HostRuntime) -> Result<(), Fail> {
-    expect_refusals(&rt, BASE, "holidays.csv", REFUSED)
+fn refuses_holidays_with_their_first_fault(rt: HostRuntime) {
+    expect_refusals(&rt, BASE, "holidays.csv", REFUSED);
 }

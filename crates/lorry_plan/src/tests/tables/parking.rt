@@ -1,6 +1,5 @@
 // parking.csv: its lawful forms, and each cause for which it is refused.
 use crate::tests::{NETWORK, TWO_PAIRS, expect_refusals, expect_reports};
-use std::test::Fail;
 
 // Texts that say the same.
 const LAWFUL: &[&str] = &[
@@ -13,8 +12,8 @@ const LAWFUL: &[&str] = &[
 ];
 
 #[test]
-fn reads_parking_in_any_lawful_form(rt: HostRuntime) -> Result<(), Fail> {
-    expect_reports(&rt, NETWORK, "parking.csv", LAWFUL, TWO_PAIRS)
+fn reads_parking_in_any_lawful_form(rt: HostRuntime) {
+    expect_reports(&rt, NETWORK, "parking.csv", LAWFUL, TWO_PAIRS);
 }
 
 // Texts, and the line and the cause of each refusal.
@@ -46,6 +45,6 @@ const REFUSED: &[(&str, &str)] = &[
 ];
 
 #[test]
-fn refuses_parking_with_its_first_fault(rt: HostRuntime) -> Result<(), Fail> {
-    expect_refusals(&rt, NETWORK, "parking.csv", REFUSED)
+fn refuses_parking_with_its_first_fault(rt: HostRuntime) {
+    expect_refusals(&rt, NETWORK, "parking.csv", REFUSED);
 }

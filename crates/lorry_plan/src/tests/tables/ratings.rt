@@ -1,6 +1,5 @@
 // ratings.csv: its lawful forms, and each cause for which it is refused.
 use crate::tests::{NETWORK, TWO_PAIRS, expect_refusals, expect_reports};
-use std::test::Fail;
 
 // Texts that say the same.
 const LAWFUL: &[&str] = &[
@@ -15,8 +14,8 @@ const LAWFUL: &[&str] = &[
 ];
 
 #[test]
-fn reads_ratings_in_any_lawful_form(rt: HostRuntime) -> Result<(), Fail> {
-    expect_reports(&rt, NETWORK, "ratings.csv", LAWFUL, TWO_PAIRS)
+fn reads_ratings_in_any_lawful_form(rt: HostRuntime) {
+    expect_reports(&rt, NETWORK, "ratings.csv", LAWFUL, TWO_PAIRS);
 }
 
 // Texts, and the line and the cause of each refusal.
@@ -59,6 +58,6 @@ const REFUSED: &[(&str, &str)] = &[
 ];
 
 #[test]
-fn refuses_ratings_with_their_first_fault(rt: HostRuntime) -> Result<(), Fail> {
-    expect_refusals(&rt, NETWORK, "ratings.csv", REFUSED)
+fn refuses_ratings_with_their_first_fault(rt: HostRuntime) {
+    expect_refusals(&rt, NETWORK, "ratings.csv", REFUSED);
 }

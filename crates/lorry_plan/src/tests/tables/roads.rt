@@ -1,7 +1,6 @@
 // roads.csv: each cause for which it is refused.
 use super::{AREAS, ZONES};
-use crate::tests::{TRIANGLE, expect_refusals};
-use std::test::Fail;
+use crate::tests::{TRIANGLE, Texts, expect_refusals};
 
 // Texts, and the line and the cause of each refusal.
 const REFUSED: &[(&str, &str)] = &[
@@ -15,20 +14,23 @@ const REFUSED: &[(&str, &str)] = &[
     ("arc,area\n2,de\n02,sea\n", "3 Duplicate"),
 ];
 
+const BASE: Texts<'static> = &[
+    ("d/graph.gr", TRIANGLE),
+    ("d/zones.csv", ZONES),
+    ("d/areas.csv", AREAS),
+];
+
+// Without rows for areas there is the area default alone.
+const NO_AREAS: Texts<'static> = &[
+    ("d/graph.gr", TRIANGLE),
+    ("d/zones.csv", ZONES),
+    ("d/areas.csv", ""),
+];
+
+const UNKNOWN: &[(&str, &str)] = &[("arc,area\n1,de\n", "2 Unknown")];
+
 #[test]
-fn refuses_roads_with_their_first_fault(rt: HostRuntime) -> Result<(), Fail> {
-    let base = [
-        ("d/graph.gr", TRIANGLE),
-        ("d/zones.csv", ZONES),
-        ("d/areas.csv", AREAS),
-    ];
-    expect_refusals(&rt, &base, "roads.csv", REFUSED)?;
-    // Without rows for areas there is the area default alone.
-    let without = [
-        ("d/graph.gr", TRIANGLE),
-        ("d/zones.csv", ZONES),
-        ("d/areas.csv", ""),
-    ];
-    let unknown = [("arc,area\n1,de\n", "2 Unknown")];
-    expect_refusals(&rt, &without, "roads.csv", &unknown)
+fn refuses_roads_with_their_first_fault(rt: HostRuntime) {
+    expect_refusals(&rt, BASE, "roads.csv", REFUSED);
+    expect_refusals(&rt, NO_AREAS, "roads.csv", UNKNOWN);
 }

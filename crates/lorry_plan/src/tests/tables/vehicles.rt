@@ -1,25 +1,37 @@
 // vehicles.csv: its lawful forms, each cause for which it is refused, and trips by name.
-use crate::tests::{Case, NETWORK, TWO_PAIRS, expect, expect_refusals, expect_reports};
+use crate::tests::{Case, NETWORK, TWO_PAIRS, Texts, expect_cases, expect_refusal, expect_trip};
 use route_base::Status;
-use std::test::Fail;
+use std::process::Abort;
+use std::thread::Threads;
 
 const HEADER: &str =
     "name,class,weight_kg,axleload_kg,height_cm,width_cm,length_cm,axles,purpose,flags\n";
 
+// Lawful rows.
+const LAWFUL: &[&str] = &[
+    "",
+    "truck,hgv,40000,,400,255,1875,5,,\n",
+    "a,hgv_articulated,,,,,,,through,\nb,goods,,,,,,,delivery,\nc,bus,,,,,,,,\n",
+    "v,hgv,1000000,0,01,0000000001,,1,,hazmat  long_one\tx\n",
+    "V,hgv,,,,,,,,_\nv,hgv,,,,,,,,a\n",
+];
+
+// Runs the trip with a table of these rows, and compares the status and the whole text.
+fn expect_rows<R: Abort + Threads + Sync + AllocGlobal>(
+    rt: &R,
+    rows: &str,
+    status: Status,
+    report: &str,
+) {
+    let text = format!(in rt.alloc(); "{HEADER}{rows}").expect(rt, "memory");
+    expect_trip(rt, NETWORK, ("vehicles.csv", text.as_str()), status, report);
+}
+
 #[test]
-fn reads_vehicles_in_any_lawful_form(rt: HostRuntime) -> Result<(), Fail> {
-    let rows = [
-        "",
-        "truck,hgv,40000,,400,255,1875,5,,\n",
-        "a,hgv_articulated,,,,,,,through,\nb,goods,,,,,,,delivery,\nc,bus,,,,,,,,\n",
-        "v,hgv,1000000,0,01,0000000001,,1,,hazmat  long_one\tx\n",
-        "V,hgv,,,,,,,,_\nv,hgv,,,,,,,,a\n",
-    ];
-    for row in rows {
-        let text = format!(in rt.alloc(); "{HEADER}{row}")?;
-        expect_reports(&rt, NETWORK, "vehicles.csv", &[text.as_str()], TWO_PAIRS)?;
+fn reads_vehicles_in_any_lawful_form(rt: HostRuntime) {
+    for rows in LAWFUL {
+        expect_rows(&rt, rows, Status::Done, TWO_PAIRS);
     }
-    Ok(())
 }
 
 // Rows, and the line and the cause of each refusal.
@@ -47,38 +59,42 @@ const REFUSED: &[(&str, &str)] = &[
     ),
 ];
 
-#[test]
-fn refuses_vehicles_with_their_first_fault(rt: HostRuntime) -> Result<(), Fail> {
-    for (rows, fault) in REFUSED {
-        let text = format!(in rt.alloc(); "{HEADER}{rows}")?;
-        expect_refusals(&rt, NETWORK, "vehicles.csv", &[(text.as_str(), *fault)])?;
-    }
-    Ok(())
+// Runs the trip with a table of these rows, which is refused at this line or record with this cause.
+fn expect_refused<R: Abort + Threads + Sync + AllocGlobal>(rt: &R, rows: &str, fault: &str) {
+    let text = format!(in rt.alloc(); "{HEADER}{rows}").expect(rt, "memory");
+    expect_refusal(rt, NETWORK, ("vehicles.csv", text.as_str()), fault);
 }
 
 #[test]
-fn plans_for_a_vehicle_by_its_name(rt: HostRuntime) -> Result<(), Fail> {
-    let text = format!(in rt.alloc(); "{HEADER}truck,hgv,40000,,400,255,1875,5,,\n")?;
-    let vehicles = [("d/vehicles.csv", text.as_str())];
-    for (words, status, text) in [
-        (
-            "plan d truck 1 3 26563680 26564080",
-            Status::Done,
-            TWO_PAIRS,
-        ),
-        (
-            "plan d van 1 3 26563680 26564080",
-            Status::BadRequest,
-            "refused request UnknownVehicle\n",
-        ),
-    ] {
-        let case = Case {
-            more: &vehicles,
-            words,
-            status,
-            text,
-        };
-        expect(&rt, NETWORK, case)?;
+fn refuses_vehicles_with_their_first_fault(rt: HostRuntime) {
+    for (rows, fault) in REFUSED {
+        expect_refused(&rt, rows, fault);
     }
-    Ok(())
+}
+
+const TRUCK: Texts<'static> = &[(
+    "d/vehicles.csv",
+    "name,class,weight_kg,axleload_kg,height_cm,width_cm,length_cm,axles,purpose,flags\n\
+    truck,hgv,40000,,400,255,1875,5,,\n",
+)];
+
+// Trips of a vehicle that there is, and of one that there isn't.
+const BY_NAME: &[Case<'static>] = &[
+    Case {
+        more: TRUCK,
+        words: "plan d truck 1 3 26563680 26564080",
+        status: Status::Done,
+        text: TWO_PAIRS,
+    },
+    Case {
+        more: TRUCK,
+        words: "plan d van 1 3 26563680 26564080",
+        status: Status::BadRequest,
+        text: "refused request UnknownVehicle\n",
+    },
+];
+
+#[test]
+fn plans_for_a_vehicle_by_its_name(rt: HostRuntime) {
+    expect_cases(&rt, NETWORK, BY_NAME);
 }

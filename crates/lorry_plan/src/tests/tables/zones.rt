@@ -1,7 +1,6 @@
 // zones.csv: each cause for which it is refused, and zones that change no answer.
 use super::{AREAS, ROADS, ZONES};
-use crate::tests::{NETWORK, TRIP, TWO_PAIRS, expect_refusals, expect_texts};
-use std::test::Fail;
+use crate::tests::{NETWORK, TRIANGLE, TRIP, TWO_PAIRS, Texts, expect_refusals, expect_texts};
 
 // Texts, and the line and the cause of each refusal.
 const REFUSED: &[(&str, &str)] = &[
@@ -38,39 +37,59 @@ const REFUSED: &[(&str, &str)] = &[
     ),
 ];
 
-#[test]
-fn refuses_zones_with_their_first_fault(rt: HostRuntime) -> Result<(), Fail> {
-    let base = [
-        ("d/graph.gr", crate::tests::TRIANGLE),
-        ("d/areas.csv", "x"),
-        ("d/roads.csv", "x"),
-    ];
-    expect_refusals(&rt, &base, "zones.csv", REFUSED)
-}
-
-// Tables of zones, areas and roads that change no answer.
-const UNUSED: &[(&str, &str, &str)] = &[
-    (ZONES, AREAS, ROADS),
-    (ZONES, "", ""),
-    (ZONES, "", "arc,area\n2,default\n"),
-    ("", "area,zone\nsea,UTC\n", "arc,area\n1,sea\n"),
-    ("zone,from,offset\nUTC,525600,+18:00\n", "", ""),
-    (
-        "zone,from,offset\na,525600,-18:00\nb,525600,+00:59\na,525601,-00:00\n",
-        "area,zone\nx,b\ny,a\n",
-        "",
-    ),
+const BASE: Texts<'static> = &[
+    ("d/graph.gr", TRIANGLE),
+    ("d/areas.csv", "x"),
+    ("d/roads.csv", "x"),
 ];
 
 #[test]
-fn plans_the_same_trip_in_any_zone(rt: HostRuntime) -> Result<(), Fail> {
-    for (zones, areas, roads) in UNUSED {
-        let more = [
-            ("d/zones.csv", *zones),
-            ("d/areas.csv", *areas),
-            ("d/roads.csv", *roads),
-        ];
-        expect_texts(&rt, NETWORK, &more, &[(TRIP, TWO_PAIRS)])?;
+fn refuses_zones_with_their_first_fault(rt: HostRuntime) {
+    expect_refusals(&rt, BASE, "zones.csv", REFUSED);
+}
+
+// Tables of zones, areas and roads that change no answer.
+const UNUSED: &[Texts<'static>] = &[
+    &[
+        ("d/zones.csv", ZONES),
+        ("d/areas.csv", AREAS),
+        ("d/roads.csv", ROADS),
+    ],
+    &[
+        ("d/zones.csv", ZONES),
+        ("d/areas.csv", ""),
+        ("d/roads.csv", ""),
+    ],
+    &[
+        ("d/zones.csv", ZONES),
+        ("d/areas.csv", ""),
+        ("d/roads.csv", "arc,area\n2,default\n"),
+    ],
+    &[
+        ("d/zones.csv", ""),
+        ("d/areas.csv", "area,zone\nsea,UTC\n"),
+        ("d/roads.csv", "arc,area\n1,sea\n"),
+    ],
+    &[
+        ("d/zones.csv", "zone,from,offset\nUTC,525600,+18:00\n"),
+        ("d/areas.csv", ""),
+        ("d/roads.csv", ""),
+    ],
+    &[
+        (
+            "d/zones.csv",
+            "zone,from,offset\na,525600,-18:00\nb,525600,+00:59\na,525601,-00:00\n",
+        ),
+        ("d/areas.csv", "area,zone\nx,b\ny,a\n"),
+        ("d/roads.csv", ""),
+    ],
+];
+
+const ANSWER: &[(&str, &str)] = &[(TRIP, TWO_PAIRS)];
+
+#[test]
+fn plans_the_same_trip_in_any_zone(rt: HostRuntime) {
+    for tables in UNUSED {
+        expect_texts(&rt, NETWORK, tables, ANSWER);
     }
-    Ok(())
 }
