@@ -20,6 +20,7 @@ use Rattle.conditional_rules.specs.Cutting.{trimmed, Cut, first_semicolon, first
 abbrev pub has_sign : List ℕ → Bool
 has_sign text = list_any (λ b. b == 60 || (b == 61 || b == 62)) text
 
+-- a to z
 abbrev pub is_small_letter : ℕ → Bool
 is_small_letter b = is_from_to 97 122 b
 

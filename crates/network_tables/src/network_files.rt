@@ -1,10 +1,9 @@
 // A whole network, file by file.
 ghost use Rattle.std.specs.Prelude.{◌≡◌, map};
 ghost use Rattle.dimacs_reader.specs.GraphModel.{graph_of};
-ghost use Rattle.network_tables.specs.NetworkFiles.{graph_fault, contents_fault, network_in_files};
+ghost use Rattle.network_tables.specs.NetworkFiles.{closed_runs_of, contents_fault, graph_fault, network_in_files, node_count_of, weights_of};
 ghost use Rattle.network_tables.specs.Inside.{places_fault, access_fault, limits_fault, ArePlaces, IsCalendar};
 ghost use Rattle.network_tables.specs.Words.{arc_count_of, areas_of, holidays_fault, names_of, rules_of, vehicles_of};
-ghost use Rattle.network_tables.specs.NetworkFiles.{closed_runs_of, node_count_of, weights_of};
 ghost use Rattle.network_tables.specs.Refusals.{Reads};
 
 use crate::areas::{Areas, read_areas};
