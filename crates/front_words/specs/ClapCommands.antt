@@ -21,7 +21,7 @@ with_rules app rules = fold with_rule app rules
 abbrev pub written_out : List ℕ → List (List ℕ) → List (List ℕ) → App
 written_out name places choices = with_rules (with_rules (new_app name) (map place places)) (map choice choices)
 
--- the same, which only a proof that computes opens
+-- the same, which stays closed in goals; a proof that computes opens it
 unfoldable pub app_with : List ℕ → List (List ℕ) → List (List ℕ) → App
 app_with = written_out
 
@@ -33,7 +33,7 @@ app_in name places choices = app_with name (map (λ w. w.now) places) (map (λ w
 abbrev pub plan_places : List (List ℕ)
 plan_places = codes "dir" ∷ codes "vehicle" ∷ codes "from" ∷ codes "to" ∷ codes "depart" ∷ codes "until" ∷ []
 
--- its options
+-- the options of `plan`
 abbrev pub plan_choices : List (List ℕ)
 plan_choices = codes "form" ∷ codes "certificate" ∷ []
 
@@ -61,7 +61,7 @@ bans_app = app_with (codes "bans") bans_places []
 abbrev pub batch_places : List (List ℕ)
 batch_places = codes "dir" ∷ codes "jobs" ∷ []
 
--- its options
+-- the options of `batch`
 abbrev pub batch_choices : List (List ℕ)
 batch_choices = codes "workers" ∷ []
 

@@ -31,7 +31,7 @@ abbrev pub text_in : Option (Bor (List ℕ)) → List (List ℕ)
 text_in None = []
 text_in (Some word) = word.now ∷ []
 
--- the split of words that the code holds apart
+-- the split whose words and options the code holds as two slices
 abbrev pub split_of_words : List (Bor (List ℕ)) → List GivenWords → Split
 split_of_words places given = record { places = map (λ word. word.now) places; given = map given_in given }
 

@@ -77,7 +77,8 @@ fn bans_by_clap(alloc: Global, bans: &Bans, places: &[&str]) -> Result<FrontComm
 
 // The bans of positional words.
 fn bans_of_split(alloc: Global, places: &[&str]) -> Result<FrontCommand, WordsFault>
-    ensures bans { AnswersWith command_in (made_of bans_usage (split_of_words places.now [])) result }
+    ensures bans { AnswersWith command_in
+        (made_of bans_usage (split_of_words places.now [])) result }
     ensures supported { IfOk result (λ c. AsksSupported (command_in c)) }
 {
     let bans = bans_of(places).ok_or(WordsFault::NotACommand)?;

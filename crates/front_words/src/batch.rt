@@ -147,7 +147,8 @@ fn batch_of_split(
     places: &[&str],
     given: &[Given],
 ) -> Result<FrontCommand, WordsFault>
-    ensures batch { AnswersWith command_in (made_of batch_usage (split_of_words places.now given.now)) result }
+    ensures batch { AnswersWith command_in
+        (made_of batch_usage (split_of_words places.now given.now)) result }
     ensures supported { IfOk result (λ c. AsksSupported (command_in c)) }
 {
     let batch = batch_of(places).ok_or(WordsFault::NotACommand)?;

@@ -96,7 +96,8 @@ fn check_by_clap(alloc: Global, check: &Check, places: &[&str]) -> Result<FrontC
 
 // The check of positional words.
 fn check_of_split(alloc: Global, places: &[&str]) -> Result<FrontCommand, WordsFault>
-    ensures check { AnswersWith command_in (made_of check_usage (split_of_words places.now [])) result }
+    ensures check { AnswersWith command_in
+        (made_of check_usage (split_of_words places.now [])) result }
     ensures supported { IfOk result (λ c. AsksSupported (command_in c)) }
 {
     let check = check_of(places).ok_or(WordsFault::NotACommand)?;

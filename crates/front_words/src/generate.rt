@@ -93,7 +93,8 @@ fn gen_by_clap(alloc: Global, network: &Gen, places: &[&str]) -> Result<FrontCom
 
 // The generation of positional words.
 fn gen_of_split(alloc: Global, places: &[&str]) -> Result<FrontCommand, WordsFault>
-    ensures network { AnswersWith command_in (made_of gen_usage (split_of_words places.now [])) result }
+    ensures network { AnswersWith command_in
+        (made_of gen_usage (split_of_words places.now [])) result }
     ensures supported { IfOk result (λ c. AsksSupported (command_in c)) }
 {
     let network = gen_of(places).ok_or(WordsFault::NotACommand)?;

@@ -181,7 +181,8 @@ fn plan_of_split(
     places: &[&str],
     given: &[Given],
 ) -> Result<FrontCommand, WordsFault>
-    ensures plan { AnswersWith command_in (made_of plan_usage (split_of_words places.now given.now)) result }
+    ensures plan { AnswersWith command_in
+        (made_of plan_usage (split_of_words places.now given.now)) result }
     ensures supported { IfOk result (λ c. AsksSupported (command_in c)) }
 {
     let trip = trip_of(places).ok_or(WordsFault::NotACommand)?;
