@@ -255,21 +255,21 @@ fn expect_cases<R: Abort + Threads + Sync + AllocGlobal>(
     }
 }
 
-// Runs the words of each row over the files of both lists, and compares the whole text.
-fn expect_texts<'a, R: Abort + Threads + Sync + AllocGlobal>(
+// Runs the words of each row over the files, and compares the status, which is the same for all, and the whole text.
+fn expect_texts<R: Abort + Threads + Sync + AllocGlobal>(
     rt: &R,
-    base: Texts<'_>,
-    more: Texts<'a>,
-    cases: &[(&'a str, &'a str)],
+    files: Texts<'_>,
+    status: Status,
+    cases: &[(&str, &str)],
 ) {
     for (words, text) in cases {
         let case = Case {
-            more,
+            more: &[],
             words: *words,
-            status: Status::Done,
+            status,
             text: *text,
         };
-        expect(rt, base, case);
+        expect(rt, files, case);
     }
 }
 
@@ -289,34 +289,6 @@ fn expect_alike<'a, R: Abort + Threads + Sync + AllocGlobal>(
             text,
         };
         expect(rt, base, case);
-    }
-}
-
-// Runs the words over the files, where the request is refused with this cause.
-fn expect_cause<R: Abort + Threads + Sync + AllocGlobal>(
-    rt: &R,
-    files: Texts<'_>,
-    line: &str,
-    cause: &str,
-) {
-    let text = format!(in rt.alloc(); "refused request {cause}\n").expect(rt, "memory");
-    let case = Case {
-        more: &[],
-        words: line,
-        status: Status::BadRequest,
-        text: text.as_str(),
-    };
-    expect(rt, files, case);
-}
-
-// Runs the words of each row over the files, where the request is refused with the row's cause.
-fn expect_causes<R: Abort + Threads + Sync + AllocGlobal>(
-    rt: &R,
-    files: Texts<'_>,
-    cases: &[(&str, &str)],
-) {
-    for (line, cause) in cases {
-        expect_cause(rt, files, line, cause);
     }
 }
 

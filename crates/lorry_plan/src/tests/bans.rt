@@ -1,9 +1,11 @@
 // The closed minutes of an arc, over closures alone.
-use super::{GRAPH, NETWORK, expect_alike, expect_causes, expect_texts};
+use super::{NETWORK, TRIANGLE, Texts, expect_alike, expect_texts};
 use route_base::Status;
 
 const CLOSURES: &str =
     "arc,from,to\n2,26563740,26563860\n1,26563700,26563710\n2,26563860,26563900\n2,26563950,26563960\n";
+
+const CLOSED: Texts<'static> = &[("d/graph.gr", TRIANGLE), ("d/closures.csv", CLOSURES)];
 
 const TWO: &str =
     "bans 2\nclosed 2020-07-04T01:00Z 2020-07-04T03:40Z\nclosed 2020-07-04T04:30Z 2020-07-04T04:40Z\npassed 0\n";
@@ -33,21 +35,36 @@ const WINDOWS: &[(&str, &str)] = &[
 
 #[test]
 fn prints_the_closed_minutes_of_a_window(rt: HostRuntime) {
-    expect_texts(&rt, GRAPH, &[("d/closures.csv", CLOSURES)], WINDOWS);
+    expect_texts(&rt, CLOSED, Status::Done, WINDOWS);
 }
 
-// Words, and the cause of each refusal.
+// Words, and their refusals.
 const REFUSED: &[(&str, &str)] = &[
-    ("bans d x 0 26563680 26563679", "UnknownVehicle"),
-    ("bans d any 0 26563680 26563679", "UnknownArc"),
-    ("bans d any 4 26563680 26564080", "UnknownArc"),
-    ("bans d any 3 26563680 26563679", "UntilBeforeDepart"),
-    ("bans d any 3 26563680 26650081", "HorizonTooLong"),
+    (
+        "bans d x 0 26563680 26563679",
+        "refused request UnknownVehicle\n",
+    ),
+    (
+        "bans d any 0 26563680 26563679",
+        "refused request UnknownArc\n",
+    ),
+    (
+        "bans d any 4 26563680 26564080",
+        "refused request UnknownArc\n",
+    ),
+    (
+        "bans d any 3 26563680 26563679",
+        "refused request UntilBeforeDepart\n",
+    ),
+    (
+        "bans d any 3 26563680 26650081",
+        "refused request HorizonTooLong\n",
+    ),
 ];
 
 #[test]
 fn refuses_bans_at_their_first_failed_check(rt: HostRuntime) {
-    expect_causes(&rt, NETWORK, REFUSED);
+    expect_texts(&rt, NETWORK, Status::BadRequest, REFUSED);
 }
 
 // Words that are no command.

@@ -1,5 +1,5 @@
 // Tables of jobs, planned on several workers.
-use super::{Case, GRAPH, NETWORK, Texts, expect, expect_alike, expect_beside, expect_cases};
+use super::{Case, GRAPH, NETWORK, Texts, expect, expect_alike, expect_cases};
 use route_base::Status;
 
 // Three jobs: one that is planned, one of an unknown vehicle, and one without a way.
@@ -70,33 +70,55 @@ fn plans_each_job_for_its_own_vehicle(rt: HostRuntime) {
     expect_alike(&rt, VEHICLES, &[], ONE_OR_THREE, (Status::Done, OF_EACH));
 }
 
-// Tables of jobs, and each refusal.
-const REFUSED: &[(&str, &str)] = &[
-    ("from,to,depart,until\n", "refused input jobs 1 BadHeader\n"),
-    (
-        "vehicle,from,to,depart,until\nany,1,3,26563680\n",
-        "refused input jobs 2 FieldCount\n",
-    ),
-    (
-        "vehicle,from,to,depart,until\n,1,3,26563680,26564080\n",
-        "refused input jobs 2 BadField\n",
-    ),
-    (
-        "vehicle,from,to,depart,until\nany,1,4294967296,26563680,26564080\n",
-        "refused input jobs 2 BadField\n",
-    ),
-    (
-        "vehicle,from,to,depart,until\nany,1,3,26563680,26564080\nany,1,3,026563680,26564080\n",
-        "refused input jobs 3 BadField\n",
-    ),
+// Tables of jobs that are refused.
+const REFUSED: &[Case<'static>] = &[
+    Case {
+        more: &[("d/jobs.csv", "from,to,depart,until\n")],
+        words: "batch d jobs.csv",
+        status: Status::BadInput,
+        text: "refused input jobs 1 BadHeader\n",
+    },
+    Case {
+        more: &[(
+            "d/jobs.csv",
+            "vehicle,from,to,depart,until\nany,1,3,26563680\n",
+        )],
+        words: "batch d jobs.csv",
+        status: Status::BadInput,
+        text: "refused input jobs 2 FieldCount\n",
+    },
+    Case {
+        more: &[(
+            "d/jobs.csv",
+            "vehicle,from,to,depart,until\n,1,3,26563680,26564080\n",
+        )],
+        words: "batch d jobs.csv",
+        status: Status::BadInput,
+        text: "refused input jobs 2 BadField\n",
+    },
+    Case {
+        more: &[(
+            "d/jobs.csv",
+            "vehicle,from,to,depart,until\nany,1,4294967296,26563680,26564080\n",
+        )],
+        words: "batch d jobs.csv",
+        status: Status::BadInput,
+        text: "refused input jobs 2 BadField\n",
+    },
+    Case {
+        more: &[(
+            "d/jobs.csv",
+            "vehicle,from,to,depart,until\nany,1,3,26563680,26564080\nany,1,3,026563680,26564080\n",
+        )],
+        words: "batch d jobs.csv",
+        status: Status::BadInput,
+        text: "refused input jobs 3 BadField\n",
+    },
 ];
 
 #[test]
 fn refuses_a_table_of_jobs_by_its_first_fault(rt: HostRuntime) {
-    for (jobs, text) in REFUSED {
-        let due = (Status::BadInput, *text);
-        expect_beside(&rt, NETWORK, ("d/jobs.csv", *jobs), "batch d jobs.csv", due);
-    }
+    expect_cases(&rt, NETWORK, REFUSED);
 }
 
 const MISSING: &str = "refused input jobs 0 Missing\n";

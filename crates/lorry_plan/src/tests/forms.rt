@@ -1,5 +1,6 @@
 // The forms of a report, and where the option for them may stand.
 use super::{NETWORK, TRIP, TWO_PAIRS, expect_texts};
+use route_base::Status;
 
 const TABLE: &str = "routes 2\nroute 1 arrive 2020-07-04T04:00Z cost 360.000\n\
 2020-07-04T00:00Z drive 1 1 2 60\n2020-07-04T01:00Z wait 2 120\n2020-07-04T03:00Z drive 2 2 3 60\n\
@@ -33,5 +34,5 @@ const FORMS: &[(&str, &str)] = &[
 
 #[test]
 fn prints_each_form(rt: HostRuntime) {
-    expect_texts(&rt, NETWORK, &[], FORMS);
+    expect_texts(&rt, NETWORK, Status::Done, FORMS);
 }

@@ -1,6 +1,6 @@
 // Pareto fronts over the triangle: one way, a wait against a detour, and closures at their ends.
 use super::{
-    CLOSED, GRAPH, NETWORK, ONE_PAIR, TRIP, TWO_PAIRS, Texts, expect_beside, expect_texts,
+    CLOSED, Case, GRAPH, NETWORK, ONE_PAIR, TRIP, TWO_PAIRS, Texts, expect_cases, expect_texts,
 };
 use route_base::Status;
 
@@ -32,101 +32,117 @@ const TRIPS: &[(&str, &str)] = &[
 
 #[test]
 fn plans_trips_over_a_graph_alone(rt: HostRuntime) {
-    expect_texts(&rt, GRAPH, &[], TRIPS);
+    expect_texts(&rt, GRAPH, Status::Done, TRIPS);
 }
 
 const SHORTLY: &str = "plan d any 1 2 26563680 26563780";
 
-// A file beside those of the network, words, and their answer.
-const ROUND: &[(&str, &str, &str, &str)] = &[
-    ("d/closures.csv", CLOSED, TRIP, TWO_PAIRS),
-    (
-        "d/closures.csv",
-        CLOSED,
-        "plan d any 1 3 26563680 26650080",
-        TWO_PAIRS,
-    ),
+// Runs over the network and a file beside it.
+const ROUND: &[Case<'static>] = &[
+    Case {
+        more: &[("d/closures.csv", CLOSED)],
+        words: TRIP,
+        status: Status::Done,
+        text: TWO_PAIRS,
+    },
+    Case {
+        more: &[("d/closures.csv", CLOSED)],
+        words: "plan d any 1 3 26563680 26650080",
+        status: Status::Done,
+        text: TWO_PAIRS,
+    },
     // The detour is cheaper than the straight way, and earlier.
-    (
-        "d/ratings.csv",
-        "rating,weight\nr,0.5\n",
-        TRIP,
-        "pairs 1\npair 26563920 180.000\ndrive 1\nwait 120\ndrive 2\n",
-    ),
+    Case {
+        more: &[("d/ratings.csv", "rating,weight\nr,0.5\n")],
+        words: TRIP,
+        status: Status::Done,
+        text: "pairs 1\npair 26563920 180.000\ndrive 1\nwait 120\ndrive 2\n",
+    },
     // An arrival in the last minute counts.
-    (
-        "d/closures.csv",
-        CLOSED,
-        "plan d any 1 3 26563680 26563920",
-        "pairs 1\npair 26563920 360.000\ndrive 1\nwait 120\ndrive 2\n",
-    ),
-    (
-        "d/closures.csv",
-        CLOSED,
-        "plan d any 1 3 26563680 26563919",
-        "pairs 0\n",
-    ),
-    (
-        "d/closures.csv",
-        CLOSED,
-        "plan d any 1 1 26563680 26563680",
-        "pairs 1\npair 26563680 0.000\n",
-    ),
+    Case {
+        more: &[("d/closures.csv", CLOSED)],
+        words: "plan d any 1 3 26563680 26563920",
+        status: Status::Done,
+        text: "pairs 1\npair 26563920 360.000\ndrive 1\nwait 120\ndrive 2\n",
+    },
+    Case {
+        more: &[("d/closures.csv", CLOSED)],
+        words: "plan d any 1 3 26563680 26563919",
+        status: Status::Done,
+        text: "pairs 0\n",
+    },
+    Case {
+        more: &[("d/closures.csv", CLOSED)],
+        words: "plan d any 1 1 26563680 26563680",
+        status: Status::Done,
+        text: "pairs 1\npair 26563680 0.000\n",
+    },
     // A closure that begins as the drive ends doesn't touch it; one of its last minute does.
-    (
-        "d/closures.csv",
-        "arc,from,to\n1,26563740,26563770\n",
-        SHORTLY,
-        FIRST_ARC,
-    ),
-    (
-        "d/closures.csv",
-        "arc,from,to\n1,26563739,26563740\n",
-        SHORTLY,
-        "pairs 0\n",
-    ),
+    Case {
+        more: &[("d/closures.csv", "arc,from,to\n1,26563740,26563770\n")],
+        words: SHORTLY,
+        status: Status::Done,
+        text: FIRST_ARC,
+    },
+    Case {
+        more: &[("d/closures.csv", "arc,from,to\n1,26563739,26563740\n")],
+        words: SHORTLY,
+        status: Status::Done,
+        text: "pairs 0\n",
+    },
     // One that ends at the departure doesn't touch the drive either.
-    (
-        "d/closures.csv",
-        "arc,from,to\n1,26563620,26563680\n",
-        SHORTLY,
-        FIRST_ARC,
-    ),
-    (
-        "d/closures.csv",
-        "arc,from,to\n1,26563680,26563681\n",
-        SHORTLY,
-        "pairs 0\n",
-    ),
+    Case {
+        more: &[("d/closures.csv", "arc,from,to\n1,26563620,26563680\n")],
+        words: SHORTLY,
+        status: Status::Done,
+        text: FIRST_ARC,
+    },
+    Case {
+        more: &[("d/closures.csv", "arc,from,to\n1,26563680,26563681\n")],
+        words: SHORTLY,
+        status: Status::Done,
+        text: "pairs 0\n",
+    },
     // Without a rated node on the way there's no waiting, nor where the first arc is closed too.
-    ("d/parking.csv", "", TRIP, STRAIGHT),
-    ("d/parking.csv", "node,rating\n3,r\n", TRIP, STRAIGHT),
-    (
-        "d/closures.csv",
-        "arc,from,to\n2,26563740,26563860\n1,26563700,26563710\n",
-        TRIP,
-        STRAIGHT,
-    ),
+    Case {
+        more: &[("d/parking.csv", "")],
+        words: TRIP,
+        status: Status::Done,
+        text: STRAIGHT,
+    },
+    Case {
+        more: &[("d/parking.csv", "node,rating\n3,r\n")],
+        words: TRIP,
+        status: Status::Done,
+        text: STRAIGHT,
+    },
+    Case {
+        more: &[(
+            "d/closures.csv",
+            "arc,from,to\n2,26563740,26563860\n1,26563700,26563710\n",
+        )],
+        words: TRIP,
+        status: Status::Done,
+        text: STRAIGHT,
+    },
     // Two hours at the least weight there is, and at the largest.
-    (
-        "d/ratings.csv",
-        "rating,weight\nr,0.001\n",
-        TRIP,
-        "pairs 1\npair 26563920 120.120\ndrive 1\nwait 120\ndrive 2\n",
-    ),
-    (
-        "d/ratings.csv",
-        "rating,weight\nr,100\n",
-        TRIP,
-        "pairs 2\npair 26563920 12120.000\ndrive 1\nwait 120\ndrive 2\npair 26563980 300.000\ndrive 3\n",
-    ),
+    Case {
+        more: &[("d/ratings.csv", "rating,weight\nr,0.001\n")],
+        words: TRIP,
+        status: Status::Done,
+        text: "pairs 1\npair 26563920 120.120\ndrive 1\nwait 120\ndrive 2\n",
+    },
+    Case {
+        more: &[("d/ratings.csv", "rating,weight\nr,100\n")],
+        words: TRIP,
+        status: Status::Done,
+        text: "pairs 2\npair 26563920 12120.000\ndrive 1\nwait 120\ndrive 2\npair 26563980 300.000\ndrive 3\n",
+    },
 ];
 
 #[test]
 fn waits_and_drives_round_closures(rt: HostRuntime) {
-    for (file, table, words, text) in ROUND {
-        expect_beside(&rt, NETWORK, (*file, *table), words, (Status::Done, *text));
-    }
+    expect_cases(&rt, NETWORK, ROUND);
 }
 
 // An arc at whose tail waiting costs nothing.
@@ -140,5 +156,5 @@ const AT_ONCE: &[(&str, &str)] = &[("plan d any 1 2 26563680 26564080", FIRST_AR
 
 #[test]
 fn prints_no_later_arrival_of_the_same_cost(rt: HostRuntime) {
-    expect_texts(&rt, FREE, &[], AT_ONCE);
+    expect_texts(&rt, FREE, Status::Done, AT_ONCE);
 }

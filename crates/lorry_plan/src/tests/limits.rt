@@ -2,11 +2,12 @@
 use super::{TRIP, put_files, run_to, sure_folder};
 use route_base::{OutOfMemory, Status, SureFolder};
 use std::alloc::Global;
+use std::fmt::Write;
 use std::thread::Threads;
 
 const ARC: &str = "p sp 500000 1\na 1 2 60\n";
 
-// A table with a row for each number up to, but not including, `end`, which stands between these texts.
+// A table with a row for each number from `start` up to, but not including, `end`, between the texts `before` and `after`.
 #[derive(Clone, Copy)]
 struct Table<'a> {
     path: &'a str,
@@ -46,11 +47,10 @@ const PARKING: Table<'static> = Table {
 };
 
 // Pushes the rows of the table.
-fn push_rows(alloc: Global, text: &mut String, table: Table<'_>) -> Result<(), OutOfMemory> {
+fn push_rows(text: &mut String, table: Table<'_>) -> Result<(), OutOfMemory> {
     let Table { before, after, .. } = table;
     for number in table.start..table.end {
-        let row = format!(in alloc; "\n{before}{number}{after}")?;
-        text.push_str(row.as_str())?;
+        write!(text, "\n{before}{number}{after}")?;
     }
     Ok(())
 }
@@ -58,7 +58,7 @@ fn push_rows(alloc: Global, text: &mut String, table: Table<'_>) -> Result<(), O
 // The text of the table, and these rows behind its own.
 fn text_of(alloc: Global, table: Table<'_>, more: &str) -> Result<String, OutOfMemory> {
     let mut text = String::from_str(alloc, table.header)?;
-    push_rows(alloc, &mut text, table)?;
+    push_rows(&mut text, table)?;
     text.push_str(more)?;
     Ok(text)
 }

@@ -1,4 +1,6 @@
 // Whole files and the lists, each with memory to spare.
+ghost use Rattle.std.specs.Prelude.{◌≤◌};
+
 use super::{NETWORK, TRIP, TWO_PAIRS, Texts, expect_whole, is_text, run_to, sure_folder};
 use route_base::{
     Bound, Bounds, DripFolder, Folder, Listing, NodeId, OutOfMemory, ReadAllFault, Status,
@@ -57,22 +59,21 @@ fn reads_files_of_several_parts(rt: HostRuntime) {
     expect_long(&rt, &mut folder, long.as_str());
 }
 
-// The most bytes that come at once.
-const DROPS: &[usize] = &[1, 2, 7];
-
 // Plans the trip over files of which at most so many bytes come at once: the status, and whether the text is the answer.
 fn plan_in_drops<R: Threads + Sync + AllocGlobal>(
     rt: &R,
     most: usize,
-) -> Result<(Status, bool), OutOfMemory> {
+) -> Result<(Status, bool), OutOfMemory>
+    requires { 1 ≤ most }
+{
     let mut folder = DripFolder::new(sure_folder(rt.alloc(), NETWORK)?, most);
     run_to(rt, &mut folder, TRIP, TWO_PAIRS)
 }
 
 #[test]
 fn plans_over_files_that_come_in_drops(rt: HostRuntime) {
-    for most in DROPS {
-        let got = plan_in_drops(&rt, *most);
+    for most in 1..8 {
+        let got = plan_in_drops(&rt, most);
         assert!(rt; got == Ok((Status::Done, true)), "{most} at once: {got:?}");
     }
 }

@@ -1,7 +1,6 @@
 // Rules of access: the closed minutes that they make, and the trips that obey them.
-use super::{Texts, expect_texts};
-use std::process::Abort;
-use std::thread::Threads;
+use super::{Case, Texts, expect_cases, expect_texts};
+use route_base::Status;
 
 const VEHICLES: &str =
     "name,class,weight_kg,axleload_kg,height_cm,width_cm,length_cm,axles,purpose,flags\n\
@@ -13,105 +12,126 @@ const BERLIN: &str = "zone,from,offset\nberlin,2020-03-29T01:00Z,+02:00\n";
 const CET: &str = "zone,from,offset\ncet,2019-10-27T01:00Z,+01:00\n\
     cet,2020-03-29T01:00Z,+02:00\ncet,2020-10-25T01:00Z,+01:00\n";
 
-// Expects these answers to words over a table of rules and the other tables.
-fn expect_answers<R: Abort + Threads + Sync + AllocGlobal>(
-    rt: &R,
-    base: Texts<'_>,
-    rules: &str,
-    answers: Texts<'_>,
-) {
-    let table = format!(in rt.alloc(); "scope,key,value\n{rules}").expect(rt, "memory");
-    expect_texts(rt, base, &[("d/rules.csv", table.as_str())], answers);
-}
-
 const LANE: &str = "p sp 2 1\na 1 2 60\n";
 
-// Tables of zones and areas, rules, and words with their answers.
-const LOCAL_HOURS: &[(Texts<'static>, &str, Texts<'static>)] = &[
+const AT_WEEKENDS: Texts<'static> = &[
+    ("d/graph.gr", LANE),
+    ("d/zones.csv", BERLIN),
+    ("d/areas.csv", "area,zone\nde,berlin\n"),
     (
-        &[
-            ("d/graph.gr", LANE),
-            ("d/zones.csv", BERLIN),
-            ("d/areas.csv", "area,zone\nde,berlin\n"),
-        ],
-        "area:de,hgv:conditional,no @ (Sa 22:00-Su 22:00)\n",
-        // The second window begins within the ban.
-        &[
-            (
-                "bans d any 1 2020-07-04T00:00Z 2020-07-06T00:00Z",
-                "bans 1\nclosed 2020-07-04T20:00Z 2020-07-05T20:00Z\npassed 0\n",
-            ),
-            (
-                "bans d any 1 2020-07-05T10:00Z 2020-07-06T00:00Z",
-                "bans 1\nclosed 2020-07-05T10:00Z 2020-07-05T20:00Z\npassed 0\n",
-            ),
-        ],
+        "d/rules.csv",
+        "scope,key,value\narea:de,hgv:conditional,no @ (Sa 22:00-Su 22:00)\n",
+    ),
+];
+
+// Words, and their answers; the second window begins within the ban.
+const WEEKENDS: &[(&str, &str)] = &[
+    (
+        "bans d any 1 2020-07-04T00:00Z 2020-07-06T00:00Z",
+        "bans 1\nclosed 2020-07-04T20:00Z 2020-07-05T20:00Z\npassed 0\n",
     ),
     (
-        &[
-            ("d/graph.gr", LANE),
-            ("d/zones.csv", CET),
-            ("d/areas.csv", "area,zone\na,cet\n"),
-        ],
-        "area:a,access:conditional,no @ (02:00-03:00)\n",
-        // The hour is repeated in autumn, and skipped in spring.
-        &[
-            (
-                "bans d any 1 2020-10-24T12:00Z 2020-10-25T12:00Z",
-                "bans 1\nclosed 2020-10-25T00:00Z 2020-10-25T02:00Z\npassed 0\n",
-            ),
-            (
-                "bans d any 1 2020-03-28T12:00Z 2020-03-29T12:00Z",
-                "bans 0\npassed 0\n",
-            ),
-        ],
+        "bans d any 1 2020-07-05T10:00Z 2020-07-06T00:00Z",
+        "bans 1\nclosed 2020-07-05T10:00Z 2020-07-05T20:00Z\npassed 0\n",
+    ),
+];
+
+const AT_NIGHT: Texts<'static> = &[
+    ("d/graph.gr", LANE),
+    ("d/zones.csv", CET),
+    ("d/areas.csv", "area,zone\na,cet\n"),
+    (
+        "d/rules.csv",
+        "scope,key,value\narea:a,access:conditional,no @ (02:00-03:00)\n",
+    ),
+];
+
+// Words, and their answers; the hour is repeated in autumn, and skipped in spring.
+const NIGHTS: &[(&str, &str)] = &[
+    (
+        "bans d any 1 2020-10-24T12:00Z 2020-10-25T12:00Z",
+        "bans 1\nclosed 2020-10-25T00:00Z 2020-10-25T02:00Z\npassed 0\n",
+    ),
+    (
+        "bans d any 1 2020-03-28T12:00Z 2020-03-29T12:00Z",
+        "bans 0\npassed 0\n",
     ),
 ];
 
 #[test]
 fn closes_roads_at_local_hours(rt: HostRuntime) {
-    for (base, rules, answers) in LOCAL_HOURS {
-        expect_answers(&rt, base, rules, answers);
-    }
+    expect_texts(&rt, AT_WEEKENDS, Status::Done, WEEKENDS);
+    expect_texts(&rt, AT_NIGHT, Status::Done, NIGHTS);
 }
 
 const OPEN: &str = "bans 0\npassed 0\n";
 
 const CLOSED: &str = "bans 1\nclosed 2020-07-04T00:00Z 2020-07-04T00:10Z\npassed 0\n";
 
-// Rules of holidays and of vehicles, each with words and their answers.
-const RULES: &[(&str, Texts<'static>)] = &[
-    (
-        "area:default,hgv:conditional,no @ (Mo-Fr 22:00-06:00; PH off)\narc:1,maxspeed,80\n",
-        &[(
-            "bans d any 1 2020-07-08T12:00Z 2020-07-10T12:00Z",
-            "bans 1\nclosed 2020-07-08T22:00Z 2020-07-09T06:00Z\npassed 1\n",
-        )],
-    ),
-    (
-        "arc:1,hgv:conditional,no @ (weight>7.5 AND Sa 07:00-20:00)\n",
-        &[
-            ("bans d v1 1 2020-07-04T00:00Z 2020-07-05T00:00Z", OPEN),
-            (
-                "bans d v2 1 2020-07-04T00:00Z 2020-07-05T00:00Z",
-                "bans 1\nclosed 2020-07-04T07:00Z 2020-07-04T20:00Z\npassed 0\n",
-            ),
-        ],
-    ),
-    (
-        "area:default,access:conditional,no @ (24/7)\narc:1,hgv,yes\n",
-        &[
-            ("bans d any 1 26563680 26563690", OPEN),
-            ("bans d coach 1 26563680 26563690", CLOSED),
-        ],
-    ),
-    (
-        "area:default,access,no\narc:1,vehicle,destination\n",
-        &[
-            ("bans d van 1 26563680 26563690", OPEN),
-            ("bans d any 1 26563680 26563690", CLOSED),
-        ],
-    ),
+const ON_WORKDAYS: Texts<'static> = &[(
+    "d/rules.csv",
+    "scope,key,value\narea:default,hgv:conditional,no @ (Mo-Fr 22:00-06:00; PH off)\narc:1,maxspeed,80\n",
+)];
+
+const IF_HEAVY: Texts<'static> = &[(
+    "d/rules.csv",
+    "scope,key,value\narc:1,hgv:conditional,no @ (weight>7.5 AND Sa 07:00-20:00)\n",
+)];
+
+const HGV_ALONE: Texts<'static> = &[(
+    "d/rules.csv",
+    "scope,key,value\narea:default,access:conditional,no @ (24/7)\narc:1,hgv,yes\n",
+)];
+
+const DESTINATIONS: Texts<'static> = &[(
+    "d/rules.csv",
+    "scope,key,value\narea:default,access,no\narc:1,vehicle,destination\n",
+)];
+
+// Runs over rules of holidays and of vehicles.
+const RULES: &[Case<'static>] = &[
+    Case {
+        more: ON_WORKDAYS,
+        words: "bans d any 1 2020-07-08T12:00Z 2020-07-10T12:00Z",
+        status: Status::Done,
+        text: "bans 1\nclosed 2020-07-08T22:00Z 2020-07-09T06:00Z\npassed 1\n",
+    },
+    Case {
+        more: IF_HEAVY,
+        words: "bans d v1 1 2020-07-04T00:00Z 2020-07-05T00:00Z",
+        status: Status::Done,
+        text: OPEN,
+    },
+    Case {
+        more: IF_HEAVY,
+        words: "bans d v2 1 2020-07-04T00:00Z 2020-07-05T00:00Z",
+        status: Status::Done,
+        text: "bans 1\nclosed 2020-07-04T07:00Z 2020-07-04T20:00Z\npassed 0\n",
+    },
+    Case {
+        more: HGV_ALONE,
+        words: "bans d any 1 26563680 26563690",
+        status: Status::Done,
+        text: OPEN,
+    },
+    Case {
+        more: HGV_ALONE,
+        words: "bans d coach 1 26563680 26563690",
+        status: Status::Done,
+        text: CLOSED,
+    },
+    Case {
+        more: DESTINATIONS,
+        words: "bans d van 1 26563680 26563690",
+        status: Status::Done,
+        text: OPEN,
+    },
+    Case {
+        more: DESTINATIONS,
+        words: "bans d any 1 26563680 26563690",
+        status: Status::Done,
+        text: CLOSED,
+    },
 ];
 
 const HOLIDAY: Texts<'static> = &[
@@ -122,9 +142,7 @@ const HOLIDAY: Texts<'static> = &[
 
 #[test]
 fn closes_roads_by_holiday_and_by_vehicle(rt: HostRuntime) {
-    for (rules, answers) in RULES {
-        expect_answers(&rt, HOLIDAY, rules, answers);
-    }
+    expect_cases(&rt, HOLIDAY, RULES);
 }
 
 const TWO_DRIVES: Texts<'static> = &[
@@ -134,10 +152,12 @@ const TWO_DRIVES: Texts<'static> = &[
     ("d/vehicles.csv", VEHICLES),
     ("d/ratings.csv", "rating,weight\nr,0.500\n"),
     ("d/parking.csv", "node,rating\n2,r\n"),
+    (
+        "d/rules.csv",
+        "scope,key,value\narea:de,hgv:conditional,\"no @ (weight>7.5 AND Su,PH 00:00-22:00); \
+        no @ (weight>7.5 AND Jul-Aug Sa 07:00-20:00)\"\n",
+    ),
 ];
-
-const SUMMER_BANS: &str = "area:de,hgv:conditional,\"no @ (weight>7.5 AND Su,PH 00:00-22:00); \
-    no @ (weight>7.5 AND Jul-Aug Sa 07:00-20:00)\"\n";
 
 // Words, and their answers over the two drives and the bans of summer.
 const IN_SUMMER: &[(&str, &str)] = &[
@@ -157,5 +177,5 @@ const IN_SUMMER: &[(&str, &str)] = &[
 
 #[test]
 fn waits_for_the_end_of_a_ban(rt: HostRuntime) {
-    expect_answers(&rt, TWO_DRIVES, SUMMER_BANS, IN_SUMMER);
+    expect_texts(&rt, TWO_DRIVES, Status::Done, IN_SUMMER);
 }

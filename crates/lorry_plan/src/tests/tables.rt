@@ -10,7 +10,7 @@ mod vehicles;
 mod zones;
 
 use super::{
-    CLOSED, Case, NETWORK, ONE_PAIR, PARKED, RATED, TRIANGLE, TRIP, Texts, expect, expect_refusal,
+    CLOSED, Case, NETWORK, ONE_PAIR, PARKED, RATED, TRIANGLE, TRIP, Texts, expect_cases,
     expect_reports,
 };
 use route_base::Status;
@@ -26,94 +26,107 @@ const ROADS: &str = "arc,area\n3,sea\n1,acores\n";
 
 const UNKNOWN: &str = "arc,from,to\n4,26563740,26563860\n";
 
-// Tables that all have a fault.
-const FAULTY: Texts<'static> = &[
-    ("d/closures.csv", UNKNOWN),
-    ("d/ratings.csv", "x"),
-    ("d/parking.csv", "x"),
-    ("d/holidays.csv", "x"),
-];
-
-// Files with a text, the line and the cause of its refusal, and the files beside it.
-const FIRST: &[(&str, &str, &str, Texts<'static>)] = &[
-    ("graph.gr", "x", "1 BadForm", FAULTY),
-    ("graph.gr", "p sp 3 3\n", "2 ArcCount", FAULTY),
-    (
-        "closures.csv",
-        UNKNOWN,
-        "2 Unknown",
-        &[
+// Runs over faulty files, of which the first fault is told.
+const FIRST: &[Case<'static>] = &[
+    Case {
+        more: &[
+            ("d/graph.gr", "x"),
+            ("d/closures.csv", UNKNOWN),
+            ("d/ratings.csv", "x"),
+            ("d/parking.csv", "x"),
+            ("d/holidays.csv", "x"),
+        ],
+        words: TRIP,
+        status: Status::BadInput,
+        text: "refused input graph.gr 1 BadForm\n",
+    },
+    Case {
+        more: &[
+            ("d/graph.gr", "p sp 3 3\n"),
+            ("d/closures.csv", UNKNOWN),
+            ("d/ratings.csv", "x"),
+            ("d/parking.csv", "x"),
+            ("d/holidays.csv", "x"),
+        ],
+        words: TRIP,
+        status: Status::BadInput,
+        text: "refused input graph.gr 2 ArcCount\n",
+    },
+    Case {
+        more: &[
             ("d/graph.gr", TRIANGLE),
+            ("d/closures.csv", UNKNOWN),
             ("d/ratings.csv", "x"),
             ("d/parking.csv", "x"),
         ],
-    ),
-    (
-        "ratings.csv",
-        "rating,weight\nr,2\nr,2\n",
-        "3 Duplicate",
-        &[
+        words: TRIP,
+        status: Status::BadInput,
+        text: "refused input closures.csv 2 Unknown\n",
+    },
+    Case {
+        more: &[
             ("d/graph.gr", TRIANGLE),
             ("d/closures.csv", CLOSED),
+            ("d/ratings.csv", "rating,weight\nr,2\nr,2\n"),
             ("d/parking.csv", "x"),
         ],
-    ),
-    (
-        "parking.csv",
-        "x",
-        "1 BadHeader",
-        &[
+        words: TRIP,
+        status: Status::BadInput,
+        text: "refused input ratings.csv 3 Duplicate\n",
+    },
+    Case {
+        more: &[
             ("d/graph.gr", TRIANGLE),
             ("d/ratings.csv", RATED),
+            ("d/parking.csv", "x"),
             ("d/holidays.csv", "x"),
         ],
-    ),
-    (
-        "parking.csv",
-        PARKED,
-        "2 Unknown",
-        &[
+        words: TRIP,
+        status: Status::BadInput,
+        text: "refused input parking.csv 1 BadHeader\n",
+    },
+    Case {
+        more: &[
             ("d/graph.gr", TRIANGLE),
             ("d/closures.csv", CLOSED),
             ("d/ratings.csv", ""),
+            ("d/parking.csv", PARKED),
         ],
-    ),
+        words: TRIP,
+        status: Status::BadInput,
+        text: "refused input parking.csv 2 Unknown\n",
+    },
 ];
 
 #[test]
 fn tells_the_first_fault_of_all_files(rt: HostRuntime) {
-    for (file, text, fault, base) in FIRST {
-        expect_refusal(&rt, base, (*file, *text), fault);
-    }
+    expect_cases(&rt, &[], FIRST);
 }
 
-// The files of a base, and runs with a fault of a file.
-const BEFORE: &[(Texts<'static>, Case<'static>)] = &[
-    (
-        NETWORK,
-        Case {
-            more: &[("d/parking.csv", "x")],
-            words: "plan d any 0 0 26563680 26563679",
-            status: Status::BadInput,
-            text: "refused input parking.csv 1 BadHeader\n",
-        },
-    ),
-    (
-        &[],
-        Case {
-            more: &[("d/closures.csv", "x")],
-            words: TRIP,
-            status: Status::BadInput,
-            text: "refused input graph.gr 0 Missing\n",
-        },
-    ),
+// Runs in which a file has a fault, and the request or a later file has one too.
+const BEFORE: &[Case<'static>] = &[
+    Case {
+        more: &[
+            ("d/graph.gr", TRIANGLE),
+            ("d/closures.csv", CLOSED),
+            ("d/ratings.csv", RATED),
+            ("d/parking.csv", "x"),
+        ],
+        words: "plan d any 0 0 26563680 26563679",
+        status: Status::BadInput,
+        text: "refused input parking.csv 1 BadHeader\n",
+    },
+    Case {
+        more: &[("d/closures.csv", "x")],
+        words: TRIP,
+        status: Status::BadInput,
+        text: "refused input graph.gr 0 Missing\n",
+    },
 ];
 
 #[test]
 fn tells_faults_of_files_before_those_of_the_request(rt: HostRuntime) {
-    for (base, case) in BEFORE {
-        expect(&rt, base, *case);
-    }
+    expect_cases(&rt, &[], BEFORE);
 }
 
 const STRAIGHT: &str = "pairs 1\npair 26563980 300.000\ndrive 3\n";

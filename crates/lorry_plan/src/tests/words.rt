@@ -1,5 +1,5 @@
 // The words of the command line.
-use super::{GRAPH, NETWORK, TWO_PAIRS, expect_alike, expect_causes};
+use super::{GRAPH, NETWORK, TWO_PAIRS, expect_alike, expect_texts};
 use route_base::Status;
 
 // Words that are no command.
@@ -96,11 +96,11 @@ const INSTANTS: &[&str] = &[
 
 const FAR: &[(&str, &str)] = &[(
     "plan d any 1 3 2020-07-04T00:00Z 2020-09-02T00:01Z",
-    "HorizonTooLong",
+    "refused request HorizonTooLong\n",
 )];
 
 #[test]
 fn takes_instants_as_texts(rt: HostRuntime) {
     expect_alike(&rt, NETWORK, &[], INSTANTS, (Status::Done, TWO_PAIRS));
-    expect_causes(&rt, NETWORK, FAR);
+    expect_texts(&rt, NETWORK, Status::BadRequest, FAR);
 }

@@ -1,5 +1,5 @@
 // vehicles.csv: its lawful forms, each cause for which it is refused, and trips by name.
-use crate::tests::{Case, NETWORK, TWO_PAIRS, Texts, expect_cases, expect_refusal, expect_trip};
+use crate::tests::{Case, NETWORK, TWO_PAIRS, Texts, expect_cases, expect_trip};
 use route_base::Status;
 use std::process::Abort;
 use std::thread::Threads;
@@ -34,41 +34,80 @@ fn reads_vehicles_in_any_lawful_form(rt: HostRuntime) {
     }
 }
 
-// Rows, and the line and the cause of each refusal.
+// Rows, and each refusal.
 const REFUSED: &[(&str, &str)] = &[
-    ("truck,hgv,40000\n", "2 FieldCount"),
-    (",hgv,,,,,,,,\n", "2 BadField"),
-    ("-v,hgv,,,,,,,,\n", "2 BadField"),
-    ("v,lorry,,,,,,,,\n", "2 BadField"),
-    ("v,HGV,,,,,,,,\n", "2 BadField"),
-    ("v,hgv,1000001,,,,,,,\n", "2 BadField"),
-    ("v,hgv,,-1,,,,,,\n", "2 BadField"),
-    ("v,hgv,,,4.0,,,,,\n", "2 BadField"),
-    ("v,hgv,,,, 1,,,,\n", "2 BadField"),
-    ("v,hgv,,,,,00000000001,,,\n", "2 BadField"),
-    ("v,hgv,,,,,,x,,\n", "2 BadField"),
-    ("v,hgv,,,,,,,transit,\n", "2 BadField"),
-    ("v,hgv,,,,,,,,Hazmat\n", "2 BadField"),
-    ("v,hgv,,,,,,,, hazmat\n", "2 BadField"),
-    ("v,hgv,,,,,,,,hazmat \n", "2 BadField"),
-    ("v,hgv,,,,,,,, \n", "2 BadField"),
-    ("any,hgv,,,,,,,,\n", "2 Duplicate"),
+    (
+        "truck,hgv,40000\n",
+        "refused input vehicles.csv 2 FieldCount\n",
+    ),
+    (",hgv,,,,,,,,\n", "refused input vehicles.csv 2 BadField\n"),
+    (
+        "-v,hgv,,,,,,,,\n",
+        "refused input vehicles.csv 2 BadField\n",
+    ),
+    (
+        "v,lorry,,,,,,,,\n",
+        "refused input vehicles.csv 2 BadField\n",
+    ),
+    ("v,HGV,,,,,,,,\n", "refused input vehicles.csv 2 BadField\n"),
+    (
+        "v,hgv,1000001,,,,,,,\n",
+        "refused input vehicles.csv 2 BadField\n",
+    ),
+    (
+        "v,hgv,,-1,,,,,,\n",
+        "refused input vehicles.csv 2 BadField\n",
+    ),
+    (
+        "v,hgv,,,4.0,,,,,\n",
+        "refused input vehicles.csv 2 BadField\n",
+    ),
+    (
+        "v,hgv,,,, 1,,,,\n",
+        "refused input vehicles.csv 2 BadField\n",
+    ),
+    (
+        "v,hgv,,,,,00000000001,,,\n",
+        "refused input vehicles.csv 2 BadField\n",
+    ),
+    (
+        "v,hgv,,,,,,x,,\n",
+        "refused input vehicles.csv 2 BadField\n",
+    ),
+    (
+        "v,hgv,,,,,,,transit,\n",
+        "refused input vehicles.csv 2 BadField\n",
+    ),
+    (
+        "v,hgv,,,,,,,,Hazmat\n",
+        "refused input vehicles.csv 2 BadField\n",
+    ),
+    (
+        "v,hgv,,,,,,,, hazmat\n",
+        "refused input vehicles.csv 2 BadField\n",
+    ),
+    (
+        "v,hgv,,,,,,,,hazmat \n",
+        "refused input vehicles.csv 2 BadField\n",
+    ),
+    (
+        "v,hgv,,,,,,,, \n",
+        "refused input vehicles.csv 2 BadField\n",
+    ),
+    (
+        "any,hgv,,,,,,,,\n",
+        "refused input vehicles.csv 2 Duplicate\n",
+    ),
     (
         "v,hgv,,,,,,,,\nw,bus,,,,,,,,\nv,goods,,,,,,,,\n",
-        "4 Duplicate",
+        "refused input vehicles.csv 4 Duplicate\n",
     ),
 ];
 
-// Runs the trip with a table of these rows, which is refused at this line or record with this cause.
-fn expect_refused<R: Abort + Threads + Sync + AllocGlobal>(rt: &R, rows: &str, fault: &str) {
-    let text = format!(in rt.alloc(); "{HEADER}{rows}").expect(rt, "memory");
-    expect_refusal(rt, NETWORK, ("vehicles.csv", text.as_str()), fault);
-}
-
 #[test]
 fn refuses_vehicles_with_their_first_fault(rt: HostRuntime) {
-    for (rows, fault) in REFUSED {
-        expect_refused(&rt, rows, fault);
+    for (rows, text) in REFUSED {
+        expect_rows(&rt, rows, Status::BadInput, text);
     }
 }
 

@@ -1,6 +1,9 @@
 // zones.csv: each cause for which it is refused, and zones that change no answer.
 use super::{AREAS, ROADS, ZONES};
-use crate::tests::{NETWORK, TRIANGLE, TRIP, TWO_PAIRS, Texts, expect_refusals, expect_texts};
+use crate::tests::{
+    Case, NETWORK, TRIANGLE, TRIP, TWO_PAIRS, Texts, expect_cases, expect_refusals,
+};
+use route_base::Status;
 
 // Texts, and the line and the cause of each refusal.
 const REFUSED: &[(&str, &str)] = &[
@@ -48,48 +51,74 @@ fn refuses_zones_with_their_first_fault(rt: HostRuntime) {
     expect_refusals(&rt, BASE, "zones.csv", REFUSED);
 }
 
-// Tables of zones, areas and roads that change no answer.
-const UNUSED: &[Texts<'static>] = &[
-    &[
-        ("d/zones.csv", ZONES),
-        ("d/areas.csv", AREAS),
-        ("d/roads.csv", ROADS),
-    ],
-    &[
-        ("d/zones.csv", ZONES),
-        ("d/areas.csv", ""),
-        ("d/roads.csv", ""),
-    ],
-    &[
-        ("d/zones.csv", ZONES),
-        ("d/areas.csv", ""),
-        ("d/roads.csv", "arc,area\n2,default\n"),
-    ],
-    &[
-        ("d/zones.csv", ""),
-        ("d/areas.csv", "area,zone\nsea,UTC\n"),
-        ("d/roads.csv", "arc,area\n1,sea\n"),
-    ],
-    &[
-        ("d/zones.csv", "zone,from,offset\nUTC,525600,+18:00\n"),
-        ("d/areas.csv", ""),
-        ("d/roads.csv", ""),
-    ],
-    &[
-        (
-            "d/zones.csv",
-            "zone,from,offset\na,525600,-18:00\nb,525600,+00:59\na,525601,-00:00\n",
-        ),
-        ("d/areas.csv", "area,zone\nx,b\ny,a\n"),
-        ("d/roads.csv", ""),
-    ],
+// Runs over tables of zones, areas and roads that change no answer.
+const UNUSED: &[Case<'static>] = &[
+    Case {
+        more: &[
+            ("d/zones.csv", ZONES),
+            ("d/areas.csv", AREAS),
+            ("d/roads.csv", ROADS),
+        ],
+        words: TRIP,
+        status: Status::Done,
+        text: TWO_PAIRS,
+    },
+    Case {
+        more: &[
+            ("d/zones.csv", ZONES),
+            ("d/areas.csv", ""),
+            ("d/roads.csv", ""),
+        ],
+        words: TRIP,
+        status: Status::Done,
+        text: TWO_PAIRS,
+    },
+    Case {
+        more: &[
+            ("d/zones.csv", ZONES),
+            ("d/areas.csv", ""),
+            ("d/roads.csv", "arc,area\n2,default\n"),
+        ],
+        words: TRIP,
+        status: Status::Done,
+        text: TWO_PAIRS,
+    },
+    Case {
+        more: &[
+            ("d/zones.csv", ""),
+            ("d/areas.csv", "area,zone\nsea,UTC\n"),
+            ("d/roads.csv", "arc,area\n1,sea\n"),
+        ],
+        words: TRIP,
+        status: Status::Done,
+        text: TWO_PAIRS,
+    },
+    Case {
+        more: &[
+            ("d/zones.csv", "zone,from,offset\nUTC,525600,+18:00\n"),
+            ("d/areas.csv", ""),
+            ("d/roads.csv", ""),
+        ],
+        words: TRIP,
+        status: Status::Done,
+        text: TWO_PAIRS,
+    },
+    Case {
+        more: &[
+            (
+                "d/zones.csv",
+                "zone,from,offset\na,525600,-18:00\nb,525600,+00:59\na,525601,-00:00\n",
+            ),
+            ("d/areas.csv", "area,zone\nx,b\ny,a\n"),
+            ("d/roads.csv", ""),
+        ],
+        words: TRIP,
+        status: Status::Done,
+        text: TWO_PAIRS,
+    },
 ];
-
-const ANSWER: &[(&str, &str)] = &[(TRIP, TWO_PAIRS)];
 
 #[test]
 fn plans_the_same_trip_in_any_zone(rt: HostRuntime) {
-    for tables in UNUSED {
-        expect_texts(&rt, NETWORK, tables, ANSWER);
-    }
+    expect_cases(&rt, NETWORK, UNUSED);
 }
