@@ -96,7 +96,10 @@ fn expect_meeting<R: Abort + Threads + Sync + AllocGlobal>(
     text: &str,
 ) {
     let counted = run_counted(rt, more, line, text).expect(rt, "memory");
-    assert!(rt; have_met(counted), "{line}: {counted:?}");
+    assert!(rt;
+        have_met(counted),
+        "{line}: {counted:?} are status, text, parts, and parts one after another"
+    );
 }
 
 const JOBS: Texts<'static> = &[(
