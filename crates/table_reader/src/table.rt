@@ -124,7 +124,7 @@ fn header_among<'a>(first: &ByteRecord, headers: &'a [&'a [&'a str]]) -> Option<
     None
 }
 
-// Reads the header, and then adds all data rows to an empty table. A row's memory is used for each.
+// Reads the header, and then adds all data rows to an empty table. Each record is read into the same row.
 #[tactic(auto, unfolding(crate::specs::Schema::first_table_fault))]
 fn read_rows<T: Table>(
     alloc: Global,
