@@ -1,17 +1,19 @@
 -- The timed net of a network is good and stands for its road setting.
-use Rattle.std.proofs.Common.{◌≡◌, ⊎_elim, ℕ, zero, suc, ◌+◌, ◌≤◌, ◌<◌, ◌&&◌, Bool, Some, None, Option, List, [], ◌∷◌, ◌++◌, length, get_or, slice_get}
+use Rattle.std.proofs.Common.{◌≡◌, ⊎_elim, ℕ, zero, suc, ◌+◌, ◌≤◌, ◌<◌, ◌&&◌, Bool, false, Some, None, Option, List, [], ◌∷◌, ◌++◌, length, map, get_or, slice_get}
 use Rattle.std.proofs.Common.{refl, sym, ◌∙◌, ap, subst, arith, add-one}
-use Rattle.std.specs.Prelude.{IsSome}
-use Rattle.std.specs.Option.{option_map, option_flatten}
+use Rattle.std.specs.Prelude.{IsSome, unwrap_or}
+use Rattle.std.specs.Option.{option_map, option_flatten, ForSome}
 use Rattle.std.proofs.lemmas.Bool.{cases_lt, and_from, le-leb, lt-ltb}
-use Rattle.std.proofs.lemmas.List.{length_push}
+use Rattle.std.proofs.lemmas.List.{length_push, length-map}
+use Rattle.std.proofs.lemmas.List.Elements.{All-push, All-map, All-weaker}
 use Rattle.std.proofs.lemmas.Option.{slice_get-get_or, slice_get_past, slice_get_within, unwrap_or-slice_get}
-use Rattle.route_base.specs.Net.{Net, IsGoodNet, IsGoodArc, setting_of, at_number, road_of, runs_at, runs_by}
+use Rattle.route_base.specs.Net.{Net, IsGoodNet, IsGoodArc, IsGoodPark, setting_of, at_number, road_of, runs_at, runs_by, shut_by}
 use Rattle.route_base.specs.Runs.{any_has, has_minute, AreRuns}
 use Rattle.route_base.specs.Matching.{StandsFor}
+use Rattle.route_base.specs.declared.types.Park.{Park}
 use Rattle.route_base.specs.declared.types.Run.{Run}
 use Rattle.route_base.specs.declared.types.TimedArc.{TimedArc}
-use Rattle.route_base.proofs.Numbered.{at_number-all, within_number}
+use Rattle.route_base.proofs.Numbered.{at_number-all, at_number-map, within_number}
 use Rattle.dimacs_reader.specs.GraphModel.{IsGoodGraph, IsGoodGraphArc}
 use Rattle.dimacs_reader.specs.declared.graph.GraphArc.{GraphArc}
 use Rattle.vehicle_classes.specs.VehicleModel.{VehicleModel}
@@ -20,7 +22,7 @@ use Rattle.network_tables.specs.NetworkModel.{NetworkModel, IsGoodNetwork, IsSma
 use Rattle.network_tables.specs.RoadSetting.{road_setting, road_over}
 use Rattle.ban_expansion.specs.ArcGroups.{GroupsModel, AreGroups}
 use Rattle.ban_expansion.specs.Bans.{IsShutWithin}
-use Rattle.ban_expansion.specs.Inside.GroupedNets.{HasClosed, AreClosedLists, IsTimedArc, AreTimed, timed_over}
+use Rattle.ban_expansion.specs.Inside.GroupedNets.{HasClosed, AreClosedLists, IsTimedArc, AreTimed, timed_over, park_over}
 use Rattle.ban_expansion.proofs.ItemLists.{got_pushed, zip_all, zip_at, zip_length}
 
 -- an arc that nothing has
@@ -44,17 +46,31 @@ graph_arc_of : (place : ℕ) (o : Option GraphArc) (arc : TimedArc) → option_m
 graph_arc_of place None arc is = absurd (cc)
 graph_arc_of place (Some graph) arc is = (graph, refl, cc)
 
--- the weight of a node is small
-option_flatten-small : (o : Option (Option ℕ)) (w : ℕ) → ((x : Option ℕ) → o ≡ Some x → IsSmallWeight x) → option_flatten o ≡ Some w → w ≤ 100000
-option_flatten-small None w small is = absurd (cc)
-option_flatten-small (Some x) w small is = small x refl w is
+-- a list that ends with the default has no other item at any place
+get_or-last : {A : Type 0} (xs : List A) (n : ℕ) (d : A) → get_or (xs ++ d ∷ []) n d ≡ get_or xs n d
+get_or-last [] zero d = refl
+get_or-last [] (suc n) d = refl
+get_or-last (x ∷ xs) zero d = refl
+get_or-last (x ∷ xs) (suc n) d = get_or-last xs n d
+
+-- a park has the weight of its node
+weight_kept : (place : ℕ) (o : Option (Option ℕ)) → option_map (λ (park : Park). park.weight) (option_flatten (option_map (park_over place) o))
+    ≡ option_flatten o
+weight_kept place None = refl
+weight_kept place (Some None) = refl
+weight_kept place (Some (Some w)) = refl
 
 some_inside : {A B : Type 0} (f : A → B) (o : Option A) → IsSome (option_map f o) → IsSome o
 some_inside f None h = h
 some_inside f (Some x) h = refl
 
 abbrev net_over : NetworkModel → List TimedArc → List (List Run) → Net
-net_over net arcs lists = record { nodes = net.graph.nodes; arcs = arcs; closed = lists; weights = net.weights }
+net_over net arcs lists = record {
+  nodes = net.graph.nodes;
+  arcs = arcs;
+  closed = lists ++ [] ∷ [];
+  parks = map (park_over (length lists)) net.weights;
+}
 
 module _ (net : NetworkModel) (vehicle : VehicleModel) (window : Run) (all : GroupsModel) (arcs : List TimedArc) (lists : List (List Run))
     (good : IsGoodNetwork net) (graph : IsGoodGraph net.graph) (groups : AreGroups net all)
@@ -72,19 +88,31 @@ module _ (net : NetworkModel) (vehicle : VehicleModel) (window : Run) (all : Gro
         head = named.head;
         minutes = named.minutes;
         cost = omega (arith, named.minutes.1);
-        closed = omega (arith, slice_get_within all.firsts arc.closed group.first group.there, as_many);
+        closed = omega (arith, slice_get_within all.firsts arc.closed group.first group.there, as_many, length_push lists []);
       })
 
-  pub good_net : IsGoodNet (record { nodes = net.graph.nodes; arcs = arcs; closed = lists; weights = net.weights })
+  -- the list without runs
+  empty_runs : AreRuns []
+  empty_runs = record { filled = λ k d within. absurd (omega (arith, within)); apart = λ i j d before within. absurd (omega (arith, within)) }
+
+  good_park : (o : Option ℕ) → IsSmallWeight o → ForSome (park_over (length lists) o) (IsGoodPark (net_over net arcs lists))
+  good_park None small park is = absurd (cc)
+  good_park (Some w) small park is =
+      let same : record { weight = w; shut = length lists } ≡ park = cc in
+      let weight = ap (λ (p : Park). p.weight) same in
+      let shut = ap (λ (p : Park). p.shut) same in
+      record { weight = omega (arith, small w refl, weight); shut = omega (arith, shut, length_push lists []) }
+
+  pub good_net : IsGoodNet (net_over net arcs lists)
   good_net = record {
     nodes = omega (arith, graph.nodes);
     arcs = omega (arith, graph.arcs, timed.counted);
-    closed = omega (arith, graph.arcs, groups.few, as_many);
-    weights = good.weights;
+    closed = omega (arith, graph.arcs, groups.few, as_many, length_push lists []);
+    parks = omega (arith, good.weights, length-map net.weights (park_over (length lists)));
     each_arc = λ k d within. good_arc k (get_or arcs k d) (timed.each k (get_or arcs k d) (slice_get-get_or arcs k d within));
-    each_runs = zip_all (HasClosed net vehicle window) AreRuns (λ first runs has. has.runs) all.firsts lists sets;
-    each_weight = λ v w is.
-        option_flatten-small (at_number net.weights v) w (λ x at. at_number-all IsSmallWeight net.weights v x good.small at) is;
+    each_runs = All-push AreRuns lists [] (zip_all (HasClosed net vehicle window) AreRuns (λ first runs has. has.runs) all.firsts lists sets) empty_runs;
+    each_park = All-map (λ o. ForSome o (IsGoodPark (net_over net arcs lists))) (park_over (length lists)) net.weights
+        (All-weaker IsSmallWeight (λ o. ForSome (park_over (length lists) o) (IsGoodPark (net_over net arcs lists))) good_park net.weights good.small);
   }
 
   road_at : (k : ℕ) (arc : TimedArc) → IsTimedArc net all.groups k arc → Some (road_of arc) ≡ option_map road_over (slice_get net.graph.arcs k)
@@ -114,41 +142,58 @@ module _ (net : NetworkModel) (vehicle : VehicleModel) (window : Run) (all : Gro
       let group = groups.each k arc.closed (timed.each k arc here).group in
       let set = zip_at (HasClosed net vehicle window) all.firsts lists arc.closed group.first [] sets group.there in
       ap (λ (o : Option TimedArc). any_has (runs_by (net_over net arcs lists) o) t) here
-      ∙ ap (λ (runs : List Run). any_has runs t) (unwrap_or-slice_get lists arc.closed [])
+      ∙ ap (λ (runs : List Run). any_has runs t) (unwrap_or-slice_get (lists ++ [] ∷ []) arc.closed [] ∙ get_or-last lists arc.closed [])
       ∙ set.minutes t
       ∙ ap (λ (b : Bool). has_minute t window && b) (sym (group.alike vehicle t))
       ∙ ap (λ (n : ℕ). has_minute t window && is_closed net vehicle n t) (add-one k)
 
-  pub net_stands : StandsFor
-      (setting_of (record { nodes = net.graph.nodes; arcs = arcs; closed = lists; weights = net.weights }))
-      (road_setting net vehicle) window
+  same_weight : (v : ℕ) → (setting_of (net_over net arcs lists)).weight v ≡ option_flatten (at_number net.weights v)
+  same_weight v =
+      ap (λ o. option_map (λ (park : Park). park.weight) (option_flatten o)) (at_number-map (park_over (length lists)) net.weights v)
+      ∙ weight_kept (length lists) (at_number net.weights v)
+
+  -- no park is shut
+  never_shut : (o : Option (Option ℕ)) (t : ℕ)
+      → any_has (shut_by (net_over net arcs lists) (option_flatten (option_map (park_over (length lists)) o))) t ≡ false
+  never_shut None t = refl
+  never_shut (Some None) t = refl
+  never_shut (Some (Some w)) t =
+      ap (λ (runs : List Run). any_has runs t)
+      (unwrap_or-slice_get (lists ++ [] ∷ []) (length lists) [] ∙ get_or-last lists (length lists) []
+      ∙ sym (unwrap_or-slice_get lists (length lists) [])
+      ∙ ap (λ o. unwrap_or o []) (slice_get_past lists (length lists) (omega arith)))
+
+  pub net_stands : StandsFor (setting_of (net_over net arcs lists)) (road_setting net vehicle) window
   net_stands = record {
     nodes = refl;
     arcs = timed.counted;
     road = same_road;
-    weight = λ v. refl;
+    weight = same_weight;
     shut = λ a t there from to.
         closed_minutes a t (some_inside road_over (at_number net.graph.arcs a) there)
         ∙ ap (λ (b : Bool). b && is_closed net vehicle a t) (and_from _ _ (le-leb window.lo t from) (lt-ltb t window.hi to));
+    wait_shut = λ v t there from to.
+        ap (λ o. any_has (shut_by (net_over net arcs lists) (option_flatten o)) t) (at_number-map (park_over (length lists)) net.weights v)
+        ∙ never_shut (at_number net.weights v) t;
   }
 
-  pub net_shut : IsShutWithin net vehicle window
-      (setting_of (record { nodes = net.graph.nodes; arcs = arcs; closed = lists; weights = net.weights }))
+  pub net_shut : IsShutWithin net vehicle window (setting_of (net_over net arcs lists))
   net_shut a t there = closed_minutes a t (some_inside road_over (at_number net.graph.arcs a) (subst IsSome (same_road a) there))
 
--- a net of these parts, with nodes and weights that are the network's
-abbrev pub net_with : ℕ → List TimedArc → List (List Run) → List (Option ℕ) → Net
-net_with n arcs closed weights = record { nodes = n; arcs = arcs; closed = closed; weights = weights }
+-- a net of these parts
+abbrev pub net_with : ℕ → List TimedArc → List (List Run) → List (Option Park) → Net
+net_with n arcs closed parks = record { nodes = n; arcs = arcs; closed = closed; parks = parks }
 
 pub net_made : (net : NetworkModel) (vehicle : VehicleModel) (window : Run) (all : GroupsModel) (arcs : List TimedArc) (lists : List (List Run))
     → IsGoodNetwork net → IsGoodGraph net.graph → AreGroups net all
     → AreTimed net all.groups (length net.graph.arcs) arcs → AreClosedLists net vehicle window all.firsts lists
-    → {n : ℕ} {weights : List (Option ℕ)} → n ≡ net.graph.nodes → weights ≡ net.weights
-    → IsGoodNet (net_with n arcs lists weights) × StandsFor (setting_of (net_with n arcs lists weights)) (road_setting net vehicle) window
-    × IsShutWithin net vehicle window (setting_of (net_with n arcs lists weights))
-net_made net vehicle window all arcs lists good graph groups timed sets nodes weights =
-    let same : net_with net.graph.nodes arcs lists net.weights ≡ net_with _ arcs lists _ =
-    λ i. net_with (sym nodes i) arcs lists (sym weights i) in (
+    → {n : ℕ} {closed : List (List Run)} {parks : List (Option Park)} → n ≡ net.graph.nodes → closed ≡ lists ++ [] ∷ []
+    → parks ≡ map (park_over (length lists)) net.weights
+    → IsGoodNet (net_with n arcs closed parks) × StandsFor (setting_of (net_with n arcs closed parks)) (road_setting net vehicle) window
+    × IsShutWithin net vehicle window (setting_of (net_with n arcs closed parks))
+net_made net vehicle window all arcs lists good graph groups timed sets nodes closed parks =
+    let same : net_over net arcs lists ≡ net_with _ arcs _ _ =
+    λ i. net_with (sym nodes i) arcs (sym closed i) (sym parks i) in (
       subst IsGoodNet same (good_net net vehicle window all arcs lists good graph groups timed sets),
       subst (λ (n : Net). StandsFor (setting_of n) (road_setting net vehicle) window) same
           (net_stands net vehicle window all arcs lists good graph groups timed sets),

@@ -11,6 +11,6 @@ pub use Rattle.network_tables.specs.RoadSetting.{road_setting}
 pub use Rattle.ban_expansion.specs.ArcGroups.{AreGroups, IsArc, IsInGroup}
 pub use Rattle.ban_expansion.specs.Bans.{HasThose, IsShutWithin, Lays, part_holds_at, clause_holds_at, clause_gives}
 pub use Rattle.ban_expansion.specs.Coverage.{IsWindow}
-pub use Rattle.ban_expansion.specs.Inside.GroupedNets.{AreClosedLists, AreTimed, IsTimedArc, timed_over}
+pub use Rattle.ban_expansion.specs.Inside.GroupedNets.{AreClosedLists, AreTimed, IsTimedArc, timed_over, park_over}
 pub use Rattle.ban_expansion.specs.Inside.Grouping.{AreAlike, AreGrouped, AreShared, HaveSameRules}
 pub use Rattle.ban_expansion.specs.Inside.Grouping.{begun, begun_shared, every_key, has_own, has_own_rule, group_joined}

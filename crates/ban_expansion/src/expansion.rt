@@ -1,7 +1,7 @@
 // Makes the net of a network for a vehicle, over which trips are planned.
-ghost use Rattle.std.specs.Prelude.{◌≡◌, ◌≤◌, ◌<◌, length, IfOk};
+ghost use Rattle.std.specs.Prelude.{◌≡◌, ◌≤◌, ◌<◌, ◌^◌, ◌++◌, ◌∷◌, [], length, map, IfOk, OnOk};
 ghost use Rattle.ban_expansion.specs.Words.{StandsFor, IsShutWithin, setting_of, IsGoodGraph, road_setting, IsWindow};
-ghost use Rattle.ban_expansion.specs.Words.{AreGroups, AreTimed, IsTimedArc, timed_over};
+ghost use Rattle.ban_expansion.specs.Words.{AreGroups, AreTimed, IsTimedArc, timed_over, park_over};
 
 use crate::arc_groups::ArcGroups;
 use crate::closed_lists::{closed_lists, closed_lists_at_once};
@@ -9,7 +9,7 @@ use crate::grouping::group_arcs;
 use dimacs_reader::GraphArc;
 use network_tables::Network;
 use route_base::limits::COST_OF_MINUTE;
-use route_base::{ArcId, Cost, Gate, NodeId, OutOfMemory, Run, TimedArc, TimedNet};
+use route_base::{ArcId, Cost, Gate, NodeId, OutOfMemory, Park, Run, TimedArc, TimedNet};
 use std::alloc::Global;
 use std::thread::Threads;
 use vehicle_classes::Vehicle;
@@ -57,15 +57,42 @@ fn timed_arcs(
     Ok(arcs)
 }
 
-// The weight of each node where one may wait.
-fn weights_of(alloc: Global, network: &Network) -> Result<Vec<Option<Cost>>, OutOfMemory>
-    ensures { IfOk result (λ weights. weights.items ≡ network.now.weights) }
+// The park of a node with this weight, with its shut runs at this place.
+fn park_at(weight: Option<Cost>, shut: u32) -> Option<Park>
+    ensures { result ≡ park_over shut weight }
 {
-    let mut weights = Vec::with_capacity(alloc, network.graph().node_count() as usize)?;
-    for v in 0..network.graph().node_count() {
-        weights.push(network.weight(NodeId(v + 1)))?;
+    match weight {
+        Some(weight) => Some(Park { weight, shut }),
+        None => None,
     }
-    Ok(weights)
+}
+
+// The park of each node where one may wait, with its shut runs at this place.
+fn parks_at(alloc: Global, network: &Network, shut: u32) -> Result<Vec<Option<Park>>, OutOfMemory>
+    ensures { IfOk result (λ parks. parks.items ≡ map (park_over shut) network.now.weights) }
+{
+    let mut parks = Vec::with_capacity(alloc, network.graph().node_count() as usize)?;
+    for v in 0..network.graph().node_count() {
+        parks.push(park_at(network.weight(NodeId(v + 1)), shut))?;
+    }
+    Ok(parks)
+}
+
+// The park of each node where one may wait, which is open at every minute: a list without runs is added to the others.
+fn open_parks(
+    alloc: Global,
+    network: &Network,
+    closed: &mut Vec<Vec<Run>>,
+) -> Result<Vec<Option<Park>>, OutOfMemory>
+    requires { length closed.old.items < 2 ^ 32 }
+    ensures parks { IfOk result (λ parks.
+        parks.items ≡ map (park_over (length closed.old.items)) network.now.weights) }
+    ensures closed { OnOk result (map (λ v. v.items) closed.new.items
+        ≡ map (λ v. v.items) closed.old.items ++ [] ∷ []) }
+{
+    let parks = parks_at(alloc, network, closed.len() as u32)?;
+    closed.push(Vec::new(alloc))?;
+    Ok(parks)
 }
 
 /// The network as a net for the vehicle, as `expand_plain` makes it, over groups that `group_arcs` found.
@@ -87,13 +114,13 @@ pub fn expand_groups(
 {
     let nodes = network.graph().node_count();
     let arcs = timed_arcs(alloc, network, groups)?;
-    let closed = closed_lists(alloc, network, groups.firsts(), vehicle, window)?;
-    let weights = weights_of(alloc, network)?;
-    Ok(TimedNet::new(nodes, arcs, closed, weights))
+    let mut closed = closed_lists(alloc, network, groups.firsts(), vehicle, window)?;
+    let parks = open_parks(alloc, network, &mut closed)?;
+    Ok(TimedNet::new(nodes, arcs, closed, parks))
 }
 
 /// The network as a net for the vehicle: each minute of driving costs 1,000 thousandths, an arc is closed at exactly the
-/// minutes of the window at which it is closed to the vehicle, and one may wait at the nodes with a weight.
+/// minutes of the window at which it is closed to the vehicle, and one may wait at the nodes with a weight, at every minute.
 ///
 /// It takes the time and memory of `group_arcs` and then of `expand_groups`; where many nets of one network are made, call these,
 /// and the first once.
@@ -136,7 +163,7 @@ pub fn expand<R: Threads + Sync, G: Gate>(
     let nodes = network.graph().node_count();
     let arcs = timed_arcs(alloc, network, &groups)?;
     let firsts = groups.firsts();
-    let closed = closed_lists_at_once(rt, alloc, network, firsts, vehicle, window, gate)?;
-    let weights = weights_of(alloc, network)?;
-    Ok(TimedNet::new(nodes, arcs, closed, weights))
+    let mut closed = closed_lists_at_once(rt, alloc, network, firsts, vehicle, window, gate)?;
+    let parks = open_parks(alloc, network, &mut closed)?;
+    Ok(TimedNet::new(nodes, arcs, closed, parks))
 }

@@ -1,25 +1,28 @@
 -- Nets of small parts are well-formed, and their costs fit.
-use Rattle.std.proofs.Common.{◌≡◌, ℕ, ◌*◌, ◌≤◌, Option, Some, None, List, length, refl, ap, arith}
+use Rattle.std.proofs.Common.{◌≡◌, ℕ, ◌*◌, ◌≤◌, Option, Some, None, List, length, refl, ap, sym, subst, arith}
 use Rattle.std.specs.Prelude.{All, IfSome, Vec}
 use Rattle.std.specs.declared.alloc.Global.{Global}
-use Rattle.std.specs.Option.{option_map, option_flatten}
+use Rattle.std.specs.Option.{option_map, ForSome}
 use Rattle.std.proofs.lemmas.List.{length-map}
 use Rattle.std.proofs.lemmas.List.Elements.{All-map, All-weaker}
 use Rattle.route_base.specs.Legs.{CostsFit}
-use Rattle.route_base.specs.Net.{Net, IsGoodArc, IsGoodNet, at_number, net_from, road_of, setting_of}
+use Rattle.route_base.specs.Net.{Net, IsGoodArc, IsGoodNet, IsGoodPark, at_number, net_from, road_of, setting_of}
 use Rattle.route_base.specs.Runs.{AreRuns}
 use Rattle.route_base.specs.Setting.{Road}
+use Rattle.route_base.specs.declared.types.Park.{Park}
 use Rattle.route_base.specs.declared.types.Request.{Request}
 use Rattle.route_base.specs.declared.types.Run.{Run}
 use Rattle.route_base.specs.declared.types.TimedArc.{TimedArc}
 use Rattle.route_base.proofs.Costs.{fits}
+use Rattle.route_base.proofs.Parks.{weight_small}
 use Rattle.route_base.proofs.Numbered.{at_number-all}
 use Rattle.both_engines.specs.SmallNets.{IsSmallArc, IsCheapArc, IsLight, IsRequestOver}
 
-light_weight : (o : Option (Option ℕ)) (w : ℕ) → IfSome o IsLight → option_flatten o ≡ Some w → w ≤ 100
-light_weight None w light is = absurd (cc)
-light_weight (Some None) w light is = absurd (cc)
-light_weight (Some (Some x)) w light is = let same : x ≡ w = cc in omega (arith, same, light)
+light_park : (net : Net) (lists : ℕ) → lists ≡ length net.closed → (o : Option Park) → IsLight lists o → ForSome o (IsGoodPark net)
+light_park net lists as_many None light park is = absurd (cc)
+light_park net lists as_many (Some p) light park is =
+    let same : p ≡ park = cc in
+    subst (IsGoodPark net) same (record { weight = omega (arith, light.0); shut = omega (arith, light.1, as_many) })
 
 -- what holds of all items holds of the one at a number, where there is one
 item_at : {A : Type 0} (P : A → Type 0) (xs : List A) (n : ℕ) → All P xs → IfSome (at_number xs n) P
@@ -29,16 +32,16 @@ item_at P xs n all = cases (at_number xs n) refl
     cases None is = tt
     cases (Some x) is = at_number-all P xs n x all is
 
-module _ (nodes : ℕ) (arcs : List TimedArc) (closed : List (Vec Run Global)) (weights : List (Option ℕ)) where
+module _ (nodes : ℕ) (arcs : List TimedArc) (closed : List (Vec Run Global)) (parks : List (Option Park)) where
   -- a net of small parts is well-formed
-  pub well_formed : nodes ≤ 100 → length arcs ≤ 100 → length closed ≤ 100 → length weights ≡ nodes → All (IsSmallArc nodes (length closed)) arcs
-      → All (λ v. AreRuns v.items) closed → All IsLight weights → IsGoodNet (net_from nodes arcs closed weights)
+  pub well_formed : nodes ≤ 100 → length arcs ≤ 100 → length closed ≤ 100 → length parks ≡ nodes → All (IsSmallArc nodes (length closed)) arcs
+      → All (λ v. AreRuns v.items) closed → All (IsLight (length closed)) parks → IsGoodNet (net_from nodes arcs closed parks)
   well_formed few few_arcs few_lists each small runs light = record {
     nodes = omega (arith, few);
     arcs = omega (arith, few_arcs);
     closed = omega (arith, few_lists, length-map closed (λ (v : Vec Run Global). v.items));
-    weights = each;
-    each_arc = All-weaker (IsSmallArc nodes (length closed)) (IsGoodArc (net_from nodes arcs closed weights))
+    parks = each;
+    each_arc = All-weaker (IsSmallArc nodes (length closed)) (IsGoodArc (net_from nodes arcs closed parks))
         (λ arc here. record {
           tail = here.tail;
           head = here.head;
@@ -48,7 +51,8 @@ module _ (nodes : ℕ) (arcs : List TimedArc) (closed : List (Vec Run Global)) (
         })
         arcs small;
     each_runs = All-map AreRuns (λ (v : Vec Run Global). v.items) closed runs;
-    each_weight = λ v w is. omega (arith, light_weight (at_number weights v) w (item_at IsLight weights v light) is);
+    each_park = All-weaker (IsLight (length closed)) (λ o. ForSome o (IsGoodPark (net_from nodes arcs closed parks)))
+        (light_park (net_from nodes arcs closed parks) (length closed) (sym (length-map closed (λ (v : Vec Run Global). v.items)))) parks light;
   }
 
 cheap_road : (o : Option TimedArc) (road : Road) → IfSome o IsCheapArc → option_map road_of o ≡ Some road → road.cost ≤ 100000 * road.minutes
@@ -61,6 +65,6 @@ pub costs_fit : (net : Net) (r : Request) → IsGoodNet net → All IsCheapArc n
 costs_fit net r good cheap over = fits (setting_of net) r
     (record {
       each_road = λ a road is. cheap_road (at_number net.arcs a) road (item_at IsCheapArc net.arcs a cheap) is;
-      each_weight = good.each_weight;
+      each_weight = weight_small net good;
     })
     over.in_time over.short

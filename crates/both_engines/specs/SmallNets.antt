@@ -1,6 +1,7 @@
 -- Small nets: numbers so low that every cost of a request fits (source: own).
 use Rattle.std.specs.Prelude.{ℕ, ◌+◌, ◌*◌, ◌≤◌, ◌<◌, Option, IfSome}
 use Rattle.route_base.specs.Net.{Net, IsGoodRequest}
+use Rattle.route_base.specs.declared.types.Park.{Park}
 use Rattle.route_base.specs.declared.types.Request.{Request}
 use Rattle.route_base.specs.declared.types.TimedArc.{TimedArc}
 
@@ -16,9 +17,9 @@ pub record IsSmallArc (nodes lists : ℕ) (arc : TimedArc) : Type 0 where
 abbrev pub IsCheapArc : TimedArc → Type 0
 IsCheapArc arc = arc.cost ≤ 100000 * arc.minutes
 
--- no weight, or one of at most 100 thousandths a minute
-abbrev pub IsLight : Option ℕ → Type 0
-IsLight weight = IfSome weight (λ w. w ≤ 100)
+-- no park, or one of at most 100 thousandths a minute, with one of the first lists of runs
+abbrev pub IsLight : ℕ → Option Park → Type 0
+IsLight lists park = IfSome park (λ p. (p.weight ≤ 100) × (p.shut < lists))
 
 -- a request over the net, of at most 60 days
 pub record IsRequestOver (net : Net) (r : Request) : Type 0 where

@@ -10,6 +10,7 @@ use Rattle.route_base.specs.Net.{at_number, road_of}
 use Rattle.route_base.specs.Relaxing.{IsBoundThrough}
 use Rattle.route_base.specs.declared.types.Bound.{Bound}
 use Rattle.route_base.specs.declared.types.NodeId.{NodeId}
+use Rattle.route_base.specs.declared.types.Park.{Park}
 use Rattle.route_base.specs.declared.types.TimedArc.{TimedArc}
 use Rattle.cost_functions.specs.declared.TheConstants.{HIGHEST_PIECE_COST}
 use Rattle.certificate.specs.ByNode.{item_at}
@@ -29,13 +30,15 @@ road_within arcs zero road is = absurd (none_some road None refl is)
 road_within arcs (suc k) road is =
     let within = mapped_within arcs k road (slice_get arcs k) refl is in (omega arith, omega (arith, within))
 
-joined_within : (ws : List (Option ℕ)) (k w : ℕ) → (o : Option (Option ℕ)) → slice_get ws k ≡ o → option_flatten o ≡ Some w → k < length ws
-joined_within ws k w None at is = absurd (none_some w None refl is)
-joined_within ws k w (Some x) at is = slice_get_within ws k x at
+joined_within : (ps : List (Option Park)) (k w : ℕ) → (o : Option (Option Park)) → slice_get ps k ≡ o
+    → option_map (λ park. park.weight) (option_flatten o) ≡ Some w → k < length ps
+joined_within ps k w None at is = absurd (none_some w None refl is)
+joined_within ps k w (Some x) at is = slice_get_within ps k x at
 
-pub weight_within : (ws : List (Option ℕ)) (v w : ℕ) → option_flatten (at_number ws v) ≡ Some w → (1 ≤ v) × (v ≤ length ws)
-weight_within ws zero w is = absurd (none_some w None refl is)
-weight_within ws (suc k) w is = let within = joined_within ws k w (slice_get ws k) refl is in (omega arith, omega (arith, within))
+pub weight_within : (ps : List (Option Park)) (v w : ℕ) → option_map (λ park. park.weight) (option_flatten (at_number ps v)) ≡ Some w
+    → (1 ≤ v) × (v ≤ length ps)
+weight_within ps zero w is = absurd (none_some w None refl is)
+weight_within ps (suc k) w is = let within = joined_within ps k w (slice_get ps k) refl is in (omega arith, omega (arith, within))
 
 -- a property of all entries is one of the first entry of a node
 pub item_has : {A : Type 0} (P : A → Type 0) (es : List (NodeId × A)) (v : ℕ) (x : A) → All (λ e. P e.1) es → item_at es v ≡ Some x → P x

@@ -125,7 +125,7 @@ module _ (s : Setting) (until : ℕ) (pairs : List Pair) (bounds : ℕ → Optio
         }))
 
   module _ (v weight : ℕ) (rated : s.weight v ≡ Some weight) (minutes : link.minutes ≡ 1) (cost : link.cost ≡ weight)
-      (free : (t : ℕ) → IsFree link.closed t link.minutes) (from : link.from ≡ bounds v) (to : link.to ≡ bounds v)
+      (shut : (t : ℕ) → any_has link.closed t ≡ s.wait_shut v t) (from : link.from ≡ bounds v) (to : link.to ≡ bounds v)
       (there : (t : ℕ) → value_at link.values t ≡ value v t) (here : (t : ℕ) → value_at pieces t ≡ value v t) where
     pub waits_relaxed : ((t x : ℕ) → value_at pieces t ≡ Some x → Passes until pairs link t x) → AreWaitsRelaxed s until pairs bounds value v
     waits_relaxed all p q at stands waits =
@@ -134,16 +134,18 @@ module _ (s : Setting) (until : ℕ) (pairs : List Pair) (bounds : ℕ → Optio
         relaxed_of_passes until pairs bounds value link p q (from ∙ ap bounds (sym at)) (to ∙ ap bounds next)
         (λ t. there t ∙ ap (λ w. value w t) next)
         (omega (arith, waits.minute, minutes)) (omega (arith, waits.cost, cost, same)) (omega (arith, waits.minute, waits.in_time))
-        (free p.minute)
+        (λ u late early. shut u ∙ ap (λ w. s.wait_shut w u) (sym at) ∙ ap (s.wait_shut p.node) (let e : u ≡ p.minute = omega (arith, late, early, minutes) in e)
+        ∙ waits.is_open)
         (all p.minute p.cost (here p.minute ∙ ap (λ w. value w p.minute) (sym at) ∙ stands))
 
     pub waits_pass : AreWaitsRelaxed s until pairs bounds value v → (t x : ℕ) → value_at pieces t ≡ Some x → Passes until pairs link t x
     waits_pass all t x has =
         let p : Position = record { node = v; minute = t; cost = x } in
         let q : Position = record { node = v; minute = t + link.minutes; cost = x + link.cost } in
-        passes_of_relaxed until pairs bounds value link p q from to there refl refl (λ in_time _. all p q refl (sym (here t) ∙ has) (record {
+        passes_of_relaxed until pairs bounds value link p q from to there refl refl (λ in_time free. all p q refl (sym (here t) ∙ has) (record {
           weight = weight;
           rated = rated;
+          is_open = sym (shut t) ∙ free t (omega arith) (omega (arith, minutes));
           in_time = omega (arith, in_time, minutes);
           node = refl;
           minute = omega (arith, minutes);

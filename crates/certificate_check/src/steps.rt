@@ -149,7 +149,7 @@ fn are_waits_at_relaxed(
     let passage = Passage {
         minutes: 1,
         cost: weight,
-        closed: &[],
+        closed: net.shut_runs(v),
         from: bound,
         to: bound,
         values: pieces,

@@ -1,5 +1,5 @@
 -- Values that stay in range where the ends of the pieces do.
-use Rattle.std.proofs.Common.{ℕ, ◌+◌, ◌*◌, ◌-◌, ◌≤◌, List, get_or, All, arith}
+use Rattle.std.proofs.Common.{ℕ, ◌+◌, ◌*◌, ◌-◌, ◌≤◌, Bool, List, get_or, All, arith}
 use Rattle.std.proofs.Math.Nat.{mul-le-mul_left}
 use Rattle.route_base.specs.Runs.{any_has}
 use Rattle.route_base.specs.declared.types.Run.{Run}
@@ -37,20 +37,21 @@ module _ (minutes cost : ℕ) (ps : List Piece) where
     values_fit = λ t v is. can.values_fit t v (chosen (any_has runs t) (value_at ps t) v is);
   }
 
-pub can_wait : (weight until : ℕ) (ps : List Piece) → All (WaitsInRange weight until) ps → CanWait (value_at ps) weight until
-can_wait weight until ps all t x upto is =
-    let from = (waited_least (value_at ps) weight t).reached x is in
+pub can_wait : (weight until : ℕ) (ps : List Piece) → All (WaitsInRange weight until) ps → (allowed : ℕ → Bool)
+    → CanWait (value_at ps) allowed weight until
+can_wait weight until ps all allowed t x upto is =
+    let from = (waited_least (value_at ps) allowed weight t).reached x is in
     let s = from.0 in
-    let v = from.1.0 in
+    let v = from.1 in
     let fits = values_of_pieces (λ u y. u ≤ until → y + weight * (until - u) ≤ HIGHEST_COST) ps
     (λ k d within u begun ended in_time.
     (let end = all k d within in
     let rise = line_rises (get_or ps k d) u (get_or ps k d).hi ended in
     let less : weight * (until - u) ≤ weight * (until - (get_or ps k d).lo) = mul-le-mul_left weight (omega (arith, begun)) in
     omega (arith, end, rise, less)))
-    s v (from.1.1.1) (omega (arith, from.1.1.0, upto)) in
+    s v (from.4) (omega (arith, from.2, upto)) in
     let less : weight * (t - s) ≤ weight * (until - s) = mul-le-mul_left weight (omega (arith, upto)) in
-    omega (arith, fits, less, from.1.1.2)
+    omega (arith, fits, less, from.5)
 
 pub all_wait : (weight until : ℕ) (ps : List Piece) → ArePieces ps → CanWaitAnywhere (value_at ps) weight until → All (WaitsInRange weight until) ps
 all_wait weight until ps are can k d within =

@@ -1,5 +1,5 @@
 // Tests of what `shift` and `wait` require.
-ghost use Rattle.std.specs.Prelude.{◌↔◌, ◌≤◌, List, IsTrue, All};
+ghost use Rattle.std.specs.Prelude.{◌↔◌, ◌≤◌, ℕ, Bool, List, IsTrue, All};
 ghost use Rattle.cost_functions.specs.Lines.{IsPiece};
 ghost use Rattle.cost_functions.specs.Pieces.{value_at, ArePieces};
 ghost use Rattle.route_base.specs.declared.limits.TheConstants.{LAST_INSTANT, HIGHEST_COST};
@@ -22,13 +22,14 @@ pub fn can_shift(f: &CostFn, minutes: u64, cost: Cost) -> bool
     all_fit(f.pieces(), minutes, cost)
 }
 
-/// Whether waiting until `until` from all values of f stays in range, as `wait` requires; `false` also where it only might not:
+/// Whether waiting until `until` from all values of f stays in range, as `wait` requires whatever minutes it allows; `false` also where it only might not:
 /// where the last value of a piece and a wait from the first minute of the piece are too much. It is `true` where the value at no
 /// minute of f and a wait from that minute or an earlier one are too much. Linear in the number of pieces; no memory.
 pub fn can_wait(f: &CostFn, weight: Cost, until: Minute) -> bool
     requires weight { weight ≤ HIGHEST_COST }
     requires until { until ≤ LAST_INSTANT }
-    ensures can { IsTrue result → CanWait (value_at f.now) weight until }
+    ensures can { IsTrue result
+        → (allowed : ℕ → Bool) → CanWait (value_at f.now) allowed weight until }
     ensures enough { CanWaitAnywhere (value_at f.now) weight until → IsTrue result }
 {
     all_fit_wait(f.pieces(), weight, until)

@@ -93,6 +93,7 @@ pub fn find_runs(runs: &[Run], from: Minute) -> &[Run]
     requires { AreRuns runs.now }
     ensures runs { AreRuns result.now }
     ensures minutes { (t : ℕ) → from ≤ t → any_has result.now t ≡ any_has runs.now t }
+    ensures reach { All (λ r. from < r.hi) result.now }
 {
     &runs[runs.partition_point(|run| run.hi <= from)..]
 }

@@ -3,38 +3,64 @@ ghost use Rattle.std.specs.Prelude.{◌≡◌, ◌+◌, ◌*◌, ◌<◌, ◌≤
 ghost use Rattle.cost_functions.specs.Lines.{line_at, IsPiece, IsSmallPiece};
 ghost use Rattle.cost_functions.specs.Pieces.{value_at, ArePieces, AreSmallPieces};
 ghost use Rattle.cost_functions.specs.Building.{AreBuilt};
+ghost use Rattle.route_base.specs.Runs.{any_has, AreRuns};
 ghost use Rattle.route_base.specs.declared.limits.TheConstants.{LAST_INSTANT, HIGHEST_COST};
-ghost use Rattle.function_merge.specs.Waits.{IsLeastWait, waited_at, carried_to, CanWait};
+ghost use Rattle.function_merge.specs.Waits.{IsAllowed, IsLeastWait, waited_at, carried_to, CanWait};
 ghost use Rattle.function_merge.specs.Inside.NextWaits.{IsNextWait};
 
-use crate::suffixes::skip_pieces;
+use crate::suffixes::{find_runs, skip_pieces};
 use cost_functions::{Builder, CostFn, Piece, held_for};
-use route_base::{Cost, Minute, OutOfMemory};
+use minute_sets::{MinuteSet, Stretch, stretch_at};
+use route_base::{Cost, Minute, OutOfMemory, Run, is_free};
 use std::alloc::Global;
 
 /// The function that has at each minute up to `until` the least cost of a value of f at it or before and of the wait since then, at
-/// `weight` thousandths a minute, and no value afterwards. Linear in the number of pieces, in time and memory.
-pub fn wait(alloc: Global, f: &CostFn, weight: Cost, until: Minute) -> Result<CostFn, OutOfMemory>
+/// `weight` thousandths a minute, and no value afterwards. A wait is allowed at the minutes of `allowed` alone. Linear in the number
+/// of pieces and of the runs of `allowed`, in time and memory, but for a binary search in the runs for each.
+pub fn wait(
+    alloc: Global,
+    f: &CostFn,
+    weight: Cost,
+    allowed: &MinuteSet,
+    until: Minute,
+) -> Result<CostFn, OutOfMemory>
     requires small { AreSmallPieces f.now }
     requires weight { weight ≤ HIGHEST_COST }
     requires until { until ≤ LAST_INSTANT }
-    requires fit { CanWait (value_at f.now) weight until }
+    requires fit { CanWait (value_at f.now) (any_has allowed.now) weight until }
     ensures values { IfOk result (λ waited. (t : ℕ) →
-        t ≤ until → IsLeastWait (value_at f.now) weight t (value_at waited t)) }
+        t ≤ until → IsLeastWait (value_at f.now) (any_has allowed.now) weight t (value_at waited t)) }
     ensures ended { IfOk result (λ waited. (t : ℕ) → until < t → value_at waited t ≡ None) }
     ensures built { IfOk result AreBuilt }
 {
     let mut built = Builder::new(alloc);
     let mut left = f.pieces();
+    let runs = allowed.runs();
     let mut from: Minute = 0;
     let mut carried = None;
-    'sweep: while let Some(piece) = next_wait(left, from, carried, weight, until) {
+    'sweep: while let Some(piece) = next_wait(left, runs, from, carried, weight, until) {
         built.push(piece)?;
-        carried = Some(last_value(piece) + weight);
+        carried = cost_behind(piece, runs, weight);
         from = piece.hi + 1;
         left = skip_pieces(left, from);
     }
     Ok(built.finish())
+}
+
+// The cost of waiting on for a minute at the end of the piece, if that is allowed.
+fn cost_behind(piece: Piece, runs: &[Run], weight: Cost) -> Option<Cost>
+    requires filled { piece.lo ≤ piece.hi }
+    requires small { IsSmallPiece piece }
+    requires weight { weight ≤ HIGHEST_COST }
+    requires runs { AreRuns runs.now }
+    ensures { (values : ℕ → Option ℕ)
+        → waited_at values (any_has runs.now) weight piece.hi ≡ Some (line_at piece piece.hi)
+        → carried_to values (any_has runs.now) weight (piece.hi + 1) ≡ result }
+{
+    if is_free(runs, piece.hi, 1) {
+        return None;
+    }
+    Some(last_value(piece) + weight)
 }
 
 // The cost at the last minute of the piece.
@@ -46,9 +72,35 @@ fn last_value(piece: Piece) -> Cost
     piece.cost + piece.slope * (piece.hi - piece.lo)
 }
 
+// The minutes from one on at which waiting is allowed, or at which it isn't.
+fn stretch_from(runs: &[Run], from: Minute) -> Stretch
+    requires { AreRuns runs.now }
+    ensures same { (t : ℕ) → from ≤ t → t < result.until → any_has runs.now t ≡ result.inside }
+    ensures later { from ≤ result.until }
+{
+    stretch_at(find_runs(runs, from), from)
+}
+
+// The last minute, up to another, until which a wait from this one on can last: this one, where waiting isn't allowed.
+fn last_to_wait(runs: &[Run], from: Minute, until: Minute) -> Minute
+    requires runs { AreRuns runs.now }
+    requires until { from ≤ until }
+    ensures from { from ≤ result }
+    ensures upto { result ≤ until }
+    ensures allowed { IsAllowed (any_has runs.now) from result }
+{
+    let stretch = stretch_from(runs, from);
+    if stretch.inside {
+        until.min(stretch.until)
+    } else {
+        from
+    }
+}
+
 // The next piece of the function with waits from a minute on, where `carried` is the cost of waiting until that minute.
 fn next_wait(
     left: &[Piece],
+    runs: &[Run],
     from: Minute,
     carried: Option<Cost>,
     weight: Cost,
@@ -57,52 +109,80 @@ fn next_wait(
     requires pieces { ArePieces left.now }
     requires small { AreSmallPieces left.now }
     requires reach { All (λ p. from ≤ p.hi) left.now }
+    requires runs { AreRuns runs.now }
     ensures some { IfSome result (λ piece. (values : ℕ → Option ℕ)
         → ((t : ℕ) → from ≤ t → values t ≡ value_at left.now t)
-        → carried_to values weight from ≡ carried → IsNextWait values weight from until piece) }
+        → carried_to values (any_has runs.now) weight from ≡ carried
+        → IsNextWait values (any_has runs.now) weight from until piece) }
     ensures none { result ≡ None → (values : ℕ → Option ℕ)
         → ((t : ℕ) → from ≤ t → values t ≡ value_at left.now t)
-        → carried_to values weight from ≡ carried
-        → (t : ℕ) → from ≤ t → t ≤ until → waited_at values weight t ≡ None }
+        → carried_to values (any_has runs.now) weight from ≡ carried
+        → (t : ℕ) → from ≤ t → t ≤ until → waited_at values (any_has runs.now) weight t ≡ None }
 {
     if until < from {
         return None;
     }
     match carried {
-        None => first_wait(left, from, weight, until),
-        Some(cost) => Some(wait_on(left, from, cost, weight, until)),
+        None => first_wait(left, runs, from, weight, until),
+        Some(cost) => {
+            let last = last_to_wait(runs, from, until);
+            Some(wait_on(left, runs, from, cost, weight, last))
+        }
     }
 }
 
-// The same where there is no cost of waiting, since no value is before the minute.
-fn first_wait(left: &[Piece], from: Minute, weight: Cost, until: Minute) -> Option<Piece>
+// The same where there is no cost of waiting.
+fn first_wait(
+    left: &[Piece],
+    runs: &[Run],
+    from: Minute,
+    weight: Cost,
+    until: Minute,
+) -> Option<Piece>
     requires pieces { ArePieces left.now }
     requires small { AreSmallPieces left.now }
     requires reach { All (λ p. from ≤ p.hi) left.now }
+    requires runs { AreRuns runs.now }
     ensures some { IfSome result (λ piece. (values : ℕ → Option ℕ)
         → ((t : ℕ) → from ≤ t → values t ≡ value_at left.now t)
-        → carried_to values weight from ≡ None → IsNextWait values weight from until piece) }
+        → carried_to values (any_has runs.now) weight from ≡ None
+        → IsNextWait values (any_has runs.now) weight from until piece) }
     ensures none { result ≡ None → (values : ℕ → Option ℕ)
         → ((t : ℕ) → from ≤ t → values t ≡ value_at left.now t)
-        → carried_to values weight from ≡ None
-        → (t : ℕ) → from ≤ t → t ≤ until → waited_at values weight t ≡ None }
+        → carried_to values (any_has runs.now) weight from ≡ None
+        → (t : ℕ) → from ≤ t → t ≤ until → waited_at values (any_has runs.now) weight t ≡ None }
 {
     let [piece, ..] = left else { return None };
     let lo = from.max(piece.lo);
     if until < lo {
         return None;
     }
-    Some(own_line(*piece, lo, weight, until))
+    let stretch = stretch_from(runs, lo);
+    let last = until.min(stretch.until);
+    if stretch.inside {
+        Some(own_line(*piece, lo, weight, last))
+    } else {
+        Some(own_line(*piece, lo, piece.slope, last))
+    }
 }
 
-// The same where there is a cost of waiting.
-fn wait_on(left: &[Piece], from: Minute, cost: Cost, weight: Cost, until: Minute) -> Piece
+// The same where there is a cost of waiting, and waiting is allowed up to a minute.
+fn wait_on(
+    left: &[Piece],
+    runs: &[Run],
+    from: Minute,
+    cost: Cost,
+    weight: Cost,
+    until: Minute,
+) -> Piece
     requires pieces { ArePieces left.now }
     requires small { AreSmallPieces left.now }
     requires reach { All (λ p. from ≤ p.hi) left.now }
     requires until { from ≤ until }
+    requires allowed { IsAllowed (any_has runs.now) from until }
     ensures { (values : ℕ → Option ℕ) → ((t : ℕ) → from ≤ t → values t ≡ value_at left.now t)
-        → carried_to values weight from ≡ Some cost → IsNextWait values weight from until result }
+        → carried_to values (any_has runs.now) weight from ≡ Some cost
+        → IsNextWait values (any_has runs.now) weight from until result }
 {
     let [piece, ..] = left else {
         return Piece {
@@ -134,7 +214,7 @@ fn wait_on(left: &[Piece], from: Minute, cost: Cost, weight: Cost, until: Minute
     }
 }
 
-// The piece from `lo` on up to `until`; where it is steeper than waiting, a wait from its value at `lo`.
+// The piece from `lo` on up to `until`; where it is steeper than the weight, a line of this slope from its value at `lo`.
 fn own_line(piece: Piece, lo: Minute, weight: Cost, until: Minute) -> Piece
     requires piece { IsPiece piece }
     requires from { piece.lo ≤ lo }

@@ -5,7 +5,7 @@ use Rattle.std.proofs.lemmas.List.{length-replicate}
 use Rattle.route_base.specs.Setting.{Setting}
 use Rattle.route_base.specs.Itinerary.{Position, Step, drive, wait, Moves, Drives, Walks}
 use Rattle.route_base.specs.Net.{Net, road_of, setting_of, at_number}
-use Rattle.route_base.specs.Open.{IsOpen}
+use Rattle.route_base.specs.Open.{IsOpen, IsWaitOpen}
 use Rattle.route_base.specs.declared.types.Leg.{Leg}
 use Rattle.route_base.specs.declared.types.Leg.TheVariants.{Drive, Wait}
 use Rattle.route_base.specs.declared.types.NodeId.{NodeId}
@@ -52,10 +52,10 @@ module _ (s : Setting) (until : ℕ) (cost : ℕ → ℕ → Option ℕ) (v : No
   wait_some k some same = let e : k ≡ 0 = cc in omega (arith, e, some)
 
   -- a wait since an earlier minute
-  pub comes_by_wait : (since before weight : ℕ) → since < t → t ≤ until → s.weight v.0 ≡ Some weight → cost v.0 since ≡ Some before
-      → before + weight * (t - since) ≤ x
+  pub comes_by_wait : (since before weight : ℕ) → since < t → t ≤ until → s.weight v.0 ≡ Some weight → IsWaitOpen s v.0 since (t - since)
+      → cost v.0 since ≡ Some before → before + weight * (t - since) ≤ x
       → ComesFrom s until cost v.0 t x (record { leg = Wait (t - since); node = v; minute = since })
-  comes_by_wait since before weight earlier late rated known cheap = record {
+  comes_by_wait since before weight earlier late rated opens known cheap = record {
     before = before;
     known = known;
     earlier = earlier;
@@ -65,7 +65,7 @@ module _ (s : Setting) (until : ℕ) (cost : ℕ → ℕ → Option ℕ) (v : No
     within = cheap;
     walk = subst (λ (p : Position). Walks s until (replicate (t - since) wait) (point v.0 since before) p)
         (same_position _ _ refl (omega (arith, earlier)) (omega arith))
-        (waits s until (t - since) v.0 since before weight rated (omega (arith, earlier, late)));
+        (waits s until (t - since) v.0 since before weight rated opens (omega (arith, earlier, late)));
   }
 
   -- where no drive leads here, the cost comes by a wait

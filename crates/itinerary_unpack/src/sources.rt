@@ -8,7 +8,7 @@ ghost use Rattle.itinerary_unpack.specs.Inside.Requests.{IsSolved, setting_in, s
 
 use crate::solved::Solved;
 use cost_functions::Piece;
-use route_base::{ArcId, Cost, Leg, Minute, NodeId};
+use route_base::{ArcId, Cost, Leg, Minute, NodeId, Run, TimedNet};
 
 /// The node and minute at which a leg begins, and the leg.
 #[derive(Clone, Copy)]
@@ -68,7 +68,8 @@ fn drive_into(solved: Solved<'_>, a: ArcId, v: NodeId, t: Minute, x: Cost) -> Op
     })
 }
 
-// The wait by which the cost comes, from the first minute of the piece on if that costs no more.
+// The wait by which the cost comes, from the first minute of the piece on, or from the last minute before which it is shut, if that
+// costs no more.
 fn wait_into(solved: Solved<'_>, v: NodeId, t: Minute, x: Cost) -> Source
     requires solved { IsSolved solved }
     requires low { 1 ≤ v.0 }
@@ -80,7 +81,7 @@ fn wait_into(solved: Solved<'_>, v: NodeId, t: Minute, x: Cost) -> Source
     ensures { ComesFrom (setting_in solved.entry) solved.entry.request.until
         (solved_cost solved.entry) v.0 t x result }
 {
-    let since = begins_at(solved.found.function(v).pieces(), t);
+    let since = begins_at(solved.found.function(v).pieces(), t).max(open_since(solved.net, v, t));
     match wait_since(solved, v, since, t, x) {
         Some(source) => source,
         None => Source {
@@ -100,6 +101,26 @@ fn begins_at(pieces: &[Piece], t: Minute) -> Minute {
     }
 }
 
+// The first minute since when waiting at the node has not been shut until a minute.
+fn open_since(net: &TimedNet, v: NodeId, t: Minute) -> Minute
+    requires low { 1 ≤ v.0 }
+    requires high { v.0 ≤ net.now.nodes }
+{
+    match net.weight(v) {
+        Some(_) => end_before(net.shut_runs(v), t),
+        None => t,
+    }
+}
+
+// The end of the last run that begins before a minute.
+fn end_before(runs: &[Run], t: Minute) -> Minute {
+    let count = runs.partition_point(|run| run.lo < t);
+    match runs[..count].last() {
+        Some(run) => run.hi,
+        None => 0,
+    }
+}
+
 // A wait since an earlier minute, where it costs no more than what is known.
 fn wait_since(solved: Solved<'_>, v: NodeId, since: Minute, t: Minute, x: Cost) -> Option<Source>
     requires solved { IsSolved solved }
@@ -116,6 +137,9 @@ fn wait_since(solved: Solved<'_>, v: NodeId, since: Minute, t: Minute, x: Cost) 
     let before = solved.found.function(v).at(since)?;
     let minutes = t - since;
     if before + weight * minutes > x {
+        return None;
+    }
+    if !solved.net.is_wait_open(v, since, minutes) {
         return None;
     }
     Some(Source {

@@ -21,3 +21,4 @@ mod threads;
 
 pub use laws::maximal_runs;
 pub use minute_set::MinuteSet;
+pub use sweep::{Stretch, stretch_at};

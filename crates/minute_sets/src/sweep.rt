@@ -16,11 +16,11 @@ pub enum Combination {
     OnlyFirst,
 }
 
-// A stretch of minutes that are all in the runs or all outside; `until` is the first minute behind it.
+/// Minutes on end that are all in some runs or all outside; `until` is the first minute behind them.
 #[derive(Clone, Copy)]
-struct Stretch {
-    inside: bool,
-    until: Minute,
+pub struct Stretch {
+    pub inside: bool,
+    pub until: Minute,
 }
 
 fn is_kept(how: Combination, first: bool, second: bool) -> bool
@@ -33,8 +33,8 @@ fn is_kept(how: Combination, first: bool, second: bool) -> bool
     }
 }
 
-// The stretch that begins with the minute, where the first run ends later than it.
-fn stretch_at(runs: &[Run], from: Minute) -> Stretch
+/// The stretch that begins with the minute, where the first run ends later than it. No memory.
+pub fn stretch_at(runs: &[Run], from: Minute) -> Stretch
     requires runs { AreRuns runs.now }
     requires reach { (d : Run) → 0 < length runs.now → from < (get_or runs.now 0 d).hi }
     ensures same { (t : ℕ) → from ≤ t → t < result.until → any_has runs.now t ≡ result.inside }

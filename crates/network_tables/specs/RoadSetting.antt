@@ -1,5 +1,5 @@
 -- The road setting: trips are planned over the arcs of a network and its rated nodes (source: SEA 2020).
-use Rattle.std.specs.Prelude.{◌*◌, length}
+use Rattle.std.specs.Prelude.{◌*◌, false, length}
 use Rattle.std.specs.Option.{option_map, option_flatten}
 use Rattle.route_base.specs.Net.{at_number}
 use Rattle.route_base.specs.Setting.{Setting, Road}
@@ -13,7 +13,8 @@ use Rattle.network_tables.specs.NetworkModel.{NetworkModel}
 abbrev pub road_over : GraphArc → Road
 road_over arc = record { tail = arc.tail.0; head = arc.head.0; minutes = arc.minutes; cost = COST_OF_MINUTE * arc.minutes }
 
--- the network's arcs, shut at the minutes at which they are closed to the vehicle; one may wait at the nodes with a weight
+-- the network's arcs, shut at the minutes at which they are closed to the vehicle; one may wait at the nodes with a weight, at
+-- every minute
 abbrev pub road_setting : NetworkModel → VehicleModel → Setting
 road_setting net vehicle = record {
   nodes = net.graph.nodes;
@@ -21,4 +22,5 @@ road_setting net vehicle = record {
   road = λ a. option_map road_over (at_number net.graph.arcs a);
   shut = is_closed net vehicle;
   weight = λ v. option_flatten (at_number net.weights v);
+  wait_shut = λ v t. false;
 }

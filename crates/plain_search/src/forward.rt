@@ -1,7 +1,5 @@
 // The forward pass: every step takes at least a minute, so the labels at minute t are final when t is processed.
 ghost use Rattle.std.specs.Prelude.{◌≡◌, ◌+◌, ℕ, IfOk};
-ghost use Rattle.std.specs.Option.{option_flatten};
-ghost use Rattle.route_base.specs.Net.{at_number};
 ghost use Rattle.node_arcs.specs.declared.links.End.TheVariants.{Tail};
 ghost use Rattle.plain_search.specs.Words.{Step, drive, wait, setting_of, cost_of, EndsAt, ChangesLater};
 ghost use Rattle.plain_search.specs.Words.{IsRelaxedFrom, IsSoundTable, IsFinalTable, HasSoundLabel, IsNode, IsMinute};
@@ -14,7 +12,7 @@ use std::alloc::{AllocError, Global};
 // The weight of a minute's wait at the node; `None` where waiting isn't allowed.
 fn weight_to_wait(net: &TimedNet, node: NodeId) -> Option<Cost>
     requires { IsNode net.now node.0 }
-    ensures value { result ≡ option_flatten (at_number net.now.weights node.0) }
+    ensures value { result ≡ (setting_of net.now).weight node.0 }
 {
     net.weight(node)
 }
@@ -70,6 +68,9 @@ impl Search<'_> {
             return;
         };
         if minute == self.request.until {
+            return;
+        }
+        if self.net.is_shut(node, minute) {
             return;
         }
         let cost = table.cost(node, minute);

@@ -1,9 +1,11 @@
 -- A part that is driven, cleared, waited and cleared is an offer.
 use Rattle.std.proofs.Common.{◌≡◌, ◌⊎◌, inl, inr, ⊎_elim, ℕ, suc, ◌+◌, ◌-◌, ◌*◌, ◌≤◌, ◌<◌, Option, Some, None, List, ◌∷◌, [], ◌++◌, replicate, refl, sym, ◌∙◌}
+use Rattle.std.specs.Prelude.{false}
 use Rattle.std.proofs.Common.{ap, subst, arith}
 use Rattle.std.proofs.lemmas.Bool.{cases_lt}
 use Rattle.route_base.specs.Itinerary.{Position, drive, wait, Waits, Walks}
 use Rattle.route_base.specs.Legs.{start_of}
+use Rattle.route_base.specs.Open.{IsWaitOpen}
 use Rattle.route_base.specs.Relaxing.{HasPair, IsDominatedOrLate, AreBounds}
 use Rattle.route_base.specs.declared.types.Bound.{Bound}
 use Rattle.route_base.specs.declared.types.Pair.{Pair}
@@ -11,7 +13,7 @@ use Rattle.function_merge.specs.Pruning.{IsPruned}
 use Rattle.route_base.proofs.Walking.{walk-push, walk-append}
 use Rattle.route_base.proofs.Waiting.{waits, same_position}
 use Rattle.route_base.proofs.Covering.{excuse_moves}
-use Rattle.propagation.specs.Inside.Offers.{Covers, CoversDrives, IsCleared, IsDriven, IsKnownPart, IsSource, IsWaited}
+use Rattle.propagation.specs.Inside.Offers.{IsOpenUntil, Covers, CoversDrives, IsCleared, IsDriven, IsKnownPart, IsSource, IsWaited}
 use Rattle.propagation.specs.Inside.Invariants.{ComesBy, HasIn, IsOffer, IsPrunable, Progress, Reaches, Task, point}
 use Rattle.propagation.specs.Found.{IsStart}
 
@@ -110,8 +112,8 @@ module _ (k : Task) (now : Progress) where
     module _ (waited offer : ℕ → Option ℕ) (weight : ℕ) (b : Bound) where
       -- at a rated node
       pub offer_waited : AreBounds k.setting k.request.goal.0 k.bounds → k.setting.weight h ≡ Some weight → k.bounds h ≡ Some b → IsSource k now h costs
-          → IsCleared k now.pairs h costs clear → IsWaited clear waited weight (k.request.until - b.minutes) → IsCleared k now.pairs h waited offer
-          → IsOffer k now h offer
+          → IsCleared k now.pairs h costs clear → IsWaited clear waited (k.setting.wait_shut h) weight (k.request.until - b.minutes)
+          → IsCleared k now.pairs h waited offer → IsOffer k now h offer
       offer_waited bound rated is_bound source first waiting second = record {
         reached = λ t x is. reached t x (second.kept t x is);
         comes = λ t x is. comes t x is;
@@ -124,17 +126,19 @@ module _ (k : Task) (now : Progress) where
               let w = waiting.found t x is in
               let s = w.1 in
               let y = w.2 in
-              let r = source.reached s y (first.kept s y w.4) in
+              let r = source.reached s y (first.kept s y w.5) in
               let late : s + (t - s) ≤ k.request.until = omega (arith, w.0, w.3) in
-              let walk = waits k.setting k.request.until (t - s) h s y weight rated late in (
+              let opens : IsWaitOpen k.setting h s (t - s) = λ u after before. w.4 u after (omega (arith, before, w.3)) in
+              let walk = waits k.setting k.request.until (t - s) h s y weight rated opens late in (
                 r.0 ++ replicate (t - s) wait,
                 walk-append k.setting k.request.until r.0 (replicate (t - s) wait) (start_of k.request) (point h s y) (point h t x) r.1
                     (subst (λ p. Walks k.setting k.request.until (replicate (t - s) wait) (point h s y) p)
-                    (same_position _ _ refl (omega (arith, w.3)) (omega (arith, w.5))) walk),
+                    (same_position _ _ refl (omega (arith, w.3)) (omega (arith, w.6))) walk),
               )
 
-          step_of : (t x : ℕ) → t + 1 ≤ k.request.until → Waits k.setting k.request.until (point h t x) (point h (t + 1) (x + weight))
-          step_of t x le = record { weight = weight; rated = rated; in_time = le; node = refl; minute = refl; cost = refl }
+          step_of : (t x : ℕ) → t + 1 ≤ k.request.until → k.setting.wait_shut h t ≡ false
+              → Waits k.setting k.request.until (point h t x) (point h (t + 1) (x + weight))
+          step_of t x le opens = record { weight = weight; rated = rated; is_open = opens; in_time = le; node = refl; minute = refl; cost = refl }
 
           comes : (t x : ℕ) → offer t ≡ Some x → (IsStart k.request (point h t x) ⊎ ComesBy k now.cost (point h t x))
               ⊎ ((e : Position) × (u y : ℕ) × (offer u ≡ Some y) × Waits k.setting k.request.until (point h u y) e × (e.minute ≡ t) × (e.cost ≤ x))
@@ -144,9 +148,9 @@ module _ (k : Task) (now : Progress) where
               let y = w.2 in
               ⊎_elim
               (λ (later : s < t).
-              let before = waiting.least s y (t - 1) w.4 (omega arith) (omega (arith, w.0)) in
-              let le : before.0 + weight ≤ x = omega (arith, before.2, w.5, one_less weight s t later) in
-              let move = step_of (t - 1) before.0 (omega (arith, w.0, later)) in
+              let before = waiting.least s y (t - 1) w.5 (omega arith) (omega (arith, w.0)) (λ u after early. w.4 u after (omega (arith, early))) in
+              let le : before.0 + weight ≤ x = omega (arith, before.2, w.6, one_less weight s t later) in
+              let move = step_of (t - 1) before.0 (omega (arith, w.0, later)) (w.4 (t - 1) (omega (arith, later)) (omega (arith, later))) in
               let same : t - 1 + 1 ≡ t = omega (arith, later) in
               ⊎_elim
               (λ (there : offer (t - 1) ≡ Some before.0). inr (point h (t - 1 + 1) (before.0 + weight), t - 1, before.0, there, move, same, le))
@@ -158,7 +162,7 @@ module _ (k : Task) (now : Progress) where
               (second.left (t - 1) before.0 before.1))
               (λ (now_ : t ≤ s).
               let same : s ≡ t = omega (arith, w.3) in
-              inl (source.comes t x y (subst (λ n. costs n ≡ Some y) same (first.kept s y w.4)) (omega (arith, w.5))))
+              inl (source.comes t x y (subst (λ n. costs n ≡ Some y) same (first.kept s y w.5)) (omega (arith, w.6))))
               (cases_lt s t)
 
           goes : (t x : ℕ) (q : Position) → offer t ≡ Some x → Waits k.setting k.request.until (point h t x) q → HasIn offer q ⊎ IsPrunable k now.pairs q
@@ -172,8 +176,12 @@ module _ (k : Task) (now : Progress) where
               ⊎_elim
               (λ (late : k.request.until - b.minutes < t + 1). inr (prunable_late h b q is_bound step.node (omega (arith, late, minute))))
               (λ (early : t + 1 ≤ k.request.until - b.minutes).
-              let after = waiting.least s y (t + 1) w.4 (omega (arith, w.3)) early in
-              let le : after.0 ≤ q.cost = omega (arith, after.2, w.5, cost, one_more weight s t w.3) in
+              let opens : IsOpenUntil (k.setting.wait_shut h) s (t + 1) = λ u late upto. ⊎_elim
+              (λ (before : u < t). w.4 u late before)
+              (λ (last : t ≤ u). ap (k.setting.wait_shut h) (let e : u ≡ t = omega (arith, last, upto) in e) ∙ step.is_open)
+              (cases_lt u t) in
+              let after = waiting.least s y (t + 1) w.5 (omega (arith, w.3)) early opens in
+              let le : after.0 ≤ q.cost = omega (arith, after.2, w.6, cost, one_more weight s t w.3) in
               ⊎_elim
               (λ (there : offer (t + 1) ≡ Some after.0). inl (record { least = after.0; is = ap offer minute ∙ there; within = le }))
               (λ (e : IsPrunable k now.pairs (point h (t + 1) after.0)).
@@ -182,12 +190,12 @@ module _ (k : Task) (now : Progress) where
               (second.left (t + 1) after.0 after.1))
               (cases_lt (k.request.until - b.minutes) (t + 1))
 
-      pub covers_waited : k.bounds h ≡ Some b → IsCleared k now.pairs h costs clear → IsWaited clear waited weight (k.request.until - b.minutes)
+      pub covers_waited : k.bounds h ≡ Some b → IsCleared k now.pairs h costs clear → IsWaited clear waited (k.setting.wait_shut h) weight (k.request.until - b.minutes)
           → IsCleared k now.pairs h waited offer → Covers k now.pairs h costs offer
       covers_waited is_bound first waiting second t x is = ⊎_elim
           (λ (there : clear t ≡ Some x).
           let early = in_time h b t x is_bound (first.clear t x there) in
-          let w = waiting.least t x t there (omega arith) (omega (arith, early)) in
+          let w = waiting.least t x t there (omega arith) (omega (arith, early)) (λ u after before. absurd (omega (arith, after, before))) in
           let none : t - t ≡ 0 = omega arith in
           let zero : weight * (t - t) ≡ 0 = ap (λ n. weight * n) none ∙ omega arith in
           let le : w.0 ≤ x = omega (arith, w.2, zero) in

@@ -12,7 +12,7 @@ use Rattle.route_base.specs.Setting.{Road}
 use Rattle.route_base.specs.Itinerary.{drive, wait, Drives}
 use Rattle.route_base.specs.Legs.{start_of, CostsFit}
 use Rattle.route_base.specs.Net.{Net, road_of, setting_of, at_number, runs_at}
-use Rattle.route_base.specs.Open.{IsOpen}
+use Rattle.route_base.specs.Open.{IsOpen, IsWaitOpen}
 use Rattle.route_base.specs.declared.types.Bound.{Bound}
 use Rattle.route_base.specs.declared.types.TimedArc.{TimedArc}
 use Rattle.route_base.specs.declared.types.Request.{Request}
@@ -103,12 +103,12 @@ module _ (net : Net) (r : Request) (bounds : ℕ → Option Bound) where
 
   -- what waiting costs fits
   pub wait_fits : CostsFit (setting_of net) r → (h weight s y t : ℕ) → (setting_of net).weight h ≡ Some weight
-      → Reaches (record { setting = setting_of net; request = r; bounds = bounds }) (point h s y) → s ≤ t → t ≤ r.until → y + weight * (t - s) ≤ HIGHEST_COST
-  wait_fits fit h weight s y t rated reached le late =
+      → IsWaitOpen (setting_of net) h s (t - s) → Reaches (record { setting = setting_of net; request = r; bounds = bounds }) (point h s y) → s ≤ t → t ≤ r.until → y + weight * (t - s) ≤ HIGHEST_COST
+  wait_fits fit h weight s y t rated opens reached le late =
       let small = fit (reached.0 ++ replicate (t - s) wait) (point h (s + (t - s)) (y + (t - s) * weight))
       (walk-append (setting_of net) r.until reached.0 (replicate (t - s) wait) (start_of r) (point h s y)
       (point h (s + (t - s)) (y + (t - s) * weight)) reached.1
-      (waits (setting_of net) r.until (t - s) h s y weight rated (omega (arith, le, late)))) in
+      (waits (setting_of net) r.until (t - s) h s y weight rated opens (omega (arith, le, late)))) in
       let e : weight * (t - s) ≡ (t - s) * weight = omega arith in
       omega (arith, small, e)
 

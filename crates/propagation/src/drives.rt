@@ -1,12 +1,12 @@
 // The offer that drives over an arc make to its head.
 ghost use Rattle.std.specs.Prelude.{◌≡◌, ◌≤◌, ℕ, Some, IfOk, OnOk};
 ghost use Rattle.route_base.specs.Front.{RiseAndFall};
-ghost use Rattle.route_base.specs.Net.{at_number, IsGoodArc};
+ghost use Rattle.route_base.specs.Net.{at_number, park_at, setting_of, IsGoodArc, IsGoodPark};
 ghost use Rattle.cost_functions.specs.Pieces.{value_at, AreSmallPieces};
 ghost use Rattle.cost_functions.specs.Building.{AreBuilt};
 ghost use Rattle.potentials.specs.Sums.{bound_at};
 ghost use Rattle.propagation.specs.Inside.Invariants.{IsOffer, Reaches, point};
-ghost use Rattle.propagation.specs.Inside.Offers.{IsKnownPart, IsDriven, IsSource, IsCleared, Covers, CoversDrives};
+ghost use Rattle.propagation.specs.Inside.Offers.{IsKnownPart, IsDriven, IsSource, IsCleared, IsWaited, Covers, CoversDrives};
 ghost use Rattle.propagation.specs.Inside.EntrySets.{AreEntrySets};
 ghost use Rattle.propagation.specs.Inside.States.{progress_of, task_of, IsGoodPlan};
 
@@ -15,7 +15,7 @@ use crate::plan::Plan;
 use crate::state::State;
 use cost_functions::CostFn;
 use function_merge::{into_pruned, shift, wait};
-use route_base::{ArcId, Bound, NodeId, OutOfMemory, Pair, TimedArc};
+use route_base::{ArcId, Bound, Minute, NodeId, OutOfMemory, Pair, Park, TimedArc};
 use std::alloc::Global;
 
 // The costs with which drives of the part over the arc end.
@@ -63,10 +63,45 @@ fn cleared(plan: Plan<'_>, pairs: &[Pair], h: NodeId, bound: Bound, costs: CostF
     into_pruned(costs, plan.request.until, pairs, bound)
 }
 
+// The costs with waits at a park, from these costs on until a minute.
+fn waited(
+    alloc: Global,
+    plan: Plan<'_>,
+    sets: &mut EntrySets,
+    h: NodeId,
+    park: Park,
+    costs: &CostFn,
+    last: Minute,
+) -> Result<CostFn, OutOfMemory>
+    requires asked { IsGoodPlan plan }
+    requires is { park_at plan.net.now h.0 ≡ Some park }
+    requires good { IsGoodPark plan.net.now park }
+    requires entries { AreEntrySets plan.net.now plan.request.until sets.old }
+    requires small { AreSmallPieces costs.now }
+    requires last { last ≤ plan.request.until }
+    requires reached { (t x : ℕ) → value_at costs.now t ≡ Some x
+        → Reaches (task_of plan) (point h.0 t x) }
+    ensures waited { IfOk result (λ g. IsWaited (value_at costs.now) (value_at g)
+        ((setting_of plan.entry.net.now).wait_shut h.0) park.weight last) }
+    ensures built { IfOk result AreBuilt }
+    ensures entries { OnOk result
+        (AreEntrySets plan.entry.net.now plan.entry.request.until sets.new) }
+{
+    let until = plan.request.until;
+    let shut = plan.net.shut_runs(h);
+    let list = park.shut as usize;
+    make_room(alloc, sets, list)?;
+    let place = place_of(alloc, &mut sets.lists[list], shut, until, 1)?;
+    let allowed = &sets.lists[list][place].set;
+    let with_waits = wait(alloc, costs, park.weight, allowed, last)?;
+    Ok(with_waits)
+}
+
 // These costs, and where the node is rated those of waiting there.
 pub fn closed(
     alloc: Global,
     plan: Plan<'_>,
+    sets: &mut EntrySets,
     state: &State,
     h: NodeId,
     bound: Bound,
@@ -78,6 +113,7 @@ pub fn closed(
     requires bound { bound_at plan.bounds.now h.0 ≡ Some bound }
     requires trade { RiseAndFall state.now.pairs.items }
     requires small { AreSmallPieces costs }
+    requires entries { AreEntrySets plan.net.now plan.request.until sets.old }
     requires source { IsSource (task_of plan) (progress_of state.now) h.0 (value_at costs) }
     ensures offer { IfOk result
         (λ g. IsOffer (task_of plan.entry) (progress_of state.now) h.0 (value_at g)) }
@@ -85,14 +121,16 @@ pub fn closed(
         (λ g. Covers (task_of plan.entry) state.now.pairs.items h.0 (value_at costs)
         (value_at g)) }
     ensures small { IfOk result AreSmallPieces }
+    ensures entries { OnOk result
+        (AreEntrySets plan.entry.net.now plan.entry.request.until sets.new) }
 {
     let clear = cleared(plan, &state.pairs, h, bound, costs);
-    let Some(weight) = plan.net.weight(h) else {
+    let Some(park) = plan.net.park(h) else {
         return Ok(clear);
     };
     let last = plan.request.until.saturating_sub(bound.minutes);
-    let waited = wait(alloc, &clear, weight, last)?;
-    let offer = cleared(plan, &state.pairs, h, bound, waited);
+    let with_waits = waited(alloc, plan, sets, h, park, &clear, last)?;
+    let offer = cleared(plan, &state.pairs, h, bound, with_waits);
     Ok(offer)
 }
 
@@ -126,6 +164,6 @@ pub fn offered(
         (AreEntrySets plan.entry.net.now plan.entry.request.until sets.new) }
 {
     let ends = driven(alloc, plan, sets, v, part, a, arc)?;
-    let offer = closed(alloc, plan, state, arc.head, bound, ends)?;
+    let offer = closed(alloc, plan, sets, state, arc.head, bound, ends)?;
     Ok(offer)
 }

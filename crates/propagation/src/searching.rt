@@ -1,15 +1,16 @@
 // The search: turns, until nothing is pending.
-ghost use Rattle.std.specs.Prelude.{◌≡◌, ◌≤◌, ℕ, None, false, All, length, IfOk};
+ghost use Rattle.std.specs.Prelude.{◌≡◌, ◌≤◌, ℕ, None, false, All, length, IfOk, OnOk};
 ghost use Rattle.route_base.specs.Net.{IsGoodRequest, setting_of};
 ghost use Rattle.route_base.specs.Legs.{CostsFit};
 ghost use Rattle.cost_functions.specs.Building.{AreBuilt};
 ghost use Rattle.node_arcs.specs.Stars.{AreIncoming};
 ghost use Rattle.propagation.specs.Found.{IsFoundFor, cost_at};
 ghost use Rattle.propagation.specs.Inside.Invariants.{IsBlank, IsResting};
+ghost use Rattle.propagation.specs.Inside.EntrySets.{AreEntrySets};
 ghost use Rattle.propagation.specs.Inside.States.{progress_of, task_of, is_pending, IsGoodPlan, IsShaped};
 
 use crate::drives::closed;
-use crate::entry_sets::no_entry_sets;
+use crate::entry_sets::{EntrySets, no_entry_sets};
 use crate::found::Found;
 use crate::plan::Plan;
 use crate::state::State;
@@ -71,7 +72,7 @@ fn searched(alloc: Global, plan: Plan<'_>) -> Result<State, OutOfMemory>
     ensures done { IfOk result (λ state. (v t : ℕ) → is_pending state.pending.items v t ≡ false) }
 {
     let mut sets = no_entry_sets(alloc);
-    let mut state = begun(alloc, plan)?;
+    let mut state = begun(alloc, plan, &mut sets)?;
     'turns: while let Some(least) = state.queue.take_least() {
         turn(alloc, plan, &mut sets, &mut state, least.0)?;
     }
@@ -79,10 +80,13 @@ fn searched(alloc: Global, plan: Plan<'_>) -> Result<State, OutOfMemory>
 }
 
 // The origin has its cost at the departure, and those of waiting there.
-fn begun(alloc: Global, plan: Plan<'_>) -> Result<State, OutOfMemory>
+fn begun(alloc: Global, plan: Plan<'_>, sets: &mut EntrySets) -> Result<State, OutOfMemory>
     requires asked { IsGoodPlan plan }
+    requires entries { AreEntrySets plan.net.now plan.request.until sets.old }
     ensures shape { IfOk result (IsShaped plan.entry.net.now.nodes 0) }
     ensures facts { IfOk result (λ state. IsResting (task_of plan.entry) (progress_of state)) }
+    ensures entries { OnOk result
+        (AreEntrySets plan.entry.net.now plan.entry.request.until sets.new) }
 {
     let mut state = blank(alloc, plan.net)?;
     let origin = plan.request.origin;
@@ -90,7 +94,7 @@ fn begun(alloc: Global, plan: Plan<'_>) -> Result<State, OutOfMemory>
         return Ok(state);
     };
     let first = CostFn::single(alloc, plan.request.depart, 0)?;
-    let offer = closed(alloc, plan, &state, origin, bound, first)?;
+    let offer = closed(alloc, plan, sets, &state, origin, bound, first)?;
     take_at(alloc, plan, &mut state, origin, bound, &offer)?;
     Ok(state)
 }

@@ -18,6 +18,7 @@ flipped s z window same = record {
   road = λ a. sym (same.road a);
   weight = λ v. sym (same.weight v);
   shut = λ a t is late early. sym (same.shut a t (subst IsSome (same.road a) is) late early);
+  wait_shut = λ v t is late early. sym (same.wait_shut v t (subst IsSome (same.weight v) is) late early);
 }
 
 module _ (s z : Setting) (window : Run) (same : StandsFor s z window) (until : ℕ) (upto : until ≤ window.hi) where
@@ -36,14 +37,17 @@ module _ (s z : Setting) (window : Run) (same : StandsFor s z window) (until : �
         minute = move.minute;
         cost = move.cost;
       }
-  moves_too wait p q from move = record {
-    weight = move.weight;
-    rated = sym (same.weight p.node) ∙ move.rated;
-    in_time = move.in_time;
-    node = move.node;
-    minute = move.minute;
-    cost = move.cost;
-  }
+  moves_too wait p q from move =
+      let rated : z.weight p.node ≡ Some move.weight = sym (same.weight p.node) ∙ move.rated in
+      record {
+        weight = move.weight;
+        rated = rated;
+        is_open = sym (same.wait_shut p.node p.minute (subst IsSome (sym rated) refl) from (omega (arith, move.in_time, upto))) ∙ move.is_open;
+        in_time = move.in_time;
+        node = move.node;
+        minute = move.minute;
+        cost = move.cost;
+      }
 
   moves_later : (x : Step) (p q : Position) → Moves s until x p q → p.minute ≤ q.minute
   moves_later (drive a) p q move = omega (arith, move.minute)

@@ -10,6 +10,7 @@ pub mod FormRows
 pub mod LegLists
 pub mod Lists
 pub mod Numbered
+pub mod Parks
 pub mod ShortNumbers
 pub mod SoFar
 pub mod Waiting

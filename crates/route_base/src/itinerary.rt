@@ -63,6 +63,9 @@ fn after_wait(net: &TimedNet, until: u64, at: Spot, minutes: u64) -> Option<Spot
     if at.minute > until || minutes > until - at.minute {
         return None;
     }
+    if !net.is_wait_open(at.node, at.minute, minutes) {
+        return None;
+    }
     Some(Spot {
         node: at.node,
         minute: at.minute + minutes,

@@ -1,6 +1,6 @@
 //! The planning problem, and the traits through which the planner meets the outside world.
 //!
-//! Lorries drive over arcs that are closed at certain minutes, and wait at rated nodes alone. A trip's answer is the
+//! Lorries drive over arcs that are closed at certain minutes, and wait at rated nodes alone, except at minutes at which waiting there is shut. A trip's answer is the
 //! Pareto front of its arrivals and costs (after Kleff, Schulz, Wagenblatt and Zeitz, SEA 2020, in whole minutes).
 //!
 //! The law is in `specs/`. The problem: `Setting` (roads, closed minutes, weights), `Itinerary` (lawful steps), `Legs`,
@@ -59,7 +59,7 @@ pub use status::Status;
 pub use text::Text;
 pub use threads::crosses_threads;
 pub use types::{
-    ArcId, Bound, Cost, FileBytes, Form, JobText, Leg, Legs, Minute, NodeId, Pair, Request, Route,
-    Routes, Run, TimedArc,
+    ArcId, Bound, Cost, FileBytes, Form, JobText, Leg, Legs, Minute, NodeId, Pair, Park, Request,
+    Route, Routes, Run, TimedArc,
 };
 pub use whole_file::{ReadAllFault, read_all};

@@ -1,21 +1,21 @@
-// Timed nets: a road graph with the minutes at which its arcs are closed.
+// Timed nets: a road graph with the minutes at which its arcs are closed and waiting at its nodes is shut.
 ghost use Rattle.std.specs.Prelude.{◌≡◌, ◌↔◌, ◌≤◌, IsTrue, IsSome, IfSome, length};
-ghost use Rattle.std.specs.Option.{option_flatten};
 ghost use Rattle.route_base.specs.Net.{IsGoodNet, IsGoodArc, net_from, setting_of, at_number, runs_at};
-ghost use Rattle.route_base.specs.Open.{IsOpen};
+ghost use Rattle.route_base.specs.Net.{park_at, shut_runs_at, IsGoodPark};
+ghost use Rattle.route_base.specs.Open.{IsOpen, IsWaitOpen};
 ghost use Rattle.route_base.specs.Runs.{AreRuns};
 
 use crate::runs::is_free;
-use crate::{ArcId, Cost, Minute, NodeId, Run, TimedArc};
+use crate::{ArcId, Cost, Minute, NodeId, Park, Run, TimedArc};
 use std::marker::Model;
 
-/// Nodes, arcs with their closed minutes, and the weights of the nodes at which waiting is allowed.
+/// Nodes, arcs with their closed minutes, and the nodes at which waiting is allowed, with the minutes at which it is shut.
 #[derive(Drop)]
 pub struct TimedNet {
     nodes: u32,
     arcs: Vec<TimedArc>,
     closed: Vec<Vec<Run>>,
-    weights: Vec<Option<Cost>>,
+    parks: Vec<Option<Park>>,
 }
 
 impl Model for TimedNet {
@@ -23,28 +23,28 @@ impl Model for TimedNet {
 
     ghost Value = { Net };
 
-    ghost view = { λ a. net_from a.nodes a.arcs.items a.closed.items a.weights.items };
+    ghost view = { λ a. net_from a.nodes a.arcs.items a.closed.items a.parks.items };
 
-    ghost invariant = { λ a. IsGoodNet (net_from a.nodes a.arcs.items a.closed.items a.weights.items) };
+    ghost invariant = { λ a. IsGoodNet (net_from a.nodes a.arcs.items a.closed.items a.parks.items) };
 }
 
 impl TimedNet {
-    /// A net of these parts, at no cost: arcs by number, lists of closed runs that the arcs name by place, and a weight in
-    /// thousandths a minute, or none, for each node.
+    /// A net of these parts, at no cost: arcs by number, lists of closed runs that the arcs and the parks name by place, and a park
+    /// or none for each node.
     pub fn new(
         nodes: u32,
         arcs: Vec<TimedArc>,
         closed: Vec<Vec<Run>>,
-        weights: Vec<Option<Cost>>,
+        parks: Vec<Option<Park>>,
     ) -> TimedNet
-        requires { IsGoodNet (net_from nodes arcs.items closed.items weights.items) }
-        ensures { result ≡ net_from nodes arcs.items closed.items weights.items }
+        requires { IsGoodNet (net_from nodes arcs.items closed.items parks.items) }
+        ensures { result ≡ net_from nodes arcs.items closed.items parks.items }
     {
         TimedNet {
             nodes,
             arcs,
             closed,
-            weights,
+            parks,
         }
     }
 
@@ -75,14 +75,57 @@ impl TimedNet {
         self.arcs.get(a.0 as usize - 1).copied()
     }
 
+    /// The park at the node; `None` exactly where it isn't a rated node. In constant time.
+    pub fn park(&self, v: NodeId) -> Option<Park>
+        ensures value { result ≡ park_at self.now v.0 }
+        ensures good { IfSome result (IsGoodPark self.now) }
+    {
+        if v.0 == 0 {
+            return None;
+        }
+        *self.parks.get(v.0 as usize - 1)?
+    }
+
     /// The cost of a minute's wait at the node, in thousandths; `None` exactly where it isn't rated. In constant time.
     pub fn weight(&self, v: NodeId) -> Option<Cost>
         requires low { 1 ≤ v.0 }
         requires high { v.0 ≤ self.now.nodes }
-        ensures value { result ≡ option_flatten (at_number self.now.weights v.0) }
+        ensures value { result ≡ (setting_of self.now).weight v.0 }
         ensures good { IsGoodNet self.now }
     {
-        self.weights[v.0 as usize - 1]
+        match self.parks[v.0 as usize - 1] {
+            Some(park) => Some(park.weight),
+            None => None,
+        }
+    }
+
+    /// The runs in which waiting at the node is shut, rising and apart. In constant time.
+    pub fn shut_runs(&self, v: NodeId) -> &[Run]
+        requires { IsSome ((setting_of self.now).weight v.0) }
+        ensures value { result.now ≡ shut_runs_at self.now v.0 }
+        ensures rising { AreRuns result.now }
+    {
+        match self.park(v) {
+            Some(park) => self.closed[park.shut as usize].as_slice(),
+            None => &[],
+        }
+    }
+
+    /// Whether waiting at the node is shut at a minute, by a binary search in its runs.
+    pub fn is_shut(&self, v: NodeId, t: Minute) -> bool
+        requires { IsSome ((setting_of self.now).weight v.0) }
+        ensures { result ≡ (setting_of self.now).wait_shut v.0 t }
+    {
+        !is_free(self.shut_runs(v), t, 1)
+    }
+
+    /// Whether waiting at the node is open at the `minutes` minutes from t on, by a binary search in its runs.
+    pub fn is_wait_open(&self, v: NodeId, t: Minute, minutes: u64) -> bool
+        requires rated { IsSome ((setting_of self.now).weight v.0) }
+        requires some { 1 ≤ minutes }
+        ensures { IsTrue result ↔ IsWaitOpen (setting_of self.now) v.0 t minutes }
+    {
+        is_free(self.shut_runs(v), t, minutes)
     }
 
     /// The runs in which the arc is closed, rising and apart. In constant time.

@@ -83,6 +83,14 @@ pub struct TimedArc {
     pub closed: u32,
 }
 
+/// A node at which waiting is allowed: the cost of a minute's wait in thousandths, and the place from 0 of its list of the runs in
+/// which waiting is shut.
+#[derive(Clone, Copy, Debug, PartialEq, Eq)]
+pub struct Park {
+    pub weight: Cost,
+    pub shut: u32,
+}
+
 /// The least minutes and, by itself, the least cost from a node to a goal.
 #[derive(Clone, Copy, Debug, PartialEq, Eq)]
 pub struct Bound {

@@ -1,9 +1,9 @@
 -- No minute of a road of the worked net costs more than one of driving, so that the costs of each request fit.
-use Rattle.std.proofs.Common.{◌≡◌, ℕ, zero, suc, ◌+◌, ◌*◌, ◌≤◌, Some, ap, arith}
+use Rattle.std.proofs.Common.{◌≡◌, ℕ, zero, suc, ◌+◌, ◌≤◌, Some, ap, arith}
 use Rattle.route_base.specs.Legs.{CostsFit}
 use Rattle.route_base.specs.Net.{road_of, setting_of}
 use Rattle.route_base.specs.Setting.{Road}
-use Rattle.route_base.specs.declared.limits.TheConstants.{COST_OF_MINUTE, LONGEST_HORIZON}
+use Rattle.route_base.specs.declared.limits.TheConstants.{LONGEST_HORIZON}
 use Rattle.route_base.specs.declared.types.Request.{Request}
 use Rattle.route_base.proofs.Costs.{fits}
 use Rattle.plan_certificate.specs.CheapRoads.{HasCheapRoads}

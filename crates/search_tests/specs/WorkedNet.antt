@@ -18,11 +18,19 @@ worked_arc tail head minutes closed = record {
   closed = closed;
 }
 
--- three nodes; the arc from 2 to 3 is closed for two hours, and waiting is open at 2
-abbrev pub worked : Net
-worked = record {
+-- the last minute of these
+abbrev pub last_minute : Run
+last_minute = record { lo = 26563859; hi = 26563860 }
+
+-- three nodes; the arc from 2 to 3 is closed for two hours, and waiting is allowed at 2, but for the runs of a list
+abbrev pub worked_with : ℕ → Net
+worked_with shut = record {
   nodes = 3;
   arcs = worked_arc 1 2 60 0 ∷ worked_arc 2 3 60 1 ∷ worked_arc 1 3 300 0 ∷ [];
-  closed = [] ∷ (two_hours ∷ []) ∷ [];
-  weights = None ∷ Some 2000 ∷ None ∷ [];
+  closed = [] ∷ (two_hours ∷ []) ∷ (last_minute ∷ []) ∷ [];
+  parks = None ∷ Some (record { weight = 2000; shut = shut }) ∷ None ∷ [];
 }
+
+-- the same, where waiting is allowed at every minute
+abbrev pub worked : Net
+worked = worked_with 0

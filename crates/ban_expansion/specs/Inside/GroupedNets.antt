@@ -1,10 +1,11 @@
 -- The arcs of a network and the closed minutes of their groups (source: own).
-use Rattle.std.specs.Prelude.{◌≡◌, ℕ, ◌*◌, Some, List, length, slice_get}
+use Rattle.std.specs.Prelude.{◌≡◌, ℕ, ◌*◌, Option, Some, List, length, slice_get}
 use Rattle.std.specs.List.{AllZip}
 use Rattle.std.specs.Option.{option_map}
 use Rattle.route_base.specs.Runs.{AreRuns}
 use Rattle.route_base.specs.declared.limits.TheConstants.{COST_OF_MINUTE}
 use Rattle.route_base.specs.declared.types.ArcId.{ArcId}
+use Rattle.route_base.specs.declared.types.Park.{Park}
 use Rattle.route_base.specs.declared.types.Run.{Run}
 use Rattle.route_base.specs.declared.types.TimedArc.{TimedArc}
 use Rattle.dimacs_reader.specs.declared.graph.GraphArc.{GraphArc}
@@ -16,6 +17,10 @@ use Rattle.ban_expansion.specs.Bans.{HasThose}
 -- the arc of a timed net, which takes its closed runs from the list at this place
 abbrev pub timed_over : ℕ → GraphArc → TimedArc
 timed_over place arc = record { tail = arc.tail; head = arc.head; minutes = arc.minutes; cost = COST_OF_MINUTE * arc.minutes; closed = place }
+
+-- the park of a node with this weight, which takes its shut runs from the list at this place
+abbrev pub park_over : ℕ → Option ℕ → Option Park
+park_over place weight = option_map (λ w. record { weight = w; shut = place }) weight
 
 -- the timed arc is the graph's at place k, and takes its closed runs from the place of its group
 pub record IsTimedArc (net : NetworkModel) (groups : List ℕ) (k : ℕ) (arc : TimedArc) : Type 0 where

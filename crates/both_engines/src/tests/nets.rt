@@ -3,7 +3,7 @@ ghost use Rattle.std.specs.Prelude.{◌≡◌, ◌≤◌, All, IfOk, IsTrue, len
 ghost use Rattle.route_base.specs.Runs.{AreRuns};
 ghost use Rattle.both_engines.specs.SmallNets.{IsSmallArc, IsCheapArc, IsLight};
 
-use route_base::{Cost, OutOfMemory, Run, TimedArc, TimedNet};
+use route_base::{OutOfMemory, Park, Run, TimedArc, TimedNet};
 use std::alloc::Global;
 
 /// A net as plain lists: nodes, arcs, the number of lists of closed runs, and runs with the place of their list.
@@ -13,7 +13,7 @@ pub struct NetLists<'a> {
     pub arcs: &'a [TimedArc],
     pub lists: u32,
     pub closed: &'a [(u32, Run)],
-    pub weights: &'a [Option<Cost>],
+    pub parks: &'a [Option<Park>],
 }
 
 /// The net of the lists, without what is no part of a small well-formed net.
@@ -24,8 +24,8 @@ pub fn net_of(alloc: Global, net: NetLists<'_>) -> Result<TimedNet, OutOfMemory>
     let lists = net.lists.min(100);
     let arcs = arcs_of(alloc, net.arcs, nodes, lists)?;
     let closed = closed_of(alloc, net.closed, lists)?;
-    let weights = weights_of(alloc, net.weights, nodes)?;
-    Ok(TimedNet::new(nodes, arcs, closed, weights))
+    let parks = parks_of(alloc, net.parks, nodes, lists)?;
+    Ok(TimedNet::new(nodes, arcs, closed, parks))
 }
 
 // The small arcs among these.
@@ -83,27 +83,34 @@ fn runs_of(alloc: Global, given: &[(u32, Run)], list: u32) -> Result<Vec<Run>, O
     Ok(runs)
 }
 
-// A light weight or none for each node.
-fn weights_of(
+// A light park or none for each node.
+fn parks_of(
     alloc: Global,
-    given: &[Option<Cost>],
+    given: &[Option<Park>],
     nodes: u32,
-) -> Result<Vec<Option<Cost>>, OutOfMemory>
-    ensures light { IfOk result (λ weights. All IsLight weights.items) }
-    ensures all { IfOk result (λ weights. length weights.items ≡ nodes) }
+    lists: u32,
+) -> Result<Vec<Option<Park>>, OutOfMemory>
+    ensures light { IfOk result (λ parks. All (IsLight lists) parks.items) }
+    ensures all { IfOk result (λ parks. length parks.items ≡ nodes) }
 {
-    let mut weights = Vec::new(alloc);
+    let mut parks = Vec::new(alloc);
     for v in 0..nodes {
-        weights.push(light(given.get(v as usize)))?;
+        parks.push(light(given.get(v as usize), lists))?;
     }
-    Ok(weights)
+    Ok(parks)
 }
 
-fn light(weight: Option<&Option<Cost>>) -> Option<Cost>
-    ensures { IsLight result }
+fn light(park: Option<&Option<Park>>, lists: u32) -> Option<Park>
+    ensures { IsLight lists result }
 {
-    match weight {
-        Some(Some(w)) => { if *w <= 100 { Some(*w) } else { None } }
+    match park {
+        Some(Some(park)) => {
+            if park.weight <= 100 && park.shut < lists {
+                Some(*park)
+            } else {
+                None
+            }
+        }
         _ => None,
     }
 }

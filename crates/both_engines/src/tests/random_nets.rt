@@ -3,7 +3,7 @@ ghost use Rattle.std.specs.Prelude.{◌≤◌, ◌<◌};
 
 use super::fronts::fronts_of;
 use super::nets::NetLists;
-use route_base::{Cost, NodeId, OutOfMemory, Request, Run, TimedArc};
+use route_base::{NodeId, OutOfMemory, Park, Request, Run, TimedArc};
 use std::alloc::Global;
 use std::test::Fail;
 
@@ -49,7 +49,7 @@ struct Case {
     nodes: u32,
     arcs: Vec<TimedArc>,
     closed: Vec<(u32, Run)>,
-    weights: Vec<Option<Cost>>,
+    parks: Vec<Option<Park>>,
     request: Request,
 }
 
@@ -60,7 +60,7 @@ fn random_case(alloc: Global, random: &mut Random) -> Result<Case, OutOfMemory> 
         nodes,
         arcs: random_arcs(alloc, random, nodes)?,
         closed: random_runs(alloc, random)?,
-        weights: random_weights(alloc, random, nodes)?,
+        parks: random_parks(alloc, random, nodes)?,
         request: Request {
             origin: random.node(nodes),
             goal: random.node(nodes),
@@ -103,21 +103,25 @@ fn random_runs(alloc: Global, random: &mut Random) -> Result<Vec<(u32, Run)>, Ou
     Ok(closed)
 }
 
-fn random_weights(
+// A park at half of the nodes, which is shut in the runs of one of the lists.
+fn random_parks(
     alloc: Global,
     random: &mut Random,
     nodes: u32,
-) -> Result<Vec<Option<Cost>>, OutOfMemory> {
-    let mut weights = Vec::new(alloc);
+) -> Result<Vec<Option<Park>>, OutOfMemory> {
+    let mut parks = Vec::new(alloc);
     for _ in 0..nodes {
-        let weight = random.below(4);
-        weights.push(if random.below(2) == 0 {
-            Some(weight)
+        let park = Park {
+            weight: random.below(4),
+            shut: random.below(LISTS as u64) as u32,
+        };
+        parks.push(if random.below(2) == 0 {
+            Some(park)
         } else {
             None
         })?;
     }
-    Ok(weights)
+    Ok(parks)
 }
 
 #[test]
@@ -134,7 +138,7 @@ fn agree_on_random_nets(rt: HostRuntime) -> Result<(), Fail> {
             arcs: &case.arcs,
             lists: LISTS,
             closed: &case.closed,
-            weights: &case.weights,
+            parks: &case.parks,
         };
         let fronts = fronts_of(alloc, lists, case.request)?;
         let Some(fronts) = fronts else {

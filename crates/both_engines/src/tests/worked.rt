@@ -1,7 +1,7 @@
 // Worked nets, with the pairs that were found by hand.
 use super::fronts::fronts_of;
 use super::nets::NetLists;
-use route_base::{Cost, Minute, NodeId, OutOfMemory, Pair, Request, Run, TimedArc};
+use route_base::{Cost, Minute, NodeId, OutOfMemory, Pair, Park, Request, Run, TimedArc};
 use std::alloc::Global;
 use std::test::Fail;
 
@@ -15,6 +15,8 @@ struct Worked<'a> {
     // The first minute of a run of list 1, and the first minute behind it.
     closed: &'a [(Minute, Minute)],
     weights: &'a [Option<Cost>],
+    // The first minute of a run in which waiting is shut everywhere, and the first minute behind it.
+    shut: &'a [(Minute, Minute)],
     goal: u32,
     depart: Minute,
     until: Minute,
@@ -27,18 +29,45 @@ const WAITS: Worked<'static> = Worked {
     arcs: &[(1, 2, 2, 2, 0), (2, 3, 2, 2, 1), (1, 3, 12, 3, 0)],
     closed: &[(1, 8)],
     weights: &[None, Some(1), None],
+    shut: &[],
     goal: 3,
     depart: 1,
     until: 20,
     pairs: &[(10, 9), (13, 3)],
 };
 
-const WORKED: [Worked<'static>; 10] = [
+const WORKED: [Worked<'static>; 14] = [
     WAITS,
     Worked {
         name: "the same where no wait is allowed",
         weights: &[None, None, None],
         pairs: &[(13, 3)],
+        ..WAITS
+    },
+    Worked {
+        name: "the same where waiting is shut for a minute of the wait",
+        shut: &[(5, 6)],
+        pairs: &[(13, 3)],
+        ..WAITS
+    },
+    Worked {
+        name: "the same where waiting is shut in the last minute of the wait",
+        shut: &[(7, 9)],
+        pairs: &[(13, 3)],
+        ..WAITS
+    },
+    Worked {
+        name: "the same where waiting is shut before and after the wait",
+        shut: &[(1, 3), (8, 20)],
+        ..WAITS
+    },
+    Worked {
+        name: "a loop that is driven while waiting is shut",
+        arcs: &[(1, 2, 2, 2, 0), (2, 1, 3, 1, 0), (2, 3, 2, 2, 1)],
+        closed: &[(1, 12)],
+        weights: &[Some(1), Some(1), None],
+        shut: &[(6, 8)],
+        pairs: &[(14, 11), (15, 10)],
         ..WAITS
     },
     Worked {
@@ -65,6 +94,7 @@ const WORKED: [Worked<'static>; 10] = [
         arcs: &[(1, 2, 3, 4, 1), (1, 2, 9, 5, 0)],
         closed: &[(2, 6)],
         weights: &[Some(2), None],
+        shut: &[],
         goal: 2,
         depart: 2,
         until: 20,
@@ -76,6 +106,7 @@ const WORKED: [Worked<'static>; 10] = [
         arcs: &[(1, 2, 4, 4, 1)],
         closed: &[(5, 6)],
         weights: &[Some(1), None],
+        shut: &[],
         goal: 2,
         depart: 3,
         until: 20,
@@ -87,6 +118,7 @@ const WORKED: [Worked<'static>; 10] = [
         arcs: &[(1, 2, 3, 3, 1)],
         closed: &[(2, 4), (6, 8)],
         weights: &[Some(0), None],
+        shut: &[],
         goal: 2,
         depart: 2,
         until: 20,
@@ -98,6 +130,7 @@ const WORKED: [Worked<'static>; 10] = [
         arcs: &[(1, 2, 4, 3, 0), (1, 2, 2, 3, 0)],
         closed: &[],
         weights: &[None, None],
+        shut: &[],
         goal: 2,
         depart: 0,
         until: 20,
@@ -109,6 +142,7 @@ const WORKED: [Worked<'static>; 10] = [
         arcs: &[(1, 1, 1, 1, 0), (1, 2, 2, 2, 1)],
         closed: &[(1, 4)],
         weights: &[None, None],
+        shut: &[],
         goal: 2,
         depart: 1,
         until: 6,
@@ -135,7 +169,21 @@ fn runs_of(alloc: Global, worked: Worked<'_>) -> Result<Vec<(u32, Run)>, OutOfMe
     for (lo, hi) in worked.closed {
         runs.push((1, Run { lo: *lo, hi: *hi }))?;
     }
+    for (lo, hi) in worked.shut {
+        runs.push((2, Run { lo: *lo, hi: *hi }))?;
+    }
     Ok(runs)
+}
+
+fn parks_of(alloc: Global, worked: Worked<'_>) -> Result<Vec<Option<Park>>, OutOfMemory> {
+    let mut parks = Vec::new(alloc);
+    for weight in worked.weights {
+        parks.push(match *weight {
+            Some(weight) => Some(Park { weight, shut: 2 }),
+            None => None,
+        })?;
+    }
+    Ok(parks)
 }
 
 fn pairs_of(alloc: Global, worked: Worked<'_>) -> Result<Vec<Pair>, OutOfMemory> {
@@ -154,12 +202,13 @@ fn is_found(alloc: Global, worked: Worked<'_>) -> Result<bool, OutOfMemory> {
     let arcs = arcs_of(alloc, worked)?;
     let closed = runs_of(alloc, worked)?;
     let pairs = pairs_of(alloc, worked)?;
+    let parks = parks_of(alloc, worked)?;
     let lists = NetLists {
         nodes: worked.nodes,
         arcs: &arcs,
-        lists: 2,
+        lists: 3,
         closed: &closed,
-        weights: worked.weights,
+        parks: &parks,
     };
     let request = Request {
         origin: NodeId(1),

@@ -1,5 +1,5 @@
 -- The next piece of a function with waiting (source: own; no law).
-use Rattle.std.specs.Prelude.{◌≡◌, ℕ, ◌<◌, ◌≤◌, nat_le, if◌then◌else◌, Option, Some, None}
+use Rattle.std.specs.Prelude.{◌≡◌, ℕ, ◌<◌, ◌≤◌, nat_le, if◌then◌else◌, Bool, Option, Some, None}
 use Rattle.cost_functions.specs.Lines.{line_at}
 use Rattle.cost_functions.specs.declared.pieces.Piece.{Piece}
 use Rattle.function_merge.specs.Waits.{waited_at}
@@ -9,9 +9,9 @@ abbrev pub until_at : ℕ → (ℕ → Option ℕ) → ℕ → Option ℕ
 until_at until values t = if nat_le t until then values t else None
 
 -- the next minutes, from one on up to another, at which there is a cost, on one line
-pub record IsNextWait (values : ℕ → Option ℕ) (weight from until : ℕ) (piece : Piece) : Type 0 where
+pub record IsNextWait (values : ℕ → Option ℕ) (allowed : ℕ → Bool) (weight from until : ℕ) (piece : Piece) : Type 0 where
   pub starts : from ≤ piece.lo
   pub filled : piece.lo ≤ piece.hi
   pub upto : piece.hi ≤ until
-  pub gap : (t : ℕ) → from ≤ t → t < piece.lo → waited_at values weight t ≡ None
-  pub line : (t : ℕ) → piece.lo ≤ t → t ≤ piece.hi → waited_at values weight t ≡ Some (line_at piece t)
+  pub gap : (t : ℕ) → from ≤ t → t < piece.lo → waited_at values allowed weight t ≡ None
+  pub line : (t : ℕ) → piece.lo ≤ t → t ≤ piece.hi → waited_at values allowed weight t ≡ Some (line_at piece t)

@@ -2,7 +2,8 @@
 ghost use Rattle.std.specs.Prelude.{◌≡◌, ◌*◌, ◌≤◌, IfOk};
 
 use route_base::{
-    ArcId, Leg, NodeId, NotLawful, OutOfMemory, Pair, Request, Run, TimedArc, TimedNet, replay,
+    ArcId, Leg, NodeId, NotLawful, OutOfMemory, Pair, Park, Request, Run, TimedArc, TimedNet,
+    replay,
 };
 use std::alloc::Global;
 use std::process::Abort;
@@ -33,8 +34,10 @@ const STRAIGHT: Leg = Leg::Drive(ArcId(3));
 
 const FOURTH: Leg = Leg::Drive(ArcId(4));
 
-// The triangle.
-fn triangle(alloc: Global) -> Result<TimedNet, OutOfMemory>
+// The triangle, where waiting at node 2 is shut in the runs of the list at this place: never, or in the last minute before the second
+// arc opens.
+fn triangle(alloc: Global, shut: u32) -> Result<TimedNet, OutOfMemory>
+    requires { shut ≤ 2 }
     ensures { IfOk result (λ net. net.nodes ≡ 3) }
 {
     let arcs = Vec::from_array(
@@ -47,9 +50,15 @@ fn triangle(alloc: Global) -> Result<TimedNet, OutOfMemory>
     };
     let never = Vec::new(alloc);
     let at_night = Vec::from_array(alloc, [run])?;
-    let closed = Vec::from_array(alloc, [never, at_night])?;
-    let weights = Vec::from_array(alloc, [None, Some(2000), None])?;
-    Ok(TimedNet::new(3, arcs, closed, weights))
+    let minute = Run {
+        lo: 26_563_859,
+        hi: 26_563_860,
+    };
+    let at_last = Vec::from_array(alloc, [minute])?;
+    let closed = Vec::from_array(alloc, [never, at_night, at_last])?;
+    let park = Park { weight: 2000, shut };
+    let parks = Vec::from_array(alloc, [None, Some(park), None])?;
+    Ok(TimedNet::new(3, arcs, closed, parks))
 }
 
 const REQUEST: Request = Request {
@@ -90,17 +99,32 @@ const CASES: &[(&[Leg], Result<Pair, NotLawful>)] = &[
     (&[], Err(NotLawful { index: 0 })),
 ];
 
+// The same, where waiting is shut in the last minute before the second arc opens.
+const CASES_WHERE_SHUT: &[(&[Leg], Result<Pair, NotLawful>)] = &[
+    (
+        &[FIRST, Leg::Wait(120), SECOND],
+        Err(NotLawful { index: 1 }),
+    ),
+    (
+        &[FIRST, Leg::Wait(119), SECOND],
+        Err(NotLawful { index: 2 }),
+    ),
+    (&[STRAIGHT], Ok(DIRECT)),
+];
+
 // Replays the legs of each case, and compares the results.
-fn expect_replays<R: Abort>(rt: &R, net: &TimedNet)
+fn expect_replays<R: Abort>(rt: &R, net: &TimedNet, cases: &[(&[Leg], Result<Pair, NotLawful>)])
     requires { net.now.nodes ≡ 3 }
 {
-    for (legs, want) in CASES {
+    for (legs, want) in cases {
         assert_eq!(rt; replay(net, REQUEST, legs), *want, "{legs:?}");
     }
 }
 
 #[test]
 fn replays_legs(rt: HostRuntime) {
-    let net = triangle(rt.alloc()).expect(&rt, "memory");
-    expect_replays(&rt, &net);
+    let net = triangle(rt.alloc(), 0).expect(&rt, "memory");
+    expect_replays(&rt, &net, CASES);
+    let shut = triangle(rt.alloc(), 2).expect(&rt, "memory");
+    expect_replays(&rt, &shut, CASES_WHERE_SHUT);
 }

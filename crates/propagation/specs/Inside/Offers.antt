@@ -1,5 +1,5 @@
 -- How a part of the costs at one node becomes an offer to another (source: own; no law).
-use Rattle.std.specs.Prelude.{◌≡◌, ◌⊎◌, ℕ, ◌+◌, ◌-◌, ◌*◌, ◌≤◌, Option, Some, List}
+use Rattle.std.specs.Prelude.{◌≡◌, ◌⊎◌, ℕ, ◌+◌, ◌-◌, ◌*◌, ◌≤◌, ◌<◌, Bool, false, Option, Some, List}
 use Rattle.route_base.specs.Itinerary.{Position, Drives}
 use Rattle.route_base.specs.Relaxing.{HasWithin}
 use Rattle.route_base.specs.declared.types.Pair.{Pair}
@@ -17,10 +17,16 @@ pub record IsDriven (k : Task) (a v : ℕ) (part : ℕ → Option ℕ) (h : ℕ)
   pub to : (u y : ℕ) (q : Position) → part u ≡ Some y → Drives k.setting k.request.until a (point v u y) q
       → (q.node ≡ h) × (driven q.minute ≡ Some q.cost)
 
--- g is at each minute up to the last the least cost of a wait from a cost of f
-pub record IsWaited (f g : ℕ → Option ℕ) (weight until : ℕ) : Type 0 where
-  pub found : (t x : ℕ) → g t ≡ Some x → (t ≤ until) × (s : ℕ) × (y : ℕ) × (s ≤ t) × (f s ≡ Some y) × (x ≡ y + weight * (t - s))
-  pub least : (s y t : ℕ) → f s ≡ Some y → s ≤ t → t ≤ until → (x : ℕ) × (g t ≡ Some x) × (x ≤ y + weight * (t - s))
+-- waiting is open at each minute from one on and before another
+abbrev pub IsOpenUntil : (ℕ → Bool) → ℕ → ℕ → Type 0
+IsOpenUntil shut from to = (u : ℕ) → from ≤ u → u < to → shut u ≡ false
+
+-- g is at each minute up to the last the least cost of a wait from a cost of f, over minutes at which waiting is open
+pub record IsWaited (f g : ℕ → Option ℕ) (shut : ℕ → Bool) (weight until : ℕ) : Type 0 where
+  pub found : (t x : ℕ) → g t ≡ Some x
+      → (t ≤ until) × (s : ℕ) × (y : ℕ) × (s ≤ t) × IsOpenUntil shut s t × (f s ≡ Some y) × (x ≡ y + weight * (t - s))
+  pub least : (s y t : ℕ) → f s ≡ Some y → s ≤ t → t ≤ until → IsOpenUntil shut s t
+      → (x : ℕ) × (g t ≡ Some x) × (x ≤ y + weight * (t - s))
 
 -- costs at node h that are reached, and come from the start or from known costs
 pub record IsSource (k : Task) (now : Progress) (h : ℕ) (costs : ℕ → Option ℕ) : Type 0 where

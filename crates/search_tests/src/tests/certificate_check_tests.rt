@@ -4,7 +4,7 @@ ghost use Rattle.cost_functions.specs.Lines.{IsPiece};
 ghost use Rattle.certificate_check.specs.Conditions.{AreBoundsInRange};
 ghost use Rattle.route_base.specs.Net.{IsGoodRequest};
 
-use crate::tests::nets::worked_net;
+use crate::tests::nets::{shut_net, worked_net};
 use certificate::limits::LONGEST_BOUND;
 use certificate::{Certificate, NodeBounds, NodeFunctions};
 use certificate_check::{Verdict, check};
@@ -234,6 +234,22 @@ fn finds_the_first_condition_that_fails(rt: HostRuntime) -> Result<(), Fail> {
     ];
     for (row, verdict) in &judged {
         let found = verdict_of(alloc, &net, request, row)?;
+        assert_eq!(rt; found, Some(*verdict));
+    }
+    // Where waiting at node 2 is shut in its last minute, the wait is unlawful, and without its pair nothing else fails.
+    let shut = shut_net(alloc)?;
+    let judged: [(CertificateRow, Verdict); 2] = [
+        (
+            ([WAITS, DRIVES], 120, [START, PARKED, None]),
+            Verdict::Rejected(2),
+        ),
+        (
+            ([DRIVES, None], 120, [START, PARKED, None]),
+            Verdict::Accepted,
+        ),
+    ];
+    for (row, verdict) in &judged {
+        let found = verdict_of(alloc, &shut, request, row)?;
         assert_eq!(rt; found, Some(*verdict));
     }
     Ok(())

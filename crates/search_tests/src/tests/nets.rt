@@ -1,8 +1,8 @@
 // The worked net of several tests: a way over node 2, whose second arc is closed for two hours, and one straight on.
-ghost use Rattle.std.specs.Prelude.{◌≡◌, ◌<◌, IfOk};
-ghost use Rattle.search_tests.specs.WorkedNet.{worked_arc, worked};
+ghost use Rattle.std.specs.Prelude.{◌≡◌, ◌<◌, ◌≤◌, IfOk};
+ghost use Rattle.search_tests.specs.WorkedNet.{worked_arc, worked, worked_with};
 
-use route_base::{NodeId, OutOfMemory, Run, TimedArc, TimedNet};
+use route_base::{NodeId, OutOfMemory, Park, Run, TimedArc, TimedNet};
 use std::alloc::Global;
 
 const ALWAYS_OPEN: u32 = 0;
@@ -22,9 +22,25 @@ fn arc(tail: u32, head: u32, minutes: u64, closed: u32) -> TimedArc
     }
 }
 
+const SHUT_AT_LAST: u32 = 2;
+
 // Waiting is allowed at node 2.
 pub fn worked_net(alloc: Global) -> Result<TimedNet, OutOfMemory>
     ensures { IfOk result (λ net. net ≡ worked) }
+{
+    net_with(alloc, ALWAYS_OPEN)
+}
+
+// Waiting is allowed at node 2, but for the last minute before the second arc opens.
+pub fn shut_net(alloc: Global) -> Result<TimedNet, OutOfMemory>
+    ensures { IfOk result (λ net. net ≡ worked_with 2) }
+{
+    net_with(alloc, SHUT_AT_LAST)
+}
+
+fn net_with(alloc: Global, shut: u32) -> Result<TimedNet, OutOfMemory>
+    requires { shut ≤ 2 }
+    ensures { IfOk result (λ net. net ≡ worked_with shut) }
 {
     let arcs = vec![in alloc;
         arc(1, 2, 60, ALWAYS_OPEN),
@@ -39,6 +55,13 @@ pub fn worked_net(alloc: Global) -> Result<TimedNet, OutOfMemory>
             hi: 26563860
         },
     ]?)?;
-    let weights = vec![in alloc; None, Some(2000), None]?;
-    Ok(TimedNet::new(3, arcs, closed, weights))
+    closed.push(vec![in alloc;
+        Run {
+            lo: 26563859,
+            hi: 26563860
+        },
+    ]?)?;
+    let park = Park { weight: 2000, shut };
+    let parks = vec![in alloc; None, Some(park), None]?;
+    Ok(TimedNet::new(3, arcs, closed, parks))
 }

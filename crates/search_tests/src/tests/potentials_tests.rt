@@ -36,8 +36,8 @@ fn net_with(alloc: Global, cost: Cost) -> Result<TimedNet, OutOfMemory>
         arc(3, 4, 10, 10_000),
     ]?;
     let closed = vec![in alloc; Vec::new(alloc)]?;
-    let weights = vec![in alloc; None; 4]?;
-    Ok(TimedNet::new(4, arcs, closed, weights))
+    let parks = vec![in alloc; None; 4]?;
+    Ok(TimedNet::new(4, arcs, closed, parks))
 }
 
 #[test]

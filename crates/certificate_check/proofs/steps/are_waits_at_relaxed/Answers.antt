@@ -1,6 +1,6 @@
-use Rattle.std.proofs.Common.{◌≡◌, Some, [], refl, sym}
-use Rattle.std.specs.Option.{option_flatten}
-use Rattle.route_base.specs.Net.{at_number, setting_of}
+use Rattle.std.proofs.Common.{◌≡◌, ℕ, Some, refl, ap, sym}
+use Rattle.route_base.specs.Net.{setting_of}
+use Rattle.route_base.specs.Runs.{any_has}
 use Rattle.certificate.specs.ByNode.{item_at}
 use Rattle.certificate_check.specs.Conditions.{value_of}
 use Rattle.certificate_check.specs.Inside.Passing.{Link}
@@ -17,10 +17,12 @@ returns c =
     let weight = c.in-Some.weight in
     let bound = c.bound_of-bound in
     let pieces = c.pieces_of-pieces in
-    let link : Link = record { minutes = 1; cost = weight; closed = []; from = bound.result; to = bound.result; values = pieces.result.now } in
-    let rated : option_flatten (at_number c.args.net.now.weights c.args.v.0) ≡ Some weight = sym c.in-Some.ensures.value in (
+    let shut = c.shut_runs in
+    let link : Link = record { minutes = 1; cost = weight; closed = shut.result.now; from = bound.result; to = bound.result; values = pieces.result.now } in
+    let rated : s.weight c.args.v.0 ≡ Some weight = sym c.in-Some.ensures.value in
+    let closed : (t : ℕ) → any_has shut.result.now t ≡ s.wait_shut c.args.v.0 t = λ t. ap (λ runs. any_has runs t) shut.ensures.value in (
       (λ h. waits_relaxed s until pairs bounds value link pieces.result.now c.args.v.0 weight rated refl refl
-          (λ t u from upto. refl) bound.ensures.value bound.ensures.value pieces.ensures.values pieces.ensures.values (c.pieces_pass.ensures.0 h)),
+          closed bound.ensures.value bound.ensures.value pieces.ensures.values pieces.ensures.values (c.pieces_pass.ensures.0 h)),
       (λ all. c.pieces_pass.ensures.1 (waits_pass s until pairs bounds value link pieces.result.now c.args.v.0 weight rated refl refl
-          (λ t u from upto. refl) bound.ensures.value bound.ensures.value pieces.ensures.values pieces.ensures.values all)),
+          closed bound.ensures.value bound.ensures.value pieces.ensures.values pieces.ensures.values all)),
     )

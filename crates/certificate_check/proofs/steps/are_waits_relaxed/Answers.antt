@@ -21,8 +21,8 @@ pub returns : goal.returns
 returns c = (
   (λ _ v p q at stands waits.
       (let s = setting_of c.args.net.now in
-      let within = weight_within c.args.net.now.weights v waits.weight (ap s.weight (sym at) ∙ waits.rated) in
+      let within = weight_within c.args.net.now.parks v waits.weight (ap s.weight (sym at) ∙ waits.rated) in
       let count = c.node_count-k-end.ensures in
-      c.loop-k.invariant v within.0 (omega (arith, within.1, c.loop-k-test.false, count.value, count.good.weights)) p q at stands waits)),
+      c.loop-k.invariant v within.0 (omega (arith, within.1, c.loop-k-test.false, count.value, count.good.parks)) p q at stands waits)),
   (λ _. search rules),
 )

@@ -1,9 +1,9 @@
-use Rattle.std.proofs.Common.{◌≡◌, ◌≤◌, inr, Some, None, sym, ◌∙◌, arith}
+use Rattle.std.proofs.Common.{◌≡◌, ◌≤◌, inr, Some, None, IsTrue, sym, ◌∙◌, arith, rules}
 use Rattle.std.proofs.Math.Nat.{mul-le-mul_left}
-use Rattle.std.specs.Option.{option_flatten}
-use Rattle.route_base.specs.Net.{setting_of, at_number}
+use Rattle.route_base.specs.Net.{setting_of}
 use Rattle.route_base.specs.Replay.{position_of}
-use Rattle.route_base.proofs.Waiting.{waits, waits_rated, waits_in_time}
+use Rattle.route_base.proofs.Parks.{weight_small}
+use Rattle.route_base.proofs.Waiting.{waits, waits_rated, waits_open, waits_in_time}
 use Rattle.route_base.proofs.itinerary.after_wait.Goals as goal
 use Rattle.route_base.proofs.itinerary.after_wait.Goals.{then-at-until-via-then-at-until, then-at-until-via-else-at-until+then-minutes-until}
 
@@ -21,18 +21,24 @@ returns-then-at-until-clause-none c = λ _. inr (λ q walk.
       | then-at-until-via-else-at-until+then-minutes-until w ↦ omega (arith, late, w.if-at-until.false, w.if-minutes-until.true)
     ])
 
+pub returns-then-not-is_wait_open-clause-none : goal.returns-then-not-is_wait_open-clause-none
+returns-then-not-is_wait_open-clause-none c = λ _. inr (λ q walk.
+    let shut = c.if-not-is_wait_open.ensures.1 (waits_open (setting_of c.args.net.now) c.args.until c.args.minutes (position_of c.args.at) q walk) in
+    search (rules, shut))
+
 pub returns-clause-some : goal.returns-clause-some
 returns-clause-some c =
-    let rated : option_flatten (at_number c.args.net.now.weights c.args.at.node.0) ≡ Some c.in_ok-weight.weight = sym c.weight.ensures.value
+    let rated : (setting_of c.args.net.now).weight c.args.at.node.0 ≡ Some c.in_ok-weight.weight = sym c.weight.ensures.value
     ∙ c.in_ok-weight.was in
+    let opens : IsTrue c.is_wait_open.result = search rules in
     waits (setting_of c.args.net.now) c.args.until c.args.minutes c.args.at.node.0 c.args.at.minute c.args.at.cost c.in_ok-weight.weight
-    rated (omega arith)
+    rated (c.is_wait_open.ensures.0 opens) (omega arith)
 
 pub returns-clause-spot : goal.returns-clause-spot
 returns-clause-spot c =
-    let rated : option_flatten (at_number c.args.net.now.weights c.args.at.node.0) ≡ Some c.in_ok-weight.weight =
+    let rated : (setting_of c.args.net.now).weight c.args.at.node.0 ≡ Some c.in_ok-weight.weight =
     sym c.weight.ensures.value ∙ c.in_ok-weight.was in
-    let small = c.in_ok-weight.ensures.good.each_weight c.args.at.node.0 c.in_ok-weight.weight rated in
+    let small = weight_small c.args.net.now c.in_ok-weight.ensures.good c.args.at.node.0 c.in_ok-weight.weight rated in
     let low : c.in_ok-weight.weight ≤ 10000000000 = omega (arith, small) in
     record {
       low = c.requires.spot.low;

@@ -262,12 +262,14 @@ fn waits_as_lists(
 {
     let weight = random.below(6);
     let until = random.below(COMPARED);
+    let kept = random_keep(alloc, random)?;
+    let allowed = set_of(alloc, &kept)?;
     if !can_wait(f, weight, until) {
         return Ok(false);
     }
-    let made = wait(alloc, f, weight, until)?;
+    let made = wait(alloc, f, weight, &allowed, until)?;
     for t in 0..COMPARED {
-        if made.at(t) != waited(a, weight, until, t) {
+        if made.at(t) != waited(a, weight, &kept, until, t) {
             return Ok(false);
         }
     }

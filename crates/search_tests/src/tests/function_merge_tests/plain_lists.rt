@@ -36,15 +36,22 @@ pub fn shifted(
     Some(value(values, t - minutes)?.saturating_add(cost))
 }
 
-pub fn waited(values: &[Option<u64>], weight: u64, until: Minute, t: Minute) -> Option<u64> {
+pub fn waited(
+    values: &[Option<u64>],
+    weight: u64,
+    allowed: &[bool],
+    until: Minute,
+    t: Minute,
+) -> Option<u64> {
     if until < t {
         return None;
     }
     let mut least = None;
-    for s in 0..values.len() as u64 {
-        if s <= t {
-            let wait = weight.saturating_mul(t - s);
-            least = lesser(least, value(values, s).map(|v| v.saturating_add(wait)));
+    for s in 0..t.saturating_add(1) {
+        let wait = weight.saturating_mul(t - s);
+        least = lesser(least, value(values, s).map(|v| v.saturating_add(wait)));
+        if allowed.get(s as usize) != Some(&true) && s < t {
+            least = None;
         }
     }
     least

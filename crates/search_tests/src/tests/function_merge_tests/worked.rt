@@ -108,11 +108,29 @@ fn moves_and_prunes(rt: HostRuntime) -> Result<(), Fail> {
 fn waits_for_the_least(rt: HostRuntime) -> Result<(), Fail> {
     let f = CostFn::from_points(rt.alloc(), &[(0, 100), (3, 90)])?;
     assert!(rt; can_wait(&f, 5, 6));
-    let waited = wait(rt.alloc(), &f, 5, 6)?;
+    let always = MinuteSet::whole(rt.alloc(), Run { lo: 0, hi: 6 })?;
+    let waited = wait(rt.alloc(), &f, 5, &always, 6)?;
     let values = [100, 105, 110, 90, 95, 100, 105];
     for t in 0..values.len() {
         assert!(rt; waited.at(t as u64) == Some(values[t]));
     }
     assert!(rt; waited.at(7) == None);
+    Ok(())
+}
+
+#[test]
+fn waits_at_allowed_minutes(rt: HostRuntime) -> Result<(), Fail> {
+    let f = CostFn::from_points(rt.alloc(), &[(0, 100), (3, 90)])?;
+    assert!(rt; can_wait(&f, 5, 6));
+    let runs = [Run { lo: 0, hi: 2 }, Run { lo: 4, hi: 6 }];
+    let allowed = MinuteSet::from_runs(rt.alloc(), &runs)?;
+    let waited = wait(rt.alloc(), &f, 5, &allowed, 6)?;
+    let values = [100, 105, 110, 90];
+    for t in 0..values.len() {
+        assert!(rt; waited.at(t as u64) == Some(values[t]));
+    }
+    for t in 4..7 {
+        assert!(rt; waited.at(t) == None);
+    }
     Ok(())
 }

@@ -1,6 +1,6 @@
 use Rattle.std.proofs.Common.{◌≡◌, ℕ, length, sym, subst, arith}
 use Rattle.std.specs.Prelude.{All}
-use Rattle.both_engines.specs.SmallNets.{IsSmallArc}
+use Rattle.both_engines.specs.SmallNets.{IsSmallArc, IsLight}
 use Rattle.both_engines.proofs.CheapNets.{well_formed}
 use Rattle.both_engines.proofs.tests.nets.net_of.Goals as goal
 
@@ -8,9 +8,9 @@ pub new-requires : goal.new-requires
 new-requires c =
     let arcs = c.in_ok-arcs.arcs.items in
     let closed = c.in_ok-closed.closed.items in
-    let weights = c.in_ok-weights.weights.items in
+    let parks = c.in_ok-parks.parks.items in
     let count : c.min-lists.result ≡ length closed = sym c.in_ok-closed.ensures.all in
-    well_formed c.min-nodes.result arcs closed weights (omega (arith, c.min-nodes.ensures)) c.in_ok-arcs.ensures.few
-    (omega (arith, count, c.min-lists.ensures)) c.in_ok-weights.ensures.all
+    well_formed c.min-nodes.result arcs closed parks (omega (arith, c.min-nodes.ensures)) c.in_ok-arcs.ensures.few
+    (omega (arith, count, c.min-lists.ensures)) c.in_ok-parks.ensures.all
     (subst (λ (n : ℕ). All (IsSmallArc c.min-nodes.result n) arcs) count c.in_ok-arcs.ensures.small)
-    c.in_ok-closed.ensures.runs c.in_ok-weights.ensures.light
+    c.in_ok-closed.ensures.runs (subst (λ (n : ℕ). All (IsLight n) parks) count c.in_ok-parks.ensures.light)

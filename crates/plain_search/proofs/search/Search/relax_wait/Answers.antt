@@ -1,7 +1,7 @@
 use Rattle.std.proofs.Common.{◌≡◌, ◌+◌, ◌≤◌, Some, refl, sym, ◌∙◌, arith}
 use Rattle.route_base.specs.Itinerary.{wait}
-use Rattle.std.specs.Option.{option_flatten}
-use Rattle.route_base.specs.Net.{setting_of, at_number}
+use Rattle.route_base.specs.Net.{setting_of}
+use Rattle.route_base.proofs.Parks.{weight_small}
 use Rattle.plain_search.specs.Inside.CostTable.{cost_of}
 use Rattle.plain_search.proofs.Founding.{cost_fits, later_of}
 use Rattle.plain_search.proofs.NetFacts.{takes_time}
@@ -14,9 +14,9 @@ overflow_add-cost c =
     cost_fits (setting_of c.args.self.now.net.now) c.args.self.now.request
     (takes_time c.args.self.now.net.now c.args.self.now.good) c.args.self.now.asked.fit (cost_of c.args.table.now)
     (c.args.minute + 1) c.requires.label.sound.founded c.args.node.0 c.args.minute c.requires.label.reached.known in
-    let here : option_flatten (at_number c.args.self.now.net.now.weights c.args.node.0) ≡ Some c.in-Some.weight = sym
+    let here : (setting_of c.args.self.now.net.now).weight c.args.node.0 ≡ Some c.in-Some.weight = sym
     c.weight_to_wait.ensures.value ∙ c.in-Some.is in
-    let cheap = c.args.self.now.good.each_weight c.args.node.0 c.in-Some.weight here in
+    let cheap = weight_small c.args.self.now.net.now c.args.self.now.good c.args.node.0 c.in-Some.weight here in
     omega (arith, c.cost-cost.ensures, small, cheap)
 
 pub returns-clause-later : goal.returns-clause-later
@@ -25,7 +25,7 @@ returns-clause-later c = later_of (cost_of c.args.table.now) (cost_of c.lower.ne
 
 pub returns-clause-sound : goal.returns-clause-sound
 returns-clause-sound c =
-    let here : option_flatten (at_number c.args.self.now.net.now.weights c.args.node.0) ≡ Some c.in-Some.weight = sym
+    let here : (setting_of c.args.self.now.net.now).weight c.args.node.0 ≡ Some c.in-Some.weight = sym
     c.weight_to_wait.ensures.value ∙ c.in-Some.is in
     let in_time : c.args.minute + 1 ≤ c.args.self.now.request.until = omega arith in
     sound_lower c.args.self.now.net.now c.args.self.now.request c.args.table.now c.lower.new.self (c.args.minute + 1) c.args.node.0 (c.args.minute + 1)
@@ -33,6 +33,7 @@ returns-clause-sound c =
     wait c.args.node.0 c.args.minute (omega arith) c.requires.label.reached.known (record {
       weight = c.in-Some.weight;
       rated = here;
+      is_open = sym c.is_shut.ensures ∙ c.if-is_shut.false;
       in_time = in_time;
       node = refl;
       minute = refl;
