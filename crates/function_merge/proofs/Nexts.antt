@@ -7,7 +7,7 @@ use Rattle.function_merge.proofs.FirstPieces.{first_of, first_is, first_value, f
 use Rattle.cost_functions.specs.declared.pieces.Piece.{Piece}
 use Rattle.route_base.specs.declared.limits.TheConstants.{LAST_INSTANT}
 use Rattle.function_merge.specs.Least.{least_of, is_better, least_at, better_at}
-use Rattle.function_merge.specs.Inside.Segments.{IsNextSegment}
+use Rattle.function_merge.specs.Inside.Segments.{piece_of, improves, IsNextSegment}
 use Rattle.minute_sets.specs.Combination.{IsSwept}
 use Rattle.route_base.specs.declared.types.Run.{Run}
 use Rattle.std.proofs.lemmas.Bool.{cases_lt, le-leb, lt-leb}
@@ -36,12 +36,12 @@ module _ (f g : List Piece) (t : ℕ) where
   pub better_both : (a b : ℕ) → value_at f t ≡ Some a → value_at g t ≡ Some b → better_at f g t ≡ ltb b a
   better_both a b first second = ap (λ v. is_better v (value_at g t)) first ∙ ap (λ v. is_better (Some a) v) second
 
-module _ (f g : List Piece) (from : ℕ) (s : Segment) (starts : from ≤ s.piece.lo) (filled : s.piece.lo ≤ s.piece.hi) (minutes : s.piece.hi ≤ LAST_INSTANT)
-    (small : IsSmallPiece s.piece)
-    (gap_f : (t : ℕ) → from ≤ t → t < s.piece.lo → value_at f t ≡ None) (gap_g : (t : ℕ) → from ≤ t → t < s.piece.lo → value_at g t ≡ None) where
-  pub next_first : (p : Piece) → ((t : ℕ) → s.piece.lo ≤ t → line_at s.piece t ≡ line_at p t)
-      → ((t : ℕ) → s.piece.lo ≤ t → t ≤ s.piece.hi → value_at f t ≡ Some (line_at p t)) → ((t : ℕ) → s.piece.lo ≤ t → t ≤ s.piece.hi → value_at g t ≡ None)
-      → s.improves ≡ false → IsNextSegment f g from s
+module _ (f g : List Piece) (from : ℕ) (s : Segment) (starts : from ≤ (piece_of s).lo) (filled : (piece_of s).lo ≤ (piece_of s).hi) (minutes : (piece_of s).hi ≤ LAST_INSTANT)
+    (small : IsSmallPiece (piece_of s))
+    (gap_f : (t : ℕ) → from ≤ t → t < (piece_of s).lo → value_at f t ≡ None) (gap_g : (t : ℕ) → from ≤ t → t < (piece_of s).lo → value_at g t ≡ None) where
+  pub next_first : (p : Piece) → ((t : ℕ) → (piece_of s).lo ≤ t → line_at (piece_of s) t ≡ line_at p t)
+      → ((t : ℕ) → (piece_of s).lo ≤ t → t ≤ (piece_of s).hi → value_at f t ≡ Some (line_at p t)) → ((t : ℕ) → (piece_of s).lo ≤ t → t ≤ (piece_of s).hi → value_at g t ≡ None)
+      → improves s ≡ false → IsNextSegment f g from s
   next_first p line first second improves = record {
     starts = starts;
     filled = filled;
@@ -53,9 +53,9 @@ module _ (f g : List Piece) (from : ℕ) (s : Segment) (starts : from ≤ s.piec
     better = λ t late upto. better_none f g t (second t late upto) ∙ sym improves;
   }
 
-  pub next_second : (q : Piece) → ((t : ℕ) → s.piece.lo ≤ t → line_at s.piece t ≡ line_at q t)
-      → ((t : ℕ) → s.piece.lo ≤ t → t ≤ s.piece.hi → value_at f t ≡ None) → ((t : ℕ) → s.piece.lo ≤ t → t ≤ s.piece.hi → value_at g t ≡ Some (line_at q t))
-      → s.improves ≡ true → IsNextSegment f g from s
+  pub next_second : (q : Piece) → ((t : ℕ) → (piece_of s).lo ≤ t → line_at (piece_of s) t ≡ line_at q t)
+      → ((t : ℕ) → (piece_of s).lo ≤ t → t ≤ (piece_of s).hi → value_at f t ≡ None) → ((t : ℕ) → (piece_of s).lo ≤ t → t ≤ (piece_of s).hi → value_at g t ≡ Some (line_at q t))
+      → improves s ≡ true → IsNextSegment f g from s
   next_second q line first second improves = record {
     starts = starts;
     filled = filled;
@@ -67,9 +67,9 @@ module _ (f g : List Piece) (from : ℕ) (s : Segment) (starts : from ≤ s.piec
     better = λ t late upto. better_second f g t (line_at q t) (first t late upto) (second t late upto) ∙ sym improves;
   }
 
-  pub next_both : (p q : Piece) → ((t : ℕ) → s.piece.lo ≤ t → t ≤ s.piece.hi → line_at s.piece t ≡ min (line_at p t) (line_at q t))
-      → ((t : ℕ) → s.piece.lo ≤ t → t ≤ s.piece.hi → ltb (line_at q t) (line_at p t) ≡ s.improves)
-      → ((t : ℕ) → s.piece.lo ≤ t → t ≤ s.piece.hi → value_at f t ≡ Some (line_at p t)) → ((t : ℕ) → s.piece.lo ≤ t → t ≤ s.piece.hi
+  pub next_both : (p q : Piece) → ((t : ℕ) → (piece_of s).lo ≤ t → t ≤ (piece_of s).hi → line_at (piece_of s) t ≡ min (line_at p t) (line_at q t))
+      → ((t : ℕ) → (piece_of s).lo ≤ t → t ≤ (piece_of s).hi → ltb (line_at q t) (line_at p t) ≡ improves s)
+      → ((t : ℕ) → (piece_of s).lo ≤ t → t ≤ (piece_of s).hi → value_at f t ≡ Some (line_at p t)) → ((t : ℕ) → (piece_of s).lo ≤ t → t ≤ (piece_of s).hi
       → value_at g t ≡ Some (line_at q t)) → IsNextSegment f g from s
   next_both p q line lower first second = record {
     starts = starts;
@@ -82,11 +82,11 @@ module _ (f g : List Piece) (from : ℕ) (s : Segment) (starts : from ≤ s.piec
     better = λ t late upto. better_both f g t (line_at p t) (line_at q t) (first t late upto) (second t late upto) ∙ lower t late upto;
   }
 
-module _ (f g : List Piece) (from : ℕ) (s : Segment) (filled : s.piece.lo ≤ s.piece.hi) (small : IsSmallPiece s.piece) where
+module _ (f g : List Piece) (from : ℕ) (s : Segment) (filled : (piece_of s).lo ≤ (piece_of s).hi) (small : IsSmallPiece (piece_of s)) where
   -- a part of the first piece of f, where g has nothing
-  pub next_in_first : (some : 1 ≤ length f) → ArePieces f → s.piece.lo ≡ max from (first_of f).lo → s.piece.hi ≤ (first_of f).hi
-      → ((t : ℕ) → s.piece.lo ≤ t → line_at s.piece t ≡ line_at (first_of f) t) → ((t : ℕ) → from ≤ t → t ≤ s.piece.hi → value_at g t ≡ None)
-      → s.improves ≡ false → IsNextSegment f g from s
+  pub next_in_first : (some : 1 ≤ length f) → ArePieces f → (piece_of s).lo ≡ max from (first_of f).lo → (piece_of s).hi ≤ (first_of f).hi
+      → ((t : ℕ) → (piece_of s).lo ≤ t → line_at (piece_of s) t ≡ line_at (first_of f) t) → ((t : ℕ) → from ≤ t → t ≤ (piece_of s).hi → value_at g t ≡ None)
+      → improves s ≡ false → IsNextSegment f g from s
   next_in_first some are lo hi line none improves =
       let is = first_is f some are in
       let last = is.minutes in
@@ -99,9 +99,9 @@ module _ (f g : List Piece) (from : ℕ) (s : Segment) (filled : s.piece.lo ≤ 
       improves
 
   -- a part of the first piece of g, where f has nothing
-  pub next_in_second : (some : 1 ≤ length g) → ArePieces g → s.piece.lo ≡ max from (first_of g).lo → s.piece.hi ≤ (first_of g).hi
-      → ((t : ℕ) → s.piece.lo ≤ t → line_at s.piece t ≡ line_at (first_of g) t) → ((t : ℕ) → from ≤ t → t ≤ s.piece.hi → value_at f t ≡ None)
-      → s.improves ≡ true → IsNextSegment f g from s
+  pub next_in_second : (some : 1 ≤ length g) → ArePieces g → (piece_of s).lo ≡ max from (first_of g).lo → (piece_of s).hi ≤ (first_of g).hi
+      → ((t : ℕ) → (piece_of s).lo ≤ t → line_at (piece_of s) t ≡ line_at (first_of g) t) → ((t : ℕ) → from ≤ t → t ≤ (piece_of s).hi → value_at f t ≡ None)
+      → improves s ≡ true → IsNextSegment f g from s
   next_in_second some are lo hi line none improves =
       let is = first_is g some are in
       let last = is.minutes in
@@ -114,10 +114,10 @@ module _ (f g : List Piece) (from : ℕ) (s : Segment) (filled : s.piece.lo ≤ 
       improves
 
   -- a part of the first pieces of both
-  pub next_in_both : (some : 1 ≤ length f) → (one : 1 ≤ length g) → ArePieces f → ArePieces g → s.piece.lo ≡ max from (first_of f).lo
-      → s.piece.lo ≡ max from (first_of g).lo → s.piece.hi ≤ (first_of f).hi → s.piece.hi ≤ (first_of g).hi
-      → ((t : ℕ) → s.piece.lo ≤ t → t ≤ s.piece.hi → line_at s.piece t ≡ min (line_at (first_of f) t) (line_at (first_of g) t))
-      → ((t : ℕ) → s.piece.lo ≤ t → t ≤ s.piece.hi → ltb (line_at (first_of g) t) (line_at (first_of f) t) ≡ s.improves) → IsNextSegment f g from s
+  pub next_in_both : (some : 1 ≤ length f) → (one : 1 ≤ length g) → ArePieces f → ArePieces g → (piece_of s).lo ≡ max from (first_of f).lo
+      → (piece_of s).lo ≡ max from (first_of g).lo → (piece_of s).hi ≤ (first_of f).hi → (piece_of s).hi ≤ (first_of g).hi
+      → ((t : ℕ) → (piece_of s).lo ≤ t → t ≤ (piece_of s).hi → line_at (piece_of s) t ≡ min (line_at (first_of f) t) (line_at (first_of g) t))
+      → ((t : ℕ) → (piece_of s).lo ≤ t → t ≤ (piece_of s).hi → ltb (line_at (first_of g) t) (line_at (first_of f) t) ≡ improves s) → IsNextSegment f g from s
   next_in_both some one are also lo low hi high line lower =
       let is = first_is f some are in
       let last = is.minutes in

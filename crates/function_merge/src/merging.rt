@@ -5,6 +5,7 @@ ghost use Rattle.cost_functions.specs.Pieces.{value_at, ArePieces, AreSmallPiece
 ghost use Rattle.cost_functions.specs.Building.{AreBuilt, IsSettled};
 ghost use Rattle.route_base.specs.declared.limits.TheConstants.{LAST_INSTANT};
 ghost use Rattle.function_merge.specs.Least.{least_at, better_at};
+ghost use Rattle.function_merge.specs.Inside.Segments.{piece_of, improves};
 ghost use Rattle.minute_sets.specs.Combination.{IsSwept};
 
 use crate::lower_envelope::{Segment, next_segment};
@@ -198,10 +199,10 @@ fn improves_from(f: &[Piece], g: &[Piece], start: Minute) -> bool
     let mut other = g;
     let mut from: Minute = start;
     'sweep: while let Some(segment) = next_segment(left, other, from) {
-        if segment.improves {
+        let Segment::Kept(piece) = segment else {
             return true;
-        }
-        from = segment.piece.hi + 1;
+        };
+        from = piece.hi + 1;
         left = skip_pieces(left, from);
         other = skip_pieces(other, from);
         let [_, ..] = other else { return false };
@@ -237,9 +238,10 @@ fn merged_from(
     let mut other = g;
     let mut from: Minute = start;
     'sweep: while let Some(segment) = next_segment(left, other, from) {
-        built.push(segment.piece)?;
+        let piece = segment.piece();
+        built.push(piece)?;
         mark(&mut improved, segment)?;
-        from = segment.piece.hi + 1;
+        from = piece.hi + 1;
         left = skip_pieces(left, from);
         other = skip_pieces(other, from);
     }
@@ -252,18 +254,20 @@ fn merged_from(
 // Adds the minutes of the segment, if it improves.
 fn mark(improved: &mut MinuteSet, segment: Segment) -> Result<(), OutOfMemory>
     requires runs { AreRuns improved.old }
-    requires later { All (λ r. r.lo ≤ segment.piece.lo) improved.old }
-    requires filled { segment.piece.lo ≤ segment.piece.hi }
-    requires minutes { segment.piece.hi ≤ LAST_INSTANT }
+    requires later { All (λ r. r.lo ≤ (piece_of segment).lo) improved.old }
+    requires filled { (piece_of segment).lo ≤ (piece_of segment).hi }
+    requires minutes { (piece_of segment).hi ≤ LAST_INSTANT }
     ensures runs { AreRuns improved.new }
-    ensures marked { OnOk result ((wanted : ℕ → Bool) → IsSwept wanted improved.old segment.piece.lo
-        → ((t : ℕ) → segment.piece.lo ≤ t → t ≤ segment.piece.hi → wanted t ≡ segment.improves)
-        → IsSwept wanted improved.new (segment.piece.hi + 1)) }
+    ensures marked { OnOk result ((wanted : ℕ → Bool)
+        → IsSwept wanted improved.old (piece_of segment).lo
+        → ((t : ℕ) → (piece_of segment).lo ≤ t → t ≤ (piece_of segment).hi
+        → wanted t ≡ improves segment)
+        → IsSwept wanted improved.new ((piece_of segment).hi + 1)) }
 {
-    if segment.improves {
+    if let Segment::Improved(piece) = segment {
         improved.append(Run {
-            lo: segment.piece.lo,
-            hi: segment.piece.hi + 1,
+            lo: piece.lo,
+            hi: piece.hi + 1,
         })?;
     }
     Ok(())

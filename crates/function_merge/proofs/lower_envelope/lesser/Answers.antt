@@ -1,4 +1,4 @@
-use Rattle.std.proofs.Common.{◌+◌, ◌*◌, ◌-◌, ◌≤◌, ◌∙◌, ℕ, sym, arith}
+use Rattle.std.proofs.Common.{◌+◌, ◌*◌, ◌-◌, ◌≤◌, ◌∙◌, ℕ, arith}
 use Rattle.std.proofs.lemmas.Bool.{lt-ltb, le-ltb}
 use Rattle.cost_functions.specs.Lines.{line_at}
 use Rattle.function_merge.proofs.Lowest.{stays_below, min_left, min_right}
@@ -24,7 +24,7 @@ returns-then-second-first-clause-better c = λ t from upto.
     (arith, c.held_for-held.ensures.held (t - c.args.lo) (omega (arith, e.hi, upto))) in
     let below = stays_below c.args.q c.args.p c.args.lo t slack 1 r.second_from r.first_from from
     (omega (arith, c.value-first.ensures, c.value-second.ensures, c.if-second-first.true)) rise in
-    lt-ltb (line_at c.args.q t) (line_at c.args.p t) (omega (arith, below)) ∙ sym e.improves
+    lt-ltb (line_at c.args.q t) (line_at c.args.p t) (omega (arith, below))
 
 pub returns-else-second-first-clause-line : goal.returns-else-second-first-clause-line
 returns-else-second-first-clause-line c = λ t from upto.
@@ -44,4 +44,4 @@ returns-else-second-first-clause-better c = λ t from upto.
     let rise = c.held_for-held-else-second-first.ensures.held (t - c.args.lo) (omega (arith, e.hi, upto)) in
     let below = stays_below c.args.p c.args.q c.args.lo t slack 0 r.first_from r.second_from from
     (omega (arith, c.value-first.ensures, c.value-second.ensures, c.if-second-first.false)) rise in
-    le-ltb (line_at c.args.q t) (line_at c.args.p t) (omega (arith, below)) ∙ sym e.improves
+    le-ltb (line_at c.args.q t) (line_at c.args.p t) (omega (arith, below))

@@ -1,6 +1,7 @@
-use Rattle.std.proofs.Common.{◌∙◌, arith}
+use Rattle.std.proofs.Common.{◌∙◌, refl, arith}
 use Rattle.function_merge.proofs.FirstPieces.{first_of, first_is, first_none, no_pieces}
 use Rattle.function_merge.proofs.Nexts.{least_none, next_in_first, next_in_second, next_in_both}
+use Rattle.function_merge.specs.declared.lower_envelope.Segment.TheVariants.{Kept, Improved}
 use Rattle.function_merge.proofs.lower_envelope.next_segment.Goals as goal
 
 pub returns-in_default-g-clause-none_least : goal.returns-in_default-g-clause-none_least
@@ -15,9 +16,9 @@ returns-in_default-clause-some c =
     let some = c.in-len1-up-g.len_at_least in
     let filled = (first_is g some c.requires.second).filled in
     let reaches = c.requires.second_from 0 (first_of g) (omega (arith, some)) in
-    next_in_second f g c.args.from c.part.result (omega (arith, e.lo, e.hi, c.max.ensures, filled, reaches)) e.small some c.requires.second
+    next_in_second f g c.args.from (Improved c.part.result) (omega (arith, e.lo, e.hi, c.max.ensures, filled, reaches)) e.small some c.requires.second
     (e.lo ∙ c.max.ensures) (omega (arith, e.hi)) (λ t late. e.line t (omega (arith, late, e.lo)))
-    (λ t late upto. no_pieces f t (omega (arith, c.in_default.len_below))) e.improves
+    (λ t late upto. no_pieces f t (omega (arith, c.in_default.len_below))) refl
 
 pub returns-in_default-g-2-clause-some : goal.returns-in_default-g-2-clause-some
 returns-in_default-g-2-clause-some c =
@@ -27,9 +28,9 @@ returns-in_default-g-2-clause-some c =
     let some = c.in-len1-up.len_at_least in
     let filled = (first_is f some c.requires.first).filled in
     let reaches = c.requires.first_from 0 (first_of f) (omega (arith, some)) in
-    next_in_first f g c.args.from c.part-in_default-g-2.result (omega (arith, e.lo, e.hi, c.max-p_lo.ensures, filled, reaches)) e.small some c.requires.first
+    next_in_first f g c.args.from (Kept c.part-in_default-g-2.result) (omega (arith, e.lo, e.hi, c.max-p_lo.ensures, filled, reaches)) e.small some c.requires.first
     (e.lo ∙ c.max-p_lo.ensures) (omega (arith, e.hi)) (λ t late. e.line t (omega (arith, late, e.lo)))
-    (λ t late upto. no_pieces g t (omega (arith, c.in_default-g-2.len_below))) e.improves
+    (λ t late upto. no_pieces g t (omega (arith, c.in_default-g-2.len_below))) refl
 
 pub returns-then-p_lo-q_lo-clause-some : goal.returns-then-p_lo-q_lo-clause-some
 returns-then-p_lo-q_lo-clause-some c =
@@ -39,7 +40,7 @@ returns-then-p_lo-q_lo-clause-some c =
     let some = c.in-len1-up.len_at_least in
     let filled = (first_is f some c.requires.first).filled in
     let reaches = c.requires.first_from 0 (first_of f) (omega (arith, some)) in
-    next_in_first f g c.args.from c.part-then-p_lo-q_lo.result (omega (
+    next_in_first f g c.args.from (Kept c.part-then-p_lo-q_lo.result) (omega (
       arith,
       e.lo,
       e.hi,
@@ -57,7 +58,7 @@ returns-then-p_lo-q_lo-clause-some c =
       c.min.ensures,
       c.max-q_lo.ensures,
       c.if-p_lo-q_lo.true,
-    ))) e.improves
+    ))) refl
 
 pub returns-then-q_lo-p_lo-clause-some : goal.returns-then-q_lo-p_lo-clause-some
 returns-then-q_lo-p_lo-clause-some c =
@@ -67,7 +68,7 @@ returns-then-q_lo-p_lo-clause-some c =
     let some = c.in-len1-up-g-2.len_at_least in
     let filled = (first_is g some c.requires.second).filled in
     let reaches = c.requires.second_from 0 (first_of g) (omega (arith, some)) in
-    next_in_second f g c.args.from c.part-then-q_lo-p_lo.result (omega (
+    next_in_second f g c.args.from (Improved c.part-then-q_lo-p_lo.result) (omega (
       arith,
       e.lo,
       e.hi,
@@ -86,7 +87,7 @@ returns-then-q_lo-p_lo-clause-some c =
       c.min-then-q_lo-p_lo.ensures,
       c.max-p_lo.ensures,
       c.if-q_lo-p_lo.true,
-    ))) e.improves
+    ))) refl
 
 pub returns-else-q_lo-p_lo-clause-some : goal.returns-else-q_lo-p_lo-clause-some
 returns-else-q_lo-p_lo-clause-some c =
