@@ -51,7 +51,21 @@ module _ {X : Type 0} (xs : List X) (k : ℕ) (le : k ≤ length xs) where
   pub every_drop : (P : X → Type 0) → All P xs → All P (drop k xs)
   every_drop P all = all_drop P (λ j d from upto. all j d upto)
 
+  -- what is so of the taken part is so of the whole
+  pub within_part : (P : X → Type 0) (i : ℕ) → i ≤ k → AllWithin P (take k xs) 0 i → AllWithin P xs 0 i
+  within_part P i few before j d from upto = let lt : j < k = omega (arith, few, upto) in subst P (get_or-take k xs j d lt) (before j d from upto)
+
+  pub within_both : (P : X → Type 0) (i : ℕ) → AllWithin P (take k xs) i (length (take k xs)) → AllWithin P xs k (length xs) → AllWithin P xs i (length xs)
+  within_both P i part after j d from upto =
+      ⊎_elim
+      (λ (lt : j < k). subst P (get_or-take k xs j d lt) (part j d from (omega (arith, lt, length-take-le k xs le))))
+      (λ (ge : k ≤ j). after j d ge upto)
+      (cases_lt j k)
+
 module _ (ps : List Piece) (k : ℕ) (le : k ≤ length ps) where
+  pub pieces_take : ArePieces ps → ArePieces (take k ps)
+  pieces_take are = record { each = every_take ps k le IsPiece are.each; apart = pairs_take ps k le (λ p q. p.hi < q.lo) are.apart }
+
   pub pieces_drop : ArePieces ps → ArePieces (drop k ps)
   pieces_drop are = record { each = every_drop ps k le IsPiece are.each; apart = pairs_drop ps k le (λ p q. p.hi < q.lo) are.apart }
 

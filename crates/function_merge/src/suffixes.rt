@@ -9,6 +9,9 @@ ghost use Rattle.cost_functions.specs.Pieces.{value_at, ArePieces, AreSmallPiece
 use cost_functions::Piece;
 use route_base::{Minute, Run};
 
+// The number of pieces at the end that are passed one by one before a binary search in the others.
+const PASSED_FIRST: usize = 8;
+
 // The pieces without the first one, if that ends before the minute.
 pub fn pieces_from(pieces: &[Piece], from: Minute) -> &[Piece]
     requires { ArePieces pieces.now }
@@ -69,23 +72,40 @@ pub fn find_pieces(pieces: &[Piece], from: Minute) -> &[Piece]
     &pieces[ending_before(pieces, from)..]
 }
 
-// The number of pieces that end before the minute.
+// The number of pieces that end before the minute. Most minutes that are asked for lie in the last pieces, so a few of these are
+// passed one by one before the binary search.
 pub fn ending_before(pieces: &[Piece], minute: Minute) -> usize
     requires { ArePieces pieces.now }
     ensures within { result ≤ length pieces.now }
     ensures before { AllWithin (λ p. p.hi < minute) pieces.now 0 result }
     ensures after { AllWithin (λ p. minute ≤ p.hi) pieces.now result (length pieces.now) }
 {
-    pieces.partition_point(|piece| piece.hi < minute)
+    let mut count = pieces.len();
+    let searched = count.saturating_sub(PASSED_FIRST);
+    'back: while searched < count {
+        if pieces[count - 1].hi < minute {
+            return count;
+        }
+        count -= 1;
+    }
+    pieces[..count].partition_point(|piece| piece.hi < minute)
 }
 
-// The number of pieces that begin by the minute.
+/// The number of pieces that begin by the minute: a few pieces from the end are passed one by one, and then a binary search.
 pub fn beginning_by(pieces: &[Piece], minute: Minute) -> usize
     requires { ArePieces pieces.now }
     ensures within { result ≤ length pieces.now }
     ensures after { AllWithin (λ p. minute < p.lo) pieces.now result (length pieces.now) }
 {
-    pieces.partition_point(|piece| piece.lo <= minute)
+    let mut count = pieces.len();
+    let searched = count.saturating_sub(PASSED_FIRST);
+    'back: while searched < count {
+        if pieces[count - 1].lo <= minute {
+            return count;
+        }
+        count -= 1;
+    }
+    pieces[..count].partition_point(|piece| piece.lo <= minute)
 }
 
 // The runs that do not end by the minute, by a binary search.

@@ -3,7 +3,7 @@ ghost use Rattle.std.specs.Prelude.{◌≡◌, ◌≤◌, ◌<◌, ◌&&◌, not
 ghost use Rattle.route_base.specs.Front.{RiseAndFall};
 ghost use Rattle.route_base.specs.Runs.{any_has};
 ghost use Rattle.route_base.specs.declared.limits.TheConstants.{LAST_INSTANT};
-ghost use Rattle.cost_functions.specs.Pieces.{value_at, AreSmallPieces};
+ghost use Rattle.cost_functions.specs.Pieces.{value_at, ArePieces, AreSmallPieces};
 ghost use Rattle.label_queue.specs.Keys.{key_at};
 ghost use Rattle.potentials.specs.Sums.{bound_at};
 ghost use Rattle.propagation.specs.Inside.Invariants.{TakesPart};
@@ -13,7 +13,7 @@ ghost use Rattle.propagation.specs.declared.parts.TheConstants.{SPAN_AFTER_PAIRS
 use crate::plan::Plan;
 use crate::state::{State, first_of};
 use cost_functions::{CostFn, Piece};
-use function_merge::{cut, into_pruned};
+use function_merge::{beginning_by, cut, into_pruned};
 use label_queue::LabelQueue;
 use minute_sets::MinuteSet;
 use route_base::{Bound, Minute, NodeId, OutOfMemory, Pair, Run};
@@ -23,8 +23,8 @@ use std::mem;
 // A turn takes the pieces that begin within an hour of the first pending minute while no pair is found, since later costs still fall.
 const SPAN_BEFORE_PAIRS: u64 = 60;
 
-// Once pairs prune most labels, it takes those that begin within two days, and so reaches over a day's ban.
-const SPAN_AFTER_PAIRS: u64 = 2_880;
+// Once pairs prune most labels, it takes those that begin within four hours.
+const SPAN_AFTER_PAIRS: u64 = 240;
 
 // The part that is taken, and the first minute that is left.
 #[derive(Drop)]
@@ -90,6 +90,7 @@ fn span_for(pairs: &[Pair]) -> u64
 
 // The end of the last piece of what is pending that begins within the span, so that no piece is split.
 fn end_of_turn(pieces: &[Piece], pending: &[Run], first: Minute, span: u64) -> Minute
+    requires pieces { ArePieces pieces.now }
     requires first { first ≤ LAST_INSTANT }
     requires span { span ≤ SPAN_AFTER_PAIRS }
     ensures { first < result }
@@ -104,15 +105,19 @@ fn end_of_turn(pieces: &[Piece], pending: &[Run], first: Minute, span: u64) -> M
     run.hi.min(piece.hi.saturating_add(1)).max(first + 1)
 }
 
-// The last run that begins by a minute.
+// The last run that begins by a minute. The runs up to it are taken by the turn, so they are passed one by one.
 fn last_run_by(runs: &[Run], minute: Minute) -> Option<Run> {
-    let count = runs.partition_point(|run| run.lo <= minute);
-    runs[..count].last().copied()
+    runs.iter()
+        .take_while(|run| run.lo <= minute)
+        .last()
+        .copied()
 }
 
 // The last piece that begins by a minute.
-fn last_piece_by(pieces: &[Piece], minute: Minute) -> Option<Piece> {
-    let count = pieces.partition_point(|piece| piece.lo <= minute);
+fn last_piece_by(pieces: &[Piece], minute: Minute) -> Option<Piece>
+    requires { ArePieces pieces.now }
+{
+    let count = beginning_by(pieces, minute);
     pieces[..count].last().copied()
 }
 
