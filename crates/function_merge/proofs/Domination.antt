@@ -1,8 +1,8 @@
 -- Pairs that dominate a piece, from the first minute on at which one does.
-use Rattle.std.proofs.Common.{◌≡◌, ⊎_elim, ℕ, ◌+◌, ◌-◌, ◌≤◌, ◌<◌, min, true, false, List, length, get_or, ap, arith}
+use Rattle.std.proofs.Common.{◌≡◌, ⊎_elim, ℕ, ◌+◌, ◌-◌, ◌≤◌, ◌<◌, min, true, false, List, length, get_or, ◌*◌, ◌∙◌, ap, arith}
 use Rattle.std.specs.List.{AllWithin}
 use Rattle.std.specs.List.Sorted.{IsPartitionedBy}
-use Rattle.std.proofs.lemmas.Bool.{cases_lt, cases_eq, lt-ltb, ltb-true, ltb-false}
+use Rattle.std.proofs.lemmas.Bool.{cases_lt, cases_eq, cases_Bool, both_ways, lt-ltb, ltb-true, ltb-false}
 use Rattle.std.proofs.lemmas.List.{get_or_default}
 use Rattle.route_base.specs.Front.{RiseAndFall}
 use Rattle.route_base.specs.Relaxing.{HasPair}
@@ -11,7 +11,7 @@ use Rattle.route_base.specs.declared.types.Pair.{Pair}
 use Rattle.cost_functions.specs.Lines.{line_at}
 use Rattle.cost_functions.specs.declared.pieces.Piece.{Piece}
 use Rattle.cost_functions.proofs.Smallness.{line_rises}
-use Rattle.function_merge.specs.Inside.Prefixes.{stays_cheaper, IsUndominatedUntil}
+use Rattle.function_merge.specs.Inside.Prefixes.{stays_cheaper, HaveArrived, IsUndominatedUntil}
 
 module _ (pairs : List Pair) (trade : RiseAndFall pairs) where
   -- later pairs arrive no earlier and are no dearer
@@ -38,6 +38,64 @@ module _ (pairs : List Pair) (trade : RiseAndFall pairs) where
         (omega (arith, earlier)) in
         let below = ltb-true _ _ cheaper in
         lt-ltb _ _ (omega (arith, below, rise, dearer))
+
+    first_cost : line_at piece piece.lo ≡ piece.cost
+    first_cost = let none : piece.lo - piece.lo ≡ 0 = omega arith in omega (arith, ap (λ n. piece.slope * n) none)
+
+    -- the pairs before this place have arrived when the piece begins
+    module _ (count : ℕ) (inside : count ≤ length pairs) (early : HaveArrived bound piece.lo pairs count) where
+      -- the last of them is no dearer than the piece
+      pub all_dominated : (d : Pair) → 1 ≤ count → (get_or pairs (count - 1) d).cost - bound.cost ≤ piece.cost → IsUndominatedUntil pairs bound piece piece.lo
+      all_dominated d some dear = record {
+        before = λ t from lt upto. absurd (omega (arith, from, lt));
+        after = λ t from late upto.
+            (let arrival = early (count - 1) d (omega arith) (omega (arith, some)) in
+            let rise = line_rises piece piece.lo t from in
+            record {
+              pair = get_or pairs (count - 1) d;
+              is_one = (count - 1, omega (arith, some, inside), get_or_default pairs (count - 1) (get_or pairs (count - 1) d) d (omega (arith, some, inside)));
+              arrival = omega (arith, arrival, from);
+              cost = omega (arith, dear, rise, first_cost);
+            });
+      }
+
+      -- it is dearer
+      pub arrived_cheaper : (d : Pair) → (1 ≤ count → piece.cost < (get_or pairs (count - 1) d).cost - bound.cost)
+          → AllWithin (λ p. stays_cheaper piece bound p ≡ true) pairs 0 count
+      arrived_cheaper d cheap k e from lt =
+          let arrival = early k e from lt in
+          let less = costs k (count - 1) e (omega (arith, lt)) (omega (arith, lt, inside)) in
+          let same = ap (λ (p : Pair). p.cost) (get_or_default pairs (count - 1) e d (omega (arith, lt, inside))) in
+          let rise = line_rises piece (min ((get_or pairs k e).arrival - bound.minutes) piece.hi) piece.lo (omega (arith, arrival)) in
+          lt-ltb _ _ (omega (arith, cheap (omega (arith, lt)), less, same, rise, first_cost))
+
+    -- the piece stays cheaper than the cheapest pair
+    pub none_dominated : (d : Pair) → (1 ≤ length pairs → line_at piece piece.hi < (get_or pairs (length pairs - 1) d).cost - bound.cost)
+        → IsUndominatedUntil pairs bound piece (piece.hi + 1)
+    none_dominated d cheap = record {
+      before = λ t from lt upto h.
+          (let k : ℕ = h.is_one.0 in
+          let within = h.is_one.1 in
+          let cost = ap (λ (p : Pair). p.cost) h.is_one.2 in
+          let no_dearer = h.cost in
+          let less = costs k (length pairs - 1) h.pair (omega (arith, within)) (omega (arith, within)) in
+          let same = ap (λ (p : Pair). p.cost) (get_or_default pairs (length pairs - 1) h.pair d (omega (arith, within))) in
+          let rise = line_rises piece t piece.hi upto in
+          omega (arith, cheap (omega (arith, within)), less, same, cost, no_dearer, rise));
+      after = λ t from late upto. absurd (omega (arith, late, upto));
+    }
+
+    -- it doesn't stay cheaper than the pairs from the first on for which it doesn't
+    pub others_dearer : (i : ℕ) (d : Pair) → stays_cheaper piece bound (get_or pairs i d) ≡ false → i < length pairs
+        → AllWithin (λ p. stays_cheaper piece bound p ≡ false) pairs i (length pairs)
+    others_dearer i d not short k e from lt =
+        ⊎_elim
+        (λ (yes : stays_cheaper piece bound (get_or pairs k e) ≡ true).
+        let first = cheaper_first i k e from lt yes in
+        let same = ap (λ p. stays_cheaper piece bound p) (get_or_default pairs i d e short) in
+        absurd (both_ways (stays_cheaper piece bound (get_or pairs i d)) not (same ∙ first)))
+        (λ (none : stays_cheaper piece bound (get_or pairs k e) ≡ false). none)
+        (cases_Bool (stays_cheaper piece bound (get_or pairs k e)))
 
     module _ (i arrived cheap : ℕ)
         (first : AllWithin (λ p. stays_cheaper piece bound p ≡ true) pairs 0 i)

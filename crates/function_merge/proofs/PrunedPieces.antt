@@ -12,7 +12,7 @@ use Rattle.cost_functions.specs.Pieces.{value_at, ArePieces}
 use Rattle.cost_functions.specs.declared.pieces.Piece.{Piece}
 use Rattle.cost_functions.proofs.Values.{value_front, value_last, none_after, has_not_before, has_not_after}
 use Rattle.function_merge.specs.Pruning.{IsPruned}
-use Rattle.function_merge.specs.Inside.Prefixes.{IsClearUntil, HasPrefix}
+use Rattle.function_merge.specs.Inside.Prefixes.{IsClearUntil, HasPrefix, HaveArrived}
 
 module _ (until : ℕ) (pairs : List Pair) (bound : Bound) (f g new : List Piece) (piece : Piece) (end : ℕ)
     (whole : All (λ q. q.hi < piece.lo) f) (ended : All (λ q. q.hi < piece.lo) g)
@@ -106,6 +106,16 @@ module _ (until : ℕ) (pairs : List Pair) (bound : Bound) (xs g new : List Piec
       let next = are.apart i (i + 1) none (omega arith) h in
       let same = ap (λ (q : Piece). q.lo) (get_or_default xs (i + 1) none d h) in
       omega (arith, here, next, same)
+
+-- the pairs that have arrived when a piece begins have done so when the next begins
+pub next_arrived : (bound : Bound) (pairs : List Pair) (xs : List Piece) (i count : ℕ) (none d : Piece) → ArePieces xs → i + 1 < length xs
+    → HaveArrived bound (get_or xs i none).lo pairs count → HaveArrived bound (get_or xs (i + 1) d).lo pairs count
+next_arrived bound pairs xs i count none d are short before k e from lt =
+    let far = are.apart i (i + 1) none (omega arith) short in
+    let filled = (are.each i none (omega (arith, short))).filled in
+    let same = ap (λ (q : Piece). q.lo) (get_or_default xs (i + 1) none d short) in
+    let arrival = before k e from lt in
+    omega (arith, far, filled, same, arrival)
 
 -- a prefix of a piece that is put behind others
 module _ (piece : Piece) (end : ℕ) (old : List Piece) (later : All (λ q. q.hi < piece.lo) old) where

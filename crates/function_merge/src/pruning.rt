@@ -1,5 +1,6 @@
 // Functions without the points from which no better arrival can come.
-ghost use Rattle.std.specs.Prelude.{◌≡◌, ◌+◌, ◌-◌, ◌<◌, ◌≤◌, ℕ, All, IfOk, OnOk, length, take, slice_index_or};
+ghost use Rattle.std.specs.Prelude.{◌≡◌, ◌+◌, ◌-◌, ◌<◌, ◌≤◌, ℕ, true, false, All, IfOk, OnOk, length, take, slice_index_or};
+ghost use Rattle.std.specs.List.{AllWithin};
 ghost use Rattle.route_base.specs.Front.{RiseAndFall};
 ghost use Rattle.route_base.specs.declared.types.Pair.{Pair};
 ghost use Rattle.cost_functions.specs.Lines.{line_at, IsPiece, IsSmallPiece};
@@ -7,7 +8,7 @@ ghost use Rattle.cost_functions.specs.Pieces.{value_at, ArePieces, AreSmallPiece
 ghost use Rattle.cost_functions.specs.Building.{AreBuilt};
 ghost use Rattle.function_merge.specs.Pruning.{IsPruned};
 ghost use Rattle.function_merge.specs.Inside.Prefixes.{stays_cheaper, IsUndominatedUntil, IsClearUntil};
-ghost use Rattle.function_merge.specs.Inside.Prefixes.{HasPrefix};
+ghost use Rattle.function_merge.specs.Inside.Prefixes.{HasPrefix, HaveArrived};
 
 use cost_functions::{Builder, CostFn, Piece, held_for};
 use route_base::{Bound, Cost, Minute, OutOfMemory, Pair};
@@ -15,8 +16,8 @@ use std::alloc::Global;
 
 /// The function without its points that are late or dominated, for a node with this bound to the goal: from a late point the goal
 /// is out of reach by `until`, and from a dominated one it is reached no earlier and no cheaper than one of the pairs says. Along a
-/// piece neither minutes nor costs fall, so a prefix of each piece stays. A binary search in the pairs for each piece; memory for
-/// the pieces that stay.
+/// piece neither minutes nor costs fall, so a prefix of each piece stays. Linear in the number of pieces and of pairs, where no
+/// piece has many pairs that arrive while it lasts and is still cheaper; memory for the pieces that stay.
 pub fn prune(
     alloc: Global,
     f: &CostFn,
@@ -31,8 +32,10 @@ pub fn prune(
     ensures built { IfOk result AreBuilt }
 {
     let mut built = Builder::new(alloc);
+    let mut arrived = 0;
     for piece in f.pieces() {
-        let end = clear_until(*piece, until, pairs, bound);
+        arrived = pass_arrived(pairs, arrived, piece.lo, bound);
+        let end = clear_until(*piece, until, pairs, arrived, bound);
         add_before(&mut built, *piece, end)?;
     }
     Ok(built.finish())
@@ -63,9 +66,11 @@ fn keep_prefixes(pieces: &mut [Piece], until: Minute, pairs: &[Pair], bound: Bou
     ensures small { AreSmallPieces (take result pieces.new) }
 {
     let mut kept = 0;
+    let mut arrived = 0;
     for i in 0..pieces.len() {
         let piece = pieces[i];
-        let end = clear_until(piece, until, pairs, bound);
+        arrived = pass_arrived(pairs, arrived, piece.lo, bound);
+        let end = clear_until(piece, until, pairs, arrived, bound);
         kept = put_before(pieces, kept, piece, end);
     }
     kept
@@ -132,29 +137,91 @@ fn add_before(built: &mut Builder, piece: Piece, end: Minute) -> Result<(), OutO
     Ok(())
 }
 
-// The first minute of the piece at which it is late or dominated; a minute behind the piece, if there is none.
-fn clear_until(piece: Piece, until: Minute, pairs: &[Pair], bound: Bound) -> Minute
+// The number of pairs that have arrived by the minute with the bound to the goal, from a number of them on.
+fn pass_arrived(pairs: &[Pair], arrived: usize, minute: Minute, bound: Bound) -> usize
+    requires within { arrived ≤ length pairs.now }
+    requires before { HaveArrived bound minute pairs.now arrived }
+    ensures within { result ≤ length pairs.now }
+    ensures before { HaveArrived bound minute pairs.now result }
+{
+    let mut count = arrived;
+    'pass: while let Some(pair) = pairs.get(count) {
+        if minute < pair.arrival.saturating_sub(bound.minutes) {
+            return count;
+        }
+        count += 1;
+    }
+    count
+}
+
+// The first minute of the piece at which it is late or dominated; a minute behind the piece, if there is none. Of the pairs as many
+// as this have arrived when the piece begins.
+fn clear_until(piece: Piece, until: Minute, pairs: &[Pair], arrived: usize, bound: Bound) -> Minute
     requires trade { RiseAndFall pairs.now }
     requires piece { IsPiece piece }
+    requires within { arrived ≤ length pairs.now }
+    requires arrived { HaveArrived bound piece.lo pairs.now arrived }
     ensures { IsClearUntil until pairs.now bound piece result }
 {
     if until < bound.minutes {
         return piece.lo;
     }
     let in_time = piece.hi.min(until - bound.minutes) + 1;
-    in_time.min(undominated_until(piece, pairs, bound))
+    in_time.min(undominated_until(piece, pairs, arrived, bound))
 }
 
-// The first minute of the piece at which a pair dominates it. The pairs that arrive while the piece is still cheaper come first:
-// of these the last, as the cheapest, is the first to dominate. Of the others the first is, as soon as it arrives.
-fn undominated_until(piece: Piece, pairs: &[Pair], bound: Bound) -> Minute
+// The first minute of the piece at which a pair dominates it. Mostly its first and its last cost tell. Else the pairs that arrive
+// while the piece is still cheaper come first: of these the last, as the cheapest, is the first to dominate. Of the others the
+// first is, as soon as it arrives.
+fn undominated_until(piece: Piece, pairs: &[Pair], arrived: usize, bound: Bound) -> Minute
     requires trade { RiseAndFall pairs.now }
     requires piece { IsPiece piece }
+    requires within { arrived ≤ length pairs.now }
+    requires arrived { HaveArrived bound piece.lo pairs.now arrived }
     ensures { IsUndominatedUntil pairs.now bound piece result }
 {
-    let place = pairs.partition_point(|pair| is_cheaper_at(piece, bound, *pair));
-    let arrived = arrived_by(piece, pairs, place, bound);
-    arrived.min(cheaper_than(piece, pairs, place, bound))
+    if is_as_dear(piece.cost, pairs, arrived, bound) {
+        return piece.lo;
+    }
+    if !is_as_dear(piece.value(piece.hi), pairs, pairs.len(), bound) {
+        return piece.hi + 1;
+    }
+    let place = pass_dearer(piece, pairs, arrived, bound);
+    let arrival = arrived_by(piece, pairs, place, bound);
+    arrival.min(cheaper_than(piece, pairs, place, bound))
+}
+
+// Whether the cost with the bound to the goal is as high as that of the pair before this place.
+fn is_as_dear(cost: Cost, pairs: &[Pair], place: usize, bound: Bound) -> bool
+    requires place { place ≤ length pairs.now }
+    ensures some { result ≡ true → 1 ≤ place }
+    ensures dear { (d : Pair) → result ≡ true
+        → (slice_index_or pairs.now (place - 1) d).cost - bound.cost ≤ cost }
+    ensures cheap { (d : Pair) → result ≡ false → 1 ≤ place
+        → cost < (slice_index_or pairs.now (place - 1) d).cost - bound.cost }
+{
+    place > 0 && pairs[place - 1].cost.saturating_sub(bound.cost) <= cost
+}
+
+// The number of pairs for which the piece stays cheaper, from a number of them on.
+fn pass_dearer(piece: Piece, pairs: &[Pair], arrived: usize, bound: Bound) -> usize
+    requires trade { RiseAndFall pairs.now }
+    requires piece { IsPiece piece }
+    requires within { arrived ≤ length pairs.now }
+    requires before { AllWithin (λ p. stays_cheaper piece bound p ≡ true) pairs.now 0 arrived }
+    ensures within { result ≤ length pairs.now }
+    ensures before { AllWithin (λ p. stays_cheaper piece bound p ≡ true) pairs.now 0 result }
+    ensures after { AllWithin (λ p. stays_cheaper piece bound p ≡ false)
+        pairs.now result (length pairs.now) }
+{
+    let mut place = arrived;
+    'pass: while let Some(pair) = pairs.get(place) {
+        if !is_cheaper_at(piece, bound, *pair) {
+            return place;
+        }
+        place += 1;
+    }
+    place
 }
 
 // The minute at which the pair at this place arrives; a minute behind the piece, if there is no such pair.

@@ -1,5 +1,6 @@
 -- The minutes of a piece before it is dominated or late (source: own; no law).
 use Rattle.std.specs.Prelude.{◌≡◌, ℕ, ◌+◌, ◌-◌, ◌<◌, ◌≤◌, min, Bool, nat_lt, Some, None, List, All}
+use Rattle.std.specs.List.{AllWithin}
 use Rattle.route_base.specs.Itinerary.{Position}
 use Rattle.route_base.specs.Relaxing.{HasPair, IsDominatedOrLate}
 use Rattle.route_base.specs.declared.types.Pair.{Pair}
@@ -11,6 +12,10 @@ use Rattle.cost_functions.specs.declared.pieces.Piece.{Piece}
 -- when the pair arrives, or at the piece's end, the piece with the bound to the goal is still cheaper than the pair
 abbrev pub stays_cheaper : Piece → Bound → Pair → Bool
 stays_cheaper piece bound pair = nat_lt (line_at piece (min (pair.arrival - bound.minutes) piece.hi)) (pair.cost - bound.cost)
+
+-- so many pairs have arrived by the minute with the bound to the goal
+abbrev pub HaveArrived : Bound → ℕ → List Pair → ℕ → Type 0
+HaveArrived bound minute pairs count = AllWithin (λ p. p.arrival - bound.minutes ≤ minute) pairs 0 count
 
 -- from the minute on a pair dominates the piece, and before it none does
 pub record IsUndominatedUntil (pairs : List Pair) (bound : Bound) (piece : Piece) (end : ℕ) : Type 0 where

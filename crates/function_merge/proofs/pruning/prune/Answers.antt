@@ -2,7 +2,7 @@ use Rattle.std.proofs.Common.{[], ◌∙◌, ap, arith, length}
 use Rattle.cost_functions.specs.Pieces.{value_at}
 use Rattle.cost_functions.specs.declared.pieces.Piece.{Piece}
 use Rattle.cost_functions.proofs.Values.{none_after}
-use Rattle.function_merge.proofs.PrunedPieces.{pruned_none, next_pruned, next_ended}
+use Rattle.function_merge.proofs.PrunedPieces.{pruned_none, next_pruned, next_ended, next_arrived}
 use Rattle.function_merge.proofs.pruning.prune.Goals as goal
 
 pub loop-piece-init : goal.loop-piece-init
@@ -10,6 +10,8 @@ loop-piece-init c = record {
   pruned =
       pruned_none c.args.until c.args.pairs.now c.args.bound c.new-built.result
       (λ t. ap (λ ps. value_at ps t) c.new-built.ensures ∙ none_after [] t (λ k d within. absurd (omega (arith, within))));
+  count = omega arith;
+  arrived = λ d h k e from lt. absurd (omega (arith, lt));
   ended = λ d h k d' w. absurd (let empty = ap length c.new-built.ensures in omega (arith, w, empty));
 }
 
@@ -27,5 +29,7 @@ loop-piece-preserved c =
     let end = c.clear_until-end in
     record {
       pruned = next_pruned c.args.until c.args.pairs.now c.args.bound xs old new i end.result none are short inv.pruned (inv.ended none short) end.ensures put;
+      count = c.pass_arrived-arrived.ensures.within;
+      arrived = λ d h. next_arrived c.args.bound c.args.pairs.now xs i c.pass_arrived-arrived.result none d are h c.pass_arrived-arrived.ensures.before;
       ended = next_ended c.args.until c.args.pairs.now c.args.bound xs old new i end.result none are short inv.pruned (inv.ended none short) end.ensures put;
     }
