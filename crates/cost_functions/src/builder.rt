@@ -37,6 +37,15 @@ impl Builder {
         }
     }
 
+    /// A builder without a piece, in the memory of a function that is done with.
+    pub fn again(old: CostFn) -> Builder
+        ensures { result ≡ [] }
+    {
+        let mut held = old.into_pieces();
+        held.clear();
+        Builder { held }
+    }
+
     /// A builder that goes on behind these pieces, at no cost.
     pub fn behind(pieces: Vec<Piece>) -> Builder
         requires { AreBuilt pieces.items }

@@ -12,13 +12,13 @@ use crate::suffixes::{find_runs, skip_pieces};
 use cost_functions::{Builder, CostFn, Piece, held_for};
 use minute_sets::{MinuteSet, Stretch, stretch_at};
 use route_base::{Cost, Minute, OutOfMemory, Run, is_free};
-use std::alloc::Global;
 
 /// The function that has at each minute up to `until` the least cost of a value of f at it or before and of the wait since then, at
 /// `weight` thousandths a minute, and no value afterwards. A wait is allowed at the minutes of `allowed` alone. Linear in the number
-/// of pieces and of the runs of `allowed`, in time and memory, but for a binary search in the runs for each.
+/// of pieces and of the runs of `allowed`, in time and memory, but for a binary search in the runs for each. It is built in the
+/// memory of `spare`, which may be any function.
 pub fn wait(
-    alloc: Global,
+    spare: CostFn,
     f: &CostFn,
     weight: Cost,
     allowed: &MinuteSet,
@@ -33,7 +33,7 @@ pub fn wait(
     ensures ended { IfOk result (λ waited. (t : ℕ) → until < t → value_at waited t ≡ None) }
     ensures built { IfOk result AreBuilt }
 {
-    let mut built = Builder::new(alloc);
+    let mut built = Builder::again(spare);
     let mut left = f.pieces();
     let runs = allowed.runs();
     let mut from: Minute = 0;

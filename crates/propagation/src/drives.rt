@@ -12,6 +12,7 @@ ghost use Rattle.propagation.specs.Inside.States.{progress_of, task_of, IsGoodPl
 
 use crate::entry_sets::{EntrySets, make_room, place_of};
 use crate::plan::Plan;
+use crate::spares::Spares;
 use crate::state::State;
 use cost_functions::CostFn;
 use function_merge::{into_pruned, shift, wait};
@@ -23,6 +24,7 @@ fn driven(
     alloc: Global,
     plan: Plan<'_>,
     sets: &mut EntrySets,
+    spares: &mut Spares,
     v: NodeId,
     part: &CostFn,
     a: ArcId,
@@ -47,7 +49,7 @@ fn driven(
     make_room(alloc, sets, list)?;
     let place = place_of(alloc, &mut sets.lists[list], closed, until, arc.minutes)?;
     let starts = &sets.lists[list][place].set;
-    let ends = shift(alloc, part, starts, arc.minutes, arc.cost)?;
+    let ends = shift(spares.take(alloc), part, starts, arc.minutes, arc.cost)?;
     Ok(ends)
 }
 
@@ -68,6 +70,7 @@ fn waited(
     alloc: Global,
     plan: Plan<'_>,
     sets: &mut EntrySets,
+    spares: &mut Spares,
     h: NodeId,
     park: Park,
     costs: &CostFn,
@@ -93,7 +96,7 @@ fn waited(
     make_room(alloc, sets, list)?;
     let place = place_of(alloc, &mut sets.lists[list], shut, until, 1)?;
     let allowed = &sets.lists[list][place].set;
-    let with_waits = wait(alloc, costs, park.weight, allowed, last)?;
+    let with_waits = wait(spares.take(alloc), costs, park.weight, allowed, last)?;
     Ok(with_waits)
 }
 
@@ -102,6 +105,7 @@ pub fn closed(
     alloc: Global,
     plan: Plan<'_>,
     sets: &mut EntrySets,
+    spares: &mut Spares,
     state: &State,
     h: NodeId,
     bound: Bound,
@@ -129,7 +133,8 @@ pub fn closed(
         return Ok(clear);
     };
     let last = plan.request.until.saturating_sub(bound.minutes);
-    let with_waits = waited(alloc, plan, sets, h, park, &clear, last)?;
+    let with_waits = waited(alloc, plan, sets, spares, h, park, &clear, last)?;
+    spares.put(clear)?;
     let offer = cleared(plan, &state.pairs, h, bound, with_waits);
     Ok(offer)
 }
@@ -139,6 +144,7 @@ pub fn offered(
     alloc: Global,
     plan: Plan<'_>,
     sets: &mut EntrySets,
+    spares: &mut Spares,
     state: &State,
     v: NodeId,
     part: &CostFn,
@@ -163,7 +169,7 @@ pub fn offered(
     ensures entries { OnOk result
         (AreEntrySets plan.entry.net.now plan.entry.request.until sets.new) }
 {
-    let ends = driven(alloc, plan, sets, v, part, a, arc)?;
-    let offer = closed(alloc, plan, sets, state, arc.head, bound, ends)?;
+    let ends = driven(alloc, plan, sets, spares, v, part, a, arc)?;
+    let offer = closed(alloc, plan, sets, spares, state, arc.head, bound, ends)?;
     Ok(offer)
 }

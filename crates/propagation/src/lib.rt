@@ -28,6 +28,7 @@ mod pairs;
 mod parts;
 mod plan;
 mod searching;
+mod spares;
 mod state;
 mod turns;
 

@@ -11,6 +11,7 @@ ghost use Rattle.propagation.specs.Inside.States.{progress_of, task_of, is_pendi
 ghost use Rattle.propagation.specs.declared.parts.TheConstants.{SPAN_AFTER_PAIRS};
 
 use crate::plan::Plan;
+use crate::spares::Spares;
 use crate::state::{State, first_of};
 use cost_functions::{CostFn, Piece};
 use function_merge::{beginning_by, cut, into_pruned};
@@ -44,6 +45,7 @@ pub struct Halves {
 pub fn part_of(
     alloc: Global,
     plan: Plan<'_>,
+    spares: &mut Spares,
     state: &mut State,
     v: NodeId,
     bound: Bound,
@@ -71,7 +73,7 @@ pub fn part_of(
         span_for(&state.pairs),
     );
     let split = split_at(alloc, &mut state.pending, v, first, end)?;
-    let whole = cut(alloc, &state.functions[place], &split.taken)?;
+    let whole = cut(spares.take(alloc), &state.functions[place], &split.taken)?;
     let part = into_pruned(whole, plan.request.until, &state.pairs, bound);
     requeue(&mut state.queue, v, split.next, bound);
     Ok(part)

@@ -13,6 +13,7 @@ use crate::drives::closed;
 use crate::entry_sets::{EntrySets, no_entry_sets};
 use crate::found::Found;
 use crate::plan::Plan;
+use crate::spares::Spares;
 use crate::state::State;
 use crate::turns::{take_at, turn};
 use cost_functions::CostFn;
@@ -72,15 +73,21 @@ fn searched(alloc: Global, plan: Plan<'_>) -> Result<State, OutOfMemory>
     ensures done { IfOk result (λ state. (v t : ℕ) → is_pending state.pending.items v t ≡ false) }
 {
     let mut sets = no_entry_sets(alloc);
-    let mut state = begun(alloc, plan, &mut sets)?;
+    let mut spares = Spares::new(alloc);
+    let mut state = begun(alloc, plan, &mut sets, &mut spares)?;
     'turns: while let Some(least) = state.queue.take_least() {
-        turn(alloc, plan, &mut sets, &mut state, least.0)?;
+        turn(alloc, plan, &mut sets, &mut spares, &mut state, least.0)?;
     }
     Ok(state)
 }
 
 // The origin has its cost at the departure, and those of waiting there.
-fn begun(alloc: Global, plan: Plan<'_>, sets: &mut EntrySets) -> Result<State, OutOfMemory>
+fn begun(
+    alloc: Global,
+    plan: Plan<'_>,
+    sets: &mut EntrySets,
+    spares: &mut Spares,
+) -> Result<State, OutOfMemory>
     requires asked { IsGoodPlan plan }
     requires entries { AreEntrySets plan.net.now plan.request.until sets.old }
     ensures shape { IfOk result (IsShaped plan.entry.net.now.nodes 0) }
@@ -94,7 +101,7 @@ fn begun(alloc: Global, plan: Plan<'_>, sets: &mut EntrySets) -> Result<State, O
         return Ok(state);
     };
     let first = CostFn::single(alloc, plan.request.depart, 0)?;
-    let offer = closed(alloc, plan, sets, &state, origin, bound, first)?;
+    let offer = closed(alloc, plan, sets, spares, &state, origin, bound, first)?;
     take_at(alloc, plan, &mut state, origin, bound, &offer)?;
     Ok(state)
 }

@@ -18,6 +18,7 @@ use crate::entry_sets::EntrySets;
 use crate::pairs::add_pairs;
 use crate::parts::part_of;
 use crate::plan::Plan;
+use crate::spares::Spares;
 use crate::state::{State, await_at, first_of, lower_at};
 use cost_functions::CostFn;
 use function_merge::is_improved;
@@ -29,6 +30,7 @@ pub fn turn(
     alloc: Global,
     plan: Plan<'_>,
     sets: &mut EntrySets,
+    spares: &mut Spares,
     state: &mut State,
     v: NodeId,
 ) -> Result<(), OutOfMemory>
@@ -54,8 +56,9 @@ pub fn turn(
     let Some(first) = first_of(&state.pending[v.0 as usize - 1]) else {
         return Ok(());
     };
-    let part = part_of(alloc, plan, state, v, bound, first)?;
-    drive_all(alloc, plan, sets, state, v, &part)?;
+    let part = part_of(alloc, plan, spares, state, v, bound, first)?;
+    drive_all(alloc, plan, sets, spares, state, v, &part)?;
+    spares.put(part)?;
     Ok(())
 }
 
@@ -64,6 +67,7 @@ fn drive_all(
     alloc: Global,
     plan: Plan<'_>,
     sets: &mut EntrySets,
+    spares: &mut Spares,
     state: &mut State,
     v: NodeId,
     part: &CostFn,
@@ -86,7 +90,7 @@ fn drive_all(
         return Ok(());
     }
     for a in plan.outgoing.of(v) {
-        drive_one(alloc, plan, sets, state, v, part, *a)?;
+        drive_one(alloc, plan, sets, spares, state, v, part, *a)?;
     }
     Ok(())
 }
@@ -96,6 +100,7 @@ fn drive_one(
     alloc: Global,
     plan: Plan<'_>,
     sets: &mut EntrySets,
+    spares: &mut Spares,
     state: &mut State,
     v: NodeId,
     part: &CostFn,
@@ -124,8 +129,9 @@ fn drive_one(
     let Some(bound) = plan.bounds.get(arc.head) else {
         return Ok(());
     };
-    let offer = offered(alloc, plan, sets, state, v, part, a, arc, bound)?;
+    let offer = offered(alloc, plan, sets, spares, state, v, part, a, arc, bound)?;
     take_at(alloc, plan, state, arc.head, bound, &offer)?;
+    spares.put(offer)?;
     Ok(())
 }
 

@@ -221,7 +221,7 @@ fn shifts_as_lists(
     if !can_shift(f, minutes, cost) {
         return Ok(false);
     }
-    let moved = shift(alloc, f, keep, minutes, cost)?;
+    let moved = shift(f.reduce(alloc)?, f, keep, minutes, cost)?;
     Ok(is_shifted(&moved, a, kept, minutes, cost))
 }
 
@@ -234,7 +234,7 @@ fn cuts_as_lists(
 ) -> Result<bool, OutOfMemory>
     requires { AreBuilt f.now }
 {
-    let part = cut(alloc, f, keep)?;
+    let part = cut(f.reduce(alloc)?, f, keep)?;
     Ok(is_shifted(&part, a, kept, 0, 0))
 }
 
@@ -267,7 +267,7 @@ fn waits_as_lists(
     if !can_wait(f, weight, until) {
         return Ok(false);
     }
-    let made = wait(alloc, f, weight, &allowed, until)?;
+    let made = wait(f.reduce(alloc)?, f, weight, &allowed, until)?;
     for t in 0..COMPARED {
         if made.at(t) != waited(a, weight, &kept, until, t) {
             return Ok(false);
