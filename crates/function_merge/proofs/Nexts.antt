@@ -10,7 +10,8 @@ use Rattle.function_merge.specs.Least.{least_of, is_better, least_at, better_at}
 use Rattle.function_merge.specs.Inside.Segments.{piece_of, improves, IsNextSegment}
 use Rattle.minute_sets.specs.Combination.{IsSwept}
 use Rattle.route_base.specs.declared.types.Run.{Run}
-use Rattle.std.proofs.lemmas.Bool.{cases_lt, le-leb, lt-leb}
+use Rattle.std.proofs.lemmas.Bool.{cases_lt, le-leb, lt-leb, ltb-false, false≢true}
+use Rattle.function_merge.proofs.Lowest.{min_left}
 use Rattle.cost_functions.proofs.Values.{none_before}
 use Rattle.function_merge.specs.declared.lower_envelope.Segment.{Segment}
 
@@ -145,6 +146,16 @@ marked_skip wanted set from to le marked gap = record {
   after = λ t late. marked.after t (omega (arith, le, late));
   begins = λ k d within. (let begin = marked.begins k d within in omega (arith, begin, le));
 }
+
+kept : (a b : Option ℕ) → is_better a b ≡ false → least_of a b ≡ a
+kept None None e = refl
+kept None (Some b) e = absurd (false≢true (sym e))
+kept (Some a) None e = refl
+kept (Some a) (Some b) e = ap Some (sym (min_left a b (ltb-false b a e)))
+
+-- where the second isn't better, the first stands
+pub least_kept : (f g : List Piece) (t : ℕ) → better_at f g t ≡ false → least_at f g t ≡ value_at f t
+least_kept f g t worse = kept (value_at f t) (value_at g t) worse
 
 alone : (o : Option ℕ) → least_of o None ≡ o
 alone None = refl

@@ -1,5 +1,5 @@
 // The least of two functions, as a function of its own or in place of the first.
-ghost use Rattle.std.specs.Prelude.{◌≡◌, ◌+◌, ◌<◌, ◌≤◌, ◌↔◌, ◌&&◌, nat_le, ℕ, Bool, true, false, Option, All, IsTrue, IfOk, OnOk, OnErr, [], length};
+ghost use Rattle.std.specs.Prelude.{◌≡◌, ◌+◌, ◌<◌, ◌≤◌, ◌↔◌, ◌&&◌, nat_le, ℕ, Bool, true, false, Option, All, None, IsTrue, IfOk, IfSome, OnOk, OnErr, [], length};
 ghost use Rattle.route_base.specs.Runs.{any_has, AreRuns};
 ghost use Rattle.cost_functions.specs.Pieces.{value_at, ArePieces, AreSmallPieces};
 ghost use Rattle.cost_functions.specs.Building.{AreBuilt, IsSettled};
@@ -37,9 +37,9 @@ pub fn least(alloc: Global, f: &CostFn, g: &CostFn) -> Result<Merged, OutOfMemor
     merged_from(alloc, Builder::new(alloc), f.pieces(), g.pieces(), 0)
 }
 
-/// The same as `least` for a reduced function f that is given away. Pieces of f that end before g begins stay where they are;
-/// two binary searches find the pieces between the ends of g; those behind are copied twice, each time in one block. Linear in the
-/// number of pieces of both between the ends of g.
+/// The same as `least` for a reduced function f that is given away. Where g is nowhere better, f stays as it is, and no memory is
+/// asked for. Pieces of f that end before g is better stay where they are; those that begin behind g are copied twice, each time in
+/// one block. Linear in the number of pieces of both between the ends of g.
 pub fn improve(alloc: Global, f: CostFn, g: &CostFn) -> Result<Merged, OutOfMemory>
     requires first { AreBuilt f }
     requires second { AreSmallPieces g.now }
@@ -50,12 +50,12 @@ pub fn improve(alloc: Global, f: CostFn, g: &CostFn) -> Result<Merged, OutOfMemo
     ensures built { IfOk result (λ merged. AreBuilt merged.function) }
 {
     let other = g.pieces();
-    match other {
-        [first, ..] => {
+    match first_better(f.pieces(), other) {
+        Some(first) => {
             let own = with_room(f.into_pieces(), other.len())?;
-            improve_within(alloc, own, other, first.lo)
+            improve_within(alloc, own, other, first)
         }
-        [] => Ok(Merged {
+        None => Ok(Merged {
             function: f,
             improved: MinuteSet::empty(alloc),
         }),
@@ -92,7 +92,7 @@ fn with_room(pieces: Vec<Piece>, count: usize) -> Result<Vec<Piece>, OutOfMemory
     Ok(own)
 }
 
-// The same for pieces, where g begins at `first`; those that begin behind g are put back in one copy.
+// The same for pieces, where g isn't better before `first`; those that begin behind g are put back in one copy.
 fn improve_within(
     alloc: Global,
     f: Vec<Piece>,
@@ -103,7 +103,7 @@ fn improve_within(
     requires second { ArePieces g.now }
     requires some { 1 ≤ length g.now }
     requires small { AreSmallPieces g.now }
-    requires begins { All (λ p. first ≤ p.lo) g.now }
+    requires worse { (t : ℕ) → t < first → better_at f.items g.now t ≡ false }
     ensures values { IfOk result (λ merged. (t : ℕ) →
         value_at merged.function t ≡ least_at f.items g.now t) }
     ensures improved { IfOk result (λ merged. (t : ℕ) →
@@ -142,7 +142,7 @@ fn improve_from(
     requires first { AreBuilt f.items }
     requires second { ArePieces g.now }
     requires small { AreSmallPieces g.now }
-    requires begins { All (λ p. first ≤ p.lo) g.now }
+    requires worse { (t : ℕ) → t < first → better_at f.items g.now t ≡ false }
     ensures values { IfOk result (λ merged. (t : ℕ) →
         value_at merged.function t ≡ least_at f.items g.now t) }
     ensures improved { IfOk result (λ merged. (t : ℕ) →
@@ -153,7 +153,8 @@ fn improve_from(
     let keep = ending_before(&before, first);
     let rest = before.split_off(keep)?;
     let start = first_minute(&rest, first);
-    merged_from(alloc, Builder::behind(before), &rest, g, start)
+    let other = find_pieces(g, start);
+    merged_from(alloc, Builder::behind(before), &rest, other, start)
 }
 
 // The minute, or the first minute of the pieces if that is earlier.
@@ -176,38 +177,53 @@ pub fn is_improved(f: &CostFn, g: &CostFn) -> bool
     requires second { AreSmallPieces g.now }
     ensures { IsTrue result ↔ ((t : ℕ) × (better_at f.now g.now t ≡ true)) }
 {
-    let pieces = f.pieces();
-    let other = g.pieces();
-    match other {
-        [first, ..] => improves_from(find_pieces(pieces, first.lo), other, first.lo),
-        [] => false,
+    first_better(f.pieces(), g.pieces()).is_some()
+}
+
+// The first minute at which g is better.
+fn first_better(f: &[Piece], g: &[Piece]) -> Option<Minute>
+    requires first { ArePieces f.now }
+    requires second { ArePieces g.now }
+    requires first_small { AreSmallPieces f.now }
+    requires second_small { AreSmallPieces g.now }
+    ensures found { IfSome result (λ first. better_at f.now g.now first ≡ true) }
+    ensures worse { IfSome result (λ first. (t : ℕ) → t < first → better_at f.now g.now t ≡ false) }
+    ensures none { result ≡ None → (t : ℕ) → better_at f.now g.now t ≡ false }
+{
+    match g {
+        [first, ..] => better_from(find_pieces(f, first.lo), g, first.lo),
+        [] => None,
     }
 }
 
-// Whether g is better at some minute from `start` on.
-fn improves_from(f: &[Piece], g: &[Piece], start: Minute) -> bool
+// The first minute from `start` on at which g is better.
+fn better_from(f: &[Piece], g: &[Piece], start: Minute) -> Option<Minute>
     requires first { ArePieces f.now }
     requires second { ArePieces g.now }
     requires first_small { AreSmallPieces f.now }
     requires second_small { AreSmallPieces g.now }
     requires first_from { All (λ p. start ≤ p.hi) f.now }
     requires second_from { All (λ p. start ≤ p.hi) g.now }
-    ensures found { IsTrue result → (t : ℕ) × ((start ≤ t) × (better_at f.now g.now t ≡ true)) }
-    ensures none { result ≡ false → (t : ℕ) → start ≤ t → better_at f.now g.now t ≡ false }
+    ensures from { IfSome result (λ first. start ≤ first) }
+    ensures found { IfSome result (λ first. better_at f.now g.now first ≡ true) }
+    ensures worse { IfSome result (λ first. (t : ℕ) →
+        start ≤ t → t < first → better_at f.now g.now t ≡ false) }
+    ensures none { result ≡ None → (t : ℕ) → start ≤ t → better_at f.now g.now t ≡ false }
 {
     let mut left = f;
     let mut other = g;
     let mut from: Minute = start;
     'sweep: while let Some(segment) = next_segment(left, other, from) {
-        let Segment::Kept(piece) = segment else {
-            return true;
+        let piece = match segment {
+            Segment::Kept(piece) => piece,
+            Segment::Improved(piece) => return Some(piece.lo),
         };
         from = piece.hi + 1;
         left = skip_pieces(left, from);
         other = skip_pieces(other, from);
-        let [_, ..] = other else { return false };
+        let [_, ..] = other else { return None };
     }
-    false
+    None
 }
 
 // The least values from `start` on, behind those that are built before it.

@@ -107,38 +107,3 @@ module _ (k : Task) (h : ℕ) (offer : ℕ → Option ℕ) (better : ℕ → Boo
     each = λ p one. inl (subst (λ w. Contains w p) same one);
     matched = λ t x goal is. absurd (other goal);
   }
-
-lower_false : (a b : Option ℕ) (x : ℕ) → is_better a b ≡ false → b ≡ Some x → (y : ℕ) × (a ≡ Some y) × (y ≤ x)
-lower_false a None x low is = cc
-lower_false None (Some z) x low is = cc
-lower_false (Some y) (Some z) x low is = let e : z ≡ x = cc in ⊎_elim
-    (λ (lt : z < y). let bad : true ≡ false = sym (lt-ltb z y lt) ∙ low in cc)
-    (λ (le : y ≤ z). (y, refl, omega (arith, le, e)))
-    (cases_lt z y)
-
--- an offer that is nowhere better changes no_part
-pub takes_none : (k : Task) (h : ℕ) (offer : ℕ → Option ℕ) (now : Progress) → (h ≡ k.request.goal.0 → ⊥)
-    → ((t : ℕ) → is_better (now.cost h t) (offer t) ≡ false) → RiseAndFall now.pairs → TakesOffer k h offer now now
-takes_none k h offer now other none trade = record {
-  merged = record {
-    others = λ v t ne. refl;
-    kept = λ t x is. record { least = x; is = is; within = omega arith };
-    offered = λ t x is. let n = lower_false (now.cost h t) (offer t) x (none t) is in record { least = n.0; is = n.1; within = n.2 };
-    either = λ t x is. inl is;
-  };
-  stays = λ v t is. is;
-  awaits = λ t x is low. let bad : true ≡ false = sym (lower_true (now.cost h t) (offer t) (subst (λ o. IsLower o (now.cost h t)) (sym is) low)) ∙ none t in cc;
-  cause = λ v t is. inl is;
-  pairs = λ t x had. had;
-  trade = trade;
-  each = λ p one. inl one;
-  matched = λ t x goal is. absurd (other goal);
-}
-
--- what is improved nowhere is better nowhere
-pub never : (b : Bool) (f : ℕ → Bool) → ((t : ℕ) × (f t ≡ true) → b ≡ true) → b ≡ false → (t : ℕ) → f t ≡ false
-never b f some none t = by (f t) refl
-  where
-    by : (o : Bool) → f t ≡ o → f t ≡ false
-    by false is = is
-    by true is = let bad : true ≡ false = sym (some (t, is)) ∙ none in cc

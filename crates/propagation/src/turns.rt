@@ -21,7 +21,6 @@ use crate::plan::Plan;
 use crate::spares::Spares;
 use crate::state::{State, await_at, first_of, lower_at};
 use cost_functions::CostFn;
-use function_merge::is_improved;
 use route_base::{ArcId, Bound, NodeId, OutOfMemory};
 use std::alloc::Global;
 
@@ -158,9 +157,6 @@ pub fn take_at(
     if h.0 == plan.request.goal.0 {
         lower_at(alloc, &mut state.functions, h, offer)?;
         add_pairs(&mut state.pairs, offer)?;
-        return Ok(());
-    }
-    if !is_improved(&state.functions[h.0 as usize - 1], offer) {
         return Ok(());
     }
     let improved = lower_at(alloc, &mut state.functions, h, offer)?;

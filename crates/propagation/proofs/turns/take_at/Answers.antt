@@ -1,29 +1,11 @@
-use Rattle.std.proofs.Common.{◌≡◌, ◌-◌, false, true, refl, sym, ◌∙◌, ap, subst, arith, rules}
+use Rattle.std.proofs.Common.{◌≡◌, true, refl, subst}
 use Rattle.std.specs.Prelude.{IfSome}
 use Rattle.route_base.specs.Runs.{any_has}
-use Rattle.cost_functions.specs.Building.{AreBuilt}
 use Rattle.cost_functions.specs.Pieces.{value_at}
-use Rattle.function_merge.specs.Least.{is_better}
 use Rattle.propagation.specs.Inside.States.{progress_of, task_of}
-use Rattle.propagation.proofs.Lowering.{value_is}
 use Rattle.propagation.proofs.Splitting.{shaped_awaited}
-use Rattle.propagation.proofs.Taking.{takes_other, takes_none, never}
+use Rattle.propagation.proofs.Taking.{takes_other}
 use Rattle.propagation.proofs.turns.take_at.Goals as goal
-
-pub is_improved-requires-clause-first : goal.is_improved-requires-clause-first
-is_improved-requires-clause-first c = (subst AreBuilt (sym c.index.ensures)
-    (c.requires.shape.built (c.args.h.0 - 1) c.index.result.now (omega (arith, c.requires.low, c.requires.high, c.requires.shape.functions)))).small
-
-pub returns-then-not-is_improved-clause-takes : goal.returns-then-not-is_improved-clause-takes
-returns-then-not-is_improved-clause-takes c =
-    let worse : c.is_improved.result ≡ false = search rules in
-    let own = value_is c.args.state.now.functions.items c.args.h.0 c.index.result.now c.requires.low
-    (omega (arith, c.requires.high, c.requires.shape.functions)) c.index.ensures in
-    takes_none (task_of c.args.plan) c.args.h.0 (value_at c.args.offer.now) (progress_of c.args.state.now)
-    (λ e. c.if-h-plan.false e)
-    (λ t. ap (λ o. is_better o (value_at c.args.offer.now t)) (own t)
-    ∙ never c.is_improved.result (λ u. is_better (value_at c.index.result.now u) (value_at c.args.offer.now u)) c.is_improved.ensures.1 worse t)
-    c.requires.trade
 
 pub returns-clause-takes : goal.returns-clause-takes
 returns-clause-takes c = takes_other (task_of c.args.plan) c.args.h.0 (value_at c.args.offer.now) (any_has c.in_ok-improved.improved)

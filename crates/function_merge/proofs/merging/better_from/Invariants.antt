@@ -2,7 +2,7 @@ use Rattle.std.proofs.Common.{◌≡◌, ◌≤◌, ◌<◌, ◌+◌, ◌-◌, f
 use Rattle.cost_functions.specs.Pieces.{value_at, ArePieces, AreSmallPieces}
 use Rattle.route_base.specs.declared.limits.TheConstants.{LAST_INSTANT}
 use Rattle.function_merge.specs.Least.{better_at}
-use Rattle.function_merge.proofs.merging.improves_from.Given as goal
+use Rattle.function_merge.proofs.merging.better_from.Given as goal
 
 abbrev pub invariant-sweep : goal.invariant-sweep
 invariant-sweep l = record {
