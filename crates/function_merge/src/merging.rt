@@ -1,5 +1,5 @@
 // The least of two functions, as a function of its own or in place of the first.
-ghost use Rattle.std.specs.Prelude.{◌≡◌, ◌+◌, ◌<◌, ◌≤◌, ◌↔◌, ◌&&◌, nat_le, ℕ, Bool, true, false, Option, All, None, IsTrue, IfOk, IfSome, OnOk, OnErr, [], length};
+ghost use Rattle.std.specs.Prelude.{◌≡◌, ◌+◌, ◌<◌, ◌≤◌, ◌↔◌, ◌&&◌, nat_le, ℕ, Bool, true, false, Option, All, None, IsTrue, IfOk, IfSome, OnOk, OnErr, [], length, take, drop};
 ghost use Rattle.route_base.specs.Runs.{any_has, AreRuns};
 ghost use Rattle.cost_functions.specs.Pieces.{value_at, ArePieces, AreSmallPieces};
 ghost use Rattle.cost_functions.specs.Building.{AreBuilt, IsSettled};
@@ -49,11 +49,30 @@ pub fn improve(alloc: Global, f: CostFn, g: &CostFn) -> Result<Merged, OutOfMemo
         any_has merged.improved t ≡ better_at f g.now t) }
     ensures built { IfOk result (λ merged. AreBuilt merged.function) }
 {
+    let mut spare = Vec::new(alloc);
+    improve_by(alloc, f, g, &mut spare)
+}
+
+// The same, with memory for the pieces of f that are merged.
+fn improve_by(
+    alloc: Global,
+    f: CostFn,
+    g: &CostFn,
+    spare: &mut Vec<Piece>,
+) -> Result<Merged, OutOfMemory>
+    requires first { AreBuilt f }
+    requires second { AreSmallPieces g.now }
+    ensures values { IfOk result (λ merged. (t : ℕ) →
+        value_at merged.function t ≡ least_at f g.now t) }
+    ensures improved { IfOk result (λ merged. (t : ℕ) →
+        any_has merged.improved t ≡ better_at f g.now t) }
+    ensures built { IfOk result (λ merged. AreBuilt merged.function) }
+{
     let other = g.pieces();
     match first_better(f.pieces(), other) {
         Some(first) => {
             let own = with_room(f.into_pieces(), other.len())?;
-            improve_within(alloc, own, other, first)
+            improve_within(alloc, own, other, first, spare)
         }
         None => Ok(Merged {
             function: f,
@@ -62,9 +81,14 @@ pub fn improve(alloc: Global, f: CostFn, g: &CostFn) -> Result<Merged, OutOfMemo
     }
 }
 
-/// Makes f the least of f and g, and returns the minutes at which g was better. It costs as much as `improve`. Out of memory leaves
-/// f without a piece.
-pub fn improve_in_place(alloc: Global, f: &mut CostFn, g: &CostFn) -> Result<MinuteSet, OutOfMemory>
+/// Makes f the least of f and g, and returns the minutes at which g was better. It costs as much as `improve`, but the pieces of f
+/// that are merged are copied to `spare`, whatever it holds. Out of memory leaves f without a piece.
+pub fn improve_in_place(
+    alloc: Global,
+    f: &mut CostFn,
+    g: &CostFn,
+    spare: &mut Vec<Piece>,
+) -> Result<MinuteSet, OutOfMemory>
     requires first { AreBuilt f.old }
     requires second { AreSmallPieces g.now }
     ensures values { OnOk result ((t : ℕ) → value_at f.new t ≡ least_at f.old g.now t) }
@@ -74,7 +98,7 @@ pub fn improve_in_place(alloc: Global, f: &mut CostFn, g: &CostFn) -> Result<Min
     ensures err { OnErr result (f.new ≡ []) }
 {
     let taken = mem::replace(f, CostFn::empty(alloc));
-    let merged = improve(alloc, taken, g)?;
+    let merged = improve_by(alloc, taken, g, spare)?;
     let Merged { function, improved } = merged;
     *f = function;
     Ok(improved)
@@ -98,6 +122,7 @@ fn improve_within(
     f: Vec<Piece>,
     g: &[Piece],
     first: Minute,
+    spare: &mut Vec<Piece>,
 ) -> Result<Merged, OutOfMemory>
     requires first { AreBuilt f.items }
     requires second { ArePieces g.now }
@@ -113,7 +138,7 @@ fn improve_within(
     let mut front = f;
     let keep = beginning_by(&front, last_minute(g));
     let tail = front.split_off(keep)?;
-    let merged = improve_from(alloc, front, g, first)?;
+    let merged = improve_from(alloc, front, g, first, spare)?;
     let Merged { function, improved } = merged;
     let mut built = Builder::behind(function.into_pieces());
     built.extend(&tail)?;
@@ -138,6 +163,7 @@ fn improve_from(
     f: Vec<Piece>,
     g: &[Piece],
     first: Minute,
+    spare: &mut Vec<Piece>,
 ) -> Result<Merged, OutOfMemory>
     requires first { AreBuilt f.items }
     requires second { ArePieces g.now }
@@ -151,10 +177,23 @@ fn improve_from(
 {
     let mut before = f;
     let keep = ending_before(&before, first);
-    let rest = before.split_off(keep)?;
-    let start = first_minute(&rest, first);
+    cut_off(&mut before, keep, spare)?;
+    let rest = spare.as_slice();
+    let start = first_minute(rest, first);
     let other = find_pieces(g, start);
-    merged_from(alloc, Builder::behind(before), &rest, other, start)
+    merged_from(alloc, Builder::behind(before), rest, other, start)
+}
+
+// Moves the pieces from a place on to another list, whatever that holds.
+fn cut_off(pieces: &mut Vec<Piece>, place: usize, rest: &mut Vec<Piece>) -> Result<(), OutOfMemory>
+    requires { place ≤ length pieces.old.items }
+    ensures items { OnOk result (pieces.new.items ≡ take place pieces.old.items) }
+    ensures tail { OnOk result (rest.new.items ≡ drop place pieces.old.items) }
+{
+    rest.clear();
+    rest.extend_from_slice(&pieces[place..])?;
+    pieces.truncate(place);
+    Ok(())
 }
 
 // The minute, or the first minute of the pieces if that is earlier.

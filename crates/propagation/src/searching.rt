@@ -102,7 +102,7 @@ fn begun(
     };
     let first = CostFn::single(alloc, plan.request.depart, 0)?;
     let offer = closed(alloc, plan, sets, spares, &state, origin, bound, first)?;
-    take_at(alloc, plan, &mut state, origin, bound, &offer)?;
+    take_at(alloc, plan, spares, &mut state, origin, bound, &offer)?;
     Ok(state)
 }
 

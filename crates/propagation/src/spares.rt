@@ -1,18 +1,20 @@
 // Functions that are done with, whose memory the next ones use.
-use cost_functions::CostFn;
+use cost_functions::{CostFn, Piece};
 use route_base::OutOfMemory;
 use std::alloc::Global;
 
-/// The functions that are done with.
+/// The functions that are done with, and memory for the pieces that a merge moves.
 #[derive(Drop)]
 pub struct Spares {
     functions: Vec<CostFn>,
+    pub pieces: Vec<Piece>,
 }
 
 impl Spares {
     pub fn new(alloc: Global) -> Spares {
         Spares {
             functions: Vec::new(alloc),
+            pieces: Vec::new(alloc),
         }
     }
 

@@ -7,7 +7,7 @@ ghost use Rattle.label_queue.specs.Keys.{IsSet};
 ghost use Rattle.propagation.specs.Found.{cost_at};
 ghost use Rattle.propagation.specs.Inside.States.{is_pending, IsLowered, IsAwaited};
 
-use cost_functions::CostFn;
+use cost_functions::{CostFn, Piece};
 use function_merge::improve_in_place;
 use label_queue::LabelQueue;
 use minute_sets::MinuteSet;
@@ -29,6 +29,7 @@ pub fn lower_at(
     functions: &mut Vec<CostFn>,
     h: NodeId,
     offer: &CostFn,
+    spare: &mut Vec<Piece>,
 ) -> Result<MinuteSet, OutOfMemory>
     requires low { 1 ≤ h.0 }
     requires high { h.0 ≤ length functions.old.items }
@@ -39,7 +40,7 @@ pub fn lower_at(
     ensures built { OnOk result (All AreBuilt functions.new.items) }
     ensures nodes { OnOk result (length functions.new.items ≡ length functions.old.items) }
 {
-    let improved = improve_in_place(alloc, &mut functions[h.0 as usize - 1], offer)?;
+    let improved = improve_in_place(alloc, &mut functions[h.0 as usize - 1], offer, spare)?;
     Ok(improved)
 }
 

@@ -129,7 +129,7 @@ fn drive_one(
         return Ok(());
     };
     let offer = offered(alloc, plan, sets, spares, state, v, part, a, arc, bound)?;
-    take_at(alloc, plan, state, arc.head, bound, &offer)?;
+    take_at(alloc, plan, spares, state, arc.head, bound, &offer)?;
     spares.put(offer)?;
     Ok(())
 }
@@ -138,6 +138,7 @@ fn drive_one(
 pub fn take_at(
     alloc: Global,
     plan: Plan<'_>,
+    spares: &mut Spares,
     state: &mut State,
     h: NodeId,
     bound: Bound,
@@ -155,11 +156,11 @@ pub fn take_at(
     ensures shape { OnOk result (IsShaped plan.entry.net.now.nodes 0 state.new) }
 {
     if h.0 == plan.request.goal.0 {
-        lower_at(alloc, &mut state.functions, h, offer)?;
+        lower_at(alloc, &mut state.functions, h, offer, &mut spares.pieces)?;
         add_pairs(&mut state.pairs, offer)?;
         return Ok(());
     }
-    let improved = lower_at(alloc, &mut state.functions, h, offer)?;
+    let improved = lower_at(alloc, &mut state.functions, h, offer, &mut spares.pieces)?;
     let Some(first) = first_of(&improved) else {
         return Ok(());
     };

@@ -192,7 +192,8 @@ fn merges_in_place_as_lists(
     requires second { AreBuilt g.now }
 {
     let mut in_place = f.reduce(alloc)?;
-    let improved = improve_in_place(alloc, &mut in_place, g)?;
+    let mut spare = g.reduce(alloc)?.into_pieces();
+    let improved = improve_in_place(alloc, &mut in_place, g, &mut spare)?;
     Ok(is_least(&in_place, a, b) && has_better(&improved, a, b))
 }
 
