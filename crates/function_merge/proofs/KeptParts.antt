@@ -1,6 +1,6 @@
 -- Values at some minutes, moved to later ones: a step of the sweep.
 use Rattle.std.proofs.Common.{◌≡◌, ⊎_elim, ℕ, ◌+◌, ◌-◌, ◌≤◌, ◌<◌, max, min, Bool, true, false, cond, Option, Some, None, List, ◌∷◌, length, get_or, take}
-use Rattle.std.proofs.Common.{drop, refl, ◌∙◌, ap, sym, subst, arith}
+use Rattle.std.proofs.Common.{◌*◌, drop, refl, ◌∙◌, ap, sym, subst, arith}
 use Rattle.std.specs.Option.{option_map}
 use Rattle.std.proofs.lemmas.Bool.{cases_lt, le-leb, lt-leb}
 use Rattle.route_base.specs.Runs.{any_has, AreRuns}
@@ -10,6 +10,7 @@ use Rattle.cost_functions.specs.Pieces.{value_at, ArePieces, AreSmallPieces}
 use Rattle.cost_functions.specs.declared.pieces.Piece.{Piece}
 use Rattle.cost_functions.proofs.Values.{value_here, value_before, none_behind}
 use Rattle.function_merge.specs.Moves.{kept_at, moved_at, CanMove}
+use Rattle.cost_functions.proofs.Slopes.{further}
 use Rattle.cost_functions.proofs.Smallness.{value_within}
 use Rattle.route_base.proofs.Lists.{first_and_rest}
 use Rattle.minute_sets.proofs.FirstRuns.{in_first, before_first}
@@ -93,3 +94,11 @@ can_stay ps rs are small = record {
   minutes_fit = λ t v is. (let fits = (value_within ps t v are.each small (chosen (any_has rs t) (value_at ps t) v is)).1 in omega (arith, fits));
   values_fit = λ t v is. (let fits = (value_within ps t v are.each small (chosen (any_has rs t) (value_at ps t) v is)).0 in omega (arith, fits));
 }
+
+-- the moved part has the piece's line, later and at a cost
+pub part_line : (p : Piece) (lo minutes cost t : ℕ) → p.lo ≤ lo → lo ≤ t → line_at p t + cost ≡ line_at p lo + cost + p.slope * (t + minutes - (lo + minutes))
+part_line p lo minutes cost t from upto =
+    let line = further p.cost p.slope p.lo lo t from upto in
+    let same : p.slope * (t + minutes - (lo + minutes)) ≡ p.slope * (t - lo) = ap (λ n. p.slope * n)
+    (let e : t + minutes - (lo + minutes) ≡ t - lo = omega arith in e) in
+    omega (arith, line, same)

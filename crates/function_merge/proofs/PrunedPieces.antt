@@ -1,5 +1,5 @@
 -- A pruned function, and the next piece behind it.
-use Rattle.std.proofs.Common.{◌≡◌, ◌⊎◌, inl, inr, ⊎_elim, ℕ, ◌+◌, ◌≤◌, ◌<◌, Some, None, List, [], ◌∷◌, ◌++◌, length, get_or, take, All}
+use Rattle.std.proofs.Common.{◌≡◌, ◌⊎◌, inl, inr, ⊎_elim, ℕ, ◌+◌, ◌≤◌, ◌<◌, Option, Some, None, List, [], ◌∷◌, ◌++◌, length, get_or, take, All}
 use Rattle.std.proofs.Common.{refl, ◌∙◌, ap, sym, subst, arith}
 use Rattle.std.proofs.lemmas.Bool.{cases_lt}
 use Rattle.std.proofs.lemmas.List.{take_more, get_or_default, get_or-take, length-take-le}
@@ -12,7 +12,7 @@ use Rattle.cost_functions.specs.Pieces.{value_at, ArePieces}
 use Rattle.cost_functions.specs.declared.pieces.Piece.{Piece}
 use Rattle.cost_functions.proofs.Values.{value_front, value_last, none_after, has_not_before, has_not_after}
 use Rattle.function_merge.specs.Pruning.{IsPruned}
-use Rattle.function_merge.specs.Inside.Prefixes.{IsClearUntil, HasPrefix, HaveArrived}
+use Rattle.function_merge.specs.Inside.Prefixes.{IsClearUntil, HasPrefix, HaveArrived, IsPrunedUpTo}
 
 module _ (until : ℕ) (pairs : List Pair) (bound : Bound) (f g new : List Piece) (piece : Piece) (end : ℕ)
     (whole : All (λ q. q.hi < piece.lo) f) (ended : All (λ q. q.hi < piece.lo) g)
@@ -140,3 +140,103 @@ module _ (piece : Piece) (end : ℕ) (old : List Piece) (later : All (λ q. q.hi
     rest = λ t from late. values t ∙ value_front old cut t (has_not_after cut t (omega (arith, late, hi))) ∙ none_after old t (ended_by t from);
     ended = ended;
   }
+
+-- a pruned function is built up to a minute
+module _ (until : ℕ) (pairs : List Pair) (bound : Bound) (wanted : ℕ → Option ℕ) (g : List Piece) (from : ℕ)
+    (old : IsPrunedUpTo until pairs bound wanted g from) where
+  g_none : (t : ℕ) → from ≤ t → value_at g t ≡ None
+  g_none t late = none_after g t (λ k d within. (let e = old.ended k d within in omega (arith, e, late)))
+
+  pub pruned_skip : (to : ℕ) → from ≤ to → ((t : ℕ) → from ≤ t → t < to → wanted t ≡ None) → IsPrunedUpTo until pairs bound wanted g to
+  pruned_skip to le gap = record {
+    kept = λ t x soon is.
+        ⊎_elim
+        (λ (before : t < from). old.kept t x before is)
+        (λ (late : from ≤ t). (let none : None ≡ Some x = sym (g_none t late) ∙ is in absurd cc))
+        (cases_lt t from);
+    clear = λ p soon is done.
+        ⊎_elim
+        (λ (before : p.minute < from). old.clear p before is done)
+        (λ (late : from ≤ p.minute). (let none : None ≡ Some p.cost = sym (g_none p.minute late) ∙ is in absurd cc))
+        (cases_lt p.minute from);
+    left = λ p soon is.
+        ⊎_elim
+        (λ (before : p.minute < from). old.left p before is)
+        (λ (late : from ≤ p.minute). (let none : None ≡ Some p.cost = sym (gap p.minute late soon) ∙ is in absurd cc))
+        (cases_lt p.minute from);
+    ended = λ k d within. (let e = old.ended k d within in omega (arith, e, le));
+  }
+
+  pub pruned_whole : ((t : ℕ) → from ≤ t → wanted t ≡ None) → IsPruned until pairs bound wanted (value_at g)
+  pruned_whole none = record {
+    kept = λ t x is.
+        ⊎_elim
+        (λ (before : t < from). old.kept t x before is)
+        (λ (late : from ≤ t). (let clash : None ≡ Some x = sym (g_none t late) ∙ is in absurd cc))
+        (cases_lt t from);
+    clear = λ p is done.
+        ⊎_elim
+        (λ (before : p.minute < from). old.clear p before is done)
+        (λ (late : from ≤ p.minute). (let clash : None ≡ Some p.cost = sym (g_none p.minute late) ∙ is in absurd cc))
+        (cases_lt p.minute from);
+    left = λ p is.
+        ⊎_elim
+        (λ (before : p.minute < from). old.left p before is)
+        (λ (late : from ≤ p.minute). (let clash : None ≡ Some p.cost = sym (none p.minute late) ∙ is in absurd cc))
+        (cases_lt p.minute from);
+  }
+
+-- what stays of a piece is added
+pub pruned_part : (until : ℕ) (pairs : List Pair) (bound : Bound) (wanted : ℕ → Option ℕ) (g new : List Piece) (piece : Piece) (end : ℕ)
+    → IsPrunedUpTo until pairs bound wanted g piece.lo → IsClearUntil until pairs bound piece end → HasPrefix piece end g new
+    → ((t : ℕ) → piece.lo ≤ t → t ≤ piece.hi → wanted t ≡ Some (line_at piece t)) → IsPrunedUpTo until pairs bound wanted new (piece.hi + 1)
+pruned_part until pairs bound wanted g new piece end old clear put is_line = record {
+  kept = λ t x soon is.
+      ⊎_elim
+      (λ (before : t < piece.lo). old.kept t x before (sym (put.front t before) ∙ is))
+      (λ (from : piece.lo ≤ t).
+      ⊎_elim
+      (λ (within : t < end). is_line t from (omega (arith, soon)) ∙ sym (put.part t from within) ∙ is)
+      (λ (gone : end ≤ t). (let none : None ≡ Some x = sym (put.rest t from gone) ∙ is in absurd cc))
+      (cases_lt t end))
+      (cases_lt t piece.lo);
+  clear = λ p soon is done.
+      ⊎_elim
+      (λ (before : p.minute < piece.lo). old.clear p before (sym (put.front p.minute before) ∙ is) done)
+      (λ (from : piece.lo ≤ p.minute).
+      ⊎_elim
+      (λ (within : p.minute < end). (let same : Some (line_at piece p.minute) ≡ Some p.cost = sym (put.part p.minute from within) ∙ is in
+      let cost : p.cost ≡ line_at piece p.minute = cc in
+      clear.before p from within cost done))
+      (λ (gone : end ≤ p.minute). (let none : None ≡ Some p.cost = sym (put.rest p.minute from gone) ∙ is in absurd cc))
+      (cases_lt p.minute end))
+      (cases_lt p.minute piece.lo);
+  left = λ p soon is.
+      ⊎_elim
+      (λ (before : p.minute < piece.lo).
+      ⊎_elim
+      (λ (stays : value_at g p.minute ≡ Some p.cost). inl (put.front p.minute before ∙ stays))
+      (λ (goes : IsDominatedOrLate until pairs (Some bound) p). inr goes)
+      (old.left p before is))
+      (λ (from : piece.lo ≤ p.minute).
+      let same : Some (line_at piece p.minute) ≡ Some p.cost = sym (is_line p.minute from (omega (arith, soon))) ∙ is in
+      ⊎_elim
+      (λ (within : p.minute < end). inl (put.part p.minute from within ∙ same))
+      (λ (gone : end ≤ p.minute). inr (clear.after p from gone (omega (arith, soon)) cc))
+      (cases_lt p.minute end))
+      (cases_lt p.minute piece.lo);
+  ended = λ k d within. (let e = put.ended k d within in omega (arith, e));
+}
+
+-- nothing is built yet
+pub pruned_nothing : (until : ℕ) (pairs : List Pair) (bound : Bound) (wanted : ℕ → Option ℕ) → IsPrunedUpTo until pairs bound wanted [] 0
+pruned_nothing until pairs bound wanted = record {
+  kept = λ t x soon is. absurd (omega (arith, soon));
+  clear = λ p soon is done. absurd (omega (arith, soon));
+  left = λ p soon is. absurd (omega (arith, soon));
+  ended = λ k d within. absurd (omega (arith, within));
+}
+
+pub arrived_later : (bound : Bound) (pairs : List Pair) (count early late : ℕ) → early ≤ late → HaveArrived bound early pairs count
+    → HaveArrived bound late pairs count
+arrived_later bound pairs count early late le before k d from lt = let at = before k d from lt in omega (arith, at, le)

@@ -121,7 +121,7 @@ fn cut_before(piece: Piece, end: Minute) -> Piece
 }
 
 // Adds the values of a piece before a minute.
-fn add_before(built: &mut Builder, piece: Piece, end: Minute) -> Result<(), OutOfMemory>
+pub fn add_before(built: &mut Builder, piece: Piece, end: Minute) -> Result<(), OutOfMemory>
     requires piece { IsPiece piece }
     requires small { IsSmallPiece piece }
     requires upto { end ≤ piece.hi + 1 }
@@ -138,7 +138,7 @@ fn add_before(built: &mut Builder, piece: Piece, end: Minute) -> Result<(), OutO
 }
 
 // The number of pairs that have arrived by the minute with the bound to the goal, from a number of them on.
-fn pass_arrived(pairs: &[Pair], arrived: usize, minute: Minute, bound: Bound) -> usize
+pub fn pass_arrived(pairs: &[Pair], arrived: usize, minute: Minute, bound: Bound) -> usize
     requires within { arrived ≤ length pairs.now }
     requires before { HaveArrived bound minute pairs.now arrived }
     ensures within { result ≤ length pairs.now }
@@ -156,7 +156,13 @@ fn pass_arrived(pairs: &[Pair], arrived: usize, minute: Minute, bound: Bound) ->
 
 // The first minute of the piece at which it is late or dominated; a minute behind the piece, if there is none. Of the pairs as many
 // as this have arrived when the piece begins.
-fn clear_until(piece: Piece, until: Minute, pairs: &[Pair], arrived: usize, bound: Bound) -> Minute
+pub fn clear_until(
+    piece: Piece,
+    until: Minute,
+    pairs: &[Pair],
+    arrived: usize,
+    bound: Bound,
+) -> Minute
     requires trade { RiseAndFall pairs.now }
     requires piece { IsPiece piece }
     requires within { arrived ≤ length pairs.now }

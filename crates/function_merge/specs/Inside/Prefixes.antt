@@ -1,5 +1,5 @@
 -- The minutes of a piece before it is dominated or late (source: own; no law).
-use Rattle.std.specs.Prelude.{◌≡◌, ℕ, ◌+◌, ◌-◌, ◌<◌, ◌≤◌, min, Bool, nat_lt, Some, None, List, All}
+use Rattle.std.specs.Prelude.{◌≡◌, ◌⊎◌, ℕ, Option, ◌+◌, ◌-◌, ◌<◌, ◌≤◌, min, Bool, nat_lt, Some, None, List, All}
 use Rattle.std.specs.List.{AllWithin}
 use Rattle.route_base.specs.Itinerary.{Position}
 use Rattle.route_base.specs.Relaxing.{HasPair, IsDominatedOrLate}
@@ -28,6 +28,14 @@ pub record IsClearUntil (until : ℕ) (pairs : List Pair) (bound : Bound) (piece
   pub before : (p : Position) → piece.lo ≤ p.minute → p.minute < end → p.cost ≡ line_at piece p.minute → IsDominatedOrLate until pairs (Some bound) p → ⊥
   pub after : (p : Position) → piece.lo ≤ p.minute → end ≤ p.minute → p.minute ≤ piece.hi → p.cost ≡ line_at piece p.minute
       → IsDominatedOrLate until pairs (Some bound) p
+
+-- before a minute g has the wanted values without those that are dominated or late, and from it on none yet
+pub record IsPrunedUpTo (until : ℕ) (pairs : List Pair) (bound : Bound) (wanted : ℕ → Option ℕ) (g : List Piece) (from : ℕ) : Type 0 where
+  pub kept : (t x : ℕ) → t < from → value_at g t ≡ Some x → wanted t ≡ Some x
+  pub clear : (p : Position) → p.minute < from → value_at g p.minute ≡ Some p.cost → IsDominatedOrLate until pairs (Some bound) p → ⊥
+  pub left : (p : Position) → p.minute < from → wanted p.minute ≡ Some p.cost
+      → (value_at g p.minute ≡ Some p.cost) ⊎ IsDominatedOrLate until pairs (Some bound) p
+  pub ended : All (λ q. q.hi < from) g
 
 -- the new pieces have the values of the old ones, and behind them those of the piece before the minute
 pub record HasPrefix (piece : Piece) (end : ℕ) (old new : List Piece) : Type 0 where

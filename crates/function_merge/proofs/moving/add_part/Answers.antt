@@ -3,16 +3,8 @@ use Rattle.cost_functions.specs.Lines.{line_at}
 use Rattle.cost_functions.specs.Building.{IsSettled}
 use Rattle.cost_functions.specs.declared.pieces.Piece.{Piece}
 use Rattle.cost_functions.proofs.Settling.{settled_push}
-use Rattle.cost_functions.proofs.Slopes.{further}
+use Rattle.function_merge.proofs.KeptParts.{part_line}
 use Rattle.function_merge.proofs.moving.add_part.Goals as goal
-
--- the moved part has the piece's line, later and at a cost
-part_line : (p : Piece) (lo minutes cost t : ℕ) → p.lo ≤ lo → lo ≤ t → line_at p t + cost ≡ line_at p lo + cost + p.slope * (t + minutes - (lo + minutes))
-part_line p lo minutes cost t from upto =
-    let line = further p.cost p.slope p.lo lo t from upto in
-    let same : p.slope * (t + minutes - (lo + minutes)) ≡ p.slope * (t - lo) = ap (λ n. p.slope * n)
-    (let e : t + minutes - (lo + minutes) ≡ t - lo = omega arith in e) in
-    omega (arith, line, same)
 
 pub returns-in_ok-push : goal.returns-in_ok-push
 returns-in_ok-push c = λ wanted settled right.

@@ -1,0 +1,104 @@
+use Rattle.std.proofs.Common.{⊎_elim, ◌<◌, ◌≤◌, ◌-◌, ◌+◌, ℕ, [], refl, ◌∙◌, ap, sym, subst, arith}
+use Rattle.std.specs.Option.{option_map}
+use Rattle.std.proofs.lemmas.Bool.{cases_lt}
+use Rattle.std.proofs.lemmas.List.{nil_from_length}
+use Rattle.route_base.specs.Runs.{any_has}
+use Rattle.cost_functions.specs.Pieces.{value_at}
+use Rattle.function_merge.specs.Pruning.{IsPruned}
+use Rattle.function_merge.specs.Inside.Prefixes.{IsPrunedUpTo}
+use Rattle.function_merge.proofs.PrunedPieces.{pruned_skip, pruned_whole, pruned_nothing, arrived_later}
+use Rattle.function_merge.specs.Moves.{kept_at, moved_at}
+use Rattle.function_merge.proofs.KeptParts.{moved_early, moved_late, kept_nowhere, kept_nothing, first_gap, first_part}
+use Rattle.function_merge.proofs.clearing.moved_and_pruned.Goals.{in_default, in-len1-up+in_default-open}
+use Rattle.function_merge.proofs.clearing.moved_and_pruned.Goals as goal
+use Rattle.cost_functions.proofs.Values.{none_after}
+use Rattle.std.proofs.lemmas.List.Elements.{All-nil}
+
+pub sweep-init : goal.sweep-init
+sweep-init c =
+    let m = c.args.minutes in
+    let kept = kept_at c.args.pieces.now c.args.runs.now in
+    let wanted = moved_at m c.args.cost kept in
+    let start = c.first_common-from.result in
+    record {
+      count = omega arith;
+      arrived = λ k d from lt. absurd (omega (arith, lt));
+      pruned =
+          subst (λ ps. IsPrunedUpTo c.args.until c.args.pairs.now c.args.bound wanted ps (start + m)) (sym c.again-built.ensures)
+          (pruned_skip c.args.until c.args.pairs.now c.args.bound wanted [] 0 (pruned_nothing c.args.until c.args.pairs.now c.args.bound wanted) (start + m) (omega arith)
+          (λ u from before.
+          ⊎_elim
+          (λ (early : u < m). moved_early m c.args.cost kept u early)
+          (λ (late : m ≤ u). moved_late m c.args.cost kept u (u - m) (omega (arith, late))
+          ∙ ap (option_map (λ v. v + c.args.cost)) (c.first_common-from.ensures (u - m) (omega (arith, before, late))))
+          (cases_lt u m)));
+      pieces = c.find_pieces-left.ensures.pieces;
+      runs = c.find_runs-open.ensures.runs;
+      values = c.find_pieces-left.ensures.values;
+      minutes = c.find_runs-open.ensures.minutes;
+    }
+
+pub add_moved-requires-clause-minutes : goal.add_moved-requires-clause-minutes
+add_moved-requires-clause-minutes c = λ some.
+    let inv = c.sweep.invariant in
+    let last = c.min-end.result - 1 in
+    let part = first_part c.args.pieces.now c.args.runs.now c.sweep.from c.sweep.left.now c.sweep.open.now c.in-len1-up.len_at_least
+    c.in-len1-up-open.len_at_least inv.pieces inv.runs inv.values inv.minutes last (omega (arith, c.max.ensures, c.max-lo.ensures, some))
+    (omega (arith, c.min-end.ensures, some)) in
+    let fit = c.requires.fit.minutes_fit last _ part in
+    omega (arith, fit)
+
+pub add_moved-requires-clause-small : goal.add_moved-requires-clause-small
+add_moved-requires-clause-small c = λ some.
+    let inv = c.sweep.invariant in
+    let last = c.min-end.result - 1 in
+    let part = first_part c.args.pieces.now c.args.runs.now c.sweep.from c.sweep.left.now c.sweep.open.now c.in-len1-up.len_at_least
+    c.in-len1-up-open.len_at_least inv.pieces inv.runs inv.values inv.minutes last (omega (arith, c.max.ensures, c.max-lo.ensures, some))
+    (omega (arith, c.min-end.ensures, some)) in
+    c.requires.fit.values_fit last _ part
+
+pub sweep-preserved : goal.sweep-preserved
+sweep-preserved c =
+    let inv = c.sweep.invariant in
+    let m = c.args.minutes in
+    let kept = kept_at c.args.pieces.now c.args.runs.now in
+    let wanted = moved_at m c.args.cost kept in
+    let gap = first_gap c.args.pieces.now c.args.runs.now c.sweep.from c.sweep.left.now c.sweep.open.now c.in-len1-up.len_at_least
+    c.in-len1-up-open.len_at_least inv.pieces inv.runs inv.values inv.minutes in
+    let part = first_part c.args.pieces.now c.args.runs.now c.sweep.from c.sweep.left.now c.sweep.open.now c.in-len1-up.len_at_least
+    c.in-len1-up-open.len_at_least inv.pieces inv.runs inv.values inv.minutes in
+    let skipped = pruned_skip c.args.until c.args.pairs.now c.args.bound wanted c.sweep.built (c.sweep.from + m) inv.pruned (c.max-lo.result + m)
+    (omega (arith, c.max.ensures, c.max-lo.ensures))
+    (λ u from before.
+    (moved_late m c.args.cost kept u (u - m) (omega arith) ∙ ap (option_map (λ v. v + c.args.cost))
+    (gap (u - m) (omega arith) (omega (arith, c.max.ensures, c.max-lo.ensures))))) in
+    record {
+      count = c.in_ok-arrived.ensures.within;
+      arrived = arrived_later c.args.bound c.args.pairs.now c.in_ok-arrived.arrived (c.max-lo.result + m) (c.max-from.result + m)
+          (omega (arith, c.max-from.ensures)) c.in_ok-arrived.ensures.arrived;
+      pruned = subst (λ (n : ℕ). IsPrunedUpTo c.args.until c.args.pairs.now c.args.bound wanted c.add_moved.new.built (n + m)) (sym c.max-from.ensures)
+          (c.in_ok-arrived.ensures.pruned wanted skipped (λ t from before. (moved_late m c.args.cost kept (t + m) t refl
+          ∙ ap (option_map (λ v. v + c.args.cost)) (part t (omega (arith, c.max.ensures, c.max-lo.ensures)) (omega (arith, c.min-end.ensures))))));
+      pieces = c.pieces_from-left.ensures.pieces;
+      runs = c.runs_from-open.ensures.runs;
+      values = λ t from. c.pieces_from-left.ensures.values t from ∙ inv.values t (omega (arith, c.max.ensures, c.max-lo.ensures, c.max-from.ensures, from));
+      minutes = λ t from. c.runs_from-open.ensures.minutes t from ∙ inv.minutes t (omega (arith, c.max.ensures, c.max-lo.ensures, c.max-from.ensures, from));
+    }
+
+pub returns-clause-values : goal.returns-clause-values
+returns-clause-values c =
+    let inv = c.sweep.invariant in
+    let m = c.args.minutes in
+    let kept = kept_at c.args.pieces.now c.args.runs.now in
+    let wanted = moved_at m c.args.cost kept in
+    subst (λ ps. IsPruned c.args.until c.args.pairs.now c.args.bound wanted (value_at ps)) (sym c.finish.ensures.same)
+    (pruned_whole c.args.until c.args.pairs.now c.args.bound wanted c.sweep.built (c.sweep.from + m) inv.pruned (λ u late.
+    (let at = u - m in
+    let after : c.sweep.from ≤ at = omega arith in
+    moved_late m c.args.cost kept u at (omega arith) ∙ ap (option_map (λ v. v + c.args.cost))
+    (elim c.if-left-lt1.branch [
+      | in_default w ↦ kept_nothing c.args.pieces.now c.args.runs.now at (sym (inv.values at after)
+          ∙ ap (λ xs. value_at xs at) (nil_from_length c.sweep.left.now (omega (arith, w.in_default.len_below))) ∙ none_after [] at (All-nil (λ p. p.hi < at)))
+      | in-len1-up+in_default-open w ↦ kept_nowhere c.args.pieces.now c.args.runs.now at (sym (inv.minutes at after)
+          ∙ ap (λ xs. any_has xs at) (nil_from_length c.sweep.open.now (omega (arith, w.in_default-open.len_below))))
+    ]))))

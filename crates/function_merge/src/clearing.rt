@@ -1,0 +1,178 @@
+// Functions shifted and pruned in one sweep.
+ghost use Rattle.std.specs.Prelude.{◌≡◌, ◌+◌, ◌-◌, ◌<◌, ◌≤◌, ℕ, max, Option, Some, All, IfOk, OnOk, length};
+ghost use Rattle.route_base.specs.Front.{RiseAndFall};
+ghost use Rattle.route_base.specs.declared.limits.TheConstants.{LAST_INSTANT, HIGHEST_COST};
+ghost use Rattle.cost_functions.specs.Lines.{line_at, IsPiece, IsSmallPiece};
+ghost use Rattle.cost_functions.specs.Pieces.{value_at, ArePieces};
+ghost use Rattle.route_base.specs.Runs.{AreRuns};
+ghost use Rattle.cost_functions.specs.Building.{AreBuilt};
+ghost use Rattle.function_merge.specs.Moves.{kept_at, moved_at, CanMove};
+ghost use Rattle.function_merge.specs.Pruning.{IsPruned};
+ghost use Rattle.function_merge.specs.Inside.Prefixes.{HaveArrived, IsPrunedUpTo};
+
+use crate::moving::first_common;
+use crate::pruning::{add_before, clear_until, pass_arrived};
+use crate::suffixes::{find_pieces, find_runs, pieces_from, runs_from};
+use cost_functions::{Builder, CostFn, Piece};
+use minute_sets::MinuteSet;
+use route_base::{Bound, Cost, Minute, OutOfMemory, Pair, Run};
+
+/// The function of `shift` without its points that are late or dominated, as by `prune`. One sweep, and memory for the pieces that
+/// stay.
+pub fn shift_and_prune(
+    spare: CostFn,
+    f: &CostFn,
+    entries: &MinuteSet,
+    minutes: u64,
+    cost: Cost,
+    until: Minute,
+    pairs: &[Pair],
+    bound: Bound,
+) -> Result<CostFn, OutOfMemory>
+    requires fit { CanMove minutes cost (kept_at f.now entries.now) }
+    requires trade { RiseAndFall pairs.now }
+    ensures values { IfOk result (λ g. IsPruned until pairs.now bound
+        (moved_at minutes cost (kept_at f.now entries.now)) (value_at g)) }
+    ensures built { IfOk result AreBuilt }
+{
+    moved_and_pruned(
+        spare,
+        f.pieces(),
+        entries.runs(),
+        minutes,
+        cost,
+        until,
+        pairs,
+        bound,
+    )
+}
+
+// The same for pieces and runs.
+fn moved_and_pruned(
+    spare: CostFn,
+    pieces: &[Piece],
+    runs: &[Run],
+    minutes: u64,
+    cost: Cost,
+    until: Minute,
+    pairs: &[Pair],
+    bound: Bound,
+) -> Result<CostFn, OutOfMemory>
+    requires pieces { ArePieces pieces.now }
+    requires runs { AreRuns runs.now }
+    requires fit { CanMove minutes cost (kept_at pieces.now runs.now) }
+    requires trade { RiseAndFall pairs.now }
+    ensures values { IfOk result (λ g. IsPruned until pairs.now bound
+        (moved_at minutes cost (kept_at pieces.now runs.now)) (value_at g)) }
+    ensures built { IfOk result AreBuilt }
+{
+    let mut built = Builder::again(spare);
+    let mut arrived = 0;
+    let mut from = first_common(pieces, runs);
+    let mut left = find_pieces(pieces, from);
+    let mut open = find_runs(runs, from);
+    'sweep: while let [piece, ..] = left {
+        let [run, ..] = open else {
+            break;
+        };
+        let lo = from.max(piece.lo).max(run.lo);
+        let end = run.hi.min(piece.hi + 1);
+        arrived = add_moved(
+            &mut built, *piece, lo, end, minutes, cost, until, pairs, arrived, bound,
+        )?;
+        from = lo.max(end);
+        left = pieces_from(left, from);
+        open = runs_from(open, from);
+    }
+    Ok(built.finish())
+}
+
+// Adds what stays of a piece from `lo` on and before `end`, `minutes` later and at a cost, and returns the number of pairs that have
+// arrived.
+fn add_moved(
+    built: &mut Builder,
+    piece: Piece,
+    lo: Minute,
+    end: Minute,
+    minutes: u64,
+    cost: Cost,
+    until: Minute,
+    pairs: &[Pair],
+    arrived: usize,
+    bound: Bound,
+) -> Result<usize, OutOfMemory>
+    requires trade { RiseAndFall pairs.now }
+    requires piece { IsPiece piece }
+    requires from { piece.lo ≤ lo }
+    requires upto { end ≤ piece.hi + 1 }
+    requires minutes { lo < end → end + minutes ≤ LAST_INSTANT + 1 }
+    requires small { lo < end → line_at piece (end - 1) + cost ≤ HIGHEST_COST }
+    requires within { arrived ≤ length pairs.now }
+    requires arrived { HaveArrived bound (lo + minutes) pairs.now arrived }
+    requires later { All (λ q. q.hi < lo + minutes) built.old }
+    ensures within { IfOk result (λ n. n ≤ length pairs.now) }
+    ensures arrived { IfOk result (HaveArrived bound (lo + minutes) pairs.now) }
+    ensures pruned { OnOk result ((wanted : ℕ → Option ℕ)
+        → IsPrunedUpTo until pairs.now bound wanted built.old (lo + minutes)
+        → ((t : ℕ) → lo ≤ t → t < end → wanted (t + minutes) ≡ Some (line_at piece t + cost))
+        → IsPrunedUpTo until pairs.now bound wanted built.new (max lo end + minutes)) }
+{
+    if end <= lo {
+        return Ok(arrived);
+    }
+    let part = moved_part(piece, lo, end, minutes, cost);
+    let count = add_clear(built, part, until, pairs, arrived, bound)?;
+    Ok(count)
+}
+
+// The piece from `lo` on and before `end`, `minutes` later and at a cost.
+fn moved_part(piece: Piece, lo: Minute, end: Minute, minutes: u64, cost: Cost) -> Piece
+    requires piece { IsPiece piece }
+    requires from { piece.lo ≤ lo }
+    requires some { lo < end }
+    requires upto { end ≤ piece.hi + 1 }
+    requires minutes { end + minutes ≤ LAST_INSTANT + 1 }
+    requires small { line_at piece (end - 1) + cost ≤ HIGHEST_COST }
+    ensures piece { IsPiece result }
+    ensures small { IsSmallPiece result }
+    ensures lo { result.lo ≡ lo + minutes }
+    ensures hi { result.hi + 1 ≡ end + minutes }
+    ensures line { (t : ℕ) → lo ≤ t → t < end
+        → line_at result (t + minutes) ≡ line_at piece t + cost }
+{
+    let slope = if lo + 1 < end { piece.slope } else { 0 };
+    Piece {
+        lo: lo + minutes,
+        hi: end - 1 + minutes,
+        cost: piece.value(lo) + cost,
+        slope,
+    }
+}
+
+// Adds what stays of a piece, and returns the number of pairs that have arrived when it begins.
+fn add_clear(
+    built: &mut Builder,
+    piece: Piece,
+    until: Minute,
+    pairs: &[Pair],
+    arrived: usize,
+    bound: Bound,
+) -> Result<usize, OutOfMemory>
+    requires trade { RiseAndFall pairs.now }
+    requires piece { IsPiece piece }
+    requires small { IsSmallPiece piece }
+    requires within { arrived ≤ length pairs.now }
+    requires arrived { HaveArrived bound piece.lo pairs.now arrived }
+    requires later { All (λ q. q.hi < piece.lo) built.old }
+    ensures within { IfOk result (λ n. n ≤ length pairs.now) }
+    ensures arrived { IfOk result (HaveArrived bound piece.lo pairs.now) }
+    ensures pruned { OnOk result ((wanted : ℕ → Option ℕ)
+        → IsPrunedUpTo until pairs.now bound wanted built.old piece.lo
+        → ((t : ℕ) → piece.lo ≤ t → t ≤ piece.hi → wanted t ≡ Some (line_at piece t))
+        → IsPrunedUpTo until pairs.now bound wanted built.new (piece.hi + 1)) }
+{
+    let count = pass_arrived(pairs, arrived, piece.lo, bound);
+    let stop = clear_until(piece, until, pairs, count, bound);
+    add_before(built, piece, stop)?;
+    Ok(count)
+}
