@@ -1,12 +1,12 @@
 // The offer that drives over an arc make to its head.
-ghost use Rattle.std.specs.Prelude.{◌≡◌, ◌≤◌, ℕ, Some, IfOk, OnOk};
+ghost use Rattle.std.specs.Prelude.{◌≡◌, ◌≤◌, ℕ, Option, Some, IfOk, OnOk};
 ghost use Rattle.route_base.specs.Front.{RiseAndFall};
 ghost use Rattle.route_base.specs.Net.{at_number, park_at, setting_of, IsGoodArc, IsGoodPark};
 ghost use Rattle.cost_functions.specs.Pieces.{value_at, AreSmallPieces};
 ghost use Rattle.cost_functions.specs.Building.{AreBuilt};
 ghost use Rattle.potentials.specs.Sums.{bound_at};
 ghost use Rattle.propagation.specs.Inside.Invariants.{IsOffer, Reaches, point};
-ghost use Rattle.propagation.specs.Inside.Offers.{IsKnownPart, IsDriven, IsSource, IsCleared, IsWaited, Covers, CoversDrives};
+ghost use Rattle.propagation.specs.Inside.Offers.{IsKnownPart, AreClearDrives, IsClearSource, IsSource, IsCleared, IsWaited, Covers, CoversDrives};
 ghost use Rattle.propagation.specs.Inside.EntrySets.{AreEntrySets};
 ghost use Rattle.propagation.specs.Inside.States.{progress_of, task_of, IsGoodPlan};
 
@@ -15,30 +15,35 @@ use crate::plan::Plan;
 use crate::spares::Spares;
 use crate::state::State;
 use cost_functions::CostFn;
-use function_merge::{into_pruned, shift, wait};
+use function_merge::{into_pruned, shift_and_prune, wait};
 use route_base::{ArcId, Bound, Minute, NodeId, OutOfMemory, Pair, Park, TimedArc};
 use std::alloc::Global;
 
-// The costs with which drives of the part over the arc end.
+// The costs with which drives of the part over the arc end, where the goal is still worth reaching from there.
 fn driven(
     alloc: Global,
     plan: Plan<'_>,
     sets: &mut EntrySets,
     spares: &mut Spares,
+    pairs: &[Pair],
     v: NodeId,
     part: &CostFn,
     a: ArcId,
     arc: TimedArc,
+    bound: Bound,
 ) -> Result<CostFn, OutOfMemory>
     requires asked { IsGoodPlan plan }
     requires is { at_number plan.net.now.arcs a.0 ≡ Some arc }
     requires good { IsGoodArc plan.net.now arc }
     requires begins { arc.tail.0 ≡ v.0 }
+    requires bound { bound_at plan.bounds.now arc.head.0 ≡ Some bound }
+    requires trade { RiseAndFall pairs.now }
     requires entries { AreEntrySets plan.net.now plan.request.until sets.old }
     requires reached { (t x : ℕ) → value_at part.now t ≡ Some x
         → Reaches (task_of plan) (point v.0 t x) }
     ensures driven { IfOk result
-        (λ g. IsDriven (task_of plan.entry) a.0 v.0 (value_at part.now) arc.head.0 (value_at g)) }
+        (λ g. AreClearDrives (task_of plan.entry) pairs.now a.0 v.0 (value_at part.now) arc.head.0
+        (value_at g)) }
     ensures built { IfOk result AreBuilt }
     ensures entries { OnOk result
         (AreEntrySets plan.entry.net.now plan.entry.request.until sets.new) }
@@ -49,8 +54,17 @@ fn driven(
     make_room(alloc, sets, list)?;
     let place = place_of(alloc, &mut sets.lists[list], closed, until, arc.minutes)?;
     let starts = &sets.lists[list][place].set;
-    let ends = shift(spares.take(alloc), part, starts, arc.minutes, arc.cost)?;
-    Ok(ends)
+    let clear = shift_and_prune(
+        spares.take(alloc),
+        part,
+        starts,
+        arc.minutes,
+        arc.cost,
+        until,
+        pairs,
+        bound,
+    )?;
+    Ok(clear)
 }
 
 // The costs at a node from which the goal is still worth reaching.
@@ -129,6 +143,38 @@ pub fn closed(
         (AreEntrySets plan.entry.net.now plan.entry.request.until sets.new) }
 {
     let clear = cleared(plan, &state.pairs, h, bound, costs);
+    let offer = with_waits(alloc, plan, sets, spares, state, h, bound, clear)?;
+    Ok(offer)
+}
+
+// Clear costs, and where the node is rated those of waiting there.
+fn with_waits(
+    alloc: Global,
+    plan: Plan<'_>,
+    sets: &mut EntrySets,
+    spares: &mut Spares,
+    state: &State,
+    h: NodeId,
+    bound: Bound,
+    clear: CostFn,
+) -> Result<CostFn, OutOfMemory>
+    requires asked { IsGoodPlan plan }
+    requires low { 1 ≤ h.0 }
+    requires high { h.0 ≤ plan.net.now.nodes }
+    requires bound { bound_at plan.bounds.now h.0 ≡ Some bound }
+    requires trade { RiseAndFall state.now.pairs.items }
+    requires small { AreSmallPieces clear }
+    requires entries { AreEntrySets plan.net.now plan.request.until sets.old }
+    requires clear { IsClearSource (task_of plan) (progress_of state.now) h.0 (value_at clear) }
+    ensures offer { IfOk result
+        (λ g. IsOffer (task_of plan.entry) (progress_of state.now) h.0 (value_at g)) }
+    ensures covers { IfOk result (λ g. (costs : ℕ → Option ℕ)
+        → IsCleared (task_of plan.entry) state.now.pairs.items h.0 costs (value_at clear)
+        → Covers (task_of plan.entry) state.now.pairs.items h.0 costs (value_at g)) }
+    ensures small { IfOk result AreSmallPieces }
+    ensures entries { OnOk result
+        (AreEntrySets plan.entry.net.now plan.entry.request.until sets.new) }
+{
     let Some(park) = plan.net.park(h) else {
         return Ok(clear);
     };
@@ -169,7 +215,18 @@ pub fn offered(
     ensures entries { OnOk result
         (AreEntrySets plan.entry.net.now plan.entry.request.until sets.new) }
 {
-    let ends = driven(alloc, plan, sets, spares, v, part, a, arc)?;
-    let offer = closed(alloc, plan, sets, spares, state, arc.head, bound, ends)?;
+    let clear = driven(
+        alloc,
+        plan,
+        sets,
+        spares,
+        &state.pairs,
+        v,
+        part,
+        a,
+        arc,
+        bound,
+    )?;
+    let offer = with_waits(alloc, plan, sets, spares, state, arc.head, bound, clear)?;
     Ok(offer)
 }

@@ -39,6 +39,18 @@ pub record IsCleared (k : Task) (pairs : List Pair) (h : ℕ) (f g : ℕ → Opt
   pub clear : (t x : ℕ) → g t ≡ Some x → IsPrunable k pairs (point h t x) → ⊥
   pub left : (t x : ℕ) → f t ≡ Some x → (g t ≡ Some x) ⊎ IsPrunable k pairs (point h t x)
 
+-- the costs with which drives of the part end, without what is prunable
+pub record AreClearDrives (k : Task) (pairs : List Pair) (a v : ℕ) (part : ℕ → Option ℕ) (h : ℕ) (clear : ℕ → Option ℕ) : Type 0 where
+  pub ends : ℕ → Option ℕ
+  pub driven : IsDriven k a v part h ends
+  pub cleared : IsCleared k pairs h ends clear
+
+-- costs that come from others, without what is prunable
+pub record IsClearSource (k : Task) (now : Progress) (h : ℕ) (clear : ℕ → Option ℕ) : Type 0 where
+  pub costs : ℕ → Option ℕ
+  pub source : IsSource k now h costs
+  pub cleared : IsCleared k now.pairs h costs clear
+
 -- where f has a cost, g has one that is no larger, or it is prunable
 abbrev pub Covers : Task → List Pair → ℕ → (ℕ → Option ℕ) → (ℕ → Option ℕ) → Type 0
 Covers k pairs h f g = (t x : ℕ) → f t ≡ Some x → HasIn g (point h t x) ⊎ IsPrunable k pairs (point h t x)

@@ -4,6 +4,9 @@ use Rattle.route_base.specs.Net.{runs_by}
 use Rattle.route_base.specs.declared.types.Run.{Run}
 use Rattle.cost_functions.specs.Pieces.{value_at}
 use Rattle.potentials.specs.Sums.{bound_at}
+use Rattle.function_merge.specs.Moves.{kept_at, moved_at}
+use Rattle.propagation.specs.Inside.States.{task_of}
+use Rattle.propagation.proofs.Offering.{cleared_of}
 use Rattle.propagation.specs.Inside.EntrySets.{AreEntries}
 use Rattle.propagation.proofs.EntryLists.{sets_at, sets_kept, set_at}
 use Rattle.propagation.proofs.Shifting.{entries_drive, entries_fit}
@@ -29,8 +32,8 @@ returns-clause-entries c =
     (c.in_ok-make_room.ensures.kept net until c.requires.entries) own_runs
     c.in_ok-make_room.ensures.within refl c.in_ok-place.ensures.made
 
-pub shift-requires : goal.shift-requires
-shift-requires c =
+pub shift_and_prune-requires-clause-fit : goal.shift_and_prune-requires-clause-fit
+shift_and_prune-requires-clause-fit c =
     let net = c.args.plan.net.now in
     let until = c.args.plan.request.until in
     let same : c.index.result.now ≡ c.place_of.new.list = c.index.ensures
@@ -50,7 +53,13 @@ returns-clause-driven c =
     ∙ get_or-set_same c.make_room.new.sets.lists.items c.args.arc.closed c.place_of.new.list c.index.result.now c.in_ok-make_room.ensures.within in
     let entries = set_at c.closed_runs-closed.result.now until c.in_ok-place.place c.args.arc.minutes c.place_of.new.list c.index.result.now
     c.index-2.result.now c.in_ok-place.ensures.made c.in_ok-place.ensures.within c.in_ok-place.ensures.minutes same c.index-2.ensures in
-    entries_drive net c.args.plan.request (bound_at c.args.plan.bounds.now) c.args.a.0 c.args.v.0 c.args.arc c.requires.is c.requires.begins
-    c.index-2.result.now.set
-    (subst (λ (w : List Run). AreEntries w until c.args.arc.minutes c.index-2.result.now.set) c.closed_runs-closed.ensures.value entries)
-    (value_at c.args.part.now) (value_at c.in_ok-ends.ends) c.in_ok-ends.ensures.values
+    let ends = moved_at c.args.arc.minutes c.args.arc.cost (kept_at c.args.part.now c.index-2.result.now.set) in
+    record {
+      ends = ends;
+      driven = entries_drive net c.args.plan.request (bound_at c.args.plan.bounds.now) c.args.a.0 c.args.v.0 c.args.arc c.requires.is c.requires.begins
+          c.index-2.result.now.set
+          (subst (λ (w : List Run). AreEntries w until c.args.arc.minutes c.index-2.result.now.set) c.closed_runs-closed.ensures.value entries)
+          (value_at c.args.part.now) ends (λ t. refl);
+      cleared = cleared_of (task_of c.args.plan) c.args.pairs.now c.args.arc.head.0 c.args.bound ends (value_at c.in_ok-clear.clear)
+          c.requires.bound c.in_ok-clear.ensures.values;
+    }
