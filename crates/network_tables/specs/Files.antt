@@ -19,7 +19,7 @@ no_files = record {
   holidays = [];
 }
 
--- the files with these bytes in the place of that kind; a network has no jobs and no certificate
+-- the files with these bytes in the place of that kind; the kinds that a network doesn't have change nothing
 abbrev pub with_file : Files → FileKind → List ℕ → Files
 with_file files file.Graph bytes = record files { graph = bytes }
 with_file files file.Zones bytes = record files { zones = bytes }
@@ -31,5 +31,4 @@ with_file files file.Closures bytes = record files { closures = bytes }
 with_file files file.Ratings bytes = record files { ratings = bytes }
 with_file files file.Parking bytes = record files { parking = bytes }
 with_file files file.Holidays bytes = record files { holidays = bytes }
-with_file files file.Jobs bytes = files
-with_file files file.Certificate bytes = files
+with_file files other bytes = files

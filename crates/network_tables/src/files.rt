@@ -44,7 +44,7 @@ impl Files {
         }
     }
 
-    /// Puts the bytes of a file in its place, at no cost. A network has no jobs and no certificate: their bytes are dropped.
+    /// Puts the bytes of a file in its place, at no cost. The bytes of a file that a network doesn't have are dropped.
     pub fn put(&mut self, file: FileKind, bytes: FileBytes)
         ensures { self.new ≡ with_file self.old file bytes }
     {
@@ -59,7 +59,11 @@ impl Files {
             FileKind::Ratings => self.ratings = bytes,
             FileKind::Parking => self.parking = bytes,
             FileKind::Holidays => self.holidays = bytes,
-            FileKind::Jobs | FileKind::Certificate => {}
+            FileKind::Tolls
+            | FileKind::Jobs
+            | FileKind::Certificate
+            | FileKind::Stops
+            | FileKind::Itinerary => {}
         }
     }
 }

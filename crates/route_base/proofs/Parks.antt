@@ -12,12 +12,21 @@ told None w is = absurd cc
 told (Some None) w is = absurd cc
 told (Some (Some park)) w is = (park, refl, cc)
 
+flattened : (o : Option (Option Park)) (park : Park) → option_flatten o ≡ Some park → o ≡ Some (Some park)
+flattened None park is = absurd cc
+flattened (Some o) park is = cc
+
 module _ (net : Net) (good : IsGoodNet net) where
+  -- the park of a node is well-formed
+  pub good_park : (v : ℕ) (park : Park) → park_at net v ≡ Some park → IsGoodPark net park
+  good_park v park is = let at = flattened (at_number net.parks v) park is in
+      at_number-all (λ o. ForSome o (IsGoodPark net)) net.parks v (Some park) good.each_park at park refl
+
   -- a rated node has a park, which is well-formed
   pub rated_park : (v w : ℕ) → (setting_of net).weight v ≡ Some w → (park : Park) × (park_at net v ≡ Some park) × (park.weight ≡ w) × IsGoodPark net park
   rated_park v w rated =
       let t = told (at_number net.parks v) w rated in
-      (t.0, ap option_flatten t.1, t.2, at_number-all (λ o. ForSome o (IsGoodPark net)) net.parks v (Some t.0) good.each_park t.1 t.0 refl)
+      (t.0, ap option_flatten t.1, t.2, good_park v t.0 (ap option_flatten t.1))
 
   pub weight_small : (v w : ℕ) → (setting_of net).weight v ≡ Some w → w ≤ HEAVIEST_WEIGHT
   weight_small v w rated = let p = rated_park v w rated in omega (arith, p.3.weight, p.2)

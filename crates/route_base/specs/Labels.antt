@@ -2,17 +2,17 @@
 use Rattle.std.specs.Prelude.{ℕ, List, codes}
 use Rattle.route_base.specs.declared.faults.FileKind.{FileKind}
 use Rattle.route_base.specs.declared.faults.FileKind.TheVariants.{Graph, Zones, Areas, Roads, Vehicles, Rules, Closures, Ratings}
-use Rattle.route_base.specs.declared.faults.FileKind.TheVariants.{Parking, Holidays, Jobs, Certificate}
+use Rattle.route_base.specs.declared.faults.FileKind.TheVariants.{Parking, Holidays, Tolls, Jobs, Certificate, Stops, Itinerary}
 use Rattle.route_base.specs.declared.faults.Cause.{Cause}
 use Rattle.route_base.specs.declared.faults.Cause.TheVariants.{Missing, TooLong, NoProblemLine, SecondProblemLine, BadForm}
 use Rattle.route_base.specs.declared.faults.Cause.TheVariants.{NodeRange, WeightRange, ArcCount}
-use Rattle.route_base.specs.declared.faults.Cause.TheVariants.{SizeLimit, BadHeader, FieldCount, BadField, NotConditional}
+use Rattle.route_base.specs.declared.faults.Cause.TheVariants.{SizeLimit, BadHeader, FieldCount, BadField, NotConditional, NotHours}
 use Rattle.route_base.specs.declared.faults.Cause.TheVariants.{Unknown, Duplicate, NotRising}
 use Rattle.route_base.specs.declared.faults.RequestFault.{RequestFault}
 use Rattle.route_base.specs.declared.faults.RequestFault.TheVariants.{UnknownVehicle, UnknownArc, OriginRange, GoalRange}
-use Rattle.route_base.specs.declared.faults.RequestFault.TheVariants.{UntilBeforeDepart, HorizonTooLong}
+use Rattle.route_base.specs.declared.faults.RequestFault.TheVariants.{UntilBeforeDepart, HorizonTooLong, TooManyStates}
 
--- the label of a file: its name below the folder, but for the two files that the words of a command name
+-- the label of a file: its name below the folder, but for a file that the words of a command name
 abbrev pub label_of : FileKind → List ℕ
 label_of Graph = codes "graph.gr"
 label_of Zones = codes "zones.csv"
@@ -24,8 +24,11 @@ label_of Closures = codes "closures.csv"
 label_of Ratings = codes "ratings.csv"
 label_of Parking = codes "parking.csv"
 label_of Holidays = codes "holidays.csv"
+label_of Tolls = codes "tolls.csv"
 label_of Jobs = codes "jobs"
 label_of Certificate = codes "certificate"
+label_of Stops = codes "stops"
+label_of Itinerary = codes "itinerary"
 
 -- the name of a fault's cause
 abbrev pub cause_name_of : Cause → List ℕ
@@ -42,6 +45,7 @@ cause_name_of BadHeader = codes "BadHeader"
 cause_name_of FieldCount = codes "FieldCount"
 cause_name_of BadField = codes "BadField"
 cause_name_of NotConditional = codes "NotConditional"
+cause_name_of NotHours = codes "NotHours"
 cause_name_of Unknown = codes "Unknown"
 cause_name_of Duplicate = codes "Duplicate"
 cause_name_of NotRising = codes "NotRising"
@@ -54,3 +58,4 @@ request_fault_name_of OriginRange = codes "OriginRange"
 request_fault_name_of GoalRange = codes "GoalRange"
 request_fault_name_of UntilBeforeDepart = codes "UntilBeforeDepart"
 request_fault_name_of HorizonTooLong = codes "HorizonTooLong"
+request_fault_name_of TooManyStates = codes "TooManyStates"

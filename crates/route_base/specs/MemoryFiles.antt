@@ -1,10 +1,14 @@
 -- Files and bytes in memory, with the counts that their objects keep (source: own).
-use Rattle.std.specs.Prelude.{◌≡◌, ℕ, ◌+◌, ◌-◌, ◌^◌, min, Option, Some, None, List, [], ◌∷◌, if◌then◌else◌}
+use Rattle.std.specs.Prelude.{ℕ, ◌+◌, ◌-◌, ◌^◌, min, Option, Some, None, List, [], ◌∷◌, if◌then◌else◌, Result, Ok, Err}
 use Rattle.std.specs.Str.{bytes_eq}
 use Rattle.route_base.specs.Contents.{Holds}
 use Rattle.route_base.specs.FolderState.{FolderState}
 use Rattle.route_base.specs.SinkState.{SinkState}
+use Rattle.route_base.specs.declared.folder.PartError.{PartError}
+use Rattle.route_base.specs.declared.folder.PartError.TheVariants as part
 use Rattle.route_base.specs.declared.memory.folders.File.{File}
+use Rattle.route_base.specs.declared.sink.WriteError.{WriteError}
+use Rattle.route_base.specs.declared.sink.WriteError.TheVariants as write
 
 -- what the first file of this name has
 abbrev pub held_in : List File → List ℕ → Option (List ℕ)
@@ -70,12 +74,36 @@ failing_sink_state s = record { written = Some s.bytes; faults = s.faults }
 abbrev pub next_ordinal : ℕ → ℕ
 next_ordinal calls = min (calls + 1) (2 ^ 64 - 1)
 
--- one call more is counted, and the same calls are to fail
-pub record CountsCall (old new : FailingFiles) : Type 0 where
-  pub calls : new.calls ≡ next_ordinal old.calls
-  pub failing : new.failing ≡ old.failing
+-- a folder without failures after this answer to a read: a missing file is counted, and nothing else
+abbrev pub after_sure_read : SureFiles → Result ℕ PartError → SureFiles
+after_sure_read s (Ok k) = s
+after_sure_read s (Err part.Missing) = record s { missing = next_ordinal s.missing }
+after_sure_read s (Err part.Failed) = s
+after_sure_read s (Err part.OutOfMemory) = s
 
--- one write more is counted, and the same writes are to fail
-pub record CountsWrite (old new : FailingBytes) : Type 0 where
-  pub calls : new.calls ≡ next_ordinal old.calls
-  pub failing : new.failing ≡ old.failing
+-- a folder with one call more
+abbrev pub called : FailingFiles → FailingFiles
+called s = record s { calls = next_ordinal s.calls }
+
+-- a folder that fails at some calls after this answer to a read: the fault is counted, where it is one, and nothing else
+abbrev pub after_read : FailingFiles → Result ℕ PartError → FailingFiles
+after_read s (Ok k) = called s
+after_read s (Err part.Missing) = record (called s) { missing = next_ordinal s.missing }
+after_read s (Err part.Failed) = record (called s) { read_faults = next_ordinal s.read_faults }
+after_read s (Err part.OutOfMemory) = called s
+
+-- the same after this answer to a write, but for the files
+abbrev pub after_write : {A : Type 0} → FailingFiles → Result A WriteError → FailingFiles
+after_write s (Ok done) = called s
+after_write s (Err write.Failed) = record (called s) { write_faults = next_ordinal s.write_faults }
+after_write s (Err write.OutOfMemory) = called s
+
+-- a sink with one call more
+abbrev pub called_sink : FailingBytes → FailingBytes
+called_sink s = record s { calls = next_ordinal s.calls }
+
+-- a sink that fails at some calls after this answer to a write, but for its bytes: the fault is counted, where it is one, and nothing else
+abbrev pub after_append : {A : Type 0} → FailingBytes → Result A WriteError → FailingBytes
+after_append s (Ok done) = called_sink s
+after_append s (Err write.Failed) = record (called_sink s) { faults = next_ordinal s.faults }
+after_append s (Err write.OutOfMemory) = called_sink s

@@ -19,6 +19,7 @@ pub enum Cause {
     FieldCount,
     BadField,
     NotConditional,
+    NotHours,
     Unknown,
     Duplicate,
     NotRising,
@@ -45,6 +46,7 @@ impl Cause {
             Cause::FieldCount => "FieldCount",
             Cause::BadField => "BadField",
             Cause::NotConditional => "NotConditional",
+            Cause::NotHours => "NotHours",
             Cause::Unknown => "Unknown",
             Cause::Duplicate => "Duplicate",
             Cause::NotRising => "NotRising",
@@ -52,7 +54,7 @@ impl Cause {
     }
 }
 
-/// The files of a folder in the order in which they are read, and then the two that a command may name.
+/// The files of a folder in the order in which they are read, and then those that the words of a command may name.
 #[derive(Clone, Copy, Debug, PartialEq, Eq)]
 pub enum FileKind {
     Graph,
@@ -65,15 +67,18 @@ pub enum FileKind {
     Ratings,
     Parking,
     Holidays,
+    Tolls,
     Jobs,
     Certificate,
+    Stops,
+    Itinerary,
 }
 
 impl FileKind {
     ghost use Rattle.route_base.specs.Labels.{label_of};
 
-    /// The label of the file in a refusal: its name below the folder, but `jobs` and `certificate` for the two files that the
-    /// words of a command name.
+    /// The label of the file in a refusal: its name below the folder, but `jobs`, `certificate`, `stops` or `itinerary` for the file
+    /// that the words of a command name.
     pub fn label(self) -> &'static str
         ensures { result.now ≡ label_of self }
     {
@@ -88,8 +93,11 @@ impl FileKind {
             FileKind::Ratings => "ratings.csv",
             FileKind::Parking => "parking.csv",
             FileKind::Holidays => "holidays.csv",
+            FileKind::Tolls => "tolls.csv",
             FileKind::Jobs => "jobs",
             FileKind::Certificate => "certificate",
+            FileKind::Stops => "stops",
+            FileKind::Itinerary => "itinerary",
         }
     }
 }
@@ -111,6 +119,7 @@ pub enum RequestFault {
     GoalRange,
     UntilBeforeDepart,
     HorizonTooLong,
+    TooManyStates,
 }
 
 impl RequestFault {
@@ -127,6 +136,7 @@ impl RequestFault {
             RequestFault::GoalRange => "GoalRange",
             RequestFault::UntilBeforeDepart => "UntilBeforeDepart",
             RequestFault::HorizonTooLong => "HorizonTooLong",
+            RequestFault::TooManyStates => "TooManyStates",
         }
     }
 }

@@ -1,7 +1,8 @@
 //! The planning problem, and the traits through which the planner meets the outside world.
 //!
-//! Lorries drive over arcs that are closed at certain minutes, and wait at rated nodes alone, except at minutes at which waiting there is shut. A trip's answer is the
-//! Pareto front of its arrivals and costs (after Kleff, Schulz, Wagenblatt and Zeitz, SEA 2020, in whole minutes).
+//! Lorries drive over arcs that are closed at certain minutes, and wait at rated nodes alone, except at minutes at which waiting
+//! there is shut. A trip's answer is the Pareto front of its arrivals and costs (after Kleff, Schulz, Wagenblatt and Zeitz,
+//! SEA 2020, in whole minutes).
 //!
 //! The law is in `specs/`. The problem: `Setting` (roads, closed minutes, weights), `Itinerary` (lawful steps), `Legs`,
 //! `Front` (the Pareto front, and right routes), `Net` (a timed net as a setting), `Matching` (settings that agree within a
@@ -51,7 +52,7 @@ pub use matching::settings_agree;
 pub use memory::dripping::DripFolder;
 pub use memory::folders::{FileList, MemFolder, Ordinals, SureFolder};
 pub use memory::sinks::{MemSink, SureSink};
-pub use net::TimedNet;
+pub use net::{TimedNet, net_is_good};
 pub use runs::is_free;
 pub use sink::{Sink, WriteError};
 pub use split::cut;

@@ -1,5 +1,5 @@
 // Timed nets: a road graph with the minutes at which its arcs are closed and waiting at its nodes is shut.
-ghost use Rattle.std.specs.Prelude.{◌≡◌, ◌↔◌, ◌≤◌, IsTrue, IsSome, IfSome, length};
+ghost use Rattle.std.specs.Prelude.{◌≡◌, ◌↔◌, ◌≤◌, IsTrue, IsSome, IfSome, length, map};
 ghost use Rattle.route_base.specs.Net.{IsGoodNet, IsGoodArc, net_from, setting_of, at_number, runs_at};
 ghost use Rattle.route_base.specs.Net.{park_at, shut_runs_at, IsGoodPark};
 ghost use Rattle.route_base.specs.Open.{IsOpen, IsWaitOpen};
@@ -62,6 +62,30 @@ impl TimedNet {
         ensures good { IsGoodNet self.now }
     {
         self.arcs.len() as u32
+    }
+
+    /// All arcs, by rising number, at no cost.
+    pub fn arcs(&self) -> &[TimedArc]
+        ensures value { result.now ≡ self.now.arcs }
+        ensures good { IsGoodNet self.now }
+    {
+        self.arcs.as_slice()
+    }
+
+    /// The lists of closed runs, which arcs and parks name by place, at no cost.
+    pub fn closed_lists(&self) -> &[Vec<Run>]
+        ensures value { map (λ v. v.items) result.now ≡ self.now.closed }
+        ensures good { IsGoodNet self.now }
+    {
+        self.closed.as_slice()
+    }
+
+    /// A park or none for each node, by rising number, at no cost.
+    pub fn parks(&self) -> &[Option<Park>]
+        ensures value { result.now ≡ self.now.parks }
+        ensures good { IsGoodNet self.now }
+    {
+        self.parks.as_slice()
     }
 
     /// The arc of this number; `None` exactly where it isn't from 1 to the number of arcs. In constant time.
@@ -155,4 +179,11 @@ impl TimedNet {
     {
         is_free(self.closed_runs(a), t, minutes)
     }
+}
+
+/// The law that a net is well-formed, for callers whose own proofs need it. The call does nothing.
+pub fn net_is_good(net: &TimedNet)
+    ensures { IsGoodNet net.now }
+{
+    let _nodes = net.nodes;
 }

@@ -1,6 +1,7 @@
 // Folders in memory.
 ghost use Rattle.std.specs.Prelude.{◌≡◌, ◌≤◌, ◌↔◌, Some, None, [], length, OnOk, OnErr, IfOk, IfSome, IsTrue, Contains};
-ghost use Rattle.route_base.specs.MemoryFiles.{held_in, uncalled_files, PutsUnder, sure_state, failing_state, CountsCall, next_ordinal};
+ghost use Rattle.route_base.specs.MemoryFiles.{held_in, uncalled_files, PutsUnder, sure_state, failing_state, next_ordinal};
+ghost use Rattle.route_base.specs.MemoryFiles.{called, after_sure_read, after_read, after_write};
 ghost use Rattle.route_base.specs.FolderState.{KeepsFiles, CountsRise, MissedFile, FailedToRead, FailedToWrite};
 ghost use Rattle.route_base.specs.FolderState.{ReadsPart, LacksFile, PutsFile, SpoilsFile};
 ghost use Rattle.route_base.specs.Contents.{GivesPart};
@@ -150,7 +151,19 @@ impl SureFolder {
 impl Folder for SureFolder {
     ghost state = { sure_state };
 
-    fn read_part(&mut self, name: &str, at: u64, buf: &mut [u8]) -> Result<usize, PartError> {
+    // Counts missing files alone.
+    fn read_part(&mut self, name: &str, at: u64, buf: &mut [u8]) -> Result<usize, PartError>
+        ensures bound { IfOk result (λ k. k ≤ length buf.new) }
+        ensures kept { KeepsFiles (sure_state self.old) (sure_state self.new) }
+        ensures part { IfOk result (λ k. ReadsPart (sure_state self.old) name.now at k buf.new) }
+        ensures not_there { result ≡ Err PartError.Missing
+            → LacksFile (sure_state self.old) name.now }
+        ensures missing { result ≡ Err PartError.Missing
+            → MissedFile (sure_state self.old) (sure_state self.new) }
+        ensures failed { result ≡ Err PartError.Failed
+            → FailedToRead (sure_state self.old) (sure_state self.new) }
+        ensures after { self.new ≡ after_sure_read self.old result }
+    {
         match self.files.find(name) {
             Some(bytes) => Ok(copy_part(bytes, at, buf)),
             None => {
@@ -214,7 +227,7 @@ impl MemFolder {
     // Counts the call, and says whether it is to fail.
     fn fails(&mut self) -> bool
         ensures named { IsTrue result ↔ Contains self.old.failing (next_ordinal self.old.calls) }
-        ensures counted { self.new ≡ record self.old { calls = next_ordinal self.old.calls } }
+        ensures counted { self.new ≡ called self.old }
     {
         self.calls = self.calls.saturating_add(1);
         self.failing.as_slice().contains(&self.calls)
@@ -238,7 +251,7 @@ impl Folder for MemFolder {
             → FailedToRead (failing_state self.old) (failing_state self.new) }
         ensures fails { (result ≡ Err PartError.Failed)
             ↔ Contains self.old.failing (next_ordinal self.old.calls) }
-        ensures counted { CountsCall self.old self.new }
+        ensures after { self.new ≡ after_read self.old result }
     {
         if self.fails() {
             self.read_faults = self.read_faults.saturating_add(1);
@@ -266,7 +279,7 @@ impl Folder for MemFolder {
             → FailedToWrite (failing_state self.old) (failing_state self.new) }
         ensures fails { (result ≡ Err WriteError.Failed)
             ↔ Contains self.old.failing (next_ordinal self.old.calls) }
-        ensures counted { CountsCall self.old self.new }
+        ensures after { self.new ≡ record (after_write self.old result) { files = self.new.files } }
     {
         if self.fails() {
             self.write_faults = self.write_faults.saturating_add(1);

@@ -1,6 +1,6 @@
 // Sinks in memory.
 ghost use Rattle.std.specs.Prelude.{◌≡◌, ◌↔◌, [], List, ℕ, OnOk, Contains};
-ghost use Rattle.route_base.specs.MemoryFiles.{sure_sink_state, failing_sink_state, next_ordinal, CountsWrite};
+ghost use Rattle.route_base.specs.MemoryFiles.{sure_sink_state, failing_sink_state, next_ordinal, after_append};
 ghost use Rattle.route_base.specs.SinkState.{Appends, AppendsPrefix, FaultsRise, FailedToAppend};
 
 use crate::{Ordinals, Sink, WriteError};
@@ -103,7 +103,7 @@ impl Sink for MemSink {
             → FailedToAppend (failing_sink_state self.old) (failing_sink_state self.new) }
         ensures fails { (result ≡ Err WriteError.Failed)
             ↔ Contains self.old.failing (next_ordinal self.old.calls) }
-        ensures counted { CountsWrite self.old self.new }
+        ensures after { self.new ≡ record (after_append self.old result) { bytes = self.new.bytes } }
     {
         self.calls = self.calls.saturating_add(1);
         if self.failing.as_slice().contains(&self.calls) {
