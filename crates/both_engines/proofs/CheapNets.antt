@@ -55,7 +55,7 @@ module _ (nodes : ℕ) (arcs : List TimedArc) (closed : List (Vec Run Global)) (
         (light_park (net_from nodes arcs closed parks) (length closed) (sym (length-map closed (λ (v : Vec Run Global). v.items)))) parks light;
   }
 
-cheap_road : (o : Option TimedArc) (road : Road) → IfSome o IsCheapArc → option_map road_of o ≡ Some road → road.cost ≤ 100000 * road.minutes
+cheap_road : (o : Option TimedArc) (road : Road) → IfSome o IsCheapArc → option_map road_of o ≡ Some road → road.cost ≤ 110000 * road.minutes
 cheap_road None road cheap is = absurd (cc)
 cheap_road (Some arc) road cheap is = let same : road_of arc ≡ road = cc
     in omega (arith, ap (λ (w : Road). w.cost) same, ap (λ (w : Road). w.minutes) same, cheap)

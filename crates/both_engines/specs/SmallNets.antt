@@ -1,6 +1,7 @@
 -- Small nets: numbers so low that every cost of a request fits (source: own).
 use Rattle.std.specs.Prelude.{ℕ, ◌+◌, ◌*◌, ◌≤◌, ◌<◌, Option, IfSome}
 use Rattle.route_base.specs.Net.{Net, IsGoodRequest}
+use Rattle.route_base.specs.declared.limits.TheConstants.{DEAREST_MINUTE, LONGEST_HORIZON}
 use Rattle.route_base.specs.declared.types.Park.{Park}
 use Rattle.route_base.specs.declared.types.Request.{Request}
 use Rattle.route_base.specs.declared.types.TimedArc.{TimedArc}
@@ -13,9 +14,9 @@ pub record IsSmallArc (nodes lists : ℕ) (arc : TimedArc) : Type 0 where
   pub cost : arc.cost ≤ 100
   pub closed : arc.closed < lists
 
--- no minute of the arc costs more than 100,000 thousandths
+-- no minute of the arc is too dear
 abbrev pub IsCheapArc : TimedArc → Type 0
-IsCheapArc arc = arc.cost ≤ 100000 * arc.minutes
+IsCheapArc arc = arc.cost ≤ DEAREST_MINUTE * arc.minutes
 
 -- no park, or one of at most 100 thousandths a minute, with one of the first lists of runs
 abbrev pub IsLight : ℕ → Option Park → Type 0
@@ -25,4 +26,4 @@ IsLight lists park = IfSome park (λ p. (p.weight ≤ 100) × (p.shut < lists))
 pub record IsRequestOver (net : Net) (r : Request) : Type 0 where
   pub ends : IsGoodRequest net r
   pub in_time : r.depart ≤ r.until
-  pub short : r.until ≤ r.depart + 86400
+  pub short : r.until ≤ r.depart + LONGEST_HORIZON

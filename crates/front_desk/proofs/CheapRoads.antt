@@ -26,18 +26,18 @@ cheap net vehicle good = record {
   each_weight = small_weight net good;
 }
   where
-    at : (o : Option GraphArc) (road : Road) → option_map road_over o ≡ Some road → road.cost ≤ 100000 * road.minutes
+    at : (o : Option GraphArc) (road : Road) → option_map road_over o ≡ Some road → road.cost ≤ 110000 * road.minutes
     at None road is = absurd (cc)
     at (Some arc) road is =
         let same : road_over arc ≡ road = cc in
-        subst (λ (r : Road). r.cost ≤ 100000 * r.minutes) same (omega arith)
+        subst (λ (r : Road). r.cost ≤ 110000 * r.minutes) same (omega arith)
 
--- no minute of a road costs more than one of driving
+-- no road costs more than its minutes of driving and a toll
 pub cheap_roads : (net : NetworkModel) (vehicle : VehicleModel) → HasCheapRoads (road_setting net vehicle)
 cheap_roads net vehicle a road is = at (at_number net.graph.arcs a) is
   where
-    at : (o : Option GraphArc) → option_map road_over o ≡ Some road → road.cost ≤ 1000 * road.minutes
+    at : (o : Option GraphArc) → option_map road_over o ≡ Some road → road.cost ≤ 1000 * road.minutes + 100000
     at None is = absurd (cc)
     at (Some arc) is =
         let same : road_over arc ≡ road = cc in
-        subst (λ (r : Road). r.cost ≤ 1000 * r.minutes) same (omega arith)
+        subst (λ (r : Road). r.cost ≤ 1000 * r.minutes + 100000) same (omega arith)

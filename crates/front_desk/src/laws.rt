@@ -10,17 +10,19 @@ ghost use Rattle.route_base.specs.declared.limits.TheConstants.{HIGHEST_COST, LA
 ghost use Rattle.route_base.specs.declared.limits.TheConstants.{LONGEST_FOLDER, LONGEST_FILE, LONGEST_CERTIFICATE};
 ghost use Rattle.route_base.specs.declared.limits.TheConstants.{MOST_ZONE_ROWS, MOST_AREAS, MOST_ROAD_ROWS, MOST_VEHICLES};
 ghost use Rattle.route_base.specs.declared.limits.TheConstants.{MOST_RULES, MOST_CLOSURES, MOST_RATINGS, MOST_PARKING_ROWS};
-ghost use Rattle.route_base.specs.declared.limits.TheConstants.{MOST_HOLIDAYS};
+ghost use Rattle.route_base.specs.declared.limits.TheConstants.{MOST_HOLIDAYS, MOST_NET_NODES, HIGHEST_TOLL, DEAREST_MINUTE};
 
 /// The law of the limits: the definitions of the law take each from a constant of the code, and the constants have these numbers. They are
 /// those of `docs/LIMITS.md`. The call does nothing.
 pub fn limits_are_these()
     ensures graph { (MOST_NODES ≡ 500000) × (MOST_ARCS ≡ 1000000) }
+    ensures net { MOST_NET_NODES ≡ 40000000 }
     ensures drive { LONGEST_DRIVE ≡ 10080 }
     ensures instants { (FIRST_INSTANT ≡ 525600) × (LAST_INSTANT ≡ 120968639) }
     ensures days { LAST_DAY ≡ 84370 }
     ensures horizon { LONGEST_HORIZON ≡ 86400 }
     ensures costs { (COST_OF_MINUTE ≡ 1000) × (HIGHEST_COST ≡ 10000000000) }
+    ensures dearest { (HIGHEST_TOLL ≡ 100000) × (DEAREST_MINUTE ≡ 110000) }
     ensures weight { HEAVIEST_WEIGHT ≡ 100000 }
     ensures size { LARGEST_SIZE ≡ 1000000 }
     ensures names { (LONGEST_NAME ≡ 64) × (LONGEST_FOLDER ≡ 4096) }

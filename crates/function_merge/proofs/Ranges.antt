@@ -1,5 +1,5 @@
 -- Values that stay in range where the ends of the pieces do.
-use Rattle.std.proofs.Common.{ℕ, ◌+◌, ◌*◌, ◌-◌, ◌≤◌, Bool, List, get_or, All, arith}
+use Rattle.std.proofs.Common.{ℕ, ◌+◌, ◌*◌, ◌-◌, ◌≤◌, Bool, List, get_or, All, refl, arith}
 use Rattle.std.proofs.Math.Nat.{mul-le-mul_left}
 use Rattle.route_base.specs.Runs.{any_has}
 use Rattle.route_base.specs.declared.types.Run.{Run}
@@ -14,7 +14,6 @@ use Rattle.function_merge.specs.Moves.{kept_at, CanMove}
 use Rattle.function_merge.specs.Waits.{CanWait, CanWaitAnywhere}
 use Rattle.function_merge.specs.Inside.EndRanges.{EndsInRange, WaitsInRange}
 use Rattle.function_merge.proofs.KeptParts.{chosen}
-use Rattle.function_merge.proofs.LeastWaits.{waited_least}
 
 module _ (minutes cost : ℕ) (ps : List Piece) where
   pub can_move : All (EndsInRange minutes cost) ps → CanMove minutes cost (value_at ps)
@@ -40,7 +39,7 @@ module _ (minutes cost : ℕ) (ps : List Piece) where
 pub can_wait : (weight until : ℕ) (ps : List Piece) → All (WaitsInRange weight until) ps → (allowed : ℕ → Bool)
     → CanWait (value_at ps) allowed weight until
 can_wait weight until ps all allowed t x upto is =
-    let from = (waited_least (value_at ps) allowed weight t).reached x is in
+    let from = is.reached x refl in
     let s = from.0 in
     let v = from.1 in
     let fits = values_of_pieces (λ u y. u ≤ until → y + weight * (until - u) ≤ HIGHEST_COST) ps

@@ -1,8 +1,6 @@
 -- The values of a function with waits (source: SEA 2020, waiting at rated nodes, in whole minutes; minutes without waiting are own).
-use Rattle.std.specs.Prelude.{◌≡◌, ℕ, ◌+◌, ◌*◌, ◌-◌, ◌≤◌, ◌<◌, zero, suc, Bool, true, if◌then◌else◌, Option, Some, None}
-use Rattle.std.specs.Option.{option_map}
+use Rattle.std.specs.Prelude.{◌≡◌, ℕ, ◌+◌, ◌*◌, ◌-◌, ◌≤◌, ◌<◌, Bool, true, Option, Some, None}
 use Rattle.route_base.specs.declared.limits.TheConstants.{HIGHEST_COST}
-use Rattle.function_merge.specs.Least.{least_of}
 
 -- waiting is allowed at each minute from one on and before another
 abbrev pub IsAllowed : (ℕ → Bool) → ℕ → ℕ → Type 0
@@ -15,19 +13,9 @@ pub record IsLeastWait (values : ℕ → Option ℕ) (allowed : ℕ → Bool) (w
   pub reached : (x : ℕ) → o ≡ Some x
       → (s : ℕ) × (v : ℕ) × (s ≤ t) × IsAllowed allowed s t × (values s ≡ Some v) × (x ≡ v + weight * (t - s))
 
--- the same, minute by minute: where waiting is allowed, the cost of one minute's wait more than the minute before
-abbrev pub carried_to : (ℕ → Option ℕ) → (ℕ → Bool) → ℕ → ℕ → Option ℕ
-carried_to values allowed weight zero = None
-carried_to values allowed weight (suc t) =
-    if allowed t then option_map (λ v. v + weight) (least_of (values t) (carried_to values allowed weight t)) else None
-
--- the lesser of the value and of this cost
-abbrev pub waited_at : (ℕ → Option ℕ) → (ℕ → Bool) → ℕ → ℕ → Option ℕ
-waited_at values allowed weight t = least_of (values t) (carried_to values allowed weight t)
-
--- every cost up to a minute stays in range
+-- every least cost with waiting, up to a minute, is in range
 abbrev pub CanWait : (ℕ → Option ℕ) → (ℕ → Bool) → ℕ → ℕ → Type 0
-CanWait values allowed weight until = (t v : ℕ) → t ≤ until → waited_at values allowed weight t ≡ Some v → v ≤ HIGHEST_COST
+CanWait values allowed weight until = (t v : ℕ) → t ≤ until → IsLeastWait values allowed weight t (Some v) → v ≤ HIGHEST_COST
 
 -- the value at each minute, and a wait until then from that minute or from an earlier one that has a value, are in range together
 abbrev pub CanWaitAnywhere : (ℕ → Option ℕ) → ℕ → ℕ → Type 0

@@ -22,9 +22,10 @@ pub fn can_shift(f: &CostFn, minutes: u64, cost: Cost) -> bool
     all_fit(f.pieces(), minutes, cost)
 }
 
-/// Whether waiting until `until` from all values of f stays in range, as `wait` requires whatever minutes it allows; `false` also where it only might not:
-/// where the last value of a piece and a wait from the first minute of the piece are too much. It is `true` where the value at no
-/// minute of f and a wait from that minute or an earlier one are too much. Linear in the number of pieces; no memory.
+/// Whether waiting until `until` from all values of f stays in range, as `wait` requires, whatever minutes are allowed. The answer is
+/// `false` also where it only might not: where the last value of a piece and a wait from the first minute of the piece are too much.
+/// It is `true` where the value at no minute of f and a wait from that minute or an earlier one are too much. Linear in the number
+/// of pieces; no memory.
 pub fn can_wait(f: &CostFn, weight: Cost, until: Minute) -> bool
     requires weight { weight ≤ HIGHEST_COST }
     requires until { until ≤ LAST_INSTANT }

@@ -81,9 +81,23 @@ fn improve_by(
     }
 }
 
-/// Makes f the least of f and g, and returns the minutes at which g was better. It costs as much as `improve`, but the pieces of f
-/// that are merged are copied to `spare`, whatever it holds. Out of memory leaves f without a piece.
-pub fn improve_in_place(
+/// Makes f the least of f and g, and returns the minutes at which g was better. It costs as much as `improve`. Out of memory leaves
+/// f without a piece.
+pub fn improve_in_place(alloc: Global, f: &mut CostFn, g: &CostFn) -> Result<MinuteSet, OutOfMemory>
+    requires first { AreBuilt f.old }
+    requires second { AreSmallPieces g.now }
+    ensures values { OnOk result ((t : ℕ) → value_at f.new t ≡ least_at f.old g.now t) }
+    ensures improved { IfOk result (λ improved. (t : ℕ) →
+        any_has improved t ≡ better_at f.old g.now t) }
+    ensures built { OnOk result (AreBuilt f.new) }
+    ensures err { OnErr result (f.new ≡ []) }
+{
+    let mut spare = Vec::new(alloc);
+    improve_with_spare(alloc, f, g, &mut spare)
+}
+
+/// The same as `improve_in_place`, with the pieces of f that are merged copied to `spare`, whatever it holds.
+pub fn improve_with_spare(
     alloc: Global,
     f: &mut CostFn,
     g: &CostFn,

@@ -5,19 +5,40 @@ ghost use Rattle.cost_functions.specs.Pieces.{value_at, ArePieces, AreSmallPiece
 ghost use Rattle.cost_functions.specs.Building.{AreBuilt};
 ghost use Rattle.route_base.specs.Runs.{any_has, AreRuns};
 ghost use Rattle.route_base.specs.declared.limits.TheConstants.{LAST_INSTANT, HIGHEST_COST};
-ghost use Rattle.function_merge.specs.Waits.{IsAllowed, IsLeastWait, waited_at, carried_to, CanWait};
+ghost use Rattle.function_merge.specs.Waits.{IsAllowed, IsLeastWait, CanWait};
+ghost use Rattle.function_merge.specs.Inside.CarriedWaits.{waited_at, carried_to};
 ghost use Rattle.function_merge.specs.Inside.NextWaits.{IsNextWait};
 
 use crate::suffixes::{find_runs, skip_pieces};
 use cost_functions::{Builder, CostFn, Piece, held_for};
 use minute_sets::{MinuteSet, Stretch, stretch_at};
 use route_base::{Cost, Minute, OutOfMemory, Run, is_free};
+use std::alloc::Global;
 
 /// The function that has at each minute up to `until` the least cost of a value of f at it or before and of the wait since then, at
 /// `weight` thousandths a minute, and no value afterwards. A wait is allowed at the minutes of `allowed` alone. Linear in the number
-/// of pieces and of the runs of `allowed`, in time and memory, but for a binary search in the runs for each. It is built in the
-/// memory of `spare`, which may be any function.
+/// of pieces and of the runs of `allowed`, in time and memory, but for a binary search in the runs for each.
 pub fn wait(
+    alloc: Global,
+    f: &CostFn,
+    weight: Cost,
+    allowed: &MinuteSet,
+    until: Minute,
+) -> Result<CostFn, OutOfMemory>
+    requires small { AreSmallPieces f.now }
+    requires weight { weight ≤ HIGHEST_COST }
+    requires until { until ≤ LAST_INSTANT }
+    requires fit { CanWait (value_at f.now) (any_has allowed.now) weight until }
+    ensures values { IfOk result (λ waited. (t : ℕ) →
+        t ≤ until → IsLeastWait (value_at f.now) (any_has allowed.now) weight t (value_at waited t)) }
+    ensures ended { IfOk result (λ waited. (t : ℕ) → until < t → value_at waited t ≡ None) }
+    ensures built { IfOk result AreBuilt }
+{
+    wait_with_spare(CostFn::empty(alloc), f, weight, allowed, until)
+}
+
+/// The same as `wait`, built in the memory of `spare`, which may be any function.
+pub fn wait_with_spare(
     spare: CostFn,
     f: &CostFn,
     weight: Cost,

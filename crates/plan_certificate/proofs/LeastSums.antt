@@ -6,7 +6,7 @@ use Rattle.std.proofs.lemmas.Bool.{cases_lt, lt-ltb, le-ltb}
 use Rattle.std.proofs.lemmas.Option.{same_Some}
 use Rattle.route_base.specs.Net.{Net, IsGoodNet, IsGoodArc, at_number, road_of, setting_of}
 use Rattle.route_base.specs.Setting.{Setting, Road}
-use Rattle.route_base.specs.declared.limits.TheConstants.{COST_OF_MINUTE, LONGEST_DRIVE}
+use Rattle.route_base.specs.declared.limits.TheConstants.{COST_OF_MINUTE, HIGHEST_TOLL, LONGEST_DRIVE}
 use Rattle.route_base.specs.declared.types.Bound.{Bound}
 use Rattle.route_base.specs.declared.types.TimedArc.{TimedArc}
 use Rattle.route_base.proofs.Numbered.{at_number-all}
@@ -93,6 +93,7 @@ module _ (net : Net) (good : IsGoodNet net) (goal : ℕ) (bounds : ℕ → Optio
     road : Road
     arc : ℕ
     is : s.road arc ≡ Some road
+    tail : road.tail ≡ v
     rest : ℕ
     known : minutes_at road.head ≡ Some rest
     sum : x ≡ road.minutes + rest
@@ -104,55 +105,78 @@ module _ (net : Net) (good : IsGoodNet net) (goal : ℕ) (bounds : ℕ → Optio
   next_of v x a rest arcs road is tail leads sum best (Some y) at far =
       let no_more : y ≤ rest = far.1 arcs rest leads in
       let no_less : x ≤ road.minutes + y = best (a ∷ far.0.0) (road.minutes + y) (road, y, is, tail, far.0.1, refl) in
-      record { road = road; arc = a; is = is; rest = y; known = at; sum = omega (arith, no_more, no_less, sum) }
+      record { road = road; arc = a; is = is; tail = tail; rest = y; known = at; sum = omega (arith, no_more, no_less, sum) }
 
-  next : (v x : ℕ) → IsLeast v (Some x) → (arcs : List ℕ) → LeadsIn arcs v x → (x ≡ 0) ⊎ IsNext v x
-  next v x far [] leads = inl leads.1
+  next : (v x : ℕ) → IsLeast v (Some x) → (arcs : List ℕ) → LeadsIn arcs v x → ((v ≡ goal) × (x ≡ 0)) ⊎ IsNext v x
+  next v x far [] leads = inl leads
   next v x far (a ∷ arcs) leads =
       inr (next_of v x a leads.1 arcs leads.0 leads.2 leads.3 leads.4 leads.5 far.1 (minutes_at leads.0.head) refl (least leads.0.head).0)
+
+  next_from : (v x : ℕ) → minutes_at v ≡ Some x → ((v ≡ goal) × (x ≡ 0)) ⊎ IsNext v x
+  next_from v x at = let far : IsLeast v (Some x) = subst (IsLeast v) at (least v).0 in next v x far far.0.0 far.0.1
+
+  -- fewer nodes have fewer minutes than the head of the first road
+  module _ (v x : ℕ) (one : IsNext v x) where
+    fine : IsShort net good one.road
+    fine = short net good one.arc one.road (at_number net.arcs one.arc) refl one.is
+
+    fewer : one.rest < x
+    fewer = omega (arith, one.sum, fine.0)
+
+    before_next : nodes_before one.rest + 1 ≤ nodes_before x
+    before_next =
+        let head : suc (one.road.head - 1) ≡ one.road.head = omega (arith, fine.2) in
+        total_one net.nodes (one.road.head - 1) (has_fewer one.rest) (has_fewer x)
+        (λ i within. lower_more one.rest x (minutes_at (suc i)) (omega (arith, fewer)))
+        (omega (arith, fine.2, fine.3))
+        (lower_here one.rest x (minutes_at (suc (one.road.head - 1))) (ap minutes_at head ∙ one.known) fewer)
 
   -- by induction on the minutes, each node with fewer minutes stands for one road at most
   few : (n v x : ℕ) → minutes_at v ≡ Some x → x < n → x ≤ LONGEST_DRIVE * nodes_before x
   few zero v x at less = absurd (omega (arith, less))
   few (suc n) v x at less =
-      let far : IsLeast v (Some x) = subst (IsLeast v) at (least v).0 in
       ⊎_elim
-      (λ (none : x ≡ 0). omega (arith, none))
+      (λ (none : (v ≡ goal) × (x ≡ 0)). omega (arith, none.1))
       (λ (one : IsNext v x).
-      let road = one.road in
-      let fine = short net good one.arc road (at_number net.arcs one.arc) refl one.is in
-      let fewer : one.rest < x = omega (arith, one.sum, fine.0) in
-      let behind : one.rest ≤ LONGEST_DRIVE * nodes_before one.rest = few n road.head one.rest one.known (omega (arith, fewer, less)) in
-      let head : suc (road.head - 1) ≡ road.head = omega (arith, fine.2) in
-      let more : nodes_before one.rest + 1 ≤ nodes_before x = total_one net.nodes (road.head - 1) (has_fewer one.rest) (has_fewer x)
-      (λ i within. lower_more one.rest x (minutes_at (suc i)) (omega (arith, fewer)))
-      (omega (arith, fine.2, fine.3))
-      (lower_here one.rest x (minutes_at (suc (road.head - 1))) (ap minutes_at head ∙ one.known) fewer) in
-      omega (arith, one.sum, fine.1, behind, more))
-      (next v x far far.0.0 far.0.1)
+      let behind = few n one.road.head one.rest one.known (omega (arith, fewer v x one, less)) in
+      omega (arith, one.sum, (fine v x one).1, behind, before_next v x one))
+      (next_from v x at)
+
+  nodes_at_most : (x : ℕ) → nodes_before x ≤ net.nodes
+  nodes_at_most x = total_at_most net.nodes (has_fewer x) (λ i. lower_at_most x (minutes_at (suc i)))
 
   -- a least walk has at most one road for each node
   pub least_minutes : (v : ℕ) (b : Bound) → bounds v ≡ Some b → b.minutes ≤ LONGEST_DRIVE * net.nodes
   least_minutes v b is =
       let x = b.minutes in
       let long = few (suc x) v x (ap (option_map (λ (w : Bound). w.minutes)) is) (omega arith) in
-      let count = total_at_most net.nodes (has_fewer x) (λ i. lower_at_most x (minutes_at (suc i))) in
-      omega (arith, long, count)
+      omega (arith, long, nodes_at_most x)
 
-  -- the walk of the least minutes costs no more than these
+  -- the walk of the least minutes costs no more than these, and a toll for each of its roads
   module _ (cheap : HasCheapRoads s) where
-    cheap_walk : (arcs : List ℕ) (v x : ℕ) → LeadsIn arcs v x
-        → (y : ℕ) × Leads s.road (λ w. w.cost) goal arcs v y × (y ≤ COST_OF_MINUTE * x)
-    cheap_walk [] v x leads = (0, (leads.0, refl), omega arith)
-    cheap_walk (a ∷ arcs) v x leads =
-        let road = leads.0 in
-        let rest = cheap_walk arcs road.head leads.1 leads.4 in
-        (road.cost + rest.0, (road, rest.0, leads.2, leads.3, rest.1, refl), omega (arith, cheap a road leads.2, rest.2, leads.5))
+    abbrev CostsAtMost : ℕ → ℕ → Type 0
+    CostsAtMost v most = (arcs : List ℕ) × (y : ℕ) × Leads s.road (λ w. w.cost) goal arcs v y × (y ≤ most)
 
-    pub least_cost : (v : ℕ) (b : Bound) → bounds v ≡ Some b → b.cost ≤ COST_OF_MINUTE * b.minutes
+    cheap_walk : (n v x : ℕ) → minutes_at v ≡ Some x → x < n → CostsAtMost v (COST_OF_MINUTE * x + HIGHEST_TOLL * nodes_before x)
+    cheap_walk zero v x at less = absurd (omega (arith, less))
+    cheap_walk (suc n) v x at less =
+        ⊎_elim
+        (λ (none : (v ≡ goal) × (x ≡ 0)).
+        let stays : CostsAtMost v (COST_OF_MINUTE * x + HIGHEST_TOLL * nodes_before x) = ([], 0, (none.0, refl), omega arith) in stays)
+        (λ (one : IsNext v x).
+        let rest = cheap_walk n one.road.head one.rest one.known (omega (arith, fewer v x one, less)) in
+        let goes : CostsAtMost v (COST_OF_MINUTE * x + HIGHEST_TOLL * nodes_before x) = (
+          one.arc ∷ rest.0,
+          one.road.cost + rest.1,
+          (one.road, rest.1, one.is, one.tail, rest.2, refl),
+          omega (arith, cheap one.arc one.road one.is, rest.3, one.sum, before_next v x one),
+        ) in
+        goes)
+        (next_from v x at)
+
+    pub least_cost : (v : ℕ) (b : Bound) → bounds v ≡ Some b → b.cost ≤ COST_OF_MINUTE * b.minutes + HIGHEST_TOLL * net.nodes
     least_cost v b is =
-        let minutes : IsLeast v (Some b.minutes) = subst (λ o. IsLeast v (option_map (λ (w : Bound). w.minutes) o)) is (least v).0 in
         let costs : IsLeastSum s.road (λ w. w.cost) goal v (Some b.cost) =
         subst (λ o. IsLeastSum s.road (λ w. w.cost) goal v (option_map (λ (w : Bound). w.cost) o)) is (least v).1 in
-        let walk = cheap_walk minutes.0.0 v b.minutes minutes.0.1 in
-        omega (arith, costs.1 minutes.0.0 walk.0 walk.1, walk.2)
+        let walk = cheap_walk (suc b.minutes) v b.minutes (ap (option_map (λ (w : Bound). w.minutes)) is) (omega arith) in
+        omega (arith, costs.1 walk.0 walk.1 walk.2, walk.3, nodes_at_most b.minutes)

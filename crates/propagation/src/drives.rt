@@ -15,7 +15,7 @@ use crate::plan::Plan;
 use crate::spares::Spares;
 use crate::state::State;
 use cost_functions::CostFn;
-use function_merge::{into_pruned, shift_and_prune, wait};
+use function_merge::{into_pruned, shift_and_prune, wait_with_spare};
 use route_base::{ArcId, Bound, Minute, NodeId, OutOfMemory, Pair, Park, TimedArc};
 use std::alloc::Global;
 
@@ -110,7 +110,7 @@ fn waited(
     make_room(alloc, sets, list)?;
     let place = place_of(alloc, &mut sets.lists[list], shut, until, 1)?;
     let allowed = &sets.lists[list][place].set;
-    let with_waits = wait(spares.take(alloc), costs, park.weight, allowed, last)?;
+    let with_waits = wait_with_spare(spares.take(alloc), costs, park.weight, allowed, last)?;
     Ok(with_waits)
 }
 

@@ -14,7 +14,7 @@ use crate::plan::Plan;
 use crate::spares::Spares;
 use crate::state::{State, first_of};
 use cost_functions::{CostFn, Piece};
-use function_merge::{beginning_by, cut, into_pruned};
+use function_merge::{beginning_by, cut_with_spare, into_pruned};
 use label_queue::LabelQueue;
 use minute_sets::MinuteSet;
 use route_base::{Bound, Minute, NodeId, OutOfMemory, Pair, Run};
@@ -73,7 +73,7 @@ pub fn part_of(
         span_for(&state.pairs),
     );
     let split = split_at(alloc, &mut state.pending, v, first, end)?;
-    let whole = cut(spares.take(alloc), &state.functions[place], &split.taken)?;
+    let whole = cut_with_spare(spares.take(alloc), &state.functions[place], &split.taken)?;
     let part = into_pruned(whole, plan.request.until, &state.pairs, bound);
     requeue(&mut state.queue, v, split.next, bound);
     Ok(part)

@@ -8,7 +8,7 @@ ghost use Rattle.propagation.specs.Found.{cost_at};
 ghost use Rattle.propagation.specs.Inside.States.{is_pending, IsLowered, IsAwaited};
 
 use cost_functions::{CostFn, Piece};
-use function_merge::improve_in_place;
+use function_merge::improve_with_spare;
 use label_queue::LabelQueue;
 use minute_sets::MinuteSet;
 use route_base::{Minute, NodeId, OutOfMemory, Pair};
@@ -40,7 +40,7 @@ pub fn lower_at(
     ensures built { OnOk result (All AreBuilt functions.new.items) }
     ensures nodes { OnOk result (length functions.new.items ≡ length functions.old.items) }
 {
-    let improved = improve_in_place(alloc, &mut functions[h.0 as usize - 1], offer, spare)?;
+    let improved = improve_with_spare(alloc, &mut functions[h.0 as usize - 1], offer, spare)?;
     Ok(improved)
 }
 

@@ -25,6 +25,12 @@ pub const COST_OF_MINUTE: Cost = 1_000;
 /// The highest weight of a node, in thousandths a minute of waiting.
 pub const HEAVIEST_WEIGHT: Cost = 100_000;
 
+/// The highest toll of an arc, in thousandths.
+pub const HIGHEST_TOLL: Cost = 100_000;
+
+/// The most that each minute of an arc may cost, so that the costs of every request fit, in thousandths.
+pub const DEAREST_MINUTE: Cost = 110_000;
+
 /// The highest cost of an arc, and of every lawful itinerary that a search goes through, in thousandths.
 pub const HIGHEST_COST: Cost = 10_000_000_000;
 

@@ -2,7 +2,7 @@
 use Rattle.std.specs.Prelude.{◌≡◌, ℕ, ◌<◌, ◌≤◌, nat_le, if◌then◌else◌, Bool, Option, Some, None}
 use Rattle.cost_functions.specs.Lines.{line_at}
 use Rattle.cost_functions.specs.declared.pieces.Piece.{Piece}
-use Rattle.function_merge.specs.Waits.{waited_at}
+use Rattle.function_merge.specs.Inside.CarriedWaits.{waited_at}
 
 -- the values up to a minute
 abbrev pub until_at : ℕ → (ℕ → Option ℕ) → ℕ → Option ℕ

@@ -6,7 +6,6 @@ use Rattle.route_base.specs.Runs.{any_has}
 use Rattle.route_base.specs.declared.types.Park.{Park}
 use Rattle.route_base.specs.declared.types.Run.{Run}
 use Rattle.cost_functions.specs.Pieces.{value_at}
-use Rattle.function_merge.proofs.LeastWaits.{waited_least}
 use Rattle.potentials.specs.Sums.{bound_at}
 use Rattle.propagation.specs.Inside.EntrySets.{AreEntries}
 use Rattle.propagation.proofs.EntryLists.{sets_at, sets_kept, set_at}
@@ -37,8 +36,8 @@ returns-clause-entries c =
     (c.in_ok-make_room.ensures.kept net until c.requires.entries) own_runs
     c.in_ok-make_room.ensures.within refl c.in_ok-place.ensures.made
 
-pub wait-requires-clause-fit : goal.wait-requires-clause-fit
-wait-requires-clause-fit c t x early there =
+pub wait_with_spare-requires-clause-fit : goal.wait_with_spare-requires-clause-fit
+wait_with_spare-requires-clause-fit c t x early there =
     let net = c.args.plan.net.now in
     let until = c.args.plan.request.until in
     let set = c.index-2.result.now.set in
@@ -47,7 +46,7 @@ wait-requires-clause-fit c t x early there =
     let entries = subst (λ (w : List Run). AreEntries w until 1 set) c.shut_runs-shut.ensures.value
     (set_at c.shut_runs-shut.result.now until c.in_ok-place.place 1 c.place_of.new.list c.index.result.now
     c.index-2.result.now c.in_ok-place.ensures.made c.in_ok-place.ensures.within c.in_ok-place.ensures.minutes same c.index-2.ensures) in
-    let from = (waited_least (value_at c.args.costs.now) (any_has set) c.args.park.weight t).reached x there in
+    let from = there.reached x refl in
     let small = wait_fits net c.args.plan.request (bound_at c.args.plan.bounds.now) c.requires.asked.fit c.args.h.0 c.args.park.weight
     from.0 from.1 t (ap (option_map (λ (park : Park). park.weight)) c.requires.is)
     (λ u after before. open_only (shut_runs_at net c.args.h.0) until set entries u (from.3 u after (omega (arith, before, from.2))))

@@ -10,8 +10,8 @@ use Rattle.propagation.proofs.Lowering.{value_is}
 use Rattle.propagation.proofs.Splitting.{parts_are, shaped_again}
 use Rattle.propagation.proofs.parts.part_of.Goals as goal
 
-pub cut-requires : goal.cut-requires
-cut-requires c = (subst AreBuilt (sym c.index-3.ensures)
+pub cut_with_spare-requires : goal.cut_with_spare-requires
+cut_with_spare-requires c = (subst AreBuilt (sym c.index-3.ensures)
     (c.requires.shape.built (c.args.v.0 - 1) c.index-3.result.now (omega (arith, c.requires.low, c.requires.high, c.requires.shape.functions)))).small
 
 pub returns-clause-parts : goal.returns-clause-parts

@@ -6,7 +6,8 @@ ghost use Rattle.route_base.specs.Front.{RiseAndFall};
 use super::plain_lists::{is_better, lesser, pruned, shifted, value, waited};
 use cost_functions::CostFn;
 use function_merge::{
-    can_shift, can_wait, cut, improve_in_place, into_pruned, is_improved, least, prune, shift, wait,
+    can_shift, can_wait, cut_with_spare, improve_with_spare, into_pruned, is_improved, least, prune,
+    shift_with_spare, wait_with_spare,
 };
 use minute_sets::MinuteSet;
 use route_base::{Bound, OutOfMemory, Pair, Run};
@@ -193,7 +194,7 @@ fn merges_in_place_as_lists(
 {
     let mut in_place = f.reduce(alloc)?;
     let mut spare = g.reduce(alloc)?.into_pieces();
-    let improved = improve_in_place(alloc, &mut in_place, g, &mut spare)?;
+    let improved = improve_with_spare(alloc, &mut in_place, g, &mut spare)?;
     Ok(is_least(&in_place, a, b) && has_better(&improved, a, b))
 }
 
@@ -222,7 +223,7 @@ fn shifts_as_lists(
     if !can_shift(f, minutes, cost) {
         return Ok(false);
     }
-    let moved = shift(f.reduce(alloc)?, f, keep, minutes, cost)?;
+    let moved = shift_with_spare(f.reduce(alloc)?, f, keep, minutes, cost)?;
     Ok(is_shifted(&moved, a, kept, minutes, cost))
 }
 
@@ -235,7 +236,7 @@ fn cuts_as_lists(
 ) -> Result<bool, OutOfMemory>
     requires { AreBuilt f.now }
 {
-    let part = cut(f.reduce(alloc)?, f, keep)?;
+    let part = cut_with_spare(f.reduce(alloc)?, f, keep)?;
     Ok(is_shifted(&part, a, kept, 0, 0))
 }
 
@@ -268,7 +269,7 @@ fn waits_as_lists(
     if !can_wait(f, weight, until) {
         return Ok(false);
     }
-    let made = wait(f.reduce(alloc)?, f, weight, &allowed, until)?;
+    let made = wait_with_spare(f.reduce(alloc)?, f, weight, &allowed, until)?;
     for t in 0..COMPARED {
         if made.at(t) != waited(a, weight, &kept, until, t) {
             return Ok(false);

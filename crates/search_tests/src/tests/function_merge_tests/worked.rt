@@ -61,7 +61,7 @@ fn moves(alloc: Global) -> Result<bool, OutOfMemory> {
         return Ok(false);
     }
     let entries = MinuteSet::whole(alloc, Run { lo: 3, hi: 6 })?;
-    let moved = shift(CostFn::empty(alloc), &f, &entries, 60, 60000)?;
+    let moved = shift(alloc, &f, &entries, 60, 60000)?;
     let later = Piece {
         lo: 63,
         hi: 65,
@@ -75,7 +75,7 @@ fn moves(alloc: Global) -> Result<bool, OutOfMemory> {
 fn cuts(alloc: Global) -> Result<bool, OutOfMemory> {
     let f = of_one(alloc, RISING)?;
     let keep = MinuteSet::whole(alloc, Run { lo: 0, hi: 2 })?;
-    let kept = cut(CostFn::empty(alloc), &f, &keep)?;
+    let kept = cut(alloc, &f, &keep)?;
     Ok(kept.pieces() == [Piece { hi: 1, ..RISING }].as_slice())
 }
 
@@ -109,7 +109,7 @@ fn waits_for_the_least(rt: HostRuntime) -> Result<(), Fail> {
     let f = CostFn::from_points(rt.alloc(), &[(0, 100), (3, 90)])?;
     assert!(rt; can_wait(&f, 5, 6));
     let always = MinuteSet::whole(rt.alloc(), Run { lo: 0, hi: 6 })?;
-    let waited = wait(CostFn::empty(rt.alloc()), &f, 5, &always, 6)?;
+    let waited = wait(rt.alloc(), &f, 5, &always, 6)?;
     let values = [100, 105, 110, 90, 95, 100, 105];
     for t in 0..values.len() {
         assert!(rt; waited.at(t as u64) == Some(values[t]));
@@ -124,7 +124,7 @@ fn waits_at_allowed_minutes(rt: HostRuntime) -> Result<(), Fail> {
     assert!(rt; can_wait(&f, 5, 6));
     let runs = [Run { lo: 0, hi: 2 }, Run { lo: 4, hi: 6 }];
     let allowed = MinuteSet::from_runs(rt.alloc(), &runs)?;
-    let waited = wait(CostFn::empty(rt.alloc()), &f, 5, &allowed, 6)?;
+    let waited = wait(rt.alloc(), &f, 5, &allowed, 6)?;
     let values = [100, 105, 110, 90];
     for t in 0..values.len() {
         assert!(rt; waited.at(t as u64) == Some(values[t]));
