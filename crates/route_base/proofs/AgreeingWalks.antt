@@ -10,6 +10,7 @@ use Rattle.route_base.specs.declared.types.Pair.{Pair}
 use Rattle.route_base.specs.declared.types.Request.{Request}
 use Rattle.route_base.specs.declared.types.Route.{Route}
 use Rattle.route_base.specs.Matching.{StandsFor, IsInWindow}
+use Rattle.route_base.proofs.Walking.{moves_forward}
 
 pub flipped : (s z : Setting) (window : Run) → StandsFor s z window → StandsFor z s window
 flipped s z window same = record {
@@ -49,16 +50,12 @@ module _ (s z : Setting) (window : Run) (same : StandsFor s z window) (until : �
         cost = move.cost;
       }
 
-  moves_later : (x : Step) (p q : Position) → Moves s until x p q → p.minute ≤ q.minute
-  moves_later (drive a) p q move = omega (arith, move.minute)
-  moves_later wait p q move = omega (arith, move.minute)
-
   pub walks_too : (xs : List Step) (p q : Position) → window.lo ≤ p.minute → Walks s until xs p q → Walks z until xs p q
   walks_too [] p q from walk = walk
   walks_too (x ∷ xs) p q from walk = (
     walk.0,
     moves_too x p walk.0 from walk.1,
-    walks_too xs walk.0 q (omega (arith, from, moves_later x p walk.0 walk.1)) walk.2,
+    walks_too xs walk.0 q (omega (arith, from, moves_forward s until x p walk.0 walk.1)) walk.2,
   )
 
 module _ (s z : Setting) (window : Run) (r : Request) (same : StandsFor s z window) (within : IsInWindow r window) where

@@ -1,14 +1,12 @@
 -- A list that is cut at its first mark.
-use Rattle.std.proofs.Common.{◌≡◌, ℕ, Bool, ◌+◌, ◌-◌, ◌≤◌, cond, ltb, List, [], ◌∷◌, length, take, drop, Some, None, sym, arith, length-drop}
-use Rattle.std.proofs.lemmas.Bool.{ltb-true, ltb-false}
+use Rattle.std.proofs.Common.{◌≡◌, ℕ, Bool, ◌+◌, ◌-◌, ◌≤◌, ltb, List, [], ◌∷◌, length, take, drop, Some, None, sym, arith, length-drop}
+use Rattle.std.proofs.lemmas.Bool.{ltb-true}
 use Rattle.std.proofs.lemmas.Option.{cond_some}
 use Rattle.std.proofs.lemmas.List.{take_all}
 use Rattle.std.proofs.lemmas.List.Splits.{slice_split_first, slice_split_none}
 use Rattle.std.proofs.lemmas.List.Sums.{fails_before_first}
 use Rattle.std.specs.List.{slice_split, position, position_or_len}
-
-found_within : {A : Type 0} (a b : ℕ) (x : A) → cond (ltb a b) (Some x) None ≡ None → b ≤ a
-found_within a b x e = grind (arith, ltb-true, ltb-false)
+use Rattle.route_base.proofs.Logic.{found_within}
 
 pub cut_none : (p : ℕ → Bool) (xs : List ℕ) → None ≡ position p xs → slice_split p xs ≡ xs ∷ []
 cut_none p xs e = slice_split_none p xs (λ k d h. fails_before_first p xs k d

@@ -1,8 +1,8 @@
 -- Items at places that are counted from 1.
-use Rattle.std.proofs.Common.{◌≡◌, ℕ, zero, suc, ◌+◌, ◌-◌, ◌≤◌, ◌<◌, List, [], ◌∷◌, length, get_or, map, Some, refl, subst, arith, add-one}
+use Rattle.std.proofs.Common.{◌≡◌, ℕ, zero, suc, ◌+◌, ◌-◌, ◌≤◌, ◌<◌, List, [], ◌∷◌, length, get_or, map, Some, refl, subst, arith, add-one, None}
 use Rattle.std.specs.Prelude.{IsSome, All, slice_get}
 use Rattle.std.specs.Option.{option_map}
-use Rattle.std.proofs.lemmas.Option.{slice_get-get_or, slice_get-map, slice_get_within, get_or_from_slice_get}
+use Rattle.std.proofs.lemmas.Option.{slice_get-get_or, slice_get-map, slice_get_within, get_or_from_slice_get, slice_get_past}
 use Rattle.route_base.specs.Net.{at_number}
 
 got_within : {A : Type 0} (xs : List A) (k : ℕ) → IsSome (slice_get xs k) → k < length xs
@@ -19,6 +19,11 @@ within_number xs (suc k) h = omega (arith, got_within xs k h)
 pub number_within : {A : Type 0} (xs : List A) (n : ℕ) (x : A) → at_number xs n ≡ Some x → (1 ≤ n) × (n ≤ length xs)
 number_within xs zero x is = absurd (cc)
 number_within xs (suc k) x is = let within = slice_get_within xs k x is in (omega arith, omega (arith, within))
+
+-- no item is behind the last
+pub number_past : {A : Type 0} (xs : List A) (n : ℕ) → length xs < n → at_number xs n ≡ None
+number_past xs zero past = refl
+number_past xs (suc k) past = slice_get_past xs k (omega (arith, past))
 
 -- the item of the number after a place
 pub at_number-next : {A : Type 0} (xs : List A) (k : ℕ) (d : A) → k < length xs → at_number xs (k + 1) ≡ Some (get_or xs k d)

@@ -1,23 +1,16 @@
 -- How large a number of few digits is.
-use Rattle.std.proofs.Common.{◌≡◌, ℕ, ◌+◌, ◌-◌, ◌*◌, ◌≤◌, ◌&&◌, Bool, true, false, cond, leb, Option, None, List, [], ◌∷◌, length}
+use Rattle.std.proofs.Common.{◌≡◌, ℕ, ◌+◌, ◌-◌, ◌*◌, ◌≤◌, ◌&&◌, leb, None, List, [], ◌∷◌, length}
 use Rattle.std.proofs.Common.{IfSome, refl, arith}
-use Rattle.std.proofs.lemmas.Bool.{leb-true, false≢true}
+use Rattle.std.proofs.lemmas.Bool.{leb-true, and_parts}
 use Rattle.route_base.specs.Digits.{digits_from, number_of}
 use Rattle.route_base.specs.Forms.{short_number_of, thousandths_in}
-
-when_true : (P : ℕ → Type 0) (b : Bool) (o : Option ℕ) → (b ≡ true → IfSome o P) → IfSome (cond b o None) P
-when_true P true o h = h refl
-when_true P false o h = tt
-
-second : (a b : Bool) → (a && b) ≡ true → b ≡ true
-second true b h = h
-second false b h = absurd (false≢true h)
+use Rattle.route_base.proofs.Logic.{when_true}
 
 one_more : (P : ℕ → Type 0) (n m b : ℕ) (bs : List ℕ) → n ≤ m → ((k : ℕ) → k ≤ 10 * m + 9 → IfSome (digits_from k bs) P) → IfSome
     (digits_from n (b ∷ bs)) P
 one_more P n m b bs small rest =
     when_true P (leb 48 b && leb b 57) (digits_from (10 * n + (b - 48)) bs)
-    (λ digit. rest (10 * n + (b - 48)) (omega (arith, leb-true b 57 (second (leb 48 b) (leb b 57) digit))))
+    (λ digit. rest (10 * n + (b - 48)) (omega (arith, leb-true b 57 (and_parts (leb 48 b) (leb b 57) digit).1)))
 
 pub short_of_one : (bs : List ℕ) → length bs ≡ 1 → IfSome (short_number_of bs) (λ n. n ≤ 9)
 short_of_one [] h = tt

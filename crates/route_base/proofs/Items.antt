@@ -1,0 +1,19 @@
+-- The items of a list by their places, where the list grows at its end.
+use Rattle.std.proofs.Common.{◌≡◌, ℕ, zero, suc, ◌<◌, Option, Some, List, [], ◌∷◌, ◌++◌, length, refl, arith}
+use Rattle.std.specs.Prelude.{slice_get}
+use Rattle.std.specs.List.{last_or}
+
+pub slice_get-append_left : {A : Type 0} (xs ys : List A) (i : ℕ) → i < length xs → slice_get (xs ++ ys) i ≡ slice_get xs i
+slice_get-append_left [] ys i within = absurd (omega arith)
+slice_get-append_left (x ∷ xs) ys zero within = refl
+slice_get-append_left (x ∷ xs) ys (suc i) within = slice_get-append_left xs ys i (omega arith)
+
+-- the item that was added is the last
+pub slice_get-push_end : {A : Type 0} (xs : List A) (y : A) → slice_get (xs ++ y ∷ []) (length xs) ≡ Some y
+slice_get-push_end [] y = refl
+slice_get-push_end (x ∷ xs) y = slice_get-push_end xs y
+
+-- the last item is that of the last place
+pub last_or-cons : {A : Type 0} (o : Option A) (x : A) (xs : List A) → last_or o (x ∷ xs) ≡ slice_get (x ∷ xs) (length xs)
+last_or-cons o x [] = refl
+last_or-cons o x (y ∷ ys) = last_or-cons (Some x) y ys
