@@ -1,35 +1,15 @@
 -- Numbers of two and of four digits, and their texts.
 use Rattle.std.proofs.Common.{◌≡◌, ℕ, ◌+◌, ◌-◌, ◌*◌, ◌/◌, ◌%◌, ◌≤◌, ◌&&◌, Bool, true, false, cond, Option, Some, None, List}
 use Rattle.std.proofs.Common.{[], ◌∷◌, ◌++◌, length, refl, ap, ◌∙◌, arith}
-use Rattle.std.specs.Prelude.{nat_le, option_and_then}
-use Rattle.std.proofs.lemmas.Bool.{le-leb, leb-true, and_parts}
-use Rattle.std.proofs.lemmas.Option.{option_and_then_some, same_Some}
+use Rattle.std.specs.Prelude.{nat_le}
+use Rattle.std.proofs.lemmas.Option.{same_Some}
 use Rattle.route_base.specs.Digits.{digits_from, number_of, has_no_leading_zero, plain_number_of}
+use Rattle.route_base.proofs.DecimalDigits.{digit_more, digit_back}
 use Rattle.calendar_days.specs.Texts.{two_digits}
-
--- a value behind a test is there only where the test holds
-pub cond_some : {A : Type 0} (b : Bool) (o : Option A) (k : A) → cond b o None ≡ Some k → (b ≡ true) × (o ≡ Some k)
-cond_some true o k e = (refl, e)
-cond_some false o k e = absurd (cc)
 
 pub cond_none : {A : Type 0} (b : Bool) (o : Option A) → o ≡ None → cond b o None ≡ None
 cond_none true o e = e
 cond_none false o e = refl
-
--- a value behind a step that may fail is there only where the step gives one
-pub then_some : {A B : Type 0} (f : A → Option B) (o : Option A) (k : B) → option_and_then f o ≡ Some k → (x : A) × (o ≡ Some x) × (f x ≡ Some k)
-then_some f o k e = option_and_then_some f o k e (λ x is found. (x, is, found))
-
-pub digit_more : (n d : ℕ) (bs : List ℕ) → d ≤ 9 → digits_from n ((48 + d) ∷ bs) ≡ digits_from (10 * n + d) bs
-digit_more n d bs small =
-    let back : 48 + d - 48 ≡ d = omega arith in
-    rw (le-leb 48 (48 + d) (omega arith), le-leb (48 + d) 57 (omega (arith, small)), back) refl
-
-pub digit_back : (n a k : ℕ) (bs : List ℕ) → digits_from n (a ∷ bs) ≡ Some k → (48 ≤ a) × (a ≤ 57) × (digits_from (10 * n + (a - 48)) bs ≡ Some k)
-digit_back n a k bs e =
-    let behind = cond_some (nat_le 48 a && nat_le a 57) (digits_from (10 * n + (a - 48)) bs) k e in
-    let parts = and_parts (nat_le 48 a) (nat_le a 57) behind.0 in
-    (leb-true 48 a parts.0, leb-true a 57 parts.1, behind.1)
 
 pub two_digits-number : (n : ℕ) → n ≤ 99 → number_of (two_digits n) ≡ Some n
 two_digits-number n small =

@@ -9,11 +9,12 @@ use Rattle.std.proofs.lemmas.List.{take-append-drop}
 use Rattle.std.proofs.lemmas.Option.{same_Some}
 use Rattle.route_base.specs.Forms.{minute_of, is_from_to}
 use Rattle.route_base.specs.Time.{first_instant, last_instant, IsInstant}
+use Rattle.route_base.proofs.Logic.{behind_test, then_some}
 use Rattle.calendar_days.specs.Days.{date_on}
 use Rattle.calendar_days.specs.Texts.{day_of_text, clock_of, in_range, dated_minute_of, instant_of, date_text_of}
 use Rattle.calendar_days.specs.Texts.{clock_text_of, minute_text_of, instant_text_of, IsTextOf}
 use Rattle.calendar_days.proofs.DayNumbers.{date_on-is, year-small, proper-is_date}
-use Rattle.calendar_days.proofs.DigitForms.{cond_some, then_some, dashed_no_number}
+use Rattle.calendar_days.proofs.DigitForms.{dashed_no_number}
 use Rattle.calendar_days.proofs.TextForms.{date_text-read, date_text-only, clock_text-read, clock_text-only}
 use Rattle.calendar_days.proofs.MinuteForms.{minute-read, minute-only}
 
@@ -44,9 +45,9 @@ joined text day clock end is_day is_clock = sym (take-append-drop 10 text) ∙ r
 dated-only : (text : List ℕ) (t : ℕ) → dated_minute_of text ≡ Some t → (text ≡ instant_text_of t) ⊎ (text ≡ minute_text_of t ++ codes ":00Z")
 unfolding instant_text_of
 dated-only text t e =
-    let day = then_some (λ day. option_and_then (λ n. in_range (1440 * day + n)) (clock_of (drop 10 text))) (day_of_text (take 10 text)) t e in
-    let clock = then_some (λ n. in_range (1440 * day.0 + n)) (clock_of (drop 10 text)) t day.2 in
-    let inside = cond_some (is_from_to first_instant last_instant (1440 * day.0 + clock.0)) (Some (1440 * day.0 + clock.0)) t clock.2 in
+    let day = then_some (day_of_text (take 10 text)) (λ day. option_and_then (λ n. in_range (1440 * day + n)) (clock_of (drop 10 text))) t e in
+    let clock = then_some (clock_of (drop 10 text)) (λ n. in_range (1440 * day.0 + n)) t day.2 in
+    let inside = behind_test (is_from_to first_instant last_instant (1440 * day.0 + clock.0)) (Some (1440 * day.0 + clock.0)) t clock.2 in
     split text t day.0 clock.0 (same_Some (1440 * day.0 + clock.0) t inside.1) (date_text-only (take 10 text) day.0 day.1)
     (clock_text-only (drop 10 text) clock.0 clock.1)
   where

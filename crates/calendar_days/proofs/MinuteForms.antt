@@ -11,7 +11,8 @@ use Rattle.std.proofs.lemmas.Bool.{le-leb, leb-true, ne_eqb, eqb-false, and_part
 use Rattle.route_base.specs.Digits.{digits_from, number_of, plain_number_of}
 use Rattle.route_base.specs.Forms.{minute_of, is_from_to}
 use Rattle.route_base.specs.Time.{first_instant, last_instant, IsInstant}
-use Rattle.calendar_days.proofs.DigitForms.{cond_some, then_some, digit_more, digit_back}
+use Rattle.route_base.proofs.Logic.{behind_test, then_some}
+use Rattle.route_base.proofs.DecimalDigits.{digit_more, digit_back}
 
 abbrev glyphs : ℕ → List ℕ
 glyphs n = map (λ d. 48 + d) (digits_of 10 n)
@@ -50,8 +51,8 @@ plain-glyphs (b ∷ []) n large e =
     let h = digit_back 0 b n [] e in
     absurd (omega (arith, h.1, large, same_Some (10 * 0 + (b - 48)) n h.2))
 plain-glyphs (b ∷ c ∷ bs) n large e =
-    let some = cond_some (not (nat_eq b 48)) (number_of (b ∷ c ∷ bs)) n e in
-    let few = cond_some (nat_le (length (b ∷ c ∷ bs)) 18) (digits_from 0 (b ∷ c ∷ bs)) n some.1 in
+    let some = behind_test (not (nat_eq b 48)) (number_of (b ∷ c ∷ bs)) n e in
+    let few = behind_test (nat_le (length (b ∷ c ∷ bs)) 18) (digits_from 0 (b ∷ c ∷ bs)) n some.1 in
     let h = digit_back 0 b n (c ∷ bs) few.1 in
     let first : 10 * 0 + (b - 48) ≡ b - 48 = omega arith in
     let digit : 48 + (b - 48) ≡ b = omega (arith, h.0) in
@@ -83,8 +84,8 @@ minute-read t h =
 
 pub minute-only : (text : List ℕ) (t : ℕ) → minute_of text ≡ Some t → text ≡ decimal t
 minute-only text t e =
-    let number = then_some (λ t. cond (is_from_to first_instant last_instant t) (Some t) None) (plain_number_of text) t e in
-    let inside = cond_some (is_from_to first_instant last_instant number.0) (Some number.0) t number.2 in
+    let number = then_some (plain_number_of text) (λ t. cond (is_from_to first_instant last_instant t) (Some t) None) t e in
+    let inside = behind_test (is_from_to first_instant last_instant number.0) (Some number.0) t number.2 in
     let same : number.0 ≡ t = same_Some number.0 t inside.1 in
     let parts = and_parts (nat_le first_instant number.0) (nat_le number.0 last_instant) inside.0 in
     let low = leb-true first_instant number.0 parts.0 in

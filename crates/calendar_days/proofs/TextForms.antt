@@ -5,11 +5,12 @@ use Rattle.std.proofs.lemmas.Bool.{and_parts, or_cases, ltb-true, lt-ltb}
 use Rattle.std.proofs.lemmas.Option.{same_Some}
 use Rattle.std.proofs.lemmas.Slice.Eq.{bytes_eq-Decides}
 use Rattle.route_base.specs.Digits.{number_of}
+use Rattle.route_base.proofs.Logic.{behind_test, then_some}
 use Rattle.calendar_days.specs.declared.days.CivilDate.{CivilDate}
 use Rattle.calendar_days.specs.Days.{is_date, day_number, date_from, date_on, day_of_parts}
 use Rattle.calendar_days.specs.Texts.{day_of_text, minute_of_day, clock_of, two_digits, date_text_of, clock_text_of}
 use Rattle.calendar_days.proofs.DayNumbers.{has_number, is_date-proper, month_bounds}
-use Rattle.calendar_days.proofs.DigitForms.{cond_some, then_some, two_digits-number, four_digits-number, two_digits-only, four_digits-only}
+use Rattle.calendar_days.proofs.DigitForms.{two_digits-number, four_digits-number, two_digits-only, four_digits-only}
 
 -- the text of a date is read as its day
 pub date_text-read : (d : CivilDate) → is_date d ≡ true → day_of_text (date_text_of d) ≡ Some (day_number d)
@@ -26,7 +27,7 @@ date_text-read d h =
     ) refl
 
 parts_only : (y m d n : ℕ) → day_of_parts y m d ≡ Some n → (is_date (date_from y m d) ≡ true) × (day_number (date_from y m d) ≡ n)
-parts_only y m d n e = let h = cond_some (is_date (date_from y m d)) (Some (day_number (date_from y m d))) n e in
+parts_only y m d n e = let h = behind_test (is_date (date_from y m d)) (Some (day_number (date_from y m d))) n e in
     (h.0, same_Some (day_number (date_from y m d)) n h.1)
 
 dashes : (a b : ℕ) → bytes_eq (a ∷ b ∷ []) (codes "--") ≡ true → (a ≡ 45) × (b ≡ 45)
@@ -48,13 +49,13 @@ on_date text d e is same = rw same is
 pub date_text-only : (text : List ℕ) (n : ℕ) → day_of_text text ≡ Some n → (n ≤ 84370) × (text ≡ date_text_of (date_on n))
 unfolding day_of_text
 date_text-only (y3 ∷ y2 ∷ y1 ∷ y0 ∷ a ∷ m1 ∷ m0 ∷ b ∷ d1 ∷ d0 ∷ []) n e =
-    let marked = cond_some (bytes_eq (a ∷ b ∷ []) (codes "--"))
+    let marked = behind_test (bytes_eq (a ∷ b ∷ []) (codes "--"))
     (option_and_then (λ y. option_and_then (λ m. option_and_then (λ d. day_of_parts y m d) (number_of (d1 ∷ d0 ∷ [])))
     (number_of (m1 ∷ m0 ∷ []))) (number_of (y3 ∷ y2 ∷ y1 ∷ y0 ∷ []))) n e in
-    let year = then_some (λ y. option_and_then (λ m. option_and_then (λ d. day_of_parts y m d) (number_of (d1 ∷ d0 ∷ [])))
-    (number_of (m1 ∷ m0 ∷ []))) (number_of (y3 ∷ y2 ∷ y1 ∷ y0 ∷ [])) n marked.1 in
-    let month = then_some (λ m. option_and_then (λ d. day_of_parts year.0 m d) (number_of (d1 ∷ d0 ∷ []))) (number_of (m1 ∷ m0 ∷ [])) n year.2 in
-    let day = then_some (λ d. day_of_parts year.0 month.0 d) (number_of (d1 ∷ d0 ∷ [])) n month.2 in
+    let year = then_some (number_of (y3 ∷ y2 ∷ y1 ∷ y0 ∷ [])) (λ y. option_and_then (λ m. option_and_then (λ d. day_of_parts y m d) (number_of (d1 ∷ d0 ∷ [])))
+    (number_of (m1 ∷ m0 ∷ []))) n marked.1 in
+    let month = then_some (number_of (m1 ∷ m0 ∷ [])) (λ m. option_and_then (λ d. day_of_parts year.0 m d) (number_of (d1 ∷ d0 ∷ []))) n year.2 in
+    let day = then_some (number_of (d1 ∷ d0 ∷ [])) (λ d. day_of_parts year.0 month.0 d) n month.2 in
     let parts = parts_only year.0 month.0 day.0 n day.2 in
     let has = has_number (date_from year.0 month.0 day.0) parts.0 in
     let date : date_on n ≡ date_from year.0 month.0 day.0 = rw parts.1 at has.back in
@@ -103,7 +104,7 @@ clock_marks a b e = let same = (bytes_eq-Decides (a ∷ b ∷ []) (codes "T:")).
 
 minute_only : (h m n : ℕ) → minute_of_day h m ≡ Some n → (n < 1440) × (h ≡ n / 60) × (m ≡ n % 60)
 minute_only h m n e =
-    let parts = cond_some (nat_lt h 24 && nat_lt m 60) (Some (60 * h + m)) n e in
+    let parts = behind_test (nat_lt h 24 && nat_lt m 60) (Some (60 * h + m)) n e in
     let small = and_parts (nat_lt h 24) (nat_lt m 60) parts.0 in
     let hour = ltb-true h 24 small.0 in
     let minute = ltb-true m 60 small.1 in
@@ -114,11 +115,11 @@ pub clock_text-only : (text : List ℕ) (n : ℕ) → clock_of text ≡ Some n �
     × ((text ≡ clock_text_of n ++ codes "Z") ⊎ (text ≡ clock_text_of n ++ codes ":00Z"))
 unfolding clock_of
 clock_text-only (t ∷ h1 ∷ h0 ∷ c ∷ n1 ∷ n0 ∷ end) n e =
-    let marked = cond_some (bytes_eq (t ∷ c ∷ []) (codes "T:") && (bytes_eq end (codes "Z") || bytes_eq end (codes ":00Z")))
+    let marked = behind_test (bytes_eq (t ∷ c ∷ []) (codes "T:") && (bytes_eq end (codes "Z") || bytes_eq end (codes ":00Z")))
     (option_and_then (λ h. option_and_then (λ n. minute_of_day h n) (number_of (n1 ∷ n0 ∷ []))) (number_of (h1 ∷ h0 ∷ []))) n e in
     let parts = and_parts (bytes_eq (t ∷ c ∷ []) (codes "T:")) (bytes_eq end (codes "Z") || bytes_eq end (codes ":00Z")) marked.0 in
-    let hour = then_some (λ h. option_and_then (λ n. minute_of_day h n) (number_of (n1 ∷ n0 ∷ []))) (number_of (h1 ∷ h0 ∷ [])) n marked.1 in
-    let minute = then_some (λ n. minute_of_day hour.0 n) (number_of (n1 ∷ n0 ∷ [])) n hour.2 in
+    let hour = then_some (number_of (h1 ∷ h0 ∷ [])) (λ h. option_and_then (λ n. minute_of_day h n) (number_of (n1 ∷ n0 ∷ []))) n marked.1 in
+    let minute = then_some (number_of (n1 ∷ n0 ∷ [])) (λ n. minute_of_day hour.0 n) n hour.2 in
     let is = minute_only hour.0 minute.0 n minute.2 in
     let clock : t ∷ h1 ∷ h0 ∷ c ∷ n1 ∷ n0 ∷ [] ≡ clock_text_of n =
     clock_written t h1 h0 c n1 n0 (n / 60) (n % 60) (clock_marks t c parts.0) (hour.1 ∙ ap (λ k. Some k) is.1) (minute.1

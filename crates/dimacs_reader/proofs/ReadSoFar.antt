@@ -1,8 +1,9 @@
 -- A file whose first lines are read.
 use Rattle.std.proofs.Common.{◌≡◌, ℕ, ◌+◌, ◌<◌, ◌≤◌, List, [], ◌∷◌, ◌++◌, length, map, Option, Some, None, refl, subst, ap, sym}
-use Rattle.std.proofs.Common.{◌∙◌, arith, rules, append_assoc, length-append}
+use Rattle.std.proofs.Common.{◌∙◌, arith, append_assoc, length-append, append-nil}
 use Rattle.std.specs.Option.{option_map, option_or}
 use Rattle.route_base.specs.declared.faults.Cause.{Cause}
+use Rattle.route_base.proofs.Logic.{option_or-none}
 use Rattle.dimacs_reader.specs.declared.builder.Sizes.{Sizes}
 use Rattle.dimacs_reader.specs.declared.graph.GraphArc.{GraphArc}
 use Rattle.dimacs_reader.specs.declared.lines.Line.{Line}
@@ -39,13 +40,6 @@ arcs_in-append (Bad ∷ xs) ys = arcs_in-append xs ys
 abbrev with_parts : Option Sizes → List GraphArc → Stated
 with_parts sizes arcs = record { sizes = sizes; arcs = arcs }
 
-or_none : (o : Option Sizes) → option_or o None ≡ o
-or_none None = refl
-or_none (Some x) = refl
-
-and_nothing : {A : Type 0} → (xs : List A) → xs ++ [] ≡ xs
-and_nothing xs = search rules
-
 no_sizes : (o : Option Sizes) (n m : ℕ) → cause_of_problem o n m ≡ None → o ≡ None
 no_sizes None n m e = refl
 no_sizes (Some x) n m e = absurd (cc)
@@ -55,14 +49,14 @@ stated_more : (before : List Line) (line : Line) → cause_in (stated_in before)
     → stated_after (stated_in before) line ≡ stated_in (before ++ line ∷ [])
 unfolding stated_in
 stated_more before Ignored e =
-    rw (sizes_in-append, arcs_in-append, or_none, and_nothing) refl
+    rw (sizes_in-append, arcs_in-append, option_or-none, append-nil) refl
 stated_more before (Problem n m) e =
     let first : sizes_in before ≡ None = no_sizes (sizes_in before) n m e in
     let sizes : sizes_in (before ++ Problem n m ∷ []) ≡ Some (record { nodes = n; arcs = m }) = sizes_in-append before (Problem n m ∷ [])
     ∙ ap (λ o. option_or o (Some (record { nodes = n; arcs = m }))) first in
-    rw (sizes, arcs_in-append, and_nothing) refl
+    rw (sizes, arcs_in-append, append-nil) refl
 stated_more before (Arc u v w) e =
-    rw (sizes_in-append, arcs_in-append, or_none) refl
+    rw (sizes_in-append, arcs_in-append, option_or-none) refl
 stated_more before Bad e = absurd (cc)
 
 -- at the start
@@ -135,5 +129,5 @@ end_faultless bytes rest number stated h none why = end_fault bytes number state
 pub end_graph : (bytes rest : List ℕ) (number : ℕ) (stated : Stated) → HasReadLines bytes rest number stated → rest ≡ [] → graph_in stated ≡ graph_of bytes
 unfolding graph_of lines_in
 end_graph bytes rest number stated h none =
-    let all : lines_in bytes ≡ h.before = h.lines ∙ ap (λ r. h.before ++ lines_in r) none ∙ and_nothing h.before in
+    let all : lines_in bytes ≡ h.before = h.lines ∙ ap (λ r. h.before ++ lines_in r) none ∙ append-nil h.before in
     ap graph_in (h.stated_is ∙ ap stated_in (sym all))

@@ -1,6 +1,7 @@
 -- The function that computes the rules of a text agrees with the relation.
 use Rattle.std.proofs.Common.{◌≡◌, ◌↔◌, ℕ, zero, suc, ◌≤◌, List, [], ◌∷◌, length, Option, Some, None, option_and_then, option_map}
 use Rattle.std.proofs.Common.{refl, ap, subst, ◌∙◌, arith}
+use Rattle.route_base.proofs.Logic.{then_some, map_some}
 use Rattle.opening_hours.specs.declared.tokens.Token.{Token}
 use Rattle.opening_hours.specs.declared.types.HoursRule.{HoursRule}
 use Rattle.opening_hours.specs.Tokens.{without_blanks}
@@ -10,7 +11,7 @@ use Rattle.opening_hours.specs.Inside.Parser.{read_rules}
 use Rattle.opening_hours.specs.Inside.Tokenizer.{token_at, IsMatched}
 use Rattle.opening_hours.proofs.Cuts.{token_shorter, length-without_blanks, no_cut, then_cut}
 use Rattle.opening_hours.proofs.Longest.{cut_of, match_of}
-use Rattle.opening_hours.proofs.Rules.{rules_again, rules_found, then_some, map_some}
+use Rattle.opening_hours.proofs.Rules.{rules_again, rules_found}
 
 -- a token at the front and tokens behind it, if the function that cuts the rest gives these
 then_tokens : (cut : List ℕ → Option (List Token)) (text rest : List ℕ) (t u : Token) (ts : List Token)

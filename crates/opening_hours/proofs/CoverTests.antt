@@ -6,7 +6,7 @@ use Rattle.opening_hours.specs.Holidays.{HolidayLists}
 use Rattle.opening_hours.specs.Coverage.{day_spans, holds, any_below, is_covered}
 use Rattle.opening_hours.specs.declared.types.HoursRule.{HoursRule}
 
-below_from : (p : ℕ → Bool) (n i : ℕ) → i < n → p i ≡ true → any_below p n ≡ true
+pub below_from : (p : ℕ → Bool) (n i : ℕ) → i < n → p i ≡ true → any_below p n ≡ true
 below_from p zero i within h = absurd (omega (arith, within))
 below_from p (suc n) i within h =
     ⊎_elim

@@ -7,6 +7,7 @@ use Rattle.std.specs.Option.{option_or}
 use Rattle.std.proofs.lemmas.Bool.{eqb-true}
 use Rattle.std.proofs.lemmas.List.Folds.{length-prefix_len}
 use Rattle.std.proofs.lemmas.List.Sums.{prefix_len-le-length}
+use Rattle.std.proofs.lemmas.Option.{some_pair_parts}
 use Rattle.opening_hours.specs.declared.tokens.Token.{Token}
 use Rattle.opening_hours.specs.declared.tokens.Token.TheVariants.{Always, Time, Number, Dash, Comma, Semicolon, Colon}
 use Rattle.opening_hours.specs.Tokens.{is_digit, is_letter, one_digit, number_of_two, word_token, without_blanks}
@@ -21,16 +22,11 @@ pub or_some : {A : Type 0} (o p : Option A) (x : A) → option_or o p ≡ Some x
 or_some (Some y) p x e = inl e
 or_some None p x e = inr e
 
-pub some_pair : {A B : Type 0} (a c : A) (b d : B) → ◌≡◌ {A = Option (A × B)} (Some (a, b)) (Some (c, d)) → (a ≡ c) × (b ≡ d)
-some_pair {A = A} {B = B} a c b d e =
-    let p : ◌≡◌ {A = A × B} (a, b) (c, d) = cc in
-    (ap (λ (x : A × B). x.0) p, ap (λ (x : A × B). x.1) p)
-
-abbrev found_one : Token → List ℕ → Option (Token × List ℕ)
+abbrev pub found_one : Token → List ℕ → Option (Token × List ℕ)
 found_one t rest = Some (t, rest)
 
 if_found : (b : Bool) (t u : Token) (rest after : List ℕ) → cond b (found_one t rest) None ≡ Some (u, after) → rest ≡ after
-if_found true t u rest after e = (some_pair t u rest after e).1
+if_found true t u rest after e = (some_pair_parts t u rest after e).1
 if_found false t u rest after e = absurd cc
 
 -- the text behind a token is shorter
@@ -44,7 +40,7 @@ word_shorter text t after e = of_word (take_while is_letter text) refl e
     of_word : (w : List ℕ) → w ≡ take_while is_letter text → word_of w (drop (length w) text) ≡ Some (t, after) → length after < length text
     of_word [] same e = absurd cc
     of_word (b ∷ bs) same e =
-        let rest = (some_pair (word_token (b ∷ bs)) t (drop (length (b ∷ bs)) text) after e).1 in
+        let rest = (some_pair_parts (word_token (b ∷ bs)) t (drop (length (b ∷ bs)) text) after e).1 in
         let size : length (b ∷ bs) ≡ prefix_len is_letter text = ap length same ∙ length-prefix_len is_letter text in
         omega (arith, ap length rest, length-drop (length (b ∷ bs)) text, size, prefix_len-le-length is_letter text)
 
@@ -83,10 +79,10 @@ short_number_shorter text t after e = absurd cc
 marks : (b c d f : Bool) (u : Token) (rest after : List ℕ)
     → cond b (found_one Dash rest) (cond c (found_one Comma rest)
     (cond d (found_one Semicolon rest) (cond f (found_one Colon rest) None))) ≡ Some (u, after) → rest ≡ after
-marks true c d f u rest after e = (some_pair Dash u rest after e).1
-marks false true d f u rest after e = (some_pair Comma u rest after e).1
-marks false false true f u rest after e = (some_pair Semicolon u rest after e).1
-marks false false false true u rest after e = (some_pair Colon u rest after e).1
+marks true c d f u rest after e = (some_pair_parts Dash u rest after e).1
+marks false true d f u rest after e = (some_pair_parts Comma u rest after e).1
+marks false false true f u rest after e = (some_pair_parts Semicolon u rest after e).1
+marks false false false true u rest after e = (some_pair_parts Colon u rest after e).1
 marks false false false false u rest after e = absurd cc
 
 mark_shorter : (text : List ℕ) → Shorter mark_at text
@@ -126,15 +122,15 @@ no_cut (t ∷ u ∷ ts) h = let f = h.1 in cc
 pub one_cut : (text : List ℕ) (ts us : List Token) → IsMatched text ts → IsMatched text us → ts ≡ us
 one_cut text [] us h k = absurd h
 one_cut text (t ∷ ts) [] h k = absurd k
-one_cut text (t ∷ []) (u ∷ []) h k = ap (λ (x : Token). x ∷ []) (some_pair t u [] [] (sym h ∙ k)).0
+one_cut text (t ∷ []) (u ∷ []) h k = ap (λ (x : Token). x ∷ []) (some_pair_parts t u [] [] (sym h ∙ k)).0
 one_cut text (t ∷ []) (u ∷ v ∷ us) h k =
-    let nil = (some_pair t u [] k.0 (sym h ∙ k.1)).1 in
+    let nil = (some_pair_parts t u [] k.0 (sym h ∙ k.1)).1 in
     absurd (no_cut (v ∷ us) (subst (λ (r : List ℕ). IsMatched (without_blanks r) (v ∷ us)) (sym nil) k.2))
 one_cut text (t ∷ v ∷ ts) (u ∷ []) h k =
-    let nil = (some_pair u t [] h.0 (sym k ∙ h.1)).1 in
+    let nil = (some_pair_parts u t [] h.0 (sym k ∙ h.1)).1 in
     absurd (no_cut (v ∷ ts) (subst (λ (r : List ℕ). IsMatched (without_blanks r) (v ∷ ts)) (sym nil) h.2))
 one_cut text (t ∷ v ∷ ts) (u ∷ w ∷ us) h k =
-    let p = some_pair t u h.0 k.0 (sym h.1 ∙ k.1) in
+    let p = some_pair_parts t u h.0 k.0 (sym h.1 ∙ k.1) in
     let first = p.0 in
     let same = sym p.1 in
     let rest = one_cut (without_blanks h.0) (v ∷ ts) (w ∷ us) h.2 (subst (λ (r : List ℕ). IsMatched (without_blanks r) (w ∷ us)) same k.2) in
@@ -156,9 +152,9 @@ then_cut rest after t (u ∷ us) e h = (after, e, h)
 cut_then : (rest after : List ℕ) (t : Token) (vs : List Token) → token_at rest ≡ Some (t, after) → after ≢ []
     → IsMatched rest vs → (us : List Token) × (vs ≡ t ∷ us) × IsMatched (without_blanks after) us
 cut_then rest after t [] e some h = absurd h
-cut_then rest after t (v ∷ []) e some h = absurd (some (some_pair t v after [] (sym e ∙ h)).1)
+cut_then rest after t (v ∷ []) e some h = absurd (some (some_pair_parts t v after [] (sym e ∙ h)).1)
 cut_then rest after t (v ∷ w ∷ vs) e some h =
-    let p = some_pair v t h.0 after (sym h.1 ∙ e) in
+    let p = some_pair_parts v t h.0 after (sym h.1 ∙ e) in
     let first = p.0 in
     let same = p.1 in
     (w ∷ vs, ap (λ (x : Token). x ∷ w ∷ vs) first, subst (λ (r : List ℕ). IsMatched (without_blanks r) (w ∷ vs)) same h.2)

@@ -4,11 +4,12 @@ use Rattle.std.proofs.Common.{Option, Some, None, refl, sym, ap, subst, ◌∙�
 use Rattle.std.specs.Prelude.{◌==◌, ◌&&◌, codes}
 use Rattle.std.specs.List.{take_while, prefix_len}
 use Rattle.std.specs.Option.{option_or}
-use Rattle.std.proofs.lemmas.Bool.{eqb-true}
+use Rattle.std.proofs.lemmas.Bool.{eqb-true, and_parts}
 use Rattle.std.proofs.lemmas.Grind.{common_steps}
 use Rattle.std.proofs.lemmas.List.{take-append-drop}
 use Rattle.std.proofs.lemmas.List.Folds.{length-prefix_len}
 use Rattle.std.proofs.lemmas.List.Sums.{take_while-cons}
+use Rattle.std.proofs.lemmas.Option.{some_pair_parts}
 use Rattle.opening_hours.specs.declared.tokens.Token.{Token}
 use Rattle.opening_hours.specs.declared.tokens.Token.TheVariants.{Always, Time, Number, Dash, Comma, Semicolon, Colon}
 use Rattle.opening_hours.specs.Tokens.{is_digit, is_letter, one_digit, number_of_two}
@@ -17,19 +18,15 @@ use Rattle.opening_hours.specs.Tokens.{without_blanks, IsCut}
 use Rattle.opening_hours.specs.Inside.Tokenizer.{word_of, word_at, always_at, long_time_at, short_time_at, long_number_at}
 use Rattle.opening_hours.specs.Inside.Tokenizer.{short_number_at, mark_at, token_at, IsMatched}
 use Rattle.opening_hours.specs.Tokens as tokens
-use Rattle.opening_hours.proofs.Pieces.{both_true}
-use Rattle.opening_hours.proofs.Cuts.{some_pair, or_some, token_shorter}
+use Rattle.opening_hours.proofs.Cuts.{or_some, token_shorter, found_one}
 use Rattle.opening_hours.proofs.Spelled.{no_word, word_first, time_first, mark_first, always_first}
 
 -- a token in front of a text, and what is behind it
 abbrev pub Front : List ℕ → Token → List ℕ → Type 0
 Front text t rest = (w : List ℕ) × (text ≡ w ++ rest) × IsToken w t
 
-abbrev found_one : Token → List ℕ → Option (Token × List ℕ)
-found_one t rest = Some (t, rest)
-
 if_some : (b : Bool) (t u : Token) (rest after : List ℕ) → cond b (found_one t rest) None ≡ Some (u, after) → (b ≡ true) × (t ≡ u) × (rest ≡ after)
-if_some true t u rest after e = let p = some_pair t u rest after e in (refl, p.0, p.1)
+if_some true t u rest after e = let p = some_pair_parts t u rest after e in (refl, p.0, p.1)
 if_some false t u rest after e = absurd cc
 
 front_is : (w rest after : List ℕ) (t u : Token) → IsToken w t → t ≡ u → rest ≡ after → Front (w ++ rest) u after
@@ -51,7 +48,7 @@ word_front text t after e = of_word (take_while is_letter text) refl (letters_of
     of_word : (w : List ℕ) → w ≡ take_while is_letter text → AreLetters w → word_of w (drop (length w) text) ≡ Some (t, after) → Front text t after
     of_word [] same h e = absurd cc
     of_word (b ∷ bs) same h e =
-        let p = some_pair (word_token (b ∷ bs)) t (drop (length (b ∷ bs)) text) after e in
+        let p = some_pair_parts (word_token (b ∷ bs)) t (drop (length (b ∷ bs)) text) after e in
         let n : length (b ∷ bs) ≡ prefix_len is_letter text = ap length same ∙ length-prefix_len is_letter text in
         let front : take (length (b ∷ bs)) text ≡ b ∷ bs = ap (λ k. take k text) n ∙ sym same in
         let whole : text ≡ (b ∷ bs) ++ drop (length (b ∷ bs)) text = sym (take-append-drop (length (b ∷ bs)) text)
@@ -59,7 +56,7 @@ word_front text t after e = of_word (take_while is_letter text) refl (letters_of
         (b ∷ bs, whole ∙ ap (λ (r : List ℕ). (b ∷ bs) ++ r) p.1, subst (IsToken (b ∷ bs)) p.0 (tokens.word h))
 
 four_true : (a b c d : Bool) → a && (b && (c && d)) ≡ true → (a ≡ true) × (b ≡ true) × (c ≡ true) × (d ≡ true)
-four_true a b c d e = let p = both_true a (b && (c && d)) e in let q = both_true b (c && d) p.1 in let r = both_true c d q.1 in (p.0, q.0, r.0, r.1)
+four_true a b c d e = let p = and_parts a (b && (c && d)) e in let q = and_parts b (c && d) p.1 in let r = and_parts c d q.1 in (p.0, q.0, r.0, r.1)
 
 always_front : (text : List ℕ) (t : Token) (after : List ℕ) → always_at text ≡ Some (t, after) → Front text t after
 always_front (a ∷ b ∷ c ∷ d ∷ rest) t after e =
@@ -75,7 +72,7 @@ long_time_front : (text : List ℕ) (t : Token) (after : List ℕ) → long_time
 long_time_front (a ∷ b ∷ c ∷ d ∷ e ∷ rest) t after h =
     let f = if_some (is_digit a && (is_digit b && (c == 58 && (is_digit d && is_digit e)))) (Time (number_of_two a b) (number_of_two d e)) t rest after h in
     let g = four_true (is_digit a) (is_digit b) (c == 58) (is_digit d && is_digit e) f.0 in
-    let k = both_true (is_digit d) (is_digit e) g.3 in
+    let k = and_parts (is_digit d) (is_digit e) g.3 in
     let is : IsToken (a ∷ b ∷ c ∷ d ∷ e ∷ []) (Time (number_of_two a b) (number_of_two d e)) =
     subst (λ (x : ℕ). IsToken (a ∷ b ∷ x ∷ d ∷ e ∷ []) (Time (number_of_two a b) (number_of_two d e)))
     (sym (eqb-true c 58 g.2)) (tokens.long_time g.0 g.1 k.0 k.1) in
@@ -95,7 +92,7 @@ short_time_front text t after e = absurd cc
 long_number_front : (text : List ℕ) (t : Token) (after : List ℕ) → long_number_at text ≡ Some (t, after) → Front text t after
 long_number_front (a ∷ b ∷ rest) t after h =
     let f = if_some (is_digit a && is_digit b) (Number (number_of_two a b)) t rest after h in
-    let g = both_true (is_digit a) (is_digit b) f.0 in
+    let g = and_parts (is_digit a) (is_digit b) f.0 in
     front_is (a ∷ b ∷ []) rest after (Number (number_of_two a b)) t (tokens.long_number g.0 g.1) f.1 f.2
 long_number_front text t after e = absurd cc
 
@@ -109,7 +106,7 @@ mark_front : (text : List ℕ) (t : Token) (after : List ℕ) → mark_at text �
 mark_front (a ∷ rest) t after h = by (a == 45) (a == 44) (a == 59) (a == 58) refl refl refl refl h
   where
     one : (k : ℕ) (u : Token) → (a == k) ≡ true → IsToken (k ∷ []) u → found_one u rest ≡ Some (t, after) → Front (a ∷ rest) t after
-    one k u is token e = let p = some_pair u t rest after e in
+    one k u is token e = let p = some_pair_parts u t rest after e in
         front_is (a ∷ []) rest after u t (subst (λ (x : ℕ). IsToken (x ∷ []) u) (sym (eqb-true a k is)) token) p.0 p.1
 
     by : (b c d f : Bool) → (a == 45) ≡ b → (a == 44) ≡ c → (a == 59) ≡ d → (a == 58) ≡ f
@@ -271,7 +268,7 @@ found_first text t rest e =
       is = f.2;
       longest = λ other more u parts token.
           let r = reaches other more u token in
-          let p = some_pair t r.0 rest r.1 (sym e ∙ ap token_at parts ∙ r.2) in
+          let p = some_pair_parts t r.0 rest r.1 (sym e ∙ ap token_at parts ∙ r.2) in
           omega (arith, r.3, ap length p.1, ap length (sym f.1 ∙ parts), length-append f.0 rest, length-append other more);
     }
 
@@ -296,7 +293,7 @@ token_alone tokens.semicolon = mark_first 59 [] Semicolon refl refl refl refl
 token_alone tokens.colon = mark_first 58 [] Colon refl refl refl refl
 
 one_token : (w : List ℕ) (t u : Token) → IsToken w t → IsToken w u → t ≡ u
-one_token w t u h k = (some_pair t u [] [] (sym (token_alone h) ∙ token_alone k)).0
+one_token w t u h k = (some_pair_parts t u [] [] (sym (token_alone h) ∙ token_alone k)).0
 
 -- fronts of one length are the same
 same_front : (xs ys cs ds : List ℕ) → xs ++ cs ≡ ys ++ ds → length xs ≡ length ys → (xs ≡ ys) × (cs ≡ ds)

@@ -1,7 +1,9 @@
 -- The pieces of a rule: reading gives exactly what the grammar says.
-use Rattle.std.proofs.Common.{◌≡◌, ℕ, ◌+◌, ◌*◌, ◌≤◌, Bool, true, false, cond, List, [], ◌∷◌, ◌++◌, Some, None, refl, subst, arith}
+use Rattle.std.proofs.Common.{◌≡◌, ℕ, ◌+◌, ◌*◌, ◌≤◌, true, List, [], ◌∷◌, ◌++◌, Some, refl, subst, arith}
 use Rattle.std.specs.Prelude.{◌&&◌, nat_le}
 use Rattle.std.proofs.lemmas.Grind.{common_steps}
+use Rattle.std.proofs.lemmas.Bool.{and_parts}
+use Rattle.std.proofs.lemmas.Option.{cond_some}
 use Rattle.opening_hours.specs.declared.tokens.Token.{Token}
 use Rattle.opening_hours.specs.declared.tokens.Token.TheVariants.{Month, Day, Public, School, Open, Time, Number, Dash}
 use Rattle.opening_hours.specs.declared.types.DateSpan.{DateSpan}
@@ -14,30 +16,18 @@ use Rattle.opening_hours.specs.Grammar.{span_length, long_length}
 use Rattle.opening_hours.specs.Grammar as grammar
 use Rattle.opening_hours.specs.Inside.Parser.{is_month, is_day_number, is_time, read_date, read_item, read_span, read_long, is_opens}
 
-pub some_if : {A : Type 0} (b : Bool) (x y : A) → cond b (Some x) None ≡ Some y → (b ≡ true) × (x ≡ y)
-some_if true x y e = (refl, cc)
-some_if false x y e = absurd cc
-
-pub both_true : (a b : Bool) → a && b ≡ true → (a ≡ true) × (b ≡ true)
-both_true true true e = (refl, refl)
-both_true true false e = absurd cc
-both_true false b e = absurd cc
-
-pub and_true : (a b : Bool) → a ≡ true → b ≡ true → a && b ≡ true
-and_true a b p q = rw (p, q) refl
-
 month_true : (m : ℕ) → IsMonth m → is_month m ≡ true
 month_true m h = grind (arith, common_steps)
 
 month_is : (m : ℕ) → is_month m ≡ true → IsMonth m
-month_is m e = let h = both_true (nat_le 1 m) (nat_le m 12) e in let low : 1 ≤ m = grind (arith, common_steps) in
+month_is m e = let h = and_parts (nat_le 1 m) (nat_le m 12) e in let low : 1 ≤ m = grind (arith, common_steps) in
     let high : m ≤ 12 = grind (arith, common_steps) in (low, high)
 
 day_true : (a : ℕ) → IsDayNumber a → is_day_number a ≡ true
 day_true a h = grind (arith, common_steps)
 
 day_is : (a : ℕ) → is_day_number a ≡ true → IsDayNumber a
-day_is a e = let h = both_true (nat_le 1 a) (nat_le a 31) e in let low : 1 ≤ a = grind (arith, common_steps) in
+day_is a e = let h = and_parts (nat_le 1 a) (nat_le a 31) e in let low : 1 ≤ a = grind (arith, common_steps) in
     let high : a ≤ 31 = grind (arith, common_steps) in (low, high)
 
 time_true : (h m limit : ℕ) → IsTime h m limit → is_time h m limit ≡ true
@@ -45,7 +35,7 @@ time_true h m limit t = grind (arith, common_steps)
 
 time_is : (h m limit : ℕ) → is_time h m limit ≡ true → IsTime h m limit
 time_is h m limit e =
-    let b = both_true (nat_le m 59) (nat_le (60 * h + m) limit) e in
+    let b = and_parts (nat_le m 59) (nat_le (60 * h + m) limit) e in
     let low : m ≤ 59 = grind (arith, common_steps) in
     let high : 60 * h + m ≤ limit = grind (arith, common_steps) in
     (low, high)
@@ -59,26 +49,26 @@ date_again (grammar.days_over {m = m} {a = a} {n = n} {b = b} p q r s) = rw (mon
 
 pub date_found : (ts : List Token) (d : DateSpan) → read_date ts ≡ Some d → IsDate ts d
 date_found (Month m ∷ []) d e =
-    let h = some_if (is_month m) (dates_from_to m 1 m 31) d e in
+    let h = cond_some (is_month m) (dates_from_to m 1 m 31) d e in
     subst (IsDate (Month m ∷ [])) h.1 (grammar.month (month_is m h.0))
 date_found (Month m ∷ Dash ∷ Month n ∷ []) d e =
-    let h = some_if (is_month m && is_month n) (dates_from_to m 1 n 31) d e in
-    let b = both_true (is_month m) (is_month n) h.0 in
+    let h = cond_some (is_month m && is_month n) (dates_from_to m 1 n 31) d e in
+    let b = and_parts (is_month m) (is_month n) h.0 in
     subst (IsDate (Month m ∷ Dash ∷ Month n ∷ [])) h.1 (grammar.months (month_is m b.0) (month_is n b.1))
 date_found (Month m ∷ Number a ∷ []) d e =
-    let h = some_if (is_month m && is_day_number a) (dates_from_to m a m a) d e in
-    let b = both_true (is_month m) (is_day_number a) h.0 in
+    let h = cond_some (is_month m && is_day_number a) (dates_from_to m a m a) d e in
+    let b = and_parts (is_month m) (is_day_number a) h.0 in
     subst (IsDate (Month m ∷ Number a ∷ [])) h.1 (grammar.day (month_is m b.0) (day_is a b.1))
 date_found (Month m ∷ Number a ∷ Dash ∷ Number b ∷ []) d e =
-    let h = some_if (is_month m && (is_day_number a && is_day_number b)) (dates_from_to m a m b) d e in
-    let f = both_true (is_month m) (is_day_number a && is_day_number b) h.0 in
-    let s = both_true (is_day_number a) (is_day_number b) f.1 in
+    let h = cond_some (is_month m && (is_day_number a && is_day_number b)) (dates_from_to m a m b) d e in
+    let f = and_parts (is_month m) (is_day_number a && is_day_number b) h.0 in
+    let s = and_parts (is_day_number a) (is_day_number b) f.1 in
     subst (IsDate (Month m ∷ Number a ∷ Dash ∷ Number b ∷ [])) h.1 (grammar.days (month_is m f.0) (day_is a s.0) (day_is b s.1))
 date_found (Month m ∷ Number a ∷ Dash ∷ Month n ∷ Number b ∷ []) d e =
-    let h = some_if (is_month m && (is_day_number a && (is_month n && is_day_number b))) (dates_from_to m a n b) d e in
-    let f = both_true (is_month m) (is_day_number a && (is_month n && is_day_number b)) h.0 in
-    let s = both_true (is_day_number a) (is_month n && is_day_number b) f.1 in
-    let t = both_true (is_month n) (is_day_number b) s.1 in
+    let h = cond_some (is_month m && (is_day_number a && (is_month n && is_day_number b))) (dates_from_to m a n b) d e in
+    let f = and_parts (is_month m) (is_day_number a && (is_month n && is_day_number b)) h.0 in
+    let s = and_parts (is_day_number a) (is_month n && is_day_number b) f.1 in
+    let t = and_parts (is_month n) (is_day_number b) s.1 in
     subst (IsDate (Month m ∷ Number a ∷ Dash ∷ Month n ∷ Number b ∷ [])) h.1
     (grammar.days_over (month_is m f.0) (day_is a s.0) (month_is n t.0) (day_is b t.1))
 date_found ts d e = absurd cc
@@ -101,8 +91,8 @@ span_again (grammar.span {h = h} {m = m} {g = g} {n = n} p q) = rw (time_true h 
 
 pub span_found : (ts : List Token) (s : TimeSpan) → read_span ts ≡ Some s → IsSpan ts s
 span_found (Time h m ∷ Dash ∷ Time g n ∷ []) s e =
-    let f = some_if (is_time h m 1439 && is_time g n 2880) (record { start = 60 * h + m; length = span_length (60 * h + m) (60 * g + n) }) s e in
-    let b = both_true (is_time h m 1439) (is_time g n 2880) f.0 in
+    let f = cond_some (is_time h m 1439 && is_time g n 2880) (record { start = 60 * h + m; length = span_length (60 * h + m) (60 * g + n) }) s e in
+    let b = and_parts (is_time h m 1439) (is_time g n 2880) f.0 in
     subst (IsSpan (Time h m ∷ Dash ∷ Time g n ∷ [])) f.1 (grammar.span (time_is h m 1439 b.0) (time_is g n 2880 b.1))
 span_found ts s e = absurd cc
 
@@ -129,9 +119,9 @@ pub record Long (ts : List Token) (l : LongSpan) : Type 0 where
 pub long_found : (ts : List Token) (l : LongSpan) → read_long ts ≡ Some l → Long ts l
 long_found (Day a ∷ Time h m ∷ Dash ∷ Day b ∷ Time g n ∷ os) l e =
     let made : LongSpan = record { weekday = a; start = 60 * h + m; length = long_length a (60 * h + m) b (60 * g + n) } in
-    let f = some_if (is_time h m 1439 && (is_time g n 1440 && is_opens os)) made l e in
-    let p = both_true (is_time h m 1439) (is_time g n 1440 && is_opens os) f.0 in
-    let q = both_true (is_time g n 1440) (is_opens os) p.1 in
+    let f = cond_some (is_time h m 1439 && (is_time g n 1440 && is_opens os)) made l e in
+    let p = and_parts (is_time h m 1439) (is_time g n 1440 && is_opens os) f.0 in
+    let q = and_parts (is_time g n 1440) (is_opens os) p.1 in
     let found : IsLong (Day a ∷ Time h m ∷ Dash ∷ Day b ∷ Time g n ∷ []) made = grammar.long (time_is h m 1439 p.0) (time_is g n 1440 q.0) in
     record {
       span = Day a ∷ Time h m ∷ Dash ∷ Day b ∷ Time g n ∷ [];

@@ -1,17 +1,19 @@
 -- Texts of hours within others.
 use Rattle.std.proofs.Common.{◌≡◌, ◌≢◌, ℕ, ◌<◌, ◌≤◌, Bool, true, false, cond, List, [], ◌∷◌, ◌++◌, Some, refl, sym, ap}
-use Rattle.std.proofs.Common.{subst, ◌∙◌, arith, ◌⊎◌, inl, inr}
-use Rattle.std.specs.Prelude.{◌==◌, ◌||◌, codes}
+use Rattle.std.proofs.Common.{subst, ◌∙◌, arith, ◌⊎◌, inl, inr, append-nil}
+use Rattle.std.specs.Prelude.{◌==◌, codes}
 use Rattle.std.specs.List.{list_all}
 use Rattle.std.specs.Str.{bytes_eq}
 use Rattle.std.proofs.lemmas.Grind.{common_steps}
 use Rattle.std.proofs.lemmas.List.Folds.{list_all-append}
 use Rattle.std.proofs.lemmas.Slice.Eq.{bytes_eq-Decides}
+use Rattle.std.proofs.lemmas.Option.{some_pair_parts}
 use Rattle.opening_hours.specs.declared.tokens.Token.{Token}
 use Rattle.opening_hours.specs.declared.tokens.Token.TheVariants.{Unknown, Open}
 use Rattle.opening_hours.specs.declared.types.HoursRule.{HoursRule}
 use Rattle.opening_hours.specs.Tokens.{is_digit, is_letter, months, weekdays, token_in, other_token}
 use Rattle.route_base.specs.Forms.{is_blank}
+use Rattle.route_base.proofs.Logic.{or-true}
 use Rattle.opening_hours.specs.Tokens.{weekday_token, word_token, AreLetters, IsToken, without_blanks}
 use Rattle.opening_hours.specs.Tokens as tokens
 use Rattle.opening_hours.specs.Inside.Tokenizer.{token_at, IsMatched}
@@ -19,7 +21,7 @@ use Rattle.opening_hours.specs.Grammar.{IsRules}
 use Rattle.opening_hours.specs.Hours.{IsHours}
 use Rattle.opening_hours.specs.PlainText.{is_hours_byte, StartsFilled, EndsFilled, IsPlain}
 use Rattle.opening_hours.specs.Inside.Parser.{read_rule, read_rules}
-use Rattle.opening_hours.proofs.Cuts.{some_pair, no_cut}
+use Rattle.opening_hours.proofs.Cuts.{no_cut}
 use Rattle.opening_hours.proofs.Longest.{match_of, token_front}
 use Rattle.opening_hours.proofs.Spelled.{Calm, Spells, AllSpell, word_first, rules_spell}
 use Rattle.opening_hours.proofs.Rules.{rules_again}
@@ -29,24 +31,20 @@ abbrev AllFilled : List ℕ → Type 0
 AllFilled [] = Unit {0}
 AllFilled (b ∷ bs) = (is_blank b ≡ false) × (is_hours_byte b ≡ true) × AllFilled bs
 
-or_true : (a : Bool) → a || true ≡ true
-or_true true = refl
-or_true false = refl
-
-digit_no_blank : (b : ℕ) → is_digit b ≡ true → is_blank b ≡ false
+pub digit_no_blank : (b : ℕ) → is_digit b ≡ true → is_blank b ≡ false
 digit_no_blank b h = grind (arith, common_steps)
 
 letter_no_blank : (b : ℕ) → is_letter b ≡ true → is_blank b ≡ false
 letter_no_blank b h = grind (arith, common_steps)
 
 hours_digit : (b : ℕ) → is_digit b ≡ true → is_hours_byte b ≡ true
-hours_digit b h = rw h (or_true (is_letter b))
+hours_digit b h = rw h (or-true (is_letter b))
 
 hours_letter : (b : ℕ) → is_letter b ≡ true → is_hours_byte b ≡ true
 hours_letter b h = rw h refl
 
 hours_blank : (b : ℕ) → is_blank b ≡ true → is_hours_byte b ≡ true
-hours_blank b h = rw (h, or_true (is_digit b)) (or_true (is_letter b))
+hours_blank b h = rw (h, or-true (is_digit b)) (or-true (is_letter b))
 
 letters_filled : (w : List ℕ) → AreLetters w → AllFilled w
 letters_filled [] h = tt
@@ -94,7 +92,7 @@ filled_bytes : (w : List ℕ) → AllFilled w → list_all is_hours_byte w ≡ t
 filled_bytes [] h = refl
 filled_bytes (b ∷ bs) h = rw h.1 (filled_bytes bs h.2)
 
-ends_within : (ts : List ℕ) (us : List ℕ) → EndsFilled us → EndsFilled (ts ++ us)
+pub ends_within : (ts : List ℕ) (us : List ℕ) → EndsFilled us → EndsFilled (ts ++ us)
 ends_within [] us h = h
 ends_within (t ∷ []) [] h = absurd h
 ends_within (t ∷ []) (u ∷ us) h = h
@@ -191,9 +189,9 @@ blank_calm b rest h =
 -- a word and something calm behind it are cut after the word
 word_cut : (b : ℕ) (bs rest : List ℕ) (t : Token) (ts : List Token) → AreLetters (b ∷ bs) → Calm rest
     → IsMatched ((b ∷ bs) ++ rest) (t ∷ ts) → word_token (b ∷ bs) ≡ t
-word_cut b bs rest t [] h calm m = (some_pair (word_token (b ∷ bs)) t rest []
+word_cut b bs rest t [] h calm m = (some_pair_parts (word_token (b ∷ bs)) t rest []
     (sym (word_first (b ∷ bs) b bs rest (word_token (b ∷ bs)) refl h refl calm) ∙ m)).0
-word_cut b bs rest t (u ∷ us) h calm m = (some_pair (word_token (b ∷ bs)) t rest m.0
+word_cut b bs rest t (u ∷ us) h calm m = (some_pair_parts (word_token (b ∷ bs)) t rest m.0
     (sym (word_first (b ∷ bs) b bs rest (word_token (b ∷ bs)) refl h refl calm) ∙ m.1)).0
 
 spells_known : (t : Token) → Spells t → t ≢ Unknown
@@ -315,20 +313,16 @@ no_open : (rs : List HoursRule) → IsRules (Open ∷ []) rs → ⊥
 unfolding read_rules read_rule
 no_open rs h = let e : read_rules (Open ∷ []) ≡ Some rs = rules_again (Open ∷ []) rs h in cc
 
-nil_behind : (bs : List ℕ) → bs ++ [] ≡ bs
-nil_behind [] = refl
-nil_behind (b ∷ bs) = ap (λ (cs : List ℕ). b ∷ cs) (nil_behind bs)
-
 -- a text that is one word has its token alone
 one_word : (b : ℕ) (bs : List ℕ) (ts : List Token) → AreLetters (b ∷ bs) → IsMatched (b ∷ bs) ts → ts ≡ word_token (b ∷ bs) ∷ []
 one_word b bs [] h m = absurd m
 one_word b bs (t ∷ []) h m =
-    let here : IsMatched ((b ∷ bs) ++ []) (t ∷ []) = subst (λ (text : List ℕ). IsMatched text (t ∷ [])) (sym (nil_behind (b ∷ bs))) m in
+    let here : IsMatched ((b ∷ bs) ++ []) (t ∷ []) = subst (λ (text : List ℕ). IsMatched text (t ∷ [])) (sym (append-nil (b ∷ bs))) m in
     ap (λ (u : Token). u ∷ []) (sym (word_cut b bs [] t [] h tt here))
 one_word b bs (t ∷ u ∷ us) h m =
-    let found : token_at (b ∷ bs) ≡ Some (word_token (b ∷ bs), []) = ap token_at (sym (nil_behind (b ∷ bs)))
+    let found : token_at (b ∷ bs) ≡ Some (word_token (b ∷ bs), []) = ap token_at (sym (append-nil (b ∷ bs)))
     ∙ word_first (b ∷ bs) b bs [] (word_token (b ∷ bs)) refl h refl tt in
-    let p = some_pair t (word_token (b ∷ bs)) m.0 [] (sym m.1 ∙ found) in
+    let p = some_pair_parts t (word_token (b ∷ bs)) m.0 [] (sym m.1 ∙ found) in
     absurd (no_cut (u ∷ us) (subst (λ (r : List ℕ). IsMatched (without_blanks r) (u ∷ us)) p.1 m.2))
 
 lone_word : (b : ℕ) (bs : List ℕ) (ts : List Token) (rs : List HoursRule) → 97 ≤ b → AreLetters (b ∷ bs)

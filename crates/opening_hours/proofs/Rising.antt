@@ -1,11 +1,11 @@
 -- A search in a list that rises.
-use Rattle.std.proofs.Common.{◌≡◌, ◌≢◌, ℕ, zero, suc, ◌+◌, ◌-◌, ◌⊎◌, inl, inr, ◌<◌, ◌≤◌, Bool, true, false, List, [], ◌∷◌}
-use Rattle.std.proofs.Common.{length, get_or, Result, Ok, Err, refl, sym, ap, ◌∙◌, arith, nat_cmp, eqb, eq-eqb, ltb}
+use Rattle.std.proofs.Common.{◌≡◌, ◌≢◌, ℕ, zero, suc, ◌+◌, ◌-◌, inl, inr, ◌<◌, ◌≤◌, true, false, List, [], ◌∷◌}
+use Rattle.std.proofs.Common.{length, get_or, Result, Ok, Err, refl, sym, ap, ◌∙◌, arith, nat_cmp, eqb, eq-eqb}
 use Rattle.std.specs.Prelude.{◌||◌, MatchResult}
 use Rattle.std.specs.Result.{is_ok}
 use Rattle.std.specs.List.Sorted.{IsStrictlyIncreasing, IsBinarySearchResult}
 use Rattle.std.proofs.lemmas.List.Sorted.{searched}
-use Rattle.std.proofs.lemmas.Bool.{ne_eqb, ltb-true, ltb-false}
+use Rattle.std.proofs.lemmas.Bool.{ne_eqb, cases_lt}
 use Rattle.std.proofs.lemmas.Grind.{common_steps}
 use Rattle.opening_hours.specs.Holidays.{is_listed}
 
@@ -31,13 +31,6 @@ rises_to xs rises i (suc k) l =
     let same : i + suc k ≡ i + k + 1 = omega arith in
     rw same (omega arith)
 
-below : (k i : ℕ) → (k < i) ⊎ (i ≤ k)
-below k i = split (ltb k i) refl
-  where
-    split : (b : Bool) → ltb k i ≡ b → (k < i) ⊎ (i ≤ k)
-    split true e = inl (ltb-true k i e)
-    split false e = inr (ltb-false k i e)
-
 pub ok_is_listed : (xs : List ℕ) (x : ℕ) (r : Result ℕ ℕ) → IsBinarySearchResult (λ y. nat_cmp y x) xs r
     → IsStrictlyIncreasing xs → is_ok r ≡ is_listed x xs
 ok_is_listed xs x r found rises = by r (searched xs x r found order)
@@ -49,4 +42,4 @@ ok_is_listed xs x r found rises = by r (searched xs x r found order)
         × ((k : ℕ) → k < i → get_or xs k 0 < x) × ((k : ℕ) → i ≤ k → k < length xs → x < get_or xs k 0)) → is_ok r ≡ is_listed x xs
     by (Ok i) h = sym (member_at xs x i h.0 h.1)
     by (Err i) h = sym (no_member xs x (λ k l e.
-        elim (below k i) [ inl lt ↦ let f = h.1 k lt in omega arith | inr ge ↦ let f = h.2 k ge l in omega arith ]))
+        elim (cases_lt k i) [ inl lt ↦ let f = h.1 k lt in omega arith | inr ge ↦ let f = h.2 k ge l in omega arith ]))

@@ -4,7 +4,8 @@ use Rattle.std.proofs.Common.{subst, ◌∙◌, append_assoc, ◌⊎◌, inl, in
 use Rattle.std.specs.Prelude.{option_and_then, option_map}
 use Rattle.std.specs.List.{take_while}
 use Rattle.calendar_days.specs.declared.weekday.Weekday.{Weekday}
-use Rattle.std.proofs.lemmas.Option.{option_and_then_some}
+use Rattle.std.proofs.lemmas.Option.{cond_some}
+use Rattle.route_base.proofs.Logic.{then_some, map_some}
 use Rattle.opening_hours.specs.declared.tokens.Token.{Token}
 use Rattle.opening_hours.specs.declared.tokens.Token.TheVariants.{Month, Day, Public, School, Off, Open, Always, Unknown}
 use Rattle.opening_hours.specs.declared.tokens.Token.TheVariants.{Time, Number, Dash, Comma, Semicolon, Colon}
@@ -21,7 +22,7 @@ use Rattle.opening_hours.specs.Grammar as grammar
 use Rattle.opening_hours.specs.Inside.Parser.{belongs, behind, read_date, read_item, read_span, read_list, read_dates, read_days}
 use Rattle.opening_hours.specs.Inside.Parser.{read_spans, is_opens, is_long, read_long, is_off, read_times, hours_rule_of, read_after}
 use Rattle.opening_hours.specs.Inside.Parser.{without_colon, read_dated, read_rule, read_rules}
-use Rattle.opening_hours.proofs.Pieces.{some_if, date_again, date_found, item_again, item_found, span_again, span_found}
+use Rattle.opening_hours.proofs.Pieces.{date_again, date_found, item_again, item_found, span_again, span_found}
 use Rattle.opening_hours.proofs.Pieces.{opens_again, opens_found, long_again, long_found}
 use Rattle.opening_hours.proofs.Lists.{Made, Heads, Starts, Stops, Made-append, Made-weaker, Heads-append, Starts-append}
 use Rattle.opening_hours.proofs.Lists.{Stops-starts, front_made, behind_made, front_behind, list_found, list_again}
@@ -449,13 +450,6 @@ if_some : {A : Type 0} (b : Bool) (x : Option A) (y : A) → cond b None x ≡ S
 if_some true x y e = absurd cc
 if_some false x y e = (refl, e)
 
-pub then_some : {A B : Type 0} (o : Option A) (f : A → Option B) (y : B) → option_and_then f o ≡ Some y → (x : A) × (o ≡ Some x) × (f x ≡ Some y)
-then_some o f y e = option_and_then_some f o y e (λ x is found. (x, is, found))
-
-pub map_some : {A B : Type 0} (o : Option A) (f : A → B) (y : B) → option_map f o ≡ Some y → (x : A) × (o ≡ Some x) × (f x ≡ y)
-map_some (Some x) f y e = (x, refl, cc)
-map_some None f y e = absurd cc
-
 off_is : (ts : List Token) → is_off ts ≡ true → ts ≡ Off ∷ []
 off_is (Off ∷ []) e = refl
 off_is ts e = absurd cc
@@ -571,7 +565,7 @@ dated_found ts r content e =
 always_found : (os : List Token) (r : HoursRule)
     → cond (is_opens os) (Some (hours_rule_of [] [] (times.Spans whole_day))) None ≡ Some r → IsRule (Always ∷ os) r
 always_found os r e =
-    let f = some_if (is_opens os) (hours_rule_of [] [] (times.Spans whole_day)) r e in
+    let f = cond_some (is_opens os) (hours_rule_of [] [] (times.Spans whole_day)) r e in
     subst (IsRule (Always ∷ os)) f.1 (grammar.always (opens_found os f.0))
 
 unless_opens : (ts : List Token) (r : HoursRule) → cond (is_opens ts) None (read_dated ts) ≡ Some r → IsRule ts r

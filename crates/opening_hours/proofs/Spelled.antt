@@ -1,11 +1,12 @@
 -- Tokens that are spelled are cut into the same tokens.
 use Rattle.std.proofs.Common.{◌≡◌, ◌≢◌, ℕ, zero, suc, ◌+◌, ◌/◌, ◌%◌, ◌<◌, ◌≤◌, Bool, true, false, cond, List, [], ◌∷◌, ◌++◌}
-use Rattle.std.proofs.Common.{length, drop, Some, None, refl, sym, ap, subst, ◌∙◌, arith}
+use Rattle.std.proofs.Common.{length, Some, None, refl, sym, ap, subst, ◌∙◌, arith, append-nil}
 use Rattle.std.specs.Prelude.{◌==◌, ◌&&◌, ◌||◌, codes}
 use Rattle.std.specs.List.{take_while}
 use Rattle.std.proofs.lemmas.Bool.{le-leb}
 use Rattle.std.proofs.lemmas.Grind.{common_steps}
 use Rattle.std.proofs.lemmas.List.Sums.{take_while-cons}
+use Rattle.std.proofs.lemmas.List.{drop_at}
 use Rattle.calendar_days.specs.declared.weekday.Weekday.{Weekday}
 use Rattle.calendar_days.specs.declared.weekday.Weekday.TheVariants.{Mo, Tu, We, Th, Fr, Sa, Su}
 use Rattle.opening_hours.specs.declared.tokens.Token.{Token}
@@ -34,9 +35,6 @@ letters_front [] (b ∷ bs) h c = take_while-cons is_letter b bs ∙ ap (λ v. c
 letters_front (b ∷ bs) rest h c = take_while-cons is_letter b (bs ++ rest)
     ∙ ap (λ v. cond v (b ∷ take_while is_letter (bs ++ rest)) []) h.0 ∙ ap (λ (ws : List ℕ). b ∷ ws) (letters_front bs rest h.1 c)
 
-drop_front : (w rest : List ℕ) → drop (length w) (w ++ rest) ≡ rest
-drop_front w rest = grind (arith, common_steps)
-
 pub word_first : (w : List ℕ) (b : ℕ) (bs rest : List ℕ) (t : Token) → w ≡ b ∷ bs → AreLetters w → word_token w ≡ t
     → Calm rest → token_at (w ++ rest) ≡ Some (t, rest)
 unfolding token_at word_at
@@ -44,7 +42,7 @@ word_first w b bs rest t is h means c =
     let found : word_of w rest ≡ Some (t, rest) =
     subst (λ (v : List ℕ). word_of v rest ≡ Some (t, rest)) (sym is) (ap (λ (u : Token). Some (u, rest)) (ap word_token (sym is) ∙ means)) in
     let front = letters_front w rest h c in
-    rw (front, drop_front w rest, found) refl
+    rw (front, drop_at w rest (length w) refl, found) refl
 
 -- a text that doesn't begin with a letter has no word in front
 pub no_word : (b : ℕ) (bs : List ℕ) → is_letter b ≡ false → word_at (b ∷ bs) ≡ None
@@ -234,13 +232,9 @@ token_dark Comma more h = refl
 token_dark Semicolon more h = refl
 token_dark Colon more h = refl
 
-bytes_nil : (bs : List ℕ) → bs ++ [] ≡ bs
-bytes_nil [] = refl
-bytes_nil (b ∷ bs) = ap (λ (cs : List ℕ). b ∷ cs) (bytes_nil bs)
-
 spell_dark : (t : Token) (ts : List Token) → Spells t → without_blanks (spell (t ∷ ts)) ≡ spell (t ∷ ts)
 unfolding spell
-spell_dark t [] h = ap without_blanks (sym (bytes_nil (lexeme t))) ∙ token_dark t [] h ∙ bytes_nil (lexeme t)
+spell_dark t [] h = ap without_blanks (sym (append-nil (lexeme t))) ∙ token_dark t [] h ∙ append-nil (lexeme t)
 spell_dark t (u ∷ us) h = token_dark t (blank_between t u ++ spell (u ∷ us)) h
 
 calm_ends : (t : Token) (rest : List ℕ) → Calm rest → Ends t rest
@@ -282,7 +276,7 @@ after_gap false text = refl
 
 spelled_from : (t : Token) (ts : List Token) → AllSpell (t ∷ ts) → IsMatched (spell (t ∷ ts)) (t ∷ ts)
 unfolding spell
-spelled_from t [] h = ap token_at (sym (bytes_nil (lexeme t))) ∙ token_first t [] h.0 (calm_ends t [] tt)
+spelled_from t [] h = ap token_at (sym (append-nil (lexeme t))) ∙ token_first t [] h.0 (calm_ends t [] tt)
 spelled_from t (u ∷ us) h =
     let rest = blank_between t u ++ spell (u ∷ us) in
     let dark : without_blanks rest ≡ spell (u ∷ us) =

@@ -1,5 +1,5 @@
 -- The canonical text of tokens (source: OpenStreetMap wiki, `opening_hours`; the one form of each is own).
-use Rattle.std.specs.Prelude.{ℕ, ◌+◌, ◌/◌, ◌==◌, ◌||◌, Bool, true, false, List, [], ◌∷◌, ◌++◌, codes, if◌then◌else◌}
+use Rattle.std.specs.Prelude.{ℕ, ◌==◌, ◌||◌, Bool, true, false, List, [], ◌∷◌, ◌++◌, codes, if◌then◌else◌}
 use Rattle.calendar_days.specs.declared.weekday.Weekday.{Weekday}
 use Rattle.calendar_days.specs.declared.weekday.Weekday.TheVariants.{Mo, Tu, We, Th, Fr, Sa, Su}
 use Rattle.calendar_days.specs.Texts.{two_digits}

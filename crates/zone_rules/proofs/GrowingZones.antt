@@ -1,8 +1,9 @@
 -- Rows without a fault that take one row more.
-use Rattle.std.proofs.Common.{◌≡◌, ℕ, zero, suc, ◌+◌, ◌<◌, true, Option, Some, None, List, [], ◌∷◌, ◌++◌, length, refl, sym}
+use Rattle.std.proofs.Common.{◌≡◌, ℕ, zero, suc, ◌+◌, ◌<◌, true, Option, None, List, [], ◌∷◌, ◌++◌, length, refl, sym}
 use Rattle.std.proofs.Common.{◌∙◌, ap, subst, length-append, arith}
 use Rattle.std.specs.List.{filter_map, range_with_len, slice_get, last_or, cons_option}
 use Rattle.std.specs.Option.{option_and_then}
+use Rattle.route_base.proofs.Items.{slice_get-append_left, slice_get-push_end, last_or-cons}
 use Rattle.zone_rules.specs.Zones.{is_offset, is_later, row_fault, row_before, fault_at, zone_fault_of}
 use Rattle.zone_rules.specs.declared.rows.ZoneRow.{ZoneRow}
 use Rattle.zone_rules.proofs.FirstFaults.{IsFaultlessBefore, no_fault, faultless_more}
@@ -16,31 +17,18 @@ nothing_from {A} h a (suc n) none =
     ap (λ (o : Option A). cons_option o (filter_map h (range_with_len (a + 1) n))) here
     ∙ nothing_from h (a + 1) n (λ i w. (let next : a + 1 + i ≡ a + suc i = omega arith in ap h next ∙ none (suc i) (omega arith)))
 
-got_front : {A : Type 0} (xs ys : List A) (i : ℕ) → i < length xs → slice_get (xs ++ ys) i ≡ slice_get xs i
-got_front [] ys i h = absurd (omega arith)
-got_front (x ∷ xs) ys zero h = refl
-got_front (x ∷ xs) ys (suc i) h = got_front xs ys i (omega arith)
-
-got_behind : {A : Type 0} (xs : List A) (y : A) → slice_get (xs ++ y ∷ []) (length xs) ≡ Some y
-got_behind [] y = refl
-got_behind (x ∷ xs) y = got_behind xs y
-
-last_got : {A : Type 0} (o : Option A) (x : A) (xs : List A) → last_or o (x ∷ xs) ≡ slice_get (x ∷ xs) (length xs)
-last_got o x [] = refl
-last_got o x (y ∷ ys) = last_got (Some x) y ys
-
 -- the row before one that follows is the last one
 last_before : (rows : List ZoneRow) (row : ZoneRow) → row_before (rows ++ row ∷ []) (length rows) ≡ last_or None rows
 last_before [] row = refl
-last_before (first ∷ rows) row = got_front (first ∷ rows) (row ∷ []) (length rows) (omega arith) ∙ sym (last_got None first rows)
+last_before (first ∷ rows) row = slice_get-append_left (first ∷ rows) (row ∷ []) (length rows) (omega arith) ∙ sym (last_or-cons None first rows)
 
 before_front : (rows more : List ZoneRow) (i : ℕ) → i < length rows → row_before (rows ++ more) i ≡ row_before rows i
 before_front rows more zero h = refl
-before_front rows more (suc i) h = got_front rows more i (omega arith)
+before_front rows more (suc i) h = slice_get-append_left rows more i (omega arith)
 
 fault_front : (rows more : List ZoneRow) (i : ℕ) → i < length rows → fault_at (rows ++ more) i ≡ fault_at rows i
 fault_front rows more i h =
-    ap (λ (o : Option ZoneRow). option_and_then (row_fault i (row_before (rows ++ more) i)) o) (got_front rows more i h)
+    ap (λ (o : Option ZoneRow). option_and_then (row_fault i (row_before (rows ++ more) i)) o) (slice_get-append_left rows more i h)
     ∙ ap (λ (before : Option ZoneRow). option_and_then (row_fault i before) (slice_get rows i)) (before_front rows more i h)
 
 good_row : (i : ℕ) (before : Option ZoneRow) (row : ZoneRow) → is_offset row.offset ≡ true → is_later before row ≡ true
@@ -51,7 +39,7 @@ fault_behind : (rows : List ZoneRow) (row : ZoneRow) → is_offset row.offset �
     → fault_at (rows ++ row ∷ []) (length rows) ≡ None
 fault_behind rows row near later =
     let i = length rows in
-    ap (λ (o : Option ZoneRow). option_and_then (row_fault i (row_before (rows ++ row ∷ []) i)) o) (got_behind rows row)
+    ap (λ (o : Option ZoneRow). option_and_then (row_fault i (row_before (rows ++ row ∷ []) i)) o) (slice_get-push_end rows row)
     ∙ ap (λ (before : Option ZoneRow). row_fault i before row) (last_before rows row)
     ∙ good_row i (last_or None rows) row near later
 
