@@ -1,6 +1,8 @@
 // The files of the system. Their contents aren't told, so nothing is proved of them: this is the trusted edge.
-ghost use Rattle.std.specs.Prelude.{◌≡◌, ◌≤◌, length, IfOk};
-ghost use Rattle.lorry_plan.specs.Untold.{state_with};
+ghost use Rattle.std.specs.Prelude.{◌≡◌, ◌≤◌, length, IfOk, OnOk};
+ghost use Rattle.route_base.specs.FolderState.{CountsRise, KeepsFiles, MissedFile, FailedToRead, FailedToWrite};
+ghost use Rattle.route_base.specs.FolderState.{ReadsPart, LacksFile, PutsFile, SpoilsFile};
+ghost use Rattle.lorry_plan.specs.Untold.{state_with, after_read, after_write};
 
 use route_base::{Folder, PartError, WriteError};
 use std::fs;
@@ -58,7 +60,19 @@ fn write_whole<R: Files>(files: &R, name: &str, bytes: &[u8]) -> io::Result<()> 
 impl<R: Files> Folder for RealFolder<'_, R> {
     ghost state = { λ s. state_with s.missing s.read_faults s.write_faults };
 
-    fn read_part(&mut self, name: &str, at: u64, buf: &mut [u8]) -> Result<usize, PartError> {
+    // Counts the fault that it answers, and nothing else.
+    fn read_part(&mut self, name: &str, at: u64, buf: &mut [u8]) -> Result<usize, PartError>
+        ensures bound { IfOk result (λ k. k ≤ length buf.new) }
+        ensures kept { KeepsFiles (state self.old) (state self.new) }
+        ensures part { IfOk result (λ k. ReadsPart (state self.old) name.now at k buf.new) }
+        ensures not_there { result ≡ Err PartError.Missing
+            → LacksFile (state self.old) name.now }
+        ensures missing { result ≡ Err PartError.Missing
+            → MissedFile (state self.old) (state self.new) }
+        ensures failed { result ≡ Err PartError.Failed
+            → FailedToRead (state self.old) (state self.new) }
+        ensures after { state self.new ≡ after_read (state self.old) result }
+    {
         match read_at(self.files, name, at, buf) {
             Ok(count) => Ok(count),
             Err(error) => {
@@ -73,7 +87,18 @@ impl<R: Files> Folder for RealFolder<'_, R> {
         }
     }
 
-    fn write_file(&mut self, name: &str, bytes: &[u8]) -> Result<(), WriteError> {
+    // Counts the fault that it answers, and nothing else.
+    fn write_file(&mut self, name: &str, bytes: &[u8]) -> Result<(), WriteError>
+        ensures ok { OnOk result (PutsFile (state self.old) (state self.new) name.now bytes.now) }
+        ensures spoilt { result ≡ Err WriteError.Failed
+            → SpoilsFile (state self.old) (state self.new) name.now }
+        ensures no_memory { result ≡ Err WriteError.OutOfMemory
+            → (state self.new).contents ≡ (state self.old).contents }
+        ensures counts { CountsRise (state self.old) (state self.new) }
+        ensures failed { result ≡ Err WriteError.Failed
+            → FailedToWrite (state self.old) (state self.new) }
+        ensures after { state self.new ≡ after_write (state self.old) result }
+    {
         match write_whole(self.files, name, bytes) {
             Ok(()) => Ok(()),
             Err(_) => {

@@ -1,6 +1,7 @@
 // The standard output. The bytes that it took aren't told, so nothing is proved of them: this is the trusted edge.
-ghost use Rattle.std.specs.Prelude.{◌≡◌};
-ghost use Rattle.lorry_plan.specs.Untold.{sink_with};
+ghost use Rattle.std.specs.Prelude.{◌≡◌, OnOk};
+ghost use Rattle.route_base.specs.SinkState.{Appends, AppendsPrefix, StaysSilent, FaultsRise, FailedToAppend};
+ghost use Rattle.lorry_plan.specs.Untold.{sink_with, after_append};
 
 use route_base::{Sink, WriteError};
 use std::io::{self, ErrorKind};
@@ -37,7 +38,18 @@ fn write_whole<R: Print>(out: &R, bytes: &[u8]) -> io::Result<()> {
 impl<R: Print> Sink for RealOut<'_, R> {
     ghost state = { λ s. sink_with s.faults };
 
-    fn write(&mut self, bytes: &[u8]) -> Result<(), WriteError> {
+    // Counts the fault that it answers, and nothing else.
+    fn write(&mut self, bytes: &[u8]) -> Result<(), WriteError>
+        ensures ok { OnOk result (Appends (state self.old) (state self.new) bytes.now) }
+        ensures prefix { result ≡ Err WriteError.Failed
+            → AppendsPrefix (state self.old) (state self.new) bytes.now }
+        ensures no_memory { result ≡ Err WriteError.OutOfMemory
+            → StaysSilent (state self.old) (state self.new) }
+        ensures count { FaultsRise (state self.old) (state self.new) }
+        ensures failed { result ≡ Err WriteError.Failed
+            → FailedToAppend (state self.old) (state self.new) }
+        ensures after { state self.new ≡ after_append (state self.old) result }
+    {
         match write_whole(self.out, bytes) {
             Ok(()) => Ok(()),
             Err(_) => {

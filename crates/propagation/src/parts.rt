@@ -8,7 +8,6 @@ ghost use Rattle.label_queue.specs.Keys.{key_at};
 ghost use Rattle.potentials.specs.Sums.{bound_at};
 ghost use Rattle.propagation.specs.Inside.Invariants.{TakesPart};
 ghost use Rattle.propagation.specs.Inside.States.{progress_of, task_of, is_pending, IsShaped, IsSplit, IsRequeued};
-ghost use Rattle.propagation.specs.declared.parts.TheConstants.{SPAN_AFTER_PAIRS};
 
 use crate::plan::Plan;
 use crate::spares::Spares;
@@ -17,15 +16,12 @@ use cost_functions::{CostFn, Piece};
 use function_merge::{beginning_by, cut_with_spare, into_pruned};
 use label_queue::LabelQueue;
 use minute_sets::MinuteSet;
-use route_base::{Bound, Minute, NodeId, OutOfMemory, Pair, Run};
+use route_base::{Bound, Minute, NodeId, OutOfMemory, Run};
 use std::alloc::Global;
 use std::mem;
 
-// A turn takes the pieces that begin within an hour of the first pending minute while no pair is found, since later costs still fall.
-const SPAN_BEFORE_PAIRS: u64 = 60;
-
-// Once pairs prune most labels, it takes those that begin within four hours.
-const SPAN_AFTER_PAIRS: u64 = 240;
+// A turn takes the pieces that begin within an hour of the first pending minute, since later costs may still fall.
+const SPAN: u64 = 60;
 
 // The part that is taken, and the first minute that is left.
 #[derive(Drop)]
@@ -70,7 +66,6 @@ pub fn part_of(
         state.functions[place].pieces(),
         state.pending[place].runs(),
         first,
-        span_for(&state.pairs),
     );
     let split = split_at(alloc, &mut state.pending, v, first, end)?;
     let whole = cut_with_spare(spares.take(alloc), &state.functions[place], &split.taken)?;
@@ -79,25 +74,13 @@ pub fn part_of(
     Ok(part)
 }
 
-// The span of a turn beside these pairs.
-fn span_for(pairs: &[Pair]) -> u64
-    ensures { result ≤ SPAN_AFTER_PAIRS }
-{
-    if pairs.is_empty() {
-        SPAN_BEFORE_PAIRS
-    } else {
-        SPAN_AFTER_PAIRS
-    }
-}
-
 // The end of the last piece of what is pending that begins within the span, so that no piece is split.
-fn end_of_turn(pieces: &[Piece], pending: &[Run], first: Minute, span: u64) -> Minute
+fn end_of_turn(pieces: &[Piece], pending: &[Run], first: Minute) -> Minute
     requires pieces { ArePieces pieces.now }
     requires first { first ≤ LAST_INSTANT }
-    requires span { span ≤ SPAN_AFTER_PAIRS }
     ensures { first < result }
 {
-    let limit = first + span;
+    let limit = first + SPAN;
     let Some(run) = last_run_by(pending, limit) else {
         return first + 1;
     };
