@@ -1,4 +1,4 @@
--- What costs fit, where arcs begin, and what stays of a part.
+-- What costs fit, the places of arcs, and what stays of a part.
 use Rattle.std.proofs.Common.{◌≡◌, ℕ, ◌<◌, Option, Some, None, List, length, sym, ◌∙◌, ap, subst}
 use Rattle.std.specs.Prelude.{Contains, slice_get}
 use Rattle.std.specs.Option.{option_map}
@@ -24,14 +24,6 @@ part_kept k old new v part better holds = record {
   reached = holds.reached;
   known = λ t x is. within_kept k old new (point v t x) better (holds.known t x is);
 }
-
-tail_of : (o : Option TimedArc) (road : Road) (v : ℕ) → option_map road_of o ≡ Some road → road.tail ≡ v → option_map (λ arc. arc.tail.0) o ≡ Some v
-tail_of None road v is tail = cc
-tail_of (Some arc) road v is tail = let e : road_of arc ≡ road = cc in ap (λ n. Some n) (ap (λ (w : Road). w.tail) e ∙ tail)
-
--- the arc of a drive begins where the drive does
-pub drive_begins : (net : Net) (until a : ℕ) (p q : Position) → Drives (setting_of net) until a p q → EndsAt net Tail p.node a
-drive_begins net until a p q step = tail_of (at_number net.arcs a) step.road p.node step.is step.tail
 
 -- the arc at each place of the list begins at the node
 pub place_begins : (net : Net) (star : Star) (v : ℕ) (arcs : List ArcId) (i : ℕ) (a : ArcId) → AreOutgoing net star → arcs ≡ arcs_of star v

@@ -8,13 +8,10 @@ use Rattle.route_base.specs.Legs.{start_of, end_of}
 use Rattle.route_base.specs.Relaxing.{HasWithin, HasPair, IsDominatedOrLate}
 use Rattle.route_base.specs.declared.types.Pair.{Pair}
 use Rattle.route_base.specs.declared.types.Bound.{Bound}
+use Rattle.route_base.proofs.Logic.{option_cases}
 use Rattle.propagation.specs.Inside.Invariants.{ArePartStepsRelaxed, ComesBy, DrivesRelaxed, HasIn, Improves, InPart, IsLabel, IsLower, IsOffer, IsPaired}
 use Rattle.propagation.specs.Inside.Invariants.{IsPrunable, IsRelaxedIn, IsSearching, IsSound, AreInReach, Progress, Reaches, TakesOffer, Task, no_part, point}
 use Rattle.propagation.specs.Found.{IsStart}
-
-option_cases : {A : Type 0} (o : Option A) → (o ≡ None) ⊎ ((x : A) × (o ≡ Some x))
-option_cases None = inl refl
-option_cases (Some x) = inr (x, refl)
 
 -- an excuse by pairs is one by better pairs
 pub prunable_kept : (k : Task) (old new : List Pair) (p : Position) → ((t x : ℕ) → HasPair old t x → HasPair new t x) → IsPrunable k old p → IsPrunable k new p
