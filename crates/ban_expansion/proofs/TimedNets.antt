@@ -3,6 +3,7 @@ use Rattle.std.proofs.Common.{◌≡◌, ⊎_elim, ℕ, zero, suc, ◌+◌, ◌�
 use Rattle.std.proofs.Common.{refl, sym, ◌∙◌, ap, subst, arith, add-one}
 use Rattle.std.specs.Prelude.{IsSome, unwrap_or}
 use Rattle.std.specs.Option.{option_map, option_flatten, ForSome}
+use Rattle.std.proofs.Math.Bool.{and-false}
 use Rattle.std.proofs.lemmas.Bool.{cases_lt, and_from, le-leb, lt-ltb}
 use Rattle.std.proofs.lemmas.List.{length_push, length-map}
 use Rattle.std.proofs.lemmas.List.Elements.{All-push, All-map, All-weaker}
@@ -163,6 +164,11 @@ module _ (net : NetworkModel) (vehicle : VehicleModel) (window : Run) (all : Gro
       ∙ sym (unwrap_or-slice_get lists (length lists) [])
       ∙ ap (λ o. unwrap_or o []) (slice_get_past lists (length lists) (omega arith)))
 
+  always_open : (v t : ℕ) → (setting_of (net_over net arcs lists)).wait_shut v t ≡ false
+  always_open v t =
+      ap (λ o. any_has (shut_by (net_over net arcs lists) (option_flatten o)) t) (at_number-map (park_over (length lists)) net.weights v)
+      ∙ never_shut (at_number net.weights v) t
+
   pub net_stands : StandsFor (setting_of (net_over net arcs lists)) (road_setting net vehicle) window
   net_stands = record {
     nodes = refl;
@@ -172,13 +178,14 @@ module _ (net : NetworkModel) (vehicle : VehicleModel) (window : Run) (all : Gro
     shut = λ a t there from to.
         closed_minutes a t (some_inside road_over (at_number net.graph.arcs a) there)
         ∙ ap (λ (b : Bool). b && is_closed net vehicle a t) (and_from _ _ (le-leb window.lo t from) (lt-ltb t window.hi to));
-    wait_shut = λ v t there from to.
-        ap (λ o. any_has (shut_by (net_over net arcs lists) (option_flatten o)) t) (at_number-map (park_over (length lists)) net.weights v)
-        ∙ never_shut (at_number net.weights v) t;
+    wait_shut = λ v t there from to. always_open v t;
   }
 
   pub net_shut : IsShutWithin net vehicle window (setting_of (net_over net arcs lists))
-  net_shut a t there = closed_minutes a t (some_inside road_over (at_number net.graph.arcs a) (subst IsSome (same_road a) there))
+  net_shut = record {
+    roads = λ a t there. closed_minutes a t (some_inside road_over (at_number net.graph.arcs a) (subst IsSome (same_road a) there));
+    waits = λ v t there. always_open v t ∙ sym (and-false (has_minute t window));
+  }
 
 -- a net of these parts
 abbrev pub net_with : ℕ → List TimedArc → List (List Run) → List (Option Park) → Net

@@ -15,15 +15,18 @@ use Rattle.conditional_rules.specs.declared.conditional.Clause.{Clause}
 use Rattle.conditional_rules.specs.declared.conditional.Part.{Part}
 use Rattle.network_tables.specs.Access.{is_closed}
 use Rattle.network_tables.specs.NetworkModel.{NetworkModel}
+use Rattle.network_tables.specs.RoadSetting.{road_setting}
 
 -- the set has exactly those minutes of the window that pass
 abbrev pub HasThose : Run → (ℕ → Bool) → List Run → Type 0
 HasThose window passes set = (t : ℕ) → any_has set t ≡ (has_minute t window && passes t)
 
--- each road is shut at exactly those minutes of the window at which its arc is closed to the vehicle, and at no minute outside it
-abbrev pub IsShutWithin : NetworkModel → VehicleModel → Run → Setting → Type 0
-IsShutWithin net vehicle window setting =
-    (a t : ℕ) → IsSome (setting.road a) → setting.shut a t ≡ (has_minute t window && is_closed net vehicle a t)
+-- at exactly those minutes of the window at which its arc is closed to the vehicle, and at no minute outside it, each road is shut; and
+-- waiting at each node that has a weight, where it is shut by the road setting
+pub record IsShutWithin (net : NetworkModel) (vehicle : VehicleModel) (window : Run) (s : Setting) : Type 0 where
+  pub roads : (a t : ℕ) → IsSome (s.road a) → s.shut a t ≡ (has_minute t window && is_closed net vehicle a t)
+  pub waits : (v t : ℕ) → IsSome (s.weight v)
+      → s.wait_shut v t ≡ (has_minute t window && (road_setting net vehicle).wait_shut v t)
 
 -- whether a part, and a clause, hold for the vehicle when clocks in the zone are read at this instant
 abbrev pub part_holds_at : VehicleModel → List ZoneRow → HolidayLists → Part → ℕ → Bool

@@ -18,7 +18,8 @@
 //! minutes give: the last layer that has a minute decides whether it is closed. `overlaid` and `closed_by` meet this, and `common`
 //! has the minutes of all sets. The law `last_of_all` says that lists of clauses, one after another, may be taken as one list.
 //! `Bans` says when a set has exactly those minutes of a window that pass a test (`HasThose`): the set of `closed_set` has those at
-//! which the arc is closed; and when the roads of a net are shut at exactly these minutes (`IsShutWithin`), as those of `expand_plain` are.
+//! which the arc is closed; and when a net is shut at exactly these minutes (`IsShutWithin`), its roads as well as its places to wait, as
+//! those of `expand_plain` are.
 //!
 //! The other definitions are machinery. `LocalDays` says which minutes of UTC the spans of a local day are, while the offset of
 //! the zone stays the same: `coverage` cuts the window where the offset changes, `local_days` lays out the days of each part, and

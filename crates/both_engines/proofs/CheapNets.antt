@@ -45,8 +45,8 @@ module _ (nodes : ℕ) (arcs : List TimedArc) (closed : List (Vec Run Global)) (
         (λ arc here. record {
           tail = here.tail;
           head = here.head;
-          minutes = (here.minutes.0, omega (arith, here.minutes.1));
-          cost = omega (arith, here.cost);
+          minutes = (here.cheap.minutes.0, omega (arith, here.cheap.minutes.1));
+          cost = omega (arith, here.cheap.cost, here.cheap.minutes.1);
           closed = omega (arith, here.closed, length-map closed (λ (v : Vec Run Global). v.items));
         })
         arcs small;

@@ -5,7 +5,7 @@ ghost use Rattle.node_arcs.specs.Stars.{AreOutgoing, AreIncoming};
 ghost use Rattle.plain_search.specs.Inside.Soundness.{IsAsked};
 
 use node_arcs::NodeArcs;
-use route_base::{OutOfMemory, Request, TimedNet};
+use route_base::{OutOfMemory, Request, TimedNet, net_is_good};
 use std::alloc::Global;
 
 /// A request over a net, with the forward and the backward star of the net.
@@ -34,8 +34,7 @@ impl<'a> Search<'a> {
     {
         let outgoing = NodeArcs::outgoing(alloc, net)?;
         let incoming = NodeArcs::incoming(alloc, net)?;
-        // A net that is read is known to be well-formed.
-        let _nodes = net.node_count();
+        net_is_good(net);
         Ok(Search {
             net,
             request,

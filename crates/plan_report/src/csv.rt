@@ -9,7 +9,7 @@ ghost use Rattle.route_base.specs.Time.{IsInstant};
 
 use crate::places::{Place, first_place, next_place};
 use crate::pushing::{push_instant, push_number, push_text, push_thousandths};
-use route_base::{Leg, OutOfMemory, Pair, Request, Route, Routes, TimedNet};
+use route_base::{Leg, OutOfMemory, Pair, Request, Route, Routes, TimedNet, net_is_good};
 use std::alloc::Global;
 
 // Appends the columns of a row behind its kind and arc.
@@ -124,7 +124,7 @@ fn push_route(
     ensures { OnOk result (out.new.items ≡ out.old.items
         ++ csv_route_text (setting_of net.now) request number route.now) }
 {
-    net.node_count();
+    net_is_good(net);
     push_legs(out, net, request, number, route.pair, route.legs.as_slice())?;
     push_arrival(out, request, number, route)
 }

@@ -5,7 +5,7 @@ ghost use Rattle.plan_report.specs.Stages.{road_at, weight_at, position_after};
 ghost use Rattle.route_base.specs.Legs.{start_of};
 ghost use Rattle.route_base.specs.Net.{road_of, setting_of};
 
-use route_base::{ArcId, Cost, Leg, Minute, NodeId, Request, TimedArc, TimedNet};
+use route_base::{ArcId, Cost, Leg, Minute, NodeId, Request, TimedArc, TimedNet, net_is_good};
 
 /// A node, a minute and the cost so far.
 #[derive(Clone, Copy)]
@@ -39,7 +39,7 @@ fn weight_of(net: &TimedNet, v: NodeId) -> Cost
     requires { IsSome ((setting_of net.now).weight v.0) }
     ensures { result ≡ weight_at (setting_of net.now) v.0 }
 {
-    net.node_count();
+    net_is_good(net);
     net.weight(v).unwrap()
 }
 

@@ -8,7 +8,7 @@ ghost use Rattle.route_base.specs.declared.limits.TheConstants.{LONGEST_HORIZON}
 use ban_expansion::expand_plain;
 use itinerary_unpack::{FunctionEngine, costs_fit};
 use network_tables::Network;
-use route_base::{FrontSearch, OutOfMemory, Request, Routes, Run, settings_agree};
+use route_base::{FrontSearch, OutOfMemory, Request, Routes, Run, net_is_good, settings_agree};
 use std::alloc::Global;
 use vehicle_classes::Vehicle;
 
@@ -34,7 +34,7 @@ pub fn plan_trip(
         hi: request.until,
     };
     let net = expand_plain(alloc, network, vehicle, window)?;
-    let _nodes = net.node_count();
+    net_is_good(&net);
     costs_fit();
     settings_agree();
     let routes = FunctionEngine.front(alloc, &net, request)?;

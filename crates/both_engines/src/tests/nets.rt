@@ -1,8 +1,9 @@
 // Nets of plain lists.
 ghost use Rattle.std.specs.Prelude.{◌≡◌, ◌≤◌, All, IfOk, IsTrue, length};
 ghost use Rattle.route_base.specs.Runs.{AreRuns};
-ghost use Rattle.both_engines.specs.SmallNets.{IsSmallArc, IsCheapArc, IsLight};
+ghost use Rattle.both_engines.specs.SmallNets.{IsSmallArc, IsShortAndCheap, IsCheapArc, IsLight};
 
+use route_base::limits::{COST_OF_MINUTE, HEAVIEST_WEIGHT};
 use route_base::{OutOfMemory, Park, Run, TimedArc, TimedNet};
 use std::alloc::Global;
 
@@ -53,7 +54,14 @@ fn is_small(arc: TimedArc, nodes: u32, lists: u32) -> bool
 {
     let tail = 1 <= arc.tail.0 && arc.tail.0 <= nodes;
     let head = 1 <= arc.head.0 && arc.head.0 <= nodes;
-    tail && head && 1 <= arc.minutes && arc.minutes <= 100 && arc.cost <= 100 && arc.closed < lists
+    tail && head && is_cheap(arc) && arc.closed < lists
+}
+
+// Whether the arc is short, and its minutes cost no more than those of driving.
+fn is_cheap(arc: TimedArc) -> bool
+    ensures { IsTrue result → IsShortAndCheap arc }
+{
+    1 <= arc.minutes && arc.minutes <= 1000 && arc.cost <= COST_OF_MINUTE * arc.minutes
 }
 
 // The lists of closed runs.
@@ -105,7 +113,7 @@ fn light(park: Option<&Option<Park>>, lists: u32) -> Option<Park>
 {
     match park {
         Some(Some(park)) => {
-            if park.weight <= 100 && park.shut < lists {
+            if park.weight <= HEAVIEST_WEIGHT && park.shut < lists {
                 Some(*park)
             } else {
                 None

@@ -36,7 +36,24 @@ const WAITS: Worked<'static> = Worked {
     pairs: &[(10, 9), (13, 3)],
 };
 
-const WORKED: [Worked<'static>; 14] = [
+const WAITS_FOR_HOURS: Worked<'static> = Worked {
+    name: "a wait of two hours until an arc opens, against a detour",
+    nodes: 3,
+    arcs: &[
+        (1, 2, 60, 60_000, 0),
+        (2, 3, 60, 60_000, 1),
+        (1, 3, 300, 300_000, 0),
+    ],
+    closed: &[(26_563_740, 26_563_860)],
+    weights: &[None, Some(2_000), None],
+    shut: &[],
+    goal: 3,
+    depart: 26_563_680,
+    until: 26_564_080,
+    pairs: &[(26_563_920, 360_000), (26_563_980, 300_000)],
+};
+
+const WORKED: [Worked<'static>; 16] = [
     WAITS,
     Worked {
         name: "the same where no wait is allowed",
@@ -147,6 +164,13 @@ const WORKED: [Worked<'static>; 14] = [
         depart: 1,
         until: 6,
         pairs: &[(6, 5)],
+    },
+    WAITS_FOR_HOURS,
+    Worked {
+        name: "the same where waiting is shut in the last minute before the arc opens",
+        shut: &[(26_563_859, 26_563_860)],
+        pairs: &[(26_563_980, 300_000)],
+        ..WAITS_FOR_HOURS
     },
 ];
 

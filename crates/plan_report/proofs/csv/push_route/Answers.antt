@@ -13,5 +13,5 @@ push_arrival-requires-clause-arrival c =
 pub push_arrival-requires-clause-few : goal.push_arrival-requires-clause-few
 push_arrival-requires-clause-few c =
     let few = few_legs c.args.net.now c.args.request.until c.args.route.now.legs (start_of c.args.request)
-    (end_of c.args.request c.args.route.now.pair) c.node_count.ensures.good c.requires.lawful.no_empty_wait c.requires.lawful.walk in
+    (end_of c.args.request c.args.route.now.pair) c.net_is_good.ensures c.requires.lawful.no_empty_wait c.requires.lawful.walk in
     omega (arith, few, (push_arrival-requires-clause-arrival c).1)

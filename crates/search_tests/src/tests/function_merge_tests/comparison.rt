@@ -7,7 +7,7 @@ use super::plain_lists::{is_better, lesser, pruned, shifted, value, waited};
 use cost_functions::CostFn;
 use function_merge::{
     can_shift, can_wait, cut_with_spare, improve_with_spare, into_pruned, is_improved, least, prune,
-    shift_with_spare, wait_with_spare,
+    shift, shift_and_prune, shift_with_spare, wait_with_spare,
 };
 use minute_sets::MinuteSet;
 use route_base::{Bound, OutOfMemory, Pair, Run};
@@ -303,6 +303,39 @@ fn prunes_as_lists(
     Ok(made.is_reduced())
 }
 
+// Whether shifting and pruning at once gives the values that pruning after shifting gives.
+fn shifts_and_prunes_alike(
+    alloc: Global,
+    random: &mut Random,
+    f: &CostFn,
+) -> Result<bool, OutOfMemory>
+    requires { AreBuilt f.now }
+{
+    let kept = random_keep(alloc, random)?;
+    let keep = set_of(alloc, &kept)?;
+    let minutes = random.below(12);
+    let cost = random.below(30);
+    if !can_shift(f, minutes, cost) {
+        return Ok(false);
+    }
+    let pairs = random_pairs(alloc, random)?;
+    let until = random.below(COMPARED);
+    let bound = Bound {
+        minutes: random.below(6),
+        cost: random.below(30),
+    };
+    let spare = f.reduce(alloc)?;
+    let at_once = shift_and_prune(spare, f, &keep, minutes, cost, until, &pairs, bound)?;
+    let moved = shift(alloc, f, &keep, minutes, cost)?;
+    let after = prune(alloc, &moved, until, &pairs, bound)?;
+    for t in 0..COMPARED {
+        if at_once.at(t) != after.at(t) {
+            return Ok(false);
+        }
+    }
+    Ok(at_once.is_reduced())
+}
+
 // Whether the calls on one function are right.
 fn changes_as_lists(
     alloc: Global,
@@ -316,7 +349,8 @@ fn changes_as_lists(
         has_values(f, a)
             && moves_as_lists(alloc, random, f, a)?
             && waits_as_lists(alloc, random, f, a)?
-            && prunes_as_lists(alloc, random, f, a)?,
+            && prunes_as_lists(alloc, random, f, a)?
+            && shifts_and_prunes_alike(alloc, random, f)?,
     )
 }
 

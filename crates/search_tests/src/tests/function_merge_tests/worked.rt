@@ -4,7 +4,8 @@ ghost use Rattle.cost_functions.specs.Lines.{IsPiece};
 
 use cost_functions::{CostFn, Piece};
 use function_merge::{
-    Merged, can_shift, can_wait, cut, improve, into_pruned, is_improved, least, prune, shift, wait,
+    Merged, can_shift, can_wait, cut, improve, improve_in_place, into_pruned, is_improved, least,
+    prune, shift, wait,
 };
 use minute_sets::MinuteSet;
 use route_base::{Bound, OutOfMemory, Pair, Run};
@@ -51,6 +52,10 @@ fn merges_where_lines_cross(rt: HostRuntime) -> Result<(), Fail> {
     assert!(rt; is_lesser(&merged, &[Run { lo: 5, hi: 11 }]));
     let again = improve(rt.alloc(), merged.function, &g)?;
     assert!(rt; is_lesser(&again, &[]));
+    let mut function = again.function;
+    let improved = improve_in_place(rt.alloc(), &mut function, &f)?;
+    assert!(rt; function.pieces() == LESSER.as_slice());
+    assert!(rt; improved.runs().is_empty());
     Ok(())
 }
 
