@@ -1,5 +1,5 @@
 -- The value of the last element that gives one, where one element more stands at the end.
-use Rattle.std.proofs.Common.{◌≡◌, Option, Some, None, List, [], ◌∷◌, ◌++◌, refl, sym, ap, ◌∙◌}
+use Rattle.std.proofs.Common.{◌≡◌, Option, List, [], ◌∷◌, ◌++◌, sym, ap, ◌∙◌}
 use Rattle.std.specs.Option.{option_or}
 use Rattle.route_base.proofs.Logic.{option_or-none, option_or-assoc}
 use Rattle.conditional_rules.specs.Decisions.{last_given}

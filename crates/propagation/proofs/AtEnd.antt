@@ -2,7 +2,7 @@
 use Rattle.std.proofs.Common.{◌≡◌, ℕ, ◌≤◌, false, List, [], ◌∷◌, get_or, ap, arith}
 use Rattle.std.proofs.lemmas.List.{get_or_default}
 use Rattle.route_base.specs.Setting.{Setting}
-use Rattle.route_base.specs.Itinerary.{Position, Step, drive, wait, Moves, Walks}
+use Rattle.route_base.specs.Itinerary.{Position, Step, Walks}
 use Rattle.route_base.specs.Legs.{start_of}
 use Rattle.route_base.specs.Relaxing.{AreBounds}
 use Rattle.route_base.specs.declared.types.Pair.{Pair}

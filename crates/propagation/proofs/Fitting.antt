@@ -1,14 +1,10 @@
 -- What costs fit, the places of arcs, and what stays of a part.
-use Rattle.std.proofs.Common.{◌≡◌, ℕ, ◌<◌, Option, Some, None, List, length, sym, ◌∙◌, ap, subst}
+use Rattle.std.proofs.Common.{◌≡◌, ℕ, ◌<◌, Option, Some, List, length, sym, ◌∙◌, ap, subst}
 use Rattle.std.specs.Prelude.{Contains, slice_get}
-use Rattle.std.specs.Option.{option_map}
 use Rattle.std.proofs.lemmas.Option.{slice_get-get_or, slice_get_within, get_or_from_slice_get}
-use Rattle.route_base.specs.Setting.{Road}
-use Rattle.route_base.specs.Itinerary.{Position, Drives}
 use Rattle.route_base.specs.Legs.{CostsFit}
-use Rattle.route_base.specs.Net.{Net, road_of, setting_of, at_number}
+use Rattle.route_base.specs.Net.{Net}
 use Rattle.route_base.specs.declared.types.ArcId.{ArcId}
-use Rattle.route_base.specs.declared.types.TimedArc.{TimedArc}
 use Rattle.propagation.proofs.Keeping.{within_kept}
 use Rattle.propagation.specs.Inside.Invariants.{Improves, IsSound, Progress, Task, point}
 use Rattle.propagation.specs.Inside.Offers.{IsKnownPart}

@@ -8,7 +8,6 @@ use Rattle.route_base.specs.Legs.{start_of, end_of}
 use Rattle.route_base.specs.Relaxing.{HasWithin, HasPair, IsDominatedOrLate}
 use Rattle.route_base.specs.declared.types.Pair.{Pair}
 use Rattle.route_base.specs.declared.types.Bound.{Bound}
-use Rattle.route_base.proofs.Logic.{option_cases}
 use Rattle.propagation.specs.Inside.Invariants.{ArePartStepsRelaxed, ComesBy, DrivesRelaxed, HasIn, Improves, InPart, IsLabel, IsLower, IsOffer, IsPaired}
 use Rattle.propagation.specs.Inside.Invariants.{IsPrunable, IsRelaxedIn, IsSearching, IsSound, AreInReach, Progress, Reaches, TakesOffer, Task, no_part, point}
 use Rattle.propagation.specs.Found.{IsStart}

@@ -8,7 +8,7 @@ use Rattle.route_base.specs.Runs.{any_has}
 use Rattle.route_base.specs.declared.types.Run.{Run}
 use Rattle.propagation.specs.Inside.EntrySets.{AreEntries}
 use Rattle.std.specs.Option.{option_map}
-use Rattle.std.proofs.lemmas.Bool.{cases_lt, le-leb, lt-leb}
+use Rattle.std.proofs.lemmas.Bool.{cases_lt, le-leb}
 use Rattle.route_base.specs.Setting.{Road}
 use Rattle.route_base.specs.Itinerary.{drive, wait, Drives}
 use Rattle.route_base.specs.Legs.{start_of, CostsFit}
