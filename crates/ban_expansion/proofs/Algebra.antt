@@ -6,14 +6,11 @@ use Rattle.std.proofs.lemmas.List.Folds.{list_any-append}
 use Rattle.std.proofs.lemmas.Bool.{or_cases, or_left, or_right, cases_eq, and_parts, leb-true, ltb-true}
 use Rattle.route_base.specs.Runs.{has_minute, any_has}
 use Rattle.route_base.specs.declared.types.Run.{Run}
+use Rattle.route_base.proofs.Logic.{or-false}
 use Rattle.opening_hours.specs.Coverage.{any_below}
 
-pub or_false : (b : Bool) → (b || false) ≡ b
-or_false true = refl
-or_false false = refl
-
 pub any_pushed : (xs : List Run) (r : Run) (t : ℕ) → any_has (xs ++ r ∷ []) t ≡ (any_has xs t || has_minute t r)
-any_pushed xs r t = list_any-append (has_minute t) xs (r ∷ []) ∙ ap (λ b. any_has xs t || b) (or_false (has_minute t r))
+any_pushed xs r t = list_any-append (has_minute t) xs (r ∷ []) ∙ ap (λ b. any_has xs t || b) (or-false (has_minute t r))
 
 pub or_more : (o i a h : Bool) → ((o || (i && a)) || (i && h)) ≡ (o || (i && (a || h)))
 or_more true i a h = refl
@@ -52,14 +49,6 @@ below_found p (suc n) h =
     (λ (early : any_below p n ≡ true). (let f = below_found p n early in (f.0, omega (arith, f.1), f.2)))
     (λ (last : p n ≡ true). (n, omega arith, last))
     (or_cases (any_below p n) (p n) h)
-
-pub below_from : (p : ℕ → Bool) (n i : ℕ) → i < n → p i ≡ true → any_below p n ≡ true
-below_from p zero i within h = absurd (omega (arith, within))
-below_from p (suc n) i within h =
-    ⊎_elim
-    (λ (same : i ≡ n). or_right (any_below p n) (p n) (ap p (sym same) ∙ h))
-    (λ (other : i ≡ n → ⊥). or_left (any_below p n) (p n) (below_from p n i (omega (arith, within, other)) h))
-    (cases_eq i n)
 
 pub inside_low : (t : ℕ) (r : Run) → has_minute t r ≡ true → r.lo ≤ t
 inside_low t r inside = leb-true r.lo t (and_parts (leb r.lo t) (ltb t r.hi) inside).0

@@ -3,7 +3,9 @@ use Rattle.std.proofs.Common.{◌≡◌, ℕ, ◌||◌, Bool, true, false, not, 
 use Rattle.std.proofs.Common.{List, [], ◌∷◌, All, length, refl, sym, ◌∙◌, ap, arith}
 use Rattle.std.specs.List.{list_any}
 use Rattle.std.specs.Option.{option_or}
+use Rattle.std.proofs.lemmas.Bool.{or_parts}
 use Rattle.route_base.specs.Runs.{any_has}
+use Rattle.route_base.proofs.Logic.{none_from_test}
 use Rattle.vehicle_classes.specs.Classes.{keys_of}
 use Rattle.vehicle_classes.specs.VehicleModel.{VehicleModel}
 use Rattle.vehicle_classes.specs.declared.classes.Key.{Key}
@@ -20,11 +22,7 @@ use Rattle.network_tables.specs.declared.rules.place.RulePlace.{RulePlace}
 use Rattle.network_tables.specs.declared.rules.place.Scope.TheVariants as scopes
 use Rattle.network_tables.proofs.ArcRules.{no_arc_value}
 use Rattle.ban_expansion.specs.Inside.Grouping.{AreAlike, HaveSameRules, every_key, has_own, has_own_rule}
-use Rattle.ban_expansion.proofs.ItemLists.{got_fails, or_none}
-
-nothing_there : {A : Type 0} (o : Option A) → is_some o ≡ false → o ≡ None
-nothing_there None h = refl
-nothing_there (Some x) h = absurd (cc)
+use Rattle.ban_expansion.proofs.ItemLists.{got_fails}
 
 no_items : {A : Type 0} (xs : List A) → ltb 0 (length xs) ≡ false → xs ≡ []
 no_items [] h = refl
@@ -98,14 +96,14 @@ module _ (net : NetworkModel) where
 
   has_nothing : (a : ℕ) → has_own net a ≡ false → HasNothing a
   has_nothing a none =
-      let parts = or_none (ltb 0 (length (closures_of net a))) (list_any (has_own_rule net a) every_key) none in
+      let parts = or_parts (ltb 0 (length (closures_of net a))) (list_any (has_own_rule net a) every_key) none in
       let values : (key : Key) → (is_some (plain_at net.rules (scopes.Arc a) key) ≡ false) × (is_some (conditional_at net.rules (scopes.Arc a) key) ≡ false) =
-      λ key. or_none (is_some (plain_at net.rules (scopes.Arc a) key)) (is_some (conditional_at net.rules (scopes.Arc a) key))
+      λ key. or_parts (is_some (plain_at net.rules (scopes.Arc a) key)) (is_some (conditional_at net.rules (scopes.Arc a) key))
       (no_key (has_own_rule net a) parts.1 key) in
       record {
         closures = no_items (closures_of net a) parts.0;
-        plain = λ key. nothing_there (plain_at net.rules (scopes.Arc a) key) (values key).0;
-        conditional = λ key. nothing_there (conditional_at net.rules (scopes.Arc a) key) (values key).1;
+        plain = λ key. none_from_test (plain_at net.rules (scopes.Arc a) key) (values key).0;
+        conditional = λ key. none_from_test (conditional_at net.rules (scopes.Arc a) key) (values key).1;
       }
 
   pub nothing_own : (a b : ℕ) → area_place net a ≡ area_place net b → has_own net a ≡ false → has_own net b ≡ false → AreAlike net a b

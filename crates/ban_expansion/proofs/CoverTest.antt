@@ -4,7 +4,8 @@ use Rattle.std.specs.List.{list_any}
 use Rattle.opening_hours.specs.Holidays.{HolidayLists}
 use Rattle.opening_hours.specs.Coverage.{day_spans, holds, is_covered, IsCovered}
 use Rattle.opening_hours.specs.declared.types.HoursRule.{HoursRule}
-use Rattle.ban_expansion.proofs.Algebra.{below_found, below_from}
+use Rattle.opening_hours.proofs.CoverTests.{below_from}
+use Rattle.ban_expansion.proofs.Algebra.{below_found}
 
 pub cover_test : (rules : List HoursRule) (holidays : HolidayLists) (day minute : ℕ)
     → (is_covered rules holidays day minute ≡ true) ↔ IsCovered rules holidays day minute

@@ -5,8 +5,9 @@ use Rattle.std.proofs.lemmas.Bool.{and_parts, and_from, leb-true, ltb-true, le-l
 use Rattle.opening_hours.specs.Holidays.{HolidayLists}
 use Rattle.opening_hours.specs.Coverage.{day_spans, holds, is_covered}
 use Rattle.opening_hours.specs.declared.types.HoursRule.{HoursRule}
+use Rattle.opening_hours.proofs.CoverTests.{below_from}
 use Rattle.ban_expansion.specs.LocalDays.{local_covered, day_covers, days_cover}
-use Rattle.ban_expansion.proofs.Algebra.{same_from, any_guarded, below_found, below_from}
+use Rattle.ban_expansion.proofs.Algebra.{same_from, any_guarded, below_found}
 
 module _ (rules : List HoursRule) (holidays : HolidayLists) where
   abbrev spans_hold : ℕ → ℕ → Bool

@@ -4,12 +4,13 @@ use Rattle.std.proofs.Math.ListN.{set}
 use Rattle.std.proofs.lemmas.List.{length_push}
 use Rattle.std.proofs.lemmas.List.Elements.{All-nil, All-push}
 use Rattle.route_base.specs.declared.types.ArcId.{ArcId}
+use Rattle.route_base.proofs.Items.{slice_get-push_end}
 use Rattle.network_tables.specs.Access.{area_place}
 use Rattle.network_tables.specs.NetworkModel.{NetworkModel}
 use Rattle.ban_expansion.specs.ArcGroups.{GroupsModel, IsArc, IsInGroup, AreGroupsOf}
 use Rattle.ban_expansion.specs.Inside.Grouping.{AreAlike, AreShared, begun, has_own, group_joined}
 use Rattle.ban_expansion.proofs.AlikeArcs.{closed_alike, nothing_own}
-use Rattle.ban_expansion.proofs.ItemLists.{got_before, got_last, got_pushed, got_set}
+use Rattle.ban_expansion.proofs.ItemLists.{got_before, got_pushed, got_set}
 
 module _ (net : NetworkModel) where
   -- an arc stays in its group where a group is added
@@ -22,7 +23,7 @@ module _ (net : NetworkModel) where
 
   -- an arc is in the group that it begins
   begins : (firsts : List ArcId) (a : ArcId) → IsInGroup net (firsts ++ a ∷ []) a.0 (length firsts)
-  begins firsts a = record { first = a; there = got_last firsts a; alike = λ vehicle t. refl }
+  begins firsts a = record { first = a; there = slice_get-push_end firsts a; alike = λ vehicle t. refl }
 
   -- an arc is in the group of one that is like it
   pub is_like_first : (firsts : List ArcId) (a group : ℕ) (first : ArcId) → slice_get firsts group ≡ Some first

@@ -4,21 +4,13 @@ use Rattle.std.proofs.Common.{refl, sym, ◌∙◌, ap, subst}
 use Rattle.std.specs.List.{AllZip, list_any}
 use Rattle.std.proofs.Math.ListN.{set}
 use Rattle.std.proofs.lemmas.List.Elements.{All-nil, All-cons}
-
-pub or_none : (a b : Bool) → (a || b) ≡ false → (a ≡ false) × (b ≡ false)
-or_none true b h = absurd (cc)
-or_none false b h = (refl, h)
+use Rattle.std.proofs.lemmas.Bool.{or_parts}
 
 -- an item stays where it is when items are added
 pub got_before : {A : Type 0} (xs ys : List A) (i : ℕ) (x : A) → slice_get xs i ≡ Some x → slice_get (xs ++ ys) i ≡ Some x
 got_before [] ys i x is = absurd (cc)
 got_before (y ∷ xs) ys zero x is = is
 got_before (y ∷ xs) ys (suc i) x is = got_before xs ys i x is
-
--- the item that was added is the last
-pub got_last : {A : Type 0} (xs : List A) (x : A) → slice_get (xs ++ x ∷ []) (length xs) ≡ Some x
-got_last [] x = refl
-got_last (y ∷ xs) x = got_last xs x
 
 -- an item after one was added is that one or was there
 pub got_pushed : {A : Type 0} (C : Type 0) (xs : List A) (y : A) (i : ℕ) (z : A) → slice_get (xs ++ y ∷ []) i ≡ Some z
@@ -42,8 +34,8 @@ pub got_fails : {A : Type 0} (p : A → Bool) (xs : List A) (i : ℕ) (x : A) �
 got_fails p [] i x is none = absurd (cc)
 got_fails p (y ∷ ys) zero x is none =
     let same : y ≡ x = cc in
-    ap p (sym same) ∙ (or_none (p y) (list_any p ys) none).0
-got_fails p (y ∷ ys) (suc i) x is none = got_fails p ys i x is (or_none (p y) (list_any p ys) none).1
+    ap p (sym same) ∙ (or_parts (p y) (list_any p ys) none).0
+got_fails p (y ∷ ys) (suc i) x is none = got_fails p ys i x is (or_parts (p y) (list_any p ys) none).1
 
 module _ {A B : Type 0} (R : A → B → Type 0) where
   pub zip_push : (xs : List A) (ys : List B) (x : A) (y : B) → AllZip R xs ys → R x y → AllZip R (xs ++ x ∷ []) (ys ++ y ∷ [])

@@ -1,20 +1,13 @@
 -- The last item that gives a value, in lists one after another.
 use Rattle.std.proofs.Common.{◌≡◌, Option, Some, None, List, [], ◌∷◌, ◌++◌, refl, sym, ◌∙◌, ap}
 use Rattle.std.specs.Option.{option_or}
+use Rattle.route_base.proofs.Logic.{option_or-none, option_or-assoc}
 use Rattle.conditional_rules.specs.Decisions.{last_given}
 use Rattle.ban_expansion.specs.Layers.{all_parts}
 
-or_none : {A : Type 0} (o : Option A) → option_or o None ≡ o
-or_none None = refl
-or_none (Some x) = refl
-
-or_assoc : {A : Type 0} (o p q : Option A) → option_or (option_or o p) q ≡ option_or o (option_or p q)
-or_assoc None p q = refl
-or_assoc (Some x) p q = refl
-
 pub last_append : {Q A : Type 0} (f : Q → Option A) (xs ys : List Q) → last_given f (xs ++ ys) ≡ option_or (last_given f ys) (last_given f xs)
-last_append f [] ys = sym (or_none (last_given f ys))
-last_append f (x ∷ xs) ys = ap (λ o. option_or o (f x)) (last_append f xs ys) ∙ or_assoc (last_given f ys) (last_given f xs) (f x)
+last_append f [] ys = sym (option_or-none (last_given f ys))
+last_append f (x ∷ xs) ys = ap (λ o. option_or o (f x)) (last_append f xs ys) ∙ option_or-assoc (last_given f ys) (last_given f xs) (f x)
 
 pub last_flat : {P Q A : Type 0} (parts : P → List Q) (f : Q → Option A) (places : List P)
     → last_given (λ p. last_given f (parts p)) places ≡ last_given f (all_parts parts places)

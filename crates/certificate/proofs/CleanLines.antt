@@ -4,7 +4,7 @@ use Rattle.std.proofs.Common.{All, append_assoc, refl, ◌∙◌, ap, arith}
 use Rattle.std.specs.Prelude.{codes, decimal}
 use Rattle.std.specs.Fmt.{digits, digits_onto, digit_glyph}
 use Rattle.std.specs.List.{join_with_byte}
-use Rattle.std.proofs.lemmas.Bool.{lt-ltb, ne_eqb}
+use Rattle.std.proofs.lemmas.Bool.{lt-ltb, ne_eqb, and_parts, and_from}
 use Rattle.std.proofs.lemmas.List.Elements.{All-nil, All-cons, All-head, All-tail, All-append}
 use Rattle.std.proofs.lemmas.List.Splits.{slice_split_none, slice_split_at}
 use Rattle.route_base.specs.declared.types.Bound.{Bound}
@@ -18,7 +18,6 @@ use Rattle.certificate.specs.CertificateText.{all_pieces, certificate_lines}
 use Rattle.certificate.specs.declared.Certificate.{Certificate}
 use Rattle.certificate.specs.Inside.LineForms.{spaced_tokens}
 use Rattle.certificate.specs.Inside.Reading.{token_lines}
-use Rattle.certificate.proofs.LineForms.{both_true}
 
 -- whether a byte is neither a space nor a line feed
 abbrev is_plain : ℕ → Bool
@@ -34,9 +33,6 @@ is_clean [] = false
 is_clean (t ∷ []) = are_plain t
 is_clean (t ∷ u ∷ ts) = are_plain t && is_clean (u ∷ ts)
 
-and_true : (a b : Bool) → a ≡ true → b ≡ true → (a && b) ≡ true
-and_true a b h k = ap (λ d. d && b) h ∙ k
-
 not_true : (b : Bool) → not b ≡ true → b ≡ false
 not_true false is = refl
 not_true true is = absurd (cc)
@@ -44,28 +40,28 @@ not_true true is = absurd (cc)
 no_space : (bs : List ℕ) → are_plain bs ≡ true → All (λ b. (b == 32) ≡ false) bs
 no_space [] is = All-nil (λ b. (b == 32) ≡ false)
 no_space (b ∷ bs) is =
-    let parts = both_true (is_plain b) (are_plain bs) is in
-    All-cons (λ c. (c == 32) ≡ false) b bs (not_true (b == 32) (both_true (not (b == 32)) (not (b == 10)) parts.0).0) (no_space bs parts.1)
+    let parts = and_parts (is_plain b) (are_plain bs) is in
+    All-cons (λ c. (c == 32) ≡ false) b bs (not_true (b == 32) (and_parts (not (b == 32)) (not (b == 10)) parts.0).0) (no_space bs parts.1)
 
 no_feed : (bs : List ℕ) → are_plain bs ≡ true → All (λ b. (b == 10) ≡ false) bs
 no_feed [] is = All-nil (λ b. (b == 10) ≡ false)
 no_feed (b ∷ bs) is =
-    let parts = both_true (is_plain b) (are_plain bs) is in
-    All-cons (λ c. (c == 10) ≡ false) b bs (not_true (b == 10) (both_true (not (b == 32)) (not (b == 10)) parts.0).1) (no_feed bs parts.1)
+    let parts = and_parts (is_plain b) (are_plain bs) is in
+    All-cons (λ c. (c == 10) ≡ false) b bs (not_true (b == 10) (and_parts (not (b == 32)) (not (b == 10)) parts.0).1) (no_feed bs parts.1)
 
 -- tokens that are joined and cut again
 tokens_again : (ts : Tokens) → is_clean ts ≡ true → spaced_tokens (join_with_byte 32 ts) ≡ ts
 tokens_again [] clean = absurd (cc)
 tokens_again (t ∷ []) clean = slice_split_none (λ b. b == 32) t (no_space t clean)
 tokens_again (t ∷ u ∷ ts) clean =
-    let parts = both_true (are_plain t) (is_clean (u ∷ ts)) clean in
+    let parts = and_parts (are_plain t) (is_clean (u ∷ ts)) clean in
     slice_split_at (λ b. b == 32) t 32 (join_with_byte 32 (u ∷ ts)) (no_space t parts.0) refl ∙ ap (λ l. t ∷ l) (tokens_again (u ∷ ts) parts.1)
 
 feedless : (ts : Tokens) → is_clean ts ≡ true → All (λ b. (b == 10) ≡ false) (join_with_byte 32 ts)
 feedless [] clean = absurd (cc)
 feedless (t ∷ []) clean = no_feed t clean
 feedless (t ∷ u ∷ ts) clean =
-    let parts = both_true (are_plain t) (is_clean (u ∷ ts)) clean in
+    let parts = and_parts (are_plain t) (is_clean (u ∷ ts)) clean in
     All-append (λ b. (b == 10) ≡ false) t (32 ∷ join_with_byte 32 (u ∷ ts)) (no_feed t parts.0)
     (All-cons (λ b. (b == 10) ≡ false) 32 (join_with_byte 32 (u ∷ ts)) refl (feedless (u ∷ ts) parts.1))
 
@@ -87,7 +83,7 @@ lines_of_text (l ∷ lines) clean =
 glyph_plain : (d : ℕ) → d < 10 → is_plain (digit_glyph false d) ≡ true
 glyph_plain d small =
     ap is_plain (ap (λ b. cond b (48 + d) (87 + d)) (lt-ltb d 10 small))
-    ∙ and_true (not (48 + d == 32)) (not (48 + d == 10))
+    ∙ and_from (not (48 + d == 32)) (not (48 + d == 10))
     (ap not (ne_eqb (48 + d) 32 (λ same. omega (arith, same)))) (ap not (ne_eqb (48 + d) 10 (λ same. omega (arith, same))))
 
 onto_plain : (k n : ℕ) (acc : List ℕ) → are_plain acc ≡ true → are_plain (digits_onto k 10 false n acc) ≡ true
@@ -95,7 +91,7 @@ onto_plain zero n acc plain = plain
 onto_plain (suc k) n acc plain = chosen (n / 10 == 0) (onto_plain k (n / 10) (digit_glyph false (n % 10) ∷ acc) more)
   where
     more : are_plain (digit_glyph false (n % 10) ∷ acc) ≡ true
-    more = and_true (is_plain (digit_glyph false (n % 10))) (are_plain acc) (glyph_plain (n % 10) (omega arith)) plain
+    more = and_from (is_plain (digit_glyph false (n % 10))) (are_plain acc) (glyph_plain (n % 10) (omega arith)) plain
 
     chosen : (b : Bool) → are_plain (digits_onto k 10 false (n / 10) (digit_glyph false (n % 10) ∷ acc)) ≡ true
         → are_plain (cond b (digit_glyph false (n % 10) ∷ acc) (digits_onto k 10 false (n / 10) (digit_glyph false (n % 10) ∷ acc))) ≡ true
@@ -112,23 +108,23 @@ leg_clean (Drive arc) = decimal_plain arc.0
 leg_clean (Wait minutes) = decimal_plain minutes
 
 two_clean : (a b : List ℕ) → are_plain a ≡ true → are_plain b ≡ true → is_clean (a ∷ b ∷ []) ≡ true
-two_clean a b h k = and_true (are_plain a) (are_plain b) h k
+two_clean a b h k = and_from (are_plain a) (are_plain b) h k
 
 pair_clean : (route : Route) → is_clean (pair_line route) ≡ true
-pair_clean route = and_true (are_plain (decimal route.pair.arrival))
+pair_clean route = and_from (are_plain (decimal route.pair.arrival))
     (is_clean (decimal route.pair.cost ∷ decimal (length route.legs) ∷ [])) (decimal_plain route.pair.arrival)
     (two_clean (decimal route.pair.cost) (decimal (length route.legs)) (decimal_plain route.pair.cost) (decimal_plain (length route.legs)))
 
 bound_clean : (e : NodeId × Bound) → is_clean (bound_line e) ≡ true
-bound_clean e = and_true (are_plain (decimal e.0.0)) (is_clean (decimal e.1.minutes ∷ decimal e.1.cost ∷ [])) (decimal_plain e.0.0)
+bound_clean e = and_from (are_plain (decimal e.0.0)) (is_clean (decimal e.1.minutes ∷ decimal e.1.cost ∷ [])) (decimal_plain e.0.0)
     (two_clean (decimal e.1.minutes) (decimal e.1.cost) (decimal_plain e.1.minutes) (decimal_plain e.1.cost))
 
 piece_clean : (v : NodeId) (p : Piece) → is_clean (piece_line v p) ≡ true
 piece_clean v p =
     let last = two_clean (decimal p.cost) (decimal p.slope) (decimal_plain p.cost) (decimal_plain p.slope) in
-    let third = and_true (are_plain (decimal p.hi)) (is_clean (decimal p.cost ∷ decimal p.slope ∷ [])) (decimal_plain p.hi) last in
-    let second = and_true (are_plain (decimal p.lo)) (is_clean (decimal p.hi ∷ decimal p.cost ∷ decimal p.slope ∷ [])) (decimal_plain p.lo) third in
-    and_true (are_plain (decimal v.0)) (is_clean (decimal p.lo ∷ decimal p.hi ∷ decimal p.cost ∷ decimal p.slope ∷ [])) (decimal_plain v.0) second
+    let third = and_from (are_plain (decimal p.hi)) (is_clean (decimal p.cost ∷ decimal p.slope ∷ [])) (decimal_plain p.hi) last in
+    let second = and_from (are_plain (decimal p.lo)) (is_clean (decimal p.hi ∷ decimal p.cost ∷ decimal p.slope ∷ [])) (decimal_plain p.lo) third in
+    and_from (are_plain (decimal v.0)) (is_clean (decimal p.lo ∷ decimal p.hi ∷ decimal p.cost ∷ decimal p.slope ∷ [])) (decimal_plain v.0) second
 
 mapped_clean : {A : Type 0} (line : A → Tokens) → ((x : A) → is_clean (line x) ≡ true) → (xs : List A) → AreClean (map line xs)
 mapped_clean line each [] = All-nil (λ l. is_clean l ≡ true)

@@ -4,10 +4,10 @@ use Rattle.std.specs.Prelude.{codes}
 use Rattle.std.specs.List.{slice_split, join_with_byte}
 use Rattle.std.specs.Str.{bytes_eq}
 use Rattle.std.proofs.lemmas.List.Splits.{join_with_byte-slice_split}
+use Rattle.std.proofs.lemmas.Slice.Eq.{bytes_eq-Decides}
 use Rattle.certificate.specs.CertificateText.{Tokens, line_text}
 use Rattle.certificate.specs.Inside.LineForms.{spaced_tokens}
 use Rattle.certificate.specs.Inside.Reading.{token_lines, is_end}
-use Rattle.certificate.proofs.LineForms.{equal_bytes}
 
 joined_lines : (lines : List (List ℕ)) → map (join_with_byte 32) (map spaced_tokens lines) ≡ lines
 joined_lines [] = refl
@@ -34,7 +34,7 @@ end_lines [] is = absurd (cc)
 end_lines ([] ∷ lines) is = absurd (cc)
 end_lines ((w ∷ []) ∷ []) is = absurd (cc)
 end_lines ((w ∷ []) ∷ [] ∷ lines) is = absurd (cc)
-end_lines ((w ∷ []) ∷ ([] ∷ []) ∷ []) is = ap (λ v. (v ∷ []) ∷ ([] ∷ []) ∷ []) (equal_bytes w (codes "end") is)
+end_lines ((w ∷ []) ∷ ([] ∷ []) ∷ []) is = ap (λ v. (v ∷ []) ∷ ([] ∷ []) ∷ []) ((bytes_eq-Decides w (codes "end")).0 is)
 end_lines ((w ∷ []) ∷ ([] ∷ []) ∷ l ∷ lines) is = absurd (cc)
 end_lines ((w ∷ []) ∷ ([] ∷ v ∷ tokens) ∷ lines) is = absurd (cc)
 end_lines ((w ∷ []) ∷ ((b ∷ v) ∷ tokens) ∷ lines) is = absurd (cc)
@@ -45,7 +45,7 @@ end_test bytes = tested (bytes_eq bytes (codes "end\n")) refl (is_end (token_lin
   where
     tested : (b : Bool) → bytes_eq bytes (codes "end\n") ≡ b → (d : Bool) → is_end (token_lines bytes) ≡ d
         → bytes_eq bytes (codes "end\n") ≡ is_end (token_lines bytes)
-    tested true is d end = is ∙ sym (ap (λ bs. is_end (token_lines bs)) (equal_bytes bytes (codes "end\n") is))
+    tested true is d end = is ∙ sym (ap (λ bs. is_end (token_lines bs)) ((bytes_eq-Decides bytes (codes "end\n")).0 is))
     tested false is true end = ap (λ bs. bytes_eq bs (codes "end\n"))
         (bytes_again bytes ((codes "end" ∷ []) ∷ ([] ∷ []) ∷ []) (end_lines (token_lines bytes) end)) ∙ sym end
     tested false is false end = is ∙ sym end

@@ -3,7 +3,9 @@ use Rattle.std.proofs.Common.{◌≡◌, ⊎_elim, ◌==◌, ◌&&◌, ◌||◌,
 use Rattle.std.proofs.Common.{subst, arith, rules}
 use Rattle.std.specs.Prelude.{codes, decimal, nat_le, nat_lt, unwrap_or, option_map, option_and_then}
 use Rattle.std.specs.Str.{bytes_eq}
-use Rattle.std.proofs.lemmas.Bool.{cases_lt, le-leb, lt-leb, lt-ltb, le-ltb, eq-eqb, ne_eqb, eqb-true}
+use Rattle.std.proofs.lemmas.Bool.{cases_lt, le-leb, lt-leb, lt-ltb, le-ltb, eq-eqb, ne_eqb, eqb-true, and_parts}
+use Rattle.std.proofs.lemmas.Option.{same_Some}
+use Rattle.std.proofs.lemmas.Slice.Eq.{bytes_eq-Decides}
 use Rattle.route_base.specs.Digits.{plain_number_of}
 use Rattle.route_base.specs.declared.limits.TheConstants.{HIGHEST_COST, LAST_INSTANT, MOST_ARCS, MOST_NODES}
 use Rattle.route_base.specs.declared.types.Bound.{Bound}
@@ -11,6 +13,7 @@ use Rattle.route_base.specs.declared.types.Leg.{Leg}
 use Rattle.route_base.specs.declared.types.Leg.TheVariants.{Drive, Wait}
 use Rattle.route_base.specs.declared.types.NodeId.{NodeId}
 use Rattle.route_base.specs.declared.types.Pair.{Pair}
+use Rattle.route_base.proofs.Logic.{then_some, map_some, behind_test}
 use Rattle.cost_functions.specs.Lines.{IsPiece}
 use Rattle.cost_functions.specs.declared.TheConstants.{HIGHEST_PIECE_COST}
 use Rattle.cost_functions.specs.declared.pieces.Piece.{Piece}
@@ -21,31 +24,8 @@ use Rattle.certificate.specs.Inside.LineForms.{number_within, node_from, leg_in,
 use Rattle.certificate.specs.Inside.LineForms.{count_in}
 use Rattle.certificate.proofs.PlainNumbers.{plain_again, plain_found}
 
--- the parts of an answer
-pub some_of : {A B : Type 0} (o : Option A) (f : A → Option B) (y : B) → option_and_then f o ≡ Some y → (x : A) × (o ≡ Some x) × (f x ≡ Some y)
-some_of None f y is = absurd (cc)
-some_of (Some x) f y is = (x, refl, is)
-
-pub mapped_of : {A B : Type 0} (o : Option A) (f : A → B) (y : B) → option_map f o ≡ Some y → (x : A) × (o ≡ Some x) × (f x ≡ y)
-mapped_of None f y is = absurd (cc)
-mapped_of (Some x) f y is = (x, refl, ap (λ w. unwrap_or w (f x)) is)
-
-pub if_some : {B : Type 0} (c : Bool) (o : Option B) (y : B) → cond c o None ≡ Some y → (c ≡ true) × (o ≡ Some y)
-if_some true o y is = (refl, is)
-if_some false o y is = absurd (cc)
-
-pub same_some : {A : Type 0} (x y : A) → Some x ≡ Some y → x ≡ y
-same_some x y is = ap (λ w. unwrap_or w x) is
-
-pub both_true : (a b : Bool) → (a && b) ≡ true → (a ≡ true) × (b ≡ true)
-both_true true b is = (refl, is)
-both_true false b is = absurd (cc)
-
 pub same_bytes : (w : List ℕ) → bytes_eq w w ≡ true
 same_bytes w = search rules
-
-pub equal_bytes : (w v : List ℕ) → bytes_eq w v ≡ true → w ≡ v
-equal_bytes w v h = search rules
 
 le_true : (m n : ℕ) → nat_le m n ≡ true → m ≤ n
 le_true m n h = ⊎_elim (λ (over : n < m). absurd (let bad = sym h ∙ lt-leb m n over in cc)) (λ (upto : m ≤ n). upto) (cases_lt n m)
@@ -64,10 +44,10 @@ pub record IsNumberOf (least most : ℕ) (token : List ℕ) (n : ℕ) : Type 0 w
 
 pub number_found : (least most : ℕ) (token : List ℕ) (n : ℕ) → number_within least most token ≡ Some n → IsNumberOf least most token n
 number_found least most token n is =
-    let parts = some_of (plain_number_of token) (λ m. cond (nat_le least m && nat_le m most) (Some m) None) n is in
-    let tests = if_some (nat_le least parts.0 && nat_le parts.0 most) (Some parts.0) n parts.2 in
-    let limits = both_true (nat_le least parts.0) (nat_le parts.0 most) tests.0 in
-    let same : parts.0 ≡ n = same_some parts.0 n tests.1 in
+    let parts = then_some (plain_number_of token) (λ m. cond (nat_le least m && nat_le m most) (Some m) None) n is in
+    let tests = behind_test (nat_le least parts.0 && nat_le parts.0 most) (Some parts.0) n parts.2 in
+    let limits = and_parts (nat_le least parts.0) (nat_le parts.0 most) tests.0 in
+    let same : parts.0 ≡ n = same_Some parts.0 n tests.1 in
     record {
       token_is = sym (plain_found token parts.0 parts.1) ∙ ap decimal same;
       low = omega (arith, le_true least parts.0 limits.0, same);
@@ -79,7 +59,7 @@ node_again v writable = ap (λ o. option_map (λ n. record { 0 = n }) o) (number
 
 pub node_found : (token : List ℕ) (v : NodeId) → node_from token ≡ Some v → (token ≡ decimal v.0) × IsWritableNode v
 node_found token v is =
-    let parts = mapped_of (number_within 1 MOST_NODES token) (λ n. record { 0 = n }) v is in
+    let parts = map_some (number_within 1 MOST_NODES token) (λ n. record { 0 = n }) v is in
     let number = number_found 1 MOST_NODES token parts.0 parts.1 in
     let same : parts.0 ≡ v.0 = ap (λ (u : NodeId). u.0) parts.2 in
     (number.token_is ∙ ap decimal same, (omega (arith, number.low, same), omega (arith, number.high, same)))
@@ -93,7 +73,7 @@ module _ (word number : List ℕ) (leg : Leg) where
   drive_found : word ≡ codes "drive" → option_map (λ n. Drive (record { 0 = n })) (number_within 1 MOST_ARCS number) ≡ Some leg
       → (word ∷ number ∷ [] ≡ leg_line leg) × IsWritableLeg leg
   drive_found named is =
-      let parts = mapped_of (number_within 1 MOST_ARCS number) (λ n. Drive (record { 0 = n })) leg is in
+      let parts = map_some (number_within 1 MOST_ARCS number) (λ n. Drive (record { 0 = n })) leg is in
       let found = number_found 1 MOST_ARCS number parts.0 parts.1 in
       subst (λ (l : Leg). (word ∷ number ∷ [] ≡ leg_line l) × IsWritableLeg l) parts.2
       (ap (λ w. w ∷ number ∷ []) named ∙ ap (λ t. codes "drive" ∷ t ∷ []) found.token_is, (found.low, found.high))
@@ -101,21 +81,21 @@ module _ (word number : List ℕ) (leg : Leg) where
   wait_found : word ≡ codes "wait" → option_map (λ n. Wait n) (number_within 1 LAST_INSTANT number) ≡ Some leg
       → (word ∷ number ∷ [] ≡ leg_line leg) × IsWritableLeg leg
   wait_found named is =
-      let parts = mapped_of (number_within 1 LAST_INSTANT number) (λ n. Wait n) leg is in
+      let parts = map_some (number_within 1 LAST_INSTANT number) (λ n. Wait n) leg is in
       let found = number_found 1 LAST_INSTANT number parts.0 parts.1 in
       subst (λ (l : Leg). (word ∷ number ∷ [] ≡ leg_line l) × IsWritableLeg l) parts.2
       (ap (λ w. w ∷ number ∷ []) named ∙ ap (λ t. codes "wait" ∷ t ∷ []) found.token_is, (found.low, found.high))
 
   waiting_found : (b : Bool) → bytes_eq word (codes "wait") ≡ b → cond b (option_map (λ n. Wait n) (number_within 1 LAST_INSTANT number)) None ≡ Some leg
       → (word ∷ number ∷ [] ≡ leg_line leg) × IsWritableLeg leg
-  waiting_found true named is = wait_found (equal_bytes word (codes "wait") named) is
+  waiting_found true named is = wait_found ((bytes_eq-Decides word (codes "wait")).0 named) is
   waiting_found false named is = absurd (cc)
 
   leg_from_found : (b : Bool) → bytes_eq word (codes "drive") ≡ b
       → cond b (option_map (λ n. Drive (record { 0 = n })) (number_within 1 MOST_ARCS number))
       (cond (bytes_eq word (codes "wait")) (option_map (λ n. Wait n) (number_within 1 LAST_INSTANT number)) None) ≡ Some leg
       → (word ∷ number ∷ [] ≡ leg_line leg) × IsWritableLeg leg
-  leg_from_found true named is = drive_found (equal_bytes word (codes "drive") named) is
+  leg_from_found true named is = drive_found ((bytes_eq-Decides word (codes "drive")).0 named) is
   leg_from_found false named is = waiting_found (bytes_eq word (codes "wait")) refl is
 
 pub leg_found : (tokens : Tokens) (leg : Leg) → leg_in tokens ≡ Some leg → (tokens ≡ leg_line leg) × IsWritableLeg leg
@@ -140,9 +120,9 @@ pair_again p legs writable =
 pair_from_found : (arrival cost : List ℕ) (p : Pair) → pair_from arrival cost ≡ Some p
     → (arrival ≡ decimal p.arrival) × (cost ≡ decimal p.cost) × IsWritablePair p
 pair_from_found arrival cost p is =
-    let first = some_of (number_within 0 LAST_INSTANT arrival)
+    let first = then_some (number_within 0 LAST_INSTANT arrival)
     (λ a. option_map (λ c. record { arrival = a; cost = c }) (number_within 0 HIGHEST_PIECE_COST cost)) p is in
-    let second = mapped_of (number_within 0 HIGHEST_PIECE_COST cost) (λ c. record { arrival = first.0; cost = c }) p first.2 in
+    let second = map_some (number_within 0 HIGHEST_PIECE_COST cost) (λ c. record { arrival = first.0; cost = c }) p first.2 in
     let a = number_found 0 LAST_INSTANT arrival first.0 first.1 in
     let c = number_found 0 HIGHEST_PIECE_COST cost second.0 second.1 in
     subst (λ (q : Pair). (arrival ≡ decimal q.arrival) × (cost ≡ decimal q.cost) × IsWritablePair q) second.2
@@ -155,12 +135,12 @@ pair_found (word ∷ []) p legs is = absurd (cc)
 pair_found (word ∷ a ∷ []) p legs is = absurd (cc)
 pair_found (word ∷ a ∷ c ∷ []) p legs is = absurd (cc)
 pair_found (word ∷ a ∷ c ∷ n ∷ []) p legs is =
-    let tests = if_some (bytes_eq word (codes "pair")) (option_map (λ q. (q, n)) (pair_from a c)) (p, legs) is in
-    let parts = mapped_of (pair_from a c) (λ q. (q, n)) (p, legs) tests.1 in
+    let tests = behind_test (bytes_eq word (codes "pair")) (option_map (λ q. (q, n)) (pair_from a c)) (p, legs) is in
+    let parts = map_some (pair_from a c) (λ q. (q, n)) (p, legs) tests.1 in
     let same : parts.0 ≡ p = ap (λ (r : Pair × List ℕ). r.0) parts.2 in
     let last : n ≡ legs = ap (λ (r : Pair × List ℕ). r.1) parts.2 in
     let numbers = pair_from_found a c p (parts.1 ∙ ap Some same) in (
-      ap (λ w. w ∷ a ∷ c ∷ n ∷ []) (equal_bytes word (codes "pair") tests.0)
+      ap (λ w. w ∷ a ∷ c ∷ n ∷ []) ((bytes_eq-Decides word (codes "pair")).0 tests.0)
           ∙ ap (λ t. codes "pair" ∷ t ∷ c ∷ n ∷ []) numbers.0
           ∙ ap (λ t. codes "pair" ∷ decimal p.arrival ∷ t ∷ n ∷ []) numbers.1
           ∙ ap (λ t. codes "pair" ∷ decimal p.arrival ∷ decimal p.cost ∷ t ∷ []) last,
@@ -185,9 +165,9 @@ bound_again e node bound =
 bound_from_found : (minutes cost : List ℕ) (b : Bound) → bound_from minutes cost ≡ Some b
     → (minutes ≡ decimal b.minutes) × (cost ≡ decimal b.cost) × IsWritableBound b
 bound_from_found minutes cost b is =
-    let first = some_of (number_within 0 LONGEST_BOUND minutes)
+    let first = then_some (number_within 0 LONGEST_BOUND minutes)
     (λ m. option_map (λ c. record { minutes = m; cost = c }) (number_within 0 HIGHEST_PIECE_COST cost)) b is in
-    let second = mapped_of (number_within 0 HIGHEST_PIECE_COST cost) (λ c. record { minutes = first.0; cost = c }) b first.2 in
+    let second = map_some (number_within 0 HIGHEST_PIECE_COST cost) (λ c. record { minutes = first.0; cost = c }) b first.2 in
     let m = number_found 0 LONGEST_BOUND minutes first.0 first.1 in
     let c = number_found 0 HIGHEST_PIECE_COST cost second.0 second.1 in
     subst (λ (q : Bound). (minutes ≡ decimal q.minutes) × (cost ≡ decimal q.cost) × IsWritableBound q) second.2
@@ -199,13 +179,13 @@ bound_found (word ∷ []) e is = absurd (cc)
 bound_found (word ∷ v ∷ []) e is = absurd (cc)
 bound_found (word ∷ v ∷ m ∷ []) e is = absurd (cc)
 bound_found (word ∷ v ∷ m ∷ c ∷ []) e is =
-    let tests = if_some (bytes_eq word (codes "bound")) (option_and_then (λ u. option_map (λ b. (u, b)) (bound_from m c)) (node_from v)) e is in
-    let outer = some_of (node_from v) (λ u. option_map (λ b. (u, b)) (bound_from m c)) e tests.1 in
-    let inner = mapped_of (bound_from m c) (λ b. (outer.0, b)) e outer.2 in
+    let tests = behind_test (bytes_eq word (codes "bound")) (option_and_then (λ u. option_map (λ b. (u, b)) (bound_from m c)) (node_from v)) e is in
+    let outer = then_some (node_from v) (λ u. option_map (λ b. (u, b)) (bound_from m c)) e tests.1 in
+    let inner = map_some (bound_from m c) (λ b. (outer.0, b)) e outer.2 in
     let node = node_found v outer.0 outer.1 in
     let numbers = bound_from_found m c inner.0 inner.1 in
     subst (λ (d : NodeId × Bound). (word ∷ v ∷ m ∷ c ∷ [] ≡ bound_line d) × IsWritableNode d.0 × IsWritableBound d.1) inner.2 (
-      ap (λ w. w ∷ v ∷ m ∷ c ∷ []) (equal_bytes word (codes "bound") tests.0)
+      ap (λ w. w ∷ v ∷ m ∷ c ∷ []) ((bytes_eq-Decides word (codes "bound")).0 tests.0)
           ∙ ap (λ t. codes "bound" ∷ t ∷ m ∷ c ∷ []) node.0
           ∙ ap (λ t. codes "bound" ∷ decimal outer.0.0 ∷ t ∷ c ∷ []) numbers.0
           ∙ ap (λ t. codes "bound" ∷ decimal outer.0.0 ∷ decimal inner.0.minutes ∷ t ∷ []) numbers.1,
@@ -230,7 +210,7 @@ test_again p piece =
 test_found : (l h s : ℕ) → (nat_lt l h || (l == h && s == 0)) ≡ true → (l ≤ h) × (l ≡ h → s ≡ 0)
 test_found l h s is = ⊎_elim
     (λ (less : l < h). (omega (arith, less), λ (same : l ≡ h). omega (arith, less, same)))
-    (λ (upto : h ≤ l). (let both = both_true (l == h) (s == 0) (sym (ap (λ b. b || (l == h && s == 0)) (le-ltb l h upto)) ∙ is) in
+    (λ (upto : h ≤ l). (let both = and_parts (l == h) (s == 0) (sym (ap (λ b. b || (l == h && s == 0)) (le-ltb l h upto)) ∙ is) in
     (omega (arith, eqb-true l h both.0), λ (same : l ≡ h). eqb-true s 0 both.1)))
     (cases_lt l h)
 
@@ -263,24 +243,24 @@ tested l h c s = cond (nat_lt l h || (l == h && s == 0)) (Some (record { lo = l;
 
 pub piece_from_found : (lo hi cost slope : List ℕ) (p : Piece) → piece_from lo hi cost slope ≡ Some p → IsPieceOf lo hi cost slope p
 piece_from_found lo hi cost slope p is =
-    let first = some_of (number_within 0 LAST_INSTANT lo)
+    let first = then_some (number_within 0 LAST_INSTANT lo)
     (λ l. option_and_then (λ h. option_and_then (λ c. option_and_then (λ s. tested l h c s)
     (number_within 0 HIGHEST_COST slope)) (number_within 0 HIGHEST_PIECE_COST cost)) (number_within 0 LAST_INSTANT hi)) p is in
-    let second = some_of (number_within 0 LAST_INSTANT hi)
+    let second = then_some (number_within 0 LAST_INSTANT hi)
     (λ h. option_and_then (λ c. option_and_then (λ s. tested first.0 h c s) (number_within 0 HIGHEST_COST slope))
     (number_within 0 HIGHEST_PIECE_COST cost)) p first.2 in
-    let third = some_of (number_within 0 HIGHEST_PIECE_COST cost)
+    let third = then_some (number_within 0 HIGHEST_PIECE_COST cost)
     (λ c. option_and_then (λ s. tested first.0 second.0 c s) (number_within 0 HIGHEST_COST slope)) p second.2 in
-    let fourth = some_of (number_within 0 HIGHEST_COST slope) (λ s. tested first.0 second.0 third.0 s) p third.2 in
+    let fourth = then_some (number_within 0 HIGHEST_COST slope) (λ s. tested first.0 second.0 third.0 s) p third.2 in
     let l = number_found 0 LAST_INSTANT lo first.0 first.1 in
     let h = number_found 0 LAST_INSTANT hi second.0 second.1 in
     let c = number_found 0 HIGHEST_PIECE_COST cost third.0 third.1 in
     let s = number_found 0 HIGHEST_COST slope fourth.0 fourth.1 in
     let made : Option Piece = Some (record { lo = first.0; hi = second.0; cost = third.0; slope = fourth.0 }) in
-    let test = if_some (nat_lt first.0 second.0 || (first.0 == second.0 && fourth.0 == 0)) made p fourth.2 in
+    let test = behind_test (nat_lt first.0 second.0 || (first.0 == second.0 && fourth.0 == 0)) made p fourth.2 in
     let minutes = test_found first.0 second.0 fourth.0 test.0 in
     subst (λ (q : Piece). IsPieceOf lo hi cost slope q)
-    (same_some (record { lo = first.0; hi = second.0; cost = third.0; slope = fourth.0 }) p test.1) (record {
+    (same_Some (record { lo = first.0; hi = second.0; cost = third.0; slope = fourth.0 }) p test.1) (record {
       lo_is = l.token_is;
       hi_is = h.token_is;
       cost_is = c.token_is;
@@ -296,13 +276,13 @@ piece_found (word ∷ n ∷ l ∷ []) v p is = absurd (cc)
 piece_found (word ∷ n ∷ l ∷ h ∷ []) v p is = absurd (cc)
 piece_found (word ∷ n ∷ l ∷ h ∷ c ∷ []) v p is = absurd (cc)
 piece_found (word ∷ n ∷ l ∷ h ∷ c ∷ s ∷ []) v p is =
-    let tests = if_some (bytes_eq word (codes "piece")) (option_and_then (λ u. option_map (λ q. (u, q)) (piece_from l h c s)) (node_from n)) (v, p) is in
-    let outer = some_of (node_from n) (λ u. option_map (λ q. (u, q)) (piece_from l h c s)) (v, p) tests.1 in
-    let inner = mapped_of (piece_from l h c s) (λ q. (outer.0, q)) (v, p) outer.2 in
+    let tests = behind_test (bytes_eq word (codes "piece")) (option_and_then (λ u. option_map (λ q. (u, q)) (piece_from l h c s)) (node_from n)) (v, p) is in
+    let outer = then_some (node_from n) (λ u. option_map (λ q. (u, q)) (piece_from l h c s)) (v, p) tests.1 in
+    let inner = map_some (piece_from l h c s) (λ q. (outer.0, q)) (v, p) outer.2 in
     let node = node_found n outer.0 outer.1 in
     let numbers = piece_from_found l h c s inner.0 inner.1 in
     subst (λ (d : NodeId × Piece). (word ∷ n ∷ l ∷ h ∷ c ∷ s ∷ [] ≡ piece_line d.0 d.1) × IsWritableNode d.0 × IsPiece d.1) inner.2 (
-      ap (λ w. w ∷ n ∷ l ∷ h ∷ c ∷ s ∷ []) (equal_bytes word (codes "piece") tests.0)
+      ap (λ w. w ∷ n ∷ l ∷ h ∷ c ∷ s ∷ []) ((bytes_eq-Decides word (codes "piece")).0 tests.0)
           ∙ ap (λ t. codes "piece" ∷ t ∷ l ∷ h ∷ c ∷ s ∷ []) node.0
           ∙ ap (λ t. codes "piece" ∷ decimal outer.0.0 ∷ t ∷ h ∷ c ∷ s ∷ []) numbers.lo_is
           ∙ ap (λ t. codes "piece" ∷ decimal outer.0.0 ∷ decimal inner.0.lo ∷ t ∷ c ∷ s ∷ []) numbers.hi_is
@@ -324,10 +304,10 @@ piece_at_again v p node piece =
 
 pub piece_at_found : (v : NodeId) (tokens : Tokens) (p : Piece) → piece_at v tokens ≡ Some p → (tokens ≡ piece_line v p) × IsWritableNode v × IsPiece p
 piece_at_found v tokens p is =
-    let parts = some_of (piece_in tokens) (λ e. cond (e.0.0 == v.0) (Some e.1) None) p is in
-    let test = if_some (parts.0.0.0 == v.0) (Some parts.0.1) p parts.2 in
+    let parts = then_some (piece_in tokens) (λ e. cond (e.0.0 == v.0) (Some e.1) None) p is in
+    let test = behind_test (parts.0.0.0 == v.0) (Some parts.0.1) p parts.2 in
     let node = same_node parts.0.0 v test.0 in
-    let piece = same_some parts.0.1 p test.1 in
+    let piece = same_Some parts.0.1 p test.1 in
     piece_found tokens v p (parts.1 ∙ ap (λ u. Some (u, parts.0.1)) node ∙ ap (λ q. Some (v, q)) piece)
 
 -- the line of another node's piece
@@ -344,6 +324,6 @@ pub count_found : (word : List ℕ) (tokens : Tokens) (count : List ℕ) → cou
 count_found word [] count is = absurd (cc)
 count_found word (w ∷ []) count is = absurd (cc)
 count_found word (w ∷ n ∷ []) count is =
-    let tests = if_some (bytes_eq w word) (Some n) count is in
-    ap (λ v. v ∷ n ∷ []) (equal_bytes w word tests.0) ∙ ap (λ t. word ∷ t ∷ []) (same_some n count tests.1)
+    let tests = behind_test (bytes_eq w word) (Some n) count is in
+    ap (λ v. v ∷ n ∷ []) ((bytes_eq-Decides w word).0 tests.0) ∙ ap (λ t. word ∷ t ∷ []) (same_Some n count tests.1)
 count_found word (w ∷ n ∷ other ∷ tokens) count is = absurd (cc)

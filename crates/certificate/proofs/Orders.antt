@@ -1,7 +1,7 @@
 -- Tests of neighbours, and facts of all pairs of a list.
 use Rattle.std.proofs.Common.{◌≡◌, ◌<◌, ◌&&◌, suc, Bool, true, List, [], ◌∷◌, get_or, All, refl, ◌∙◌, ap, arith}
 use Rattle.std.specs.Prelude.{AllPairs}
-use Rattle.std.proofs.lemmas.Bool.{lt-ltb, ltb-true}
+use Rattle.std.proofs.lemmas.Bool.{lt-ltb, ltb-true, and_parts}
 use Rattle.std.proofs.lemmas.List.Elements.{All-cons, All-head, All-tail}
 use Rattle.std.proofs.lemmas.List.Kept.{AllPairs-cons}
 use Rattle.route_base.specs.Legs.{HasNoNeighbouringWaits}
@@ -13,7 +13,6 @@ use Rattle.cost_functions.specs.Pieces.{ArePieces}
 use Rattle.cost_functions.specs.declared.pieces.Piece.{Piece}
 use Rattle.certificate.specs.ByNode.{AreRising}
 use Rattle.certificate.specs.Inside.Reading.{neighbours_pass, may_follow_leg, may_follow_piece, may_follow_entry}
-use Rattle.certificate.proofs.LineForms.{both_true}
 
 module _ {A : Type 0} (test : A → A → Bool) (R : A → A → Type 0) where
   module _ (P : A → Type 0) (holds : (x y : A) → test x y ≡ true → R x y) (across : (x y z : A) → P y → R x y → R y z → R x z) where
@@ -21,7 +20,7 @@ module _ {A : Type 0} (test : A → A → Bool) (R : A → A → Type 0) where
     pairs_from [] all is = λ i j d before within. absurd (omega (arith, within))
     pairs_from (x ∷ []) all is = λ i j d before within. absurd (omega (arith, before, within))
     pairs_from (x ∷ y ∷ xs) all is =
-        let parts = both_true (test x y) (neighbours_pass test (y ∷ xs)) is in
+        let parts = and_parts (test x y) (neighbours_pass test (y ∷ xs)) is in
         let others = All-tail P x (y ∷ xs) all in
         let rest = pairs_from (y ∷ xs) others parts.1 in
         let first = holds x y parts.0 in

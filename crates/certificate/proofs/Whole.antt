@@ -3,9 +3,12 @@ use Rattle.std.proofs.Common.{◌≡◌, ℕ, ◌<◌, true, cond, Some, None, L
 use Rattle.std.proofs.Common.{sym, ◌∙◌, ap, subst, arith}
 use Rattle.std.specs.Prelude.{codes, option_and_then}
 use Rattle.std.specs.Str.{bytes_eq}
+use Rattle.std.proofs.lemmas.Option.{same_Some}
+use Rattle.std.proofs.lemmas.Slice.Eq.{bytes_eq-Decides}
 use Rattle.route_base.specs.declared.types.Bound.{Bound}
 use Rattle.route_base.specs.declared.types.NodeId.{NodeId}
 use Rattle.route_base.specs.declared.types.Route.{Route}
+use Rattle.route_base.proofs.Logic.{then_some, behind_test}
 use Rattle.cost_functions.specs.declared.pieces.Piece.{Piece}
 use Rattle.certificate.specs.CertificateText.{Tokens, count_line, route_lines, bound_line, function_lines, all_pieces, certificate_lines}
 use Rattle.certificate.specs.ByNode.{AreRising}
@@ -20,7 +23,7 @@ use Rattle.certificate.proofs.CleanLines.{lines_of_text, certificate_clean}
 use Rattle.certificate.proofs.CutLines.{read_first, first_found}
 use Rattle.certificate.proofs.CutText.{bytes_again, text_again, end_lines}
 use Rattle.certificate.proofs.Items.{items_again, lines_again, lines_found}
-use Rattle.certificate.proofs.LineForms.{some_of, if_some, same_some, equal_bytes, count_found, IsWritableBound, bound_again, bound_found}
+use Rattle.certificate.proofs.LineForms.{count_found, IsWritableBound, bound_again, bound_found}
 use Rattle.certificate.proofs.Orders.{entries_rise, entries_pass}
 
 -- all lines of a certificate, and those behind each block, with an empty one behind the last line feed
@@ -118,13 +121,13 @@ module _ (c : Certificate) (writable : IsWritable c) where
 -- what is read is written so
 title_found : (lines : List Tokens) (others : List Tokens) → behind_title lines ≡ Some others → lines ≡ title ∷ others
 title_found lines others is =
-    let head = some_of (first_line (count_in (codes "lorry-certificate")) lines) (λ r. cond (bytes_eq r.0 (codes "1")) (Some r.1) None) others is in
-    let test = if_some (bytes_eq head.0.0 (codes "1")) (Some head.0.1) others head.2 in
+    let head = then_some (first_line (count_in (codes "lorry-certificate")) lines) (λ r. cond (bytes_eq r.0 (codes "1")) (Some r.1) None) others is in
+    let test = behind_test (bytes_eq head.0.0 (codes "1")) (Some head.0.1) others head.2 in
     let first = first_found (count_in (codes "lorry-certificate")) lines head.0.0 head.0.1 head.1 in
     first.lines_are
     ∙ ap (λ l. l ∷ head.0.1) (count_found (codes "lorry-certificate") first.line head.0.0 first.is_read)
-    ∙ ap (λ t. (codes "lorry-certificate" ∷ t ∷ []) ∷ head.0.1) (equal_bytes head.0.0 (codes "1") test.0)
-    ∙ ap (λ ls. title ∷ ls) (same_some head.0.1 others test.1)
+    ∙ ap (λ t. (codes "lorry-certificate" ∷ t ∷ []) ∷ head.0.1) ((bytes_eq-Decides head.0.0 (codes "1")).0 test.0)
+    ∙ ap (λ ls. title ∷ ls) (same_Some head.0.1 others test.1)
 
 routes_block : (lines : List Tokens) (rs : List Route) (others : List Tokens) → routes_in lines ≡ Some (rs, others)
     → (lines ≡ pair_lines rs others) × All IsWritableRoute rs
@@ -167,22 +170,22 @@ functions_block lines fs others is =
 
 certificate_found : (lines : List Tokens) (c : Certificate) → certificate_in lines ≡ Some c → (lines ≡ all_lines c) × IsWritable c
 certificate_found lines c is =
-    let first = some_of (behind_title lines) (λ ls. option_and_then (λ r. option_and_then (λ b. option_and_then (λ f.
+    let first = then_some (behind_title lines) (λ ls. option_and_then (λ r. option_and_then (λ b. option_and_then (λ f.
     cond (is_end f.1) (Some (record { routes = r.0; bounds = b.0; functions = f.0 })) None) (functions_in b.1)) (bounds_in r.1)) (routes_in ls)) c is in
-    let second = some_of (routes_in first.0) (λ r. option_and_then (λ b. option_and_then (λ f.
+    let second = then_some (routes_in first.0) (λ r. option_and_then (λ b. option_and_then (λ f.
     cond (is_end f.1) (Some (record { routes = r.0; bounds = b.0; functions = f.0 })) None) (functions_in b.1)) (bounds_in r.1)) c first.2 in
     let rs = second.0.0 in
-    let third = some_of (bounds_in second.0.1) (λ b. option_and_then (λ f.
+    let third = then_some (bounds_in second.0.1) (λ b. option_and_then (λ f.
     cond (is_end f.1) (Some (record { routes = rs; bounds = b.0; functions = f.0 })) None) (functions_in b.1)) c second.2 in
     let bs = third.0.0 in
-    let fourth = some_of (functions_in third.0.1) (λ f. cond (is_end f.1) (Some (record { routes = rs; bounds = bs; functions = f.0 })) None) c third.2 in
+    let fourth = then_some (functions_in third.0.1) (λ f. cond (is_end f.1) (Some (record { routes = rs; bounds = bs; functions = f.0 })) None) c third.2 in
     let fs = fourth.0.0 in
     let made : Certificate = record { routes = rs; bounds = bs; functions = fs } in
-    let end = if_some (is_end fourth.0.1) (Some made) c fourth.2 in
+    let end = behind_test (is_end fourth.0.1) (Some made) c fourth.2 in
     let routes = routes_block first.0 rs second.0.1 second.1 in
     let bounds = bounds_block second.0.1 bs third.0.1 third.1 in
     let functions = functions_block third.0.1 fs fourth.0.1 fourth.1 in
-    subst (λ (d : Certificate). (lines ≡ all_lines d) × IsWritable d) (same_some made c end.1) (
+    subst (λ (d : Certificate). (lines ≡ all_lines d) × IsWritable d) (same_Some made c end.1) (
       title_found lines first.0 first.1
           ∙ ap (λ ls. title ∷ ls) (routes.0
           ∙ ap (λ ls. pair_lines rs ls) (bounds.lines_are
@@ -220,4 +223,4 @@ text_back bytes c is =
     ∙ certificate_back c is.writable
 
 pub one_certificate : (bytes : List ℕ) (c d : Certificate) → IsCertificateText bytes c → IsCertificateText bytes d → c ≡ d
-one_certificate bytes c d first second = same_some c d (sym (text_back bytes c first) ∙ text_back bytes d second)
+one_certificate bytes c d first second = same_Some c d (sym (text_back bytes c first) ∙ text_back bytes d second)

@@ -7,6 +7,7 @@ use Rattle.std.specs.Option.{option_map}
 use Rattle.std.proofs.lemmas.Bool.{and_parts, or_parts}
 use Rattle.std.proofs.lemmas.List.Folds.{list_any-append}
 use Rattle.opening_hours.specs.PlainText.{StartsFilled, EndsFilled}
+use Rattle.opening_hours.proofs.PlainTexts.{ends_within}
 use Rattle.conditional_rules.specs.declared.access.Access.{Access}
 use Rattle.conditional_rules.specs.declared.access.Access.TheVariants.{Free, Barred, Purpose as ForPurpose}
 use Rattle.conditional_rules.specs.declared.conditional.Clause.{Clause}
@@ -18,7 +19,7 @@ use Rattle.conditional_rules.specs.Conditions as conditions
 use Rattle.conditional_rules.specs.Cutting.{trimmed, semicolon_from, first_semicolon, first_and}
 use Rattle.conditional_rules.proofs.Joined.{Each, IsJoinedPart, pieces, each_of, each_map, joined_cut}
 use Rattle.conditional_rules.proofs.Over.{IsOver, empty_over, both_over}
-use Rattle.conditional_rules.proofs.Tight.{IsCompact, IsGap, step, starts_before, ends_within, trimmed_same}
+use Rattle.conditional_rules.proofs.Tight.{IsCompact, IsGap, step, starts_before, trimmed_same}
 use Rattle.conditional_rules.proofs.PartsAgain.{part_again}
 
 -- the printed text of a part is tight, and it is the same part

@@ -7,6 +7,8 @@ use Rattle.std.proofs.lemmas.Bool.{and_parts, and_from, or_from, or_left, or_rig
 use Rattle.std.proofs.lemmas.List.Folds.{list_all-append, list_any-append}
 use Rattle.route_base.specs.Digits.{digits_from}
 use Rattle.route_base.specs.Forms.{is_blank}
+use Rattle.route_base.proofs.Logic.{behind_test}
+use Rattle.route_base.proofs.DecimalDigits.{decimal_digits}
 use Rattle.vehicle_classes.specs.declared.classes.Quantity.{Quantity}
 use Rattle.vehicle_classes.specs.declared.classes.Quantity.TheVariants.{Weight, Axleload, Height, Width, Length, Axles}
 use Rattle.conditional_rules.specs.declared.conditional.Comparison.{Comparison}
@@ -15,7 +17,7 @@ use Rattle.conditional_rules.specs.declared.conditional.Part.TheVariants.{Compar
 use Rattle.conditional_rules.specs.Comparisons.{quantity_text, decimals_in, IsComparison}
 use Rattle.conditional_rules.specs.Conditions.{is_small_letter, has_sign, has_parenthesis, has_at}
 use Rattle.conditional_rules.specs.CanonicalText.{sign_text, last_digits, decimals_text, measure_text, part_text}
-use Rattle.conditional_rules.proofs.PrintedNumbers.{behind_test, decimal_digits, last_digits_write}
+use Rattle.conditional_rules.proofs.PrintedNumbers.{last_digits_write}
 use Rattle.conditional_rules.proofs.PrintedComparisons.{whole_below}
 
 -- a small letter, a digit, a point or a byte of a sign

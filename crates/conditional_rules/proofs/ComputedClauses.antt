@@ -6,9 +6,9 @@ use Rattle.std.specs.List.{position}
 use Rattle.std.specs.Str.{bytes_eq}
 use Rattle.std.proofs.Math.Seq.{take-append_seam}
 use Rattle.std.proofs.lemmas.Slice.Eq.{bytes_eq-Decides}
+use Rattle.route_base.proofs.Logic.{then_some, map_some}
 use Rattle.opening_hours.specs.Reading.{hours_of}
 use Rattle.opening_hours.proofs.ComputedHours.{hours_of_is_hours}
-use Rattle.opening_hours.proofs.Rules.{then_some, map_some}
 use Rattle.conditional_rules.specs.declared.access.Access.{Access}
 use Rattle.conditional_rules.specs.declared.conditional.Clause.{Clause}
 use Rattle.conditional_rules.specs.declared.conditional.Part.{Part}

@@ -3,17 +3,15 @@ use Rattle.std.proofs.Common.{◌≡◌, ℕ, suc, ◌+◌, ◌-◌, ◌≤◌, 
 use Rattle.std.proofs.Common.{ap, subst, ◌∙◌, arith, length-drop}
 use Rattle.std.specs.Prelude.{◌==◌, ◌||◌}
 use Rattle.std.specs.List.{position, position_or_len}
-use Rattle.std.proofs.lemmas.Bool.{ltb-true, ltb-false, eqb-true}
+use Rattle.std.proofs.lemmas.Bool.{ltb-true, eqb-true, or_from, or_right}
 use Rattle.std.proofs.lemmas.Option.{cond_some}
 use Rattle.std.proofs.lemmas.List.{take_all}
 use Rattle.std.proofs.lemmas.List.Sums.{split_at_first, passes_at_first}
+use Rattle.route_base.proofs.Logic.{found_within}
 use Rattle.conditional_rules.specs.Conditions.{has_at}
 
 abbrev pub is_at_sign : ℕ → Bool
 is_at_sign b = b == 64
-
-neither : (v w : Bool) → v ≡ false → w ≡ false → (v || w) ≡ false
-neither v w p q = rw (p, q) refl
 
 one_more : (n : ℕ) → suc n ≡ 1 + n
 one_more n = omega arith
@@ -26,7 +24,7 @@ none_before (b ∷ bs) = by (b == 64) refl (none_before bs)
         → has_at (take (cond (not v) (1 + position_or_len is_at_sign bs) 0) (b ∷ bs)) ≡ false
     by true e rest = refl
     by false e rest = subst (λ (n : ℕ). has_at (take n (b ∷ bs)) ≡ false) (one_more (position_or_len is_at_sign bs))
-        (neither (b == 64) (has_at (take (position_or_len is_at_sign bs) bs)) e rest)
+        (or_from (b == 64) (has_at (take (position_or_len is_at_sign bs) bs)) e rest)
 
 pub at_parts : (bs : List ℕ) (i : ℕ) → Some i ≡ position is_at_sign bs → bs ≡ take i bs ++ 64 ∷ take (length bs - (i + 1)) (drop (i + 1) bs)
 at_parts bs i e =
@@ -48,9 +46,6 @@ at_before bs i e =
     let w = cond_some (ltb (position_or_len is_at_sign bs) (length bs)) (position_or_len is_at_sign bs) i (sym e) in
     rw w.1 at (none_before bs)
 
-found_within : {A : Type 0} (a b : ℕ) (x : A) → cond (ltb a b) (Some x) None ≡ None → b ≤ a
-found_within a b x e = grind (arith, ltb-true, ltb-false)
-
 pub no_at : (bs : List ℕ) → None ≡ position is_at_sign bs → has_at bs ≡ false
 no_at bs e =
     let far : length bs ≤ position_or_len is_at_sign bs = found_within (position_or_len is_at_sign bs) (length bs) (position_or_len is_at_sign bs) (sym e) in
@@ -58,11 +53,7 @@ no_at bs e =
 
 pub some_at : (a b : List ℕ) → has_at (a ++ 64 ∷ b) ≡ true
 some_at [] b = refl
-some_at (x ∷ a) b = or_later (x == 64) (some_at a b)
-  where
-    or_later : {w : Bool} (v : Bool) → w ≡ true → (v || w) ≡ true
-    or_later true e = refl
-    or_later false e = e
+some_at (x ∷ a) b = or_right (x == 64) (has_at (a ++ 64 ∷ b)) (some_at a b)
 
 -- a text is cut at its first @ in one way
 pub one_cut : (a b c d : List ℕ) → has_at a ≡ false → has_at c ≡ false → a ++ 64 ∷ b ≡ c ++ 64 ∷ d → (a ≡ c) × (b ≡ d)

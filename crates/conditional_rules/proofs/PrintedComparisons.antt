@@ -7,6 +7,7 @@ use Rattle.std.proofs.lemmas.List.{append-nil}
 use Rattle.std.proofs.lemmas.Nat.{div-add-mod', div_below, mul-add-lt, pow-add}
 use Rattle.std.proofs.Math.Nat.{one-le-pow, pow-le-pow_right}
 use Rattle.route_base.specs.Digits.{number_of}
+use Rattle.route_base.proofs.DecimalDigits.{decimal_digits, number_from}
 use Rattle.vehicle_classes.specs.declared.classes.Quantity.{Quantity}
 use Rattle.vehicle_classes.specs.declared.classes.Quantity.TheVariants.{Weight, Axleload, Height, Width, Length, Axles}
 use Rattle.conditional_rules.specs.declared.conditional.Comparison.{Comparison}
@@ -15,7 +16,7 @@ use Rattle.conditional_rules.specs.declared.conditional.Part.TheVariants.{Compar
 use Rattle.conditional_rules.specs.Comparisons.{quantity_text, decimals_in, IsSign, IsMeasure, IsComparison}
 use Rattle.conditional_rules.specs.Comparisons as forms
 use Rattle.conditional_rules.specs.CanonicalText.{sign_text, last_digits, measure_text, part_text}
-use Rattle.conditional_rules.proofs.PrintedNumbers.{decimal_digits, last_digits_write, length-last_digits, number_from, number_below}
+use Rattle.conditional_rules.proofs.PrintedNumbers.{last_digits_write, length-last_digits, number_below}
 
 -- a number of six digits at most is below a million
 six_digits : (digits : List ℕ) (n : ℕ) → length digits ≤ 6 → number_of digits ≡ Some n → n < 1000000

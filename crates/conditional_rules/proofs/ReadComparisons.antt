@@ -8,12 +8,14 @@ use Rattle.std.proofs.lemmas.Bool.{eqb-true, leb-true, le-leb, or_cases}
 use Rattle.std.proofs.lemmas.Grind.{common_steps}
 use Rattle.std.proofs.lemmas.Option.{option_and_then_some, some_pair_parts}
 use Rattle.std.proofs.lemmas.Slice.Eq.{bytes_eq-Decides}
+use Rattle.std.proofs.lemmas.List.{drop_at}
 use Rattle.route_base.specs.Digits.{number_of}
 use Rattle.route_base.specs.Forms.{is_blank}
 use Rattle.opening_hours.specs.Tokens.{is_digit}
 use Rattle.vehicle_classes.specs.declared.classes.Quantity.{Quantity}
 use Rattle.vehicle_classes.specs.declared.classes.Quantity.TheVariants.{Weight, Axleload, Height, Width, Length, Axles}
 use Rattle.opening_hours.proofs.Lists.{Stops}
+use Rattle.opening_hours.proofs.PlainTexts.{digit_no_blank}
 use Rattle.conditional_rules.specs.declared.conditional.Comparison.{Comparison}
 use Rattle.conditional_rules.specs.declared.conditional.Comparison.TheVariants.{Below, AtMost, Above, AtLeast, Equal}
 use Rattle.conditional_rules.specs.Comparisons.{quantity_text, decimals_in, unit_text, IsSign, IsMeasure, IsComparison}
@@ -22,7 +24,7 @@ use Rattle.conditional_rules.specs.Conditions.{is_small_letter}
 use Rattle.conditional_rules.specs.Cutting.{AreBlanks}
 use Rattle.conditional_rules.specs.Inside.Comparisons.{behind, quantity_of, with_equal, sign_at, bounded_number_of, decimals_at, decimal_point_at, measure_at}
 use Rattle.conditional_rules.specs.Inside.Comparisons.{Compared, is_unit, measured, signed, comparison_of}
-use Rattle.conditional_rules.proofs.Runs.{drop_front, run_again, behind_again, run_whole, run_all, stops_behind, number_all, stops_number}
+use Rattle.conditional_rules.proofs.Runs.{run_again, behind_again, run_whole, run_all, stops_behind, number_all, stops_number}
 
 abbrev is_equal : ℕ → Bool
 is_equal b = b == 61
@@ -41,9 +43,6 @@ blank_no_digit b h = grind (arith, common_steps)
 
 blank_no_point : (b : ℕ) → is_blank b ≡ true → is_point b ≡ false
 blank_no_point b h = grind (arith, common_steps)
-
-digit_no_blank : (b : ℕ) → is_digit b ≡ true → is_blank b ≡ false
-digit_no_blank b h = grind (arith, common_steps)
 
 digit_no_equal : (b : ℕ) → is_digit b ≡ true → is_equal b ≡ false
 digit_no_equal b h = grind (arith, common_steps)
@@ -109,7 +108,7 @@ measure_again : {decimals : ℕ} {measure : List ℕ} {v : ℕ} (rest : List ℕ
 unfolding measure_at
 measure_again {decimals = decimals} rest (law.whole digits {n = n} short e) s p =
     let all = number_all digits n e in
-    rw (run_again is_digit digits rest all s, drop_front digits rest, short_number_again 6 digits n short e) (no_point decimals n rest p)
+    rw (run_again is_digit digits rest all s, drop_at digits rest (length digits) refl, short_number_again 6 digits n short e) (no_point decimals n rest p)
 measure_again {decimals = decimals} rest (law.decimal digits more {n = n} {d = d} short e few f) s p =
     let all = number_all digits n e in
     let others = number_all more d f in
@@ -117,10 +116,10 @@ measure_again {decimals = decimals} rest (law.decimal digits more {n = n} {d = d
     rw (
       append_assoc digits (46 ∷ more) rest,
       run_again is_digit digits after all refl,
-      drop_front digits after,
+      drop_at digits after (length digits) refl,
       short_number_again 6 digits n short e,
       run_again is_digit more rest others s,
-      drop_front more rest,
+      drop_at more rest (length more) refl,
       short_number_again decimals more d few f,
     ) refl
 

@@ -4,11 +4,11 @@ use Rattle.std.proofs.Common.{length, drop, take, Option, Some, None, IfSome, re
 use Rattle.std.specs.Prelude.{◌&&◌, nat_le}
 use Rattle.std.specs.List.{take_while, list_all}
 use Rattle.std.proofs.lemmas.Bool.{and_parts, and_from, leb-true}
-use Rattle.std.proofs.lemmas.Grind.{common_steps}
-use Rattle.std.proofs.lemmas.List.{take-append-drop}
+use Rattle.std.proofs.lemmas.List.{take-append-drop, drop_at}
 use Rattle.std.proofs.lemmas.List.Folds.{length-prefix_len}
 use Rattle.std.proofs.lemmas.List.Sums.{take_while-cons}
 use Rattle.route_base.specs.Digits.{digits_from, number_of}
+use Rattle.route_base.proofs.Logic.{when_true, behind_test}
 use Rattle.opening_hours.specs.Tokens.{is_digit}
 use Rattle.opening_hours.proofs.Lists.{Stops}
 use Rattle.conditional_rules.specs.Inside.Comparisons.{behind}
@@ -21,11 +21,8 @@ run_again kind (b ∷ bs) rest h s =
     take_while-cons kind b (bs ++ rest) ∙ ap (λ v. cond v (b ∷ take_while kind (bs ++ rest)) []) p.0
     ∙ ap (λ (ws : List ℕ). b ∷ ws) (run_again kind bs rest p.1 s)
 
-pub drop_front : (w rest : List ℕ) → drop (length w) (w ++ rest) ≡ rest
-drop_front w rest = grind (arith, common_steps)
-
 pub behind_again : (kind : ℕ → Bool) (w rest : List ℕ) → list_all kind w ≡ true → Stops kind rest → behind kind (w ++ rest) ≡ rest
-behind_again kind w rest h s = ap (λ (v : List ℕ). drop (length v) (w ++ rest)) (run_again kind w rest h s) ∙ drop_front w rest
+behind_again kind w rest h s = ap (λ (v : List ℕ). drop (length v) (w ++ rest)) (run_again kind w rest h s) ∙ drop_at w rest (length w) refl
 
 pub run_whole : (kind : ℕ → Bool) (text : List ℕ) → text ≡ take_while kind text ++ behind kind text
 run_whole kind text =
@@ -56,10 +53,6 @@ unfolding most
 most_grows n zero = omega arith
 most_grows n (suc k) = omega (arith, most_grows (10 * n + 9) k)
 
-when_true : (P : ℕ → Type 0) (b : Bool) (o : Option ℕ) → (b ≡ true → IfSome o P) → IfSome (cond b o None) P
-when_true P true o h = h refl
-when_true P false o h = tt
-
 from_small : (k n m : ℕ) (bs : List ℕ) → n ≤ m → length bs ≤ k → IfSome (digits_from n bs) (λ r. r ≤ most m k)
 unfolding most
 from_small k n m [] low short = omega (arith, most_grows m k)
@@ -84,14 +77,10 @@ digits_all n [] m e = refl
 digits_all n (b ∷ bs) m e = when_some (is_digit b) (list_all is_digit bs) (digits_from (10 * n + (b - 48)) bs) m
     (λ f. digits_all (10 * n + (b - 48)) bs m f) e
 
-if_some : (v : Bool) (o : Option ℕ) (m : ℕ) → cond v o None ≡ Some m → o ≡ Some m
-if_some true o m e = e
-if_some false o m e = absurd cc
-
 -- a number has digits alone, and one at least
 pub number_all : (bs : List ℕ) (m : ℕ) → number_of bs ≡ Some m → list_all is_digit bs ≡ true
 number_all [] m e = refl
-number_all (b ∷ bs) m e = digits_all 0 (b ∷ bs) m (if_some (nat_le (length (b ∷ bs)) 18) (digits_from 0 (b ∷ bs)) m e)
+number_all (b ∷ bs) m e = digits_all 0 (b ∷ bs) m (behind_test (nat_le (length (b ∷ bs)) 18) (digits_from 0 (b ∷ bs)) m e).1
 
 pub stops_number : (other : ℕ → Bool) (bs rest : List ℕ) (m : ℕ) → ((b : ℕ) → is_digit b ≡ true → other b ≡ false)
     → number_of bs ≡ Some m → Stops other (bs ++ rest)

@@ -65,12 +65,6 @@ pub starts_before : (a b : List ℕ) → StartsFilled a → StartsFilled (a ++ b
 starts_before [] b h = absurd h
 starts_before (x ∷ a) b h = h
 
-pub ends_within : (a b : List ℕ) → EndsFilled b → EndsFilled (a ++ b)
-ends_within [] b h = h
-ends_within (x ∷ []) [] h = absurd h
-ends_within (x ∷ []) (y ∷ b) h = h
-ends_within (x ∷ y ∷ a) b h = ends_within (y ∷ a) b h
-
 -- a text that begins with no blank
 starts_trimmed : (a : List ℕ) → StartsFilled a → without_blanks a ≡ a
 starts_trimmed [] h = refl

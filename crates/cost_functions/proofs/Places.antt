@@ -99,11 +99,13 @@ pub nothing_yet : (t : ℕ) → value_at [] t ≡ point_at [] t
 unfolding point_at value_at
 nothing_yet t = refl
 
+pub pieces_rest : (xs : List Piece) → 1 ≤ length xs → ArePieces xs → ArePieces (take (length xs - 1) (drop 1 xs))
+pieces_rest xs some are =
+    let d : Piece = record { lo = 0; hi = 0; cost = 0; slope = 0 } in
+    pieces_tail (get_or xs 0 d) (take (length xs - 1) (drop 1 xs)) (subst ArePieces (first_and_rest xs d some) are)
+
 -- the same of a list by its first item and the others
 module _ (xs : List Piece) (d : Piece) (some : 1 ≤ length xs) (one : 1 ≤ length (take (length xs - 1) (drop 1 xs))) (are : ArePieces xs) where
-  pub pieces_rest : ArePieces (take (length xs - 1) (drop 1 xs))
-  pieces_rest = pieces_tail (get_or xs 0 d) (take (length xs - 1) (drop 1 xs)) (subst ArePieces (first_and_rest xs d some) are)
-
   pub reduced_rest : IsReduced xs → IsReduced (take (length xs - 1) (drop 1 xs))
   reduced_rest all i j e lt within slope line =
       subst IsReduced (first_and_rest xs d some) all (suc i) (suc j) e (omega (arith, lt)) (omega (arith, within)) slope line

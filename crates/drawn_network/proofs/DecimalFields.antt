@@ -7,9 +7,10 @@ use Rattle.std.proofs.lemmas.Fmt.{decimal_nonempty, length-decimal-le}
 use Rattle.std.proofs.lemmas.List.Elements.{All-head, All-tail}
 use Rattle.route_base.specs.Forms.{table_number_of}
 use Rattle.route_base.specs.Time.{IsInstant}
+use Rattle.route_base.proofs.DecimalDigits.{number_again}
 use Rattle.calendar_days.specs.Texts.{instant_of}
 use Rattle.calendar_days.proofs.InstantForms.{instant-read}
-use Rattle.drawn_network.proofs.Decimals.{IsDigit, decimal_bytes, number_again}
+use Rattle.drawn_network.proofs.Decimals.{IsDigit, decimal_bytes}
 use Rattle.drawn_network.proofs.PlainText.{is_mark, IsPlainField}
 
 digit-plain : (b : ℕ) → IsDigit b → is_mark b ≡ false

@@ -6,12 +6,13 @@ use Rattle.std.proofs.lemmas.Bool.{and_parts, leb-true}
 use Rattle.std.proofs.lemmas.Fmt.{decimal_nonempty}
 use Rattle.std.proofs.lemmas.List.Elements.{All-weaker, All-from_recursion}
 use Rattle.route_base.specs.declared.limits.TheConstants.{MOST_NODES}
+use Rattle.route_base.proofs.DecimalDigits.{number_again}
 use Rattle.dimacs_reader.specs.Lines.{has_bytes, line_of_tokens}
 use Rattle.dimacs_reader.specs.declared.lines.Line.{Line}
 use Rattle.dimacs_reader.specs.declared.lines.Line.TheVariants.{Ignored, Problem, Arc}
 use Rattle.net_generator.specs.Generated.{comment_text, graph_text, road_text}
 use Rattle.net_generator.specs.declared.layout.Road.{Road}
-use Rattle.drawn_network.proofs.Decimals.{IsDigit, decimal_bytes, number_again}
+use Rattle.drawn_network.proofs.Decimals.{IsDigit, decimal_bytes}
 use Rattle.drawn_network.proofs.DrawnRoads.{IsGoodRoad}
 use Rattle.drawn_network.proofs.TokenLines.{IsVisible, line_before, line_then}
 

@@ -3,12 +3,13 @@ use Rattle.std.proofs.Common.{◌≡◌, ℕ, ◌+◌, ◌≤◌, Some, None, Op
 use Rattle.std.proofs.Common.{sym, subst, ap, ◌∙◌, arith}
 use Rattle.std.specs.Prelude.{map}
 use Rattle.std.specs.Option.{option_or}
-use Rattle.std.proofs.lemmas.List.{map_push, drop_more, take_more, take-append-drop, length-append}
+use Rattle.std.proofs.lemmas.List.{map_push, drop_more, take_more, take-append-drop, length-append, same_from_push}
 use Rattle.std.proofs.Math.Seq.{take-append_seam, drop-append_seam}
 use Rattle.route_base.specs.Contents.{Contents}
 use Rattle.route_base.specs.Counts.{HasRisen}
 use Rattle.route_base.specs.FolderState.{FolderState, KeepsFiles}
 use Rattle.route_base.specs.declared.faults.BadInput.{BadInput}
+use Rattle.route_base.proofs.Logic.{option_or-assoc}
 use Rattle.plan_report.specs.declared.outcomes.Refusal.TheVariants.{Usage, Input, Request}
 use Rattle.front_desk.specs.Files.{FileToRead, fault_of_file, first_unreadable, bytes_at, AreWithin, IsRead, AreRead}
 use Rattle.front_desk.specs.Inside.Halting.{StopsReading}
@@ -19,10 +20,6 @@ use Rattle.front_desk.specs.declared.outcome.Halt.TheVariants.{Refused, ReadFaul
 pub risen_before : (a b c : ℕ) → a ≤ b → HasRisen b c → HasRisen a c
 risen_before a b c before risen = omega arith
 
-or_assoc : (o p q : Option BadInput) → option_or o (option_or p q) ≡ option_or (option_or o p) q
-or_assoc None p q = refl
-or_assoc (Some fault) p q = refl
-
 module _ (held : Contents) (dir : List ℕ) where
   -- the first fault of files and then of others
   unreadable_append : (files others : List FileToRead)
@@ -31,7 +28,7 @@ module _ (held : Contents) (dir : List ℕ) where
   unreadable_append [] others = refl
   unreadable_append (file ∷ files) others =
       ap (option_or (fault_of_file held dir file)) (unreadable_append files others)
-      ∙ or_assoc (fault_of_file held dir file) (first_unreadable held dir files) (first_unreadable held dir others)
+      ∙ sym (option_or-assoc (fault_of_file held dir file) (first_unreadable held dir files) (first_unreadable held dir others))
 
   -- the fault of the file behind files that can be read
   unreadable_at : (files : List FileToRead) (file : FileToRead) (rest : List FileToRead) (fault : BadInput)
@@ -99,17 +96,7 @@ split_at xs i x within is =
 pub take_next : {X : Type 0} (xs : List X) (i : ℕ) (x : X) → i < length xs → x ≡ get_or xs i x → take (i + 1) xs ≡ take i xs ++ x ∷ []
 take_next xs i x within is = take_more xs i x within ∙ ap (λ y. take i xs ++ y ∷ []) (sym is)
 
-push_same : {X : Type 0} (xs zs : List X) (y w : X) → xs ++ y ∷ [] ≡ zs ++ w ∷ [] → (xs ≡ zs) × (y ≡ w)
-push_same {X} xs zs y w same =
-    let n : length xs ≡ length zs = omega (arith, ap (λ (l : List X). length l) same, length-append xs (y ∷ []), length-append zs (w ∷ [])) in (
-      sym (take-append_seam xs (y ∷ [])) ∙ ap (λ (l : List X). take (length xs) l) same ∙ ap (λ k. take k (zs ++ w ∷ [])) n
-          ∙ take-append_seam zs (w ∷ []),
-      ap (λ (l : List X). get_or l 0 y)
-          (sym (drop-append_seam xs (y ∷ [])) ∙ ap (λ (l : List X). drop (length xs) l) same ∙ ap (λ k. drop k (zs ++ w ∷ [])) n
-          ∙ drop-append_seam zs (w ∷ [])),
-    )
-
 -- what was read of files and of one behind them
 pub last_read : (f : FileToRead → List ℕ) (files : List FileToRead) (file : FileToRead) (read : List (List ℕ)) (bytes : List ℕ)
     → read ++ bytes ∷ [] ≡ map f (files ++ file ∷ []) → (read ≡ map f files) × (bytes ≡ f file)
-last_read f files file read bytes same = push_same read (map f files) bytes (f file) (same ∙ map_push f files file)
+last_read f files file read bytes same = same_from_push read (map f files) bytes (f file) (same ∙ map_push f files file)

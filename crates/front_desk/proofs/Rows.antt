@@ -65,12 +65,6 @@ pub before_first_instant : command_of (words_with (codes "1") (codes "3") (codes
 unfolding instant_of day_of_text
 before_first_instant = refl
 
-pub first_instant_read : minute_of (codes "525600") ≡ Some 525600
-first_instant_read = refl
-
-pub last_instant_read : minute_of (codes "120968639") ≡ Some 120968639
-last_instant_read = refl
-
 pub after_last_instant : command_of (words_with (codes "1") (codes "3") (codes "26563680") (codes "120968640")) ≡ None
 unfolding instant_of day_of_text
 after_last_instant = refl

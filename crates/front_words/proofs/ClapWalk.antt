@@ -5,6 +5,7 @@ use Rattle.std.specs.List.{fold}
 use Rattle.std.specs.List.{list_all}
 use Rattle.std.proofs.lemmas.List.{map_more}
 use Rattle.std.proofs.lemmas.List.Sums.{fold_push}
+use Rattle.std.proofs.lemmas.Bool.{and_parts}
 use Rattle.clap.specs.Simple.{App, Shape, argument_words, built, is_simple, label_of, matches_of, with_rule}
 use Rattle.clap.specs.Takes.{walk_passes, positional_passes, turn_passes, settle_passes, default_passes, is_valid, level_passes, built_takes, takes}
 use Rattle.clap.proofs.TakesLemmas.{leaf_takes}
@@ -110,10 +111,6 @@ finds_at a name words p end l r =
     ap₂ (λ (names : Names) (ws : List Text). rows_after (built a).top.rules names ws) (ap (map label_of) l.alone) (arguments a name words l)
     ∙ ap (λ (w : Walk). finished (built a).top.rules w.held) r.walks
 
-both_left : (x y : Bool) → (x && y) ≡ true → x ≡ true
-both_left true y e = refl
-both_left false y e = e
-
 -- one argument more
 pub one_rule_more : {X : Type 0} (f : X → Rule) (a b c : App) (xs : List X) (i : ℕ) (d : X) → i < length xs
     → b ≡ with_rules a (map f (take i xs)) → c ≡ with_rule b (f (get_or xs i d)) → c ≡ with_rules a (map f (take (i + 1) xs))
@@ -126,7 +123,7 @@ pub is_found : (a app : App) (words : List Text) (m : ArgMatches) → a ≡ app 
     → (id : Text) → first_value (found_of m) id ≡ text_found app words id
 unfolding IsTaken text_found
 is_found a app words m e t h id =
-    first_value-rows (found_of m) id ∙ ap (first_of id) ((h (ap is_simple e ∙ both_left (is_simple app) _ t)).0 ∙ ap (λ (b : App). matches_of b words) e)
+    first_value-rows (found_of m) id ∙ ap (first_of id) ((h (ap is_simple e ∙ (and_parts (is_simple app) _ t).0)).0 ∙ ap (λ (b : App). matches_of b words) e)
 
 pub is_refused : (a app : App) (words : List Text) → a ≡ app → IsTaken app words → takes a words ≡ true
 unfolding IsTaken

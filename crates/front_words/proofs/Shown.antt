@@ -2,6 +2,7 @@
 use Rattle.std.proofs.Common.{◌≡◌, refl, subst, true, false, eqb, ℕ, Bool, List, Option, Some, None, [], ◌∷◌, ap, ◌∙◌}
 use borrow.Author.Tests.{eqb-true}
 use Rattle.std.specs.Prelude.{IfSome, is_some, suc, option_and_then, option_map, nat_le, length, bytes_eq, codes, if◌then◌else◌}
+use Rattle.std.proofs.lemmas.Option.{same_Some}
 use Rattle.calendar_days.specs.Texts.{instant_of, day_of_text}
 use Rattle.route_base.specs.Digits.{plain_number_of}
 use Rattle.front_words.specs.Inside.{AllIn}
@@ -87,9 +88,6 @@ pub all_in : (form : WordForm) (word : Option (List ℕ)) → AllIn form word �
 all_in form None h = tt
 all_in form (Some word) h = shown_in form word (value_of_word form word) refl h
 
-some_same : {A : Type 0} {x y : A} → Some x ≡ Some y → x ≡ y
-some_same e = cc
-
 -- a word that is its own value
 pub own_text : (b : Bool) (word text : List ℕ) → text_if b word ≡ Some (of_text text) → word ≡ text
 own_text true word text e = cc
@@ -107,11 +105,11 @@ read_front : (form : WordForm) (forms : List WordForm) (word : List ℕ) (words 
 read_front form forms word words None rest vs e f go h = none_is_no_value refl h
 read_front form forms word words (Some v) None vs e f go h = none_is_no_value refl h
 read_front form forms word words (Some v) (Some us) vs e f go h =
-    subst (λ (ws : List Value). AllRead (form ∷ forms) (word ∷ words) ws) (some_same h) (e, go us f)
+    subst (λ (ws : List Value). AllRead (form ∷ forms) (word ∷ words) ws) (same_Some _ _ h) (e, go us f)
 
 pub all_read : (forms : List WordForm) (words : List (List ℕ)) (vs : List Value) → places_read forms words ≡ Some vs → AllRead forms words vs
 all_read [] [] [] e = tt
-all_read [] [] (v ∷ vs) e = absurd (some_other (some_same e))
+all_read [] [] (v ∷ vs) e = absurd (some_other (same_Some _ _ e))
   where
     some_other : {A : Type 0} {x : A} {xs : List A} → [] ≡ x ∷ xs → ⊥
     some_other h = cc

@@ -6,7 +6,7 @@ use Rattle.std.proofs.lemmas.List.Elements.{All-nil, All-tail}
 use Rattle.cost_functions.specs.Lines.{line_at, IsPiece}
 use Rattle.cost_functions.specs.Pieces.{value_at, ArePieces}
 use Rattle.cost_functions.specs.declared.pieces.Piece.{Piece}
-use Rattle.cost_functions.proofs.Values.{value_here, value_before, value_after, none_behind, none_after, pieces_tail}
+use Rattle.cost_functions.proofs.Values.{value_here, value_before, value_after, none_behind, none_after}
 use Rattle.route_base.proofs.Lists.{first_and_rest}
 
 abbrev pub first_of : List Piece → Piece
@@ -29,9 +29,6 @@ module _ (ps : List Piece) (some : 1 ≤ length ps) (are : ArePieces ps) where
       ap (λ xs. value_at xs t) (first_and_rest ps _ some)
       ∙ value_before (first_of ps) (take (length ps - 1) (drop 1 ps)) t early
       ∙ none_behind (first_of ps) (take (length ps - 1) (drop 1 ps)) t (subst ArePieces (first_and_rest ps _ some) are) (omega (arith, early, filled))
-
-  pub rest_are : ArePieces (take (length ps - 1) (drop 1 ps))
-  rest_are = pieces_tail (first_of ps) (take (length ps - 1) (drop 1 ps)) (subst ArePieces (first_and_rest ps _ some) are)
 
   pub rest_every : (P : Piece → Type 0) → All P ps → All P (take (length ps - 1) (drop 1 ps))
   rest_every P all = All-tail P (first_of ps) (take (length ps - 1) (drop 1 ps)) (subst (All P) (first_and_rest ps _ some) all)

@@ -13,6 +13,7 @@ use Rattle.function_merge.specs.Moves.{kept_at, moved_at, CanMove}
 use Rattle.cost_functions.proofs.Slopes.{further}
 use Rattle.cost_functions.proofs.Smallness.{value_within}
 use Rattle.route_base.proofs.Lists.{first_and_rest}
+use Rattle.route_base.proofs.Logic.{behind_test}
 use Rattle.minute_sets.proofs.FirstRuns.{in_first, before_first}
 
 module _ (minutes cost : ℕ) (f : ℕ → Option ℕ) where
@@ -24,10 +25,10 @@ module _ (minutes cost : ℕ) (f : ℕ → Option ℕ) where
       ap (λ b. cond b (option_map (λ v. v + cost) (f (u - minutes))) None) (le-leb minutes u (omega (arith, is)))
       ∙ ap (λ n. option_map (λ v. v + cost) (f n)) (let same : u - minutes ≡ t = omega (arith, is) in same)
 
-abbrev nothing : Option ℕ
+abbrev pub nothing : Option ℕ
 nothing = None
 
-nothing_either : (b : Bool) → cond b nothing nothing ≡ nothing
+pub nothing_either : (b : Bool) → cond b nothing nothing ≡ nothing
 nothing_either true = refl
 nothing_either false = refl
 
@@ -84,15 +85,11 @@ module _ (ps : List Piece) (rs : List Run) where
         (λ t late. ap (λ xs. value_at xs t) (sym (first_and_rest left (record { lo = 0; hi = 0; cost = 0; slope = 0 }) some)) ∙ values t late)
         (λ t late. ap (λ xs. any_has xs t) (sym (first_and_rest open' (record { lo = 0; hi = 0 }) one)) ∙ held t late)
 
-pub chosen : (b : Bool) (o : Option ℕ) (v : ℕ) → cond b o None ≡ Some v → o ≡ Some v
-chosen true o v is = is
-chosen false o v is = cc
-
 -- what is kept of small values can stay where it is
 pub can_stay : (ps : List Piece) (rs : List Run) → ArePieces ps → AreSmallPieces ps → CanMove 0 0 (kept_at ps rs)
 can_stay ps rs are small = record {
-  minutes_fit = λ t v is. (let fits = (value_within ps t v are.each small (chosen (any_has rs t) (value_at ps t) v is)).1 in omega (arith, fits));
-  values_fit = λ t v is. (let fits = (value_within ps t v are.each small (chosen (any_has rs t) (value_at ps t) v is)).0 in omega (arith, fits));
+  minutes_fit = λ t v is. (let fits = (value_within ps t v are.each small (behind_test (any_has rs t) (value_at ps t) v is).1).1 in omega (arith, fits));
+  values_fit = λ t v is. (let fits = (value_within ps t v are.each small (behind_test (any_has rs t) (value_at ps t) v is).1).0 in omega (arith, fits));
 }
 
 -- the moved part has the piece's line, later and at a cost

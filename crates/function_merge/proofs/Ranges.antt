@@ -4,6 +4,7 @@ use Rattle.std.proofs.Math.Nat.{mul-le-mul_left}
 use Rattle.route_base.specs.Runs.{any_has}
 use Rattle.route_base.specs.declared.types.Run.{Run}
 use Rattle.route_base.specs.declared.limits.TheConstants.{LAST_INSTANT, HIGHEST_COST}
+use Rattle.route_base.proofs.Logic.{behind_test}
 use Rattle.cost_functions.specs.Lines.{line_at}
 use Rattle.cost_functions.specs.Pieces.{value_at, ArePieces}
 use Rattle.cost_functions.specs.declared.pieces.Piece.{Piece}
@@ -13,7 +14,6 @@ use Rattle.cost_functions.proofs.Smallness.{line_rises}
 use Rattle.function_merge.specs.Moves.{kept_at, CanMove}
 use Rattle.function_merge.specs.Waits.{CanWait, CanWaitAnywhere}
 use Rattle.function_merge.specs.Inside.EndRanges.{EndsInRange, WaitsInRange}
-use Rattle.function_merge.proofs.KeptParts.{chosen}
 
 module _ (minutes cost : ℕ) (ps : List Piece) where
   pub can_move : All (EndsInRange minutes cost) ps → CanMove minutes cost (value_at ps)
@@ -32,8 +32,8 @@ module _ (minutes cost : ℕ) (ps : List Piece) where
 
   pub kept_can : (runs : List Run) → CanMove minutes cost (value_at ps) → CanMove minutes cost (kept_at ps runs)
   kept_can runs can = record {
-    minutes_fit = λ t v is. can.minutes_fit t v (chosen (any_has runs t) (value_at ps t) v is);
-    values_fit = λ t v is. can.values_fit t v (chosen (any_has runs t) (value_at ps t) v is);
+    minutes_fit = λ t v is. can.minutes_fit t v (behind_test (any_has runs t) (value_at ps t) v is).1;
+    values_fit = λ t v is. can.values_fit t v (behind_test (any_has runs t) (value_at ps t) v is).1;
   }
 
 pub can_wait : (weight until : ℕ) (ps : List Piece) → All (WaitsInRange weight until) ps → (allowed : ℕ → Bool)

@@ -17,11 +17,12 @@ use Rattle.route_base.specs.declared.types.Leg.TheVariants.{Wait}
 use Rattle.route_base.specs.declared.types.Pair.{Pair}
 use Rattle.route_base.specs.declared.types.Request.{Request}
 use Rattle.route_base.specs.declared.types.TimedArc.{TimedArc}
-use Rattle.route_base.proofs.Walking.{along, cheaper, walk-append}
+use Rattle.route_base.proofs.Walking.{along, cheaper, walk-append, moves_later}
+use Rattle.route_base.proofs.Arcs.{TakesTime, takes_time}
+use Rattle.route_base.proofs.Numbered.{number_past}
 use Rattle.cost_functions.specs.declared.pieces.Piece.{Piece}
 use Rattle.propagation.specs.Found.{cost_by, cost_at, Finding, IsFoundFor}
 use Rattle.propagation.specs.Inside.Invariants.{point}
-use Rattle.potentials.proofs.Lists.{number_past}
 use Rattle.itinerary_unpack.specs.Inside.Sources.{ComesFrom}
 use Rattle.itinerary_unpack.specs.Inside.Ways.{LeadsToPair}
 use Rattle.itinerary_unpack.specs.declared.sources.Source.{Source}
@@ -40,34 +41,14 @@ module _ (s : Setting) (until : ℕ) where
       let rest = cheaper_walk xs walk.0 q step.0 step.1 walk.2 in
       (rest.0, rest.1, (point walk.0.node walk.0.minute step.0, step.2, rest.2))
 
--- each arc takes time
-abbrev TakeTime : Setting → Type 0
-TakeTime s = (a : ℕ) (road : Road) → s.road a ≡ Some road → 1 ≤ road.minutes
-
-later : (s : Setting) (until : ℕ) (x : Step) (p q : Position) → TakeTime s → Moves s until x p q → p.minute < q.minute
-later s until (drive a) p q takes move = omega (arith, move.minute, takes a move.road move.is)
-later s until wait p q takes move = omega (arith, move.minute)
-
 -- what is reached at the start's node and minute costs nothing
-start_free : (s : Setting) (r : Request) (y : ℕ) → TakeTime s → IsReachable s r (point r.origin.0 r.depart y) → y ≡ 0
+start_free : (s : Setting) (r : Request) (y : ℕ) → TakesTime s → IsReachable s r (point r.origin.0 r.depart y) → y ≡ 0
 start_free s r y takes ([], walk) = ap (λ (w : Position). w.cost) (sym walk)
 start_free s r y takes (x ∷ xs, walk) =
-    let first = later s r.until x (start_of r) walk.0 takes walk.1 in
-    let last = along s r.until (λ w. walk.0.minute ≤ w.minute) (λ z p q le move. omega (arith, le, later s r.until z p q takes move)) xs walk.0
+    let first = moves_later s r.until takes x (start_of r) walk.0 walk.1 in
+    let last = along s r.until (λ w. walk.0.minute ≤ w.minute) (λ z p q le move. omega (arith, le, moves_later s r.until takes z p q move)) xs walk.0
     (point r.origin.0 r.depart y) (omega arith) walk.2 in
     absurd (omega (arith, first, last))
-
-some_arc : (o : Option TimedArc) (road : Road) → option_map road_of o ≡ Some road → (w : TimedArc) × (o ≡ Some w) × (road_of w ≡ road)
-some_arc None road is = cc
-some_arc (Some w) road is = (w, refl, cc)
-
-take_time : (net : Net) → IsGoodNet net → TakeTime (setting_of net)
-take_time net good zero road is = cc
-take_time net good (suc i) road is =
-    let arc = some_arc (at_number net.arcs (suc i)) road is in
-    let fine : IsGoodArc net arc.0 = subst (λ (w : TimedArc). IsGoodArc net w) (get_or_from_slice_get net.arcs i arc.0 arc.0 arc.1)
-    (good.each_arc i arc.0 (slice_get_within net.arcs i arc.0 arc.1)) in
-    omega (arith, fine.minutes, ap (λ (w : Road). w.minutes) arc.2)
 
 -- a node at which a cost is known is one of the nodes
 pub node_within : (functions : List (List Piece)) (u t z : ℕ) → cost_at functions u t ≡ Some z → (1 ≤ u) × (u ≤ length functions)
@@ -127,7 +108,7 @@ module _ (net : Net) (r : Request) (found : Finding) (good : IsFoundFor net r fo
   pub whole_walk : r.depart ≤ r.until → (steps : List Step) → LeadsToPair (setting_of net) r (cost_at found.functions) pair r.origin.0 r.depart steps
       → Walks (setting_of net) r.until steps (start_of r) (end_of r pair)
   whole_walk in_time steps leads =
-      let free = start_free (setting_of net) r leads.here (take_time net good.good)
+      let free = start_free (setting_of net) r leads.here (takes_time net good.good)
       (good.justified.reachable (point r.origin.0 r.depart leads.here) leads.known) in
       exact (setting_of net) r found.pairs pair leads.end steps in_time good.optimal.front one leads.within
       (subst (λ n. Walks (setting_of net) r.until steps (point r.origin.0 r.depart n) (point r.goal.0 pair.arrival leads.end)) free leads.walk)

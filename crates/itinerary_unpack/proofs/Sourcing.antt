@@ -12,6 +12,7 @@ use Rattle.route_base.specs.declared.types.NodeId.{NodeId}
 use Rattle.route_base.specs.declared.types.TimedArc.{TimedArc}
 use Rattle.route_base.proofs.Walking.{cheaper}
 use Rattle.route_base.proofs.Waiting.{same_position, waits}
+use Rattle.route_base.proofs.LegLists.{some_wait}
 use Rattle.propagation.specs.Found.{HasPredecessor}
 use Rattle.propagation.specs.Inside.Invariants.{point}
 use Rattle.itinerary_unpack.specs.Inside.Sources.{ComesFrom, HasNoDrive}
@@ -48,9 +49,6 @@ module _ (net : Net) (until a v t : ℕ) (arc : TimedArc) (is : at_number net.ar
       })
 
 module _ (s : Setting) (until : ℕ) (cost : ℕ → ℕ → Option ℕ) (v : NodeId) (t x : ℕ) where
-  wait_some : (k : ℕ) → 1 ≤ k → Wait k ≢ Wait 0
-  wait_some k some same = let e : k ≡ 0 = cc in omega (arith, e, some)
-
   -- a wait since an earlier minute
   pub comes_by_wait : (since before weight : ℕ) → since < t → t ≤ until → s.weight v.0 ≡ Some weight → IsWaitOpen s v.0 since (t - since)
       → cost v.0 since ≡ Some before → before + weight * (t - since) ≤ x
@@ -59,7 +57,7 @@ module _ (s : Setting) (until : ℕ) (cost : ℕ → ℕ → Option ℕ) (v : No
     before = before;
     known = known;
     earlier = earlier;
-    some = wait_some (t - since) (omega (arith, earlier));
+    some = some_wait (t - since) (omega (arith, earlier));
     short = omega (arith, length-replicate (t - since) wait, earlier);
     end = before + weight * (t - since);
     within = cheap;
@@ -93,7 +91,7 @@ module _ (s : Setting) (until : ℕ) (cost : ℕ → ℕ → Option ℕ) (v : No
               before = comes.known.least;
               known = ap (cost v.0) minute ∙ (ap (λ n. cost n comes.source.minute) (sym node) ∙ comes.known.is);
               earlier = omega (arith, step.minute);
-              some = wait_some 1 (omega arith);
+              some = some_wait 1 (omega arith);
               short = omega (arith, step.minute);
               end = low.0;
               within = omega (arith, low.1, comes.within);

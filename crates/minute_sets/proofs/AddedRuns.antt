@@ -1,8 +1,8 @@
 -- Runs that stay, and behind them the others with those of another set.
-use Rattle.std.proofs.Common.{◌≡◌, ⊎_elim, ℕ, ◌+◌, ◌≤◌, ◌<◌, ◌||◌, Bool, true, false, zero, suc, List, [], ◌∷◌, ◌++◌, length, get_or, take, drop, All}
+use Rattle.std.proofs.Common.{◌≡◌, ⊎_elim, ℕ, ◌+◌, ◌≤◌, ◌<◌, ◌||◌, true, false, zero, suc, List, [], ◌∷◌, ◌++◌, length, get_or, take, drop, All}
 use Rattle.std.proofs.Common.{AllPairs, ◌∙◌, ap, sym, arith}
 use Rattle.std.specs.List.{AllWithin}
-use Rattle.std.proofs.lemmas.Bool.{cases_lt, cases_eq, both_ways}
+use Rattle.std.proofs.lemmas.Bool.{cases_lt, cases_eq, both_ways, or_from}
 use Rattle.std.proofs.lemmas.List.{get_or_default, get_or-take, get_or-drop, length-take-le, length-drop, take-append-drop}
 use Rattle.std.proofs.lemmas.List.Elements.{All-append, All-cons, All-tail, All-take}
 use Rattle.std.proofs.lemmas.List.Folds.{list_any-append, list_any_at}
@@ -26,9 +26,6 @@ runs_append (x ∷ xs) ys first second across =
     runs_cons x (xs ++ ys) (runs_head x xs first)
     (All-append (λ q. x.hi < q.lo) xs ys (runs_rise x xs first) (across 0 x (omega arith)))
     (runs_append xs ys (runs_tail x xs first) second (All-tail (λ z. All (λ y. z.hi < y.lo) ys) x xs across))
-
-or_none : (a b : Bool) → a ≡ false → b ≡ false → (a || b) ≡ false
-or_none a b first second = ap (λ x. x || b) first ∙ second
 
 module _ (held other both : List Run) (k minute : ℕ) (le : k ≤ length held) (are : AreRuns held) (made : AreRuns both)
     (early : AllWithin (λ r. r.hi < minute) held 0 k) (late : All (λ r. minute ≤ r.lo) other)
@@ -60,7 +57,7 @@ module _ (held other both : List Run) (k minute : ℕ) (le : k ≤ length held) 
       omega (arith, far, begin, end, same, over))) in
       let second : any_has other y.lo ≡ false = none_before other y.lo (λ m z low. (let begin = late m z low in let end = early i d (omega arith) lt in
       omega (arith, begin, end, same, over))) in
-      absurd (both_ways (any_has both y.lo) (minutes y.lo ∙ or_none (any_has (drop k held) y.lo) (any_has other y.lo) first second) has))
+      absurd (both_ways (any_has both y.lo) (minutes y.lo ∙ or_from (any_has (drop k held) y.lo) (any_has other y.lo) first second) has))
       (cases_lt x.hi y.lo)
 
   pub added_runs : AreRuns (take k held ++ both)

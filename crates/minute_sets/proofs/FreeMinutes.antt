@@ -1,8 +1,9 @@
 -- Stays between runs.
-use Rattle.std.proofs.Common.{◌≡◌, ◌↔◌, IsTrue, ⊎_elim, ℕ, ◌+◌, ◌≤◌, ◌<◌, ◌||◌, Bool, true, false, max, List, length, All, refl, ◌∙◌, ap, sym, arith}
+use Rattle.std.proofs.Common.{◌≡◌, ◌↔◌, IsTrue, ⊎_elim, ℕ, ◌+◌, ◌≤◌, ◌<◌, ◌||◌, true, false, max, List, length, All, ◌∙◌, ap, sym, arith}
 use Rattle.std.proofs.lemmas.Bool.{cases_lt, both_ways}
 use Rattle.route_base.specs.Runs.{has_minute, any_has, AreRuns}
 use Rattle.route_base.specs.declared.types.Run.{Run}
+use Rattle.route_base.proofs.Logic.{or-false, or-true}
 use Rattle.minute_sets.specs.Entries.{IsEntry}
 use Rattle.minute_sets.proofs.FirstRuns.{not_before, not_behind, within_run}
 use Rattle.minute_sets.proofs.HeadRuns.{head_run, head_before, head_within}
@@ -13,14 +14,6 @@ pub record HasEntries (runs : List Run) (window : Run) (minutes : ℕ) (set : Li
   pub after : (t : ℕ) → from ≤ t → any_has set t ≡ false
   pub begins : All (λ r. r.lo ≤ from) set
 
-or_false : (b : Bool) → (b || false) ≡ b
-or_false true = refl
-or_false false = refl
-
-or_true : (b : Bool) → (b || true) ≡ true
-or_true true = refl
-or_true false = refl
-
 module _ (runs : List Run) (window : Run) (minutes : ℕ) (some : 1 ≤ minutes) where
   -- the set `old` has the entries before the run, and `new` has the minutes of the run too
   module _ (old new : List Run) (run : Run) (to : ℕ) (from : run.lo ≤ to)
@@ -29,10 +22,10 @@ module _ (runs : List Run) (window : Run) (minutes : ℕ) (some : 1 ≤ minutes)
       (only : (t : ℕ) → run.lo ≤ t → t < run.hi → IsEntry runs window minutes t)
       (every : (t : ℕ) → run.lo ≤ t → t < to → IsEntry runs window minutes t → t < run.hi) where
     old_or : (t : ℕ) → has_minute t run ≡ false → any_has new t ≡ any_has old t
-    old_or t out = values t ∙ ap (λ b. any_has old t || b) out ∙ or_false (any_has old t)
+    old_or t out = values t ∙ ap (λ b. any_has old t || b) out ∙ or-false (any_has old t)
 
     new_or : (t : ℕ) → has_minute t run ≡ true → any_has new t ≡ true
-    new_or t held = values t ∙ ap (λ b. any_has old t || b) held ∙ or_true (any_has old t)
+    new_or t held = values t ∙ ap (λ b. any_has old t || b) held ∙ or-true (any_has old t)
 
     is_entry : (t : ℕ) → any_has new t ≡ true → IsEntry runs window minutes t
     is_entry t held =

@@ -1,16 +1,14 @@
 -- Rules that are an arc's own.
 use Rattle.std.proofs.Common.{◌≡◌, ℕ, ◌||◌, Bool, true, false, Some, None, List, [], ◌∷◌, ◌++◌, refl, ◌∙◌, ap, true≢false, cond}
 use Rattle.std.proofs.lemmas.List.Folds.{list_any-append}
+use Rattle.std.proofs.lemmas.Bool.{or_parts}
+use Rattle.route_base.proofs.Logic.{or-false}
 use Rattle.vehicle_classes.specs.declared.classes.Key.{Key}
 use Rattle.network_tables.specs.Rules.{Rule, is_arc, is_at, has_arc_rules, rule_value_at}
 use Rattle.network_tables.specs.declared.rules.place.Scope.{Scope}
 use Rattle.network_tables.specs.declared.rules.place.Scope.TheVariants as scopes
 use Rattle.network_tables.specs.declared.rules.place.RulePlace.{RulePlace}
 use Rattle.network_tables.specs.declared.rules.value.RuleValue.{RuleValue}
-
-or-false : (b : Bool) → (b || false) ≡ b
-or-false true = refl
-or-false false = refl
 
 -- one more rule
 pub arc_rules_more : (rules : List Rule) (place : RulePlace) (value : RuleValue)
@@ -21,10 +19,6 @@ arc_rules_more rules place value =
 
 abbrev at_arc : ℕ → Key → Bool → RulePlace
 at_arc a key conditional = record { scope = scopes.Arc a; key = key; conditional = conditional }
-
-neither : (a b : Bool) → (a || b) ≡ false → (a ≡ false) × (b ≡ false)
-neither true b none = absurd (true≢false none)
-neither false b none = (refl, none)
 
 -- a rule of an area is at no place of an arc
 differs : (a : ℕ) (key : Key) (conditional : Bool) (scope : Scope) (other : Key) (kind : Bool) → is_arc scope ≡ false
@@ -37,7 +31,7 @@ pub no_arc_value : (rules : List Rule) (a : ℕ) (key : Key) (conditional : Bool
     → rule_value_at rules (at_arc a key conditional) ≡ None
 no_arc_value [] a key conditional none = refl
 no_arc_value (rule ∷ rules) a key conditional none =
-    let parts = neither (is_arc rule.0.scope) (has_arc_rules rules) none in
+    let parts = or_parts (is_arc rule.0.scope) (has_arc_rules rules) none in
     ap (λ b. cond b (Some rule.1) (rule_value_at rules (at_arc a key conditional)))
     (differs a key conditional rule.0.scope rule.0.key rule.0.conditional parts.0)
     ∙ no_arc_value rules a key conditional parts.1

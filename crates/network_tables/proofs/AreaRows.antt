@@ -55,13 +55,6 @@ module _ (zones : ZoneList) (areas : List AreaEntry) (placed : List (List ℕ ×
       let taken : is_some (value_under areas a.0) ≡ b = sym (area_is_some a.0) ∙ held in
       rw (known, taken) refl
 
--- a cause that is refused, under a weaker claim
-pub refused_weaker : {T : Type 0} (r : Result T RowFault) (P Q : Cause → Type 0) → ((cause : Cause) → P cause → Q cause)
-    → IfErr r (λ e. IfBadCause e P) → IfErr r (λ e. IfBadCause e Q)
-refused_weaker (Ok x) P Q weaker refused = tt
-refused_weaker (Err (row.Bad cause)) P Q weaker refused = weaker cause refused
-refused_weaker (Err row.OutOfMemory) P Q weaker refused = tt
-
 ends_same : {A : Type 0} (x y : A) (xs ys : List A) → x ∷ xs ≡ y ∷ ys → (x ≡ y) × (xs ≡ ys)
 ends_same x y xs ys e = (cc, cc)
 

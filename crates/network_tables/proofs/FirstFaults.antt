@@ -2,6 +2,7 @@
 use Rattle.std.proofs.Common.{◌≡◌, ◌∙◌, Option, Some, None, Err, List, [], ◌∷◌, ◌++◌, refl, sym, subst, ap}
 use Rattle.std.specs.Option.{option_or}
 use Rattle.route_base.specs.declared.faults.BadInput.{BadInput}
+use Rattle.route_base.proofs.Logic.{option_or-none}
 use Rattle.network_tables.specs.declared.faults.NetworkFault.{NetworkFault}
 use Rattle.network_tables.specs.declared.faults.NetworkFault.TheVariants as network
 use Rattle.network_tables.specs.declared.files.Files.{Files}
@@ -9,10 +10,6 @@ use Rattle.network_tables.specs.Inside.{places_fault, access_fault, limits_fault
 use Rattle.network_tables.specs.NetworkFiles.{graph_fault, zones_fault, areas_fault, roads_fault, vehicles_fault, rules_fault, closures_fault, ratings_fault, parking_fault}
 use Rattle.network_tables.specs.NetworkFiles.{holidays_fault, contents_fault, first_some}
 use Rattle.network_tables.specs.Refusals.{IsInputRefusal, Reads}
-
-pub or_none : {X : Type 0} (o : Option X) → option_or o None ≡ o
-or_none None = refl
-or_none (Some x) = refl
 
 -- where the first has no fault, the others tell
 pub later : {X : Type 0} {o p : Option X} → o ≡ None → option_or o p ≡ p
@@ -37,7 +34,7 @@ staged files =
     ∙ ap (λ (o : Option BadInput). option_or (places_fault files) o)
     (some_of_both access (limits ++ last)
     ∙ ap (λ (o : Option BadInput). option_or (access_fault files) o)
-    (some_of_both limits last ∙ ap (λ (o : Option BadInput). option_or (limits_fault files) o) (or_none (holidays_fault files)))))
+    (some_of_both limits last ∙ ap (λ (o : Option BadInput). option_or (limits_fault files) o) (option_or-none (holidays_fault files)))))
 
 -- a refusal of a stage is the refusal of all, where those before it have no fault
 pub refused_at : {X Y : Type 0} (e : NetworkFault) (fault rest other : Option BadInput) (P : X → Type 0) (Q : Y → Type 0)

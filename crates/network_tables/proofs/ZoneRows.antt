@@ -9,24 +9,17 @@ use Rattle.std.specs.Str.{bytes_eq}
 use Rattle.std.proofs.lemmas.List.{map-append}
 use Rattle.std.proofs.lemmas.List.Elements.{filter-append}
 use Rattle.std.proofs.lemmas.Slice.Eq.{bytes_eq-Decides}
+use Rattle.route_base.proofs.Items.{last_or-cons}
+use Rattle.route_base.proofs.Logic.{option_or-none}
 use Rattle.zone_rules.specs.declared.rows.ZoneRow.{ZoneRow}
 use Rattle.table_reader.specs.NameIndex.{value_under}
 use Rattle.network_tables.specs.Zones.{ZoneEntry, ZoneList, rows_of_zone, some_rows, given_zone, zone_named, HasRows, HasZones}
-use Rattle.table_reader.proofs.HeaderLists.{same_name}
 use Rattle.table_reader.proofs.Lists.{lookup-other, lookup-new}
-use Rattle.network_tables.proofs.FirstFaults.{or_none}
-
-name_same : (a b : List ℕ) → a ≡ b → bytes_eq a b ≡ true
-name_same a b = (bytes_eq-Decides a b).1
-
-got_last : {A : Type 0} (o : Option A) (x : A) (xs : List A) → last_or o (x ∷ xs) ≡ slice_get (x ∷ xs) (length xs)
-got_last o x [] = refl
-got_last o x (y ∷ ys) = got_last (Some x) y ys
 
 -- the last item stands at the last place
 pub last_place : {A : Type 0} (xs : List A) → last_or None xs ≡ slice_get xs (length xs - 1)
 last_place [] = refl
-last_place (x ∷ xs) = let one : suc (length xs) - 1 ≡ length xs = omega arith in got_last None x xs ∙ ap (slice_get (x ∷ xs)) (sym one)
+last_place (x ∷ xs) = let one : suc (length xs) - 1 ≡ length xs = omega arith in last_or-cons None x xs ∙ ap (slice_get (x ∷ xs)) (sym one)
 
 -- the value that was written, or what stood there
 agree : {A : Type 0} (p q : Bool) (x y z : A) → q ≡ p → cond q x z ≡ cond p x (cond q y z)
@@ -51,10 +44,12 @@ module _ {V : Type 0} (name other : List ℕ) (w : V) where
       → value_under (cond b ((e.0, w) ∷ es) (e ∷ set_value (bytes_eq name) es w)) other
       ≡ cond (bytes_eq other name) (Some w) (cond (bytes_eq other e.0) (Some e.1) (value_under es other))) [
         | true ↦ λ is some.
-            agree (bytes_eq other name) (bytes_eq other e.0) (Some w) (Some e.1) (value_under es other) (ap (bytes_eq other) (sym (same_name name e.0 is)))
+            agree (bytes_eq other name) (bytes_eq other e.0) (Some w) (Some e.1) (value_under es other)
+            (ap (bytes_eq other) (sym ((bytes_eq-Decides name e.0).0 is)))
         | false ↦ λ is some.
             apart (bytes_eq other name) (bytes_eq other e.0) (Some w) (Some e.1) (value_under es other) (value_under (set_value (bytes_eq name) es w) other)
-            (λ p q. (let e' : bytes_eq name e.0 ≡ true = name_same name e.0 (sym (same_name other name p) ∙ same_name other e.0 q) in cc))
+            (λ p q. (let e' : bytes_eq name e.0 ≡ true = (bytes_eq-Decides name e.0).1
+            (sym ((bytes_eq-Decides other name).0 p) ∙ (bytes_eq-Decides other e.0).0 q) in cc))
             (lookup_written es some)
       ] refl h
 
@@ -64,7 +59,7 @@ pub lookup_pushed : {V : Type 0} (es : List (List ℕ × V)) (name other : List 
 lookup_pushed {V} es name other w none =
     elim (bytes_eq other name) as (λ b. bytes_eq other name ≡ b
     → lookup (bytes_eq other) (es ++ (name, w) ∷ []) ≡ cond b (Some w) (lookup (bytes_eq other) es)) [
-      | true ↦ λ is. lookup-new (bytes_eq other) es (name, w) (ap (λ n. lookup (bytes_eq n) es) (same_name other name is) ∙ none) is
+      | true ↦ λ is. lookup-new (bytes_eq other) es (name, w) (ap (λ n. lookup (bytes_eq n) es) ((bytes_eq-Decides other name).0 is) ∙ none) is
       | false ↦ λ is. lookup-other (bytes_eq other) es (name, w) is
     ] refl
 
@@ -94,7 +89,7 @@ HasRows-more old new entries e has added name =
     → cond b (Some (unwrap_or (value_under old e.0) [] ++ e.1 ∷ [])) (value_under old name) ≡ some_rows
     (rows_of_zone entries name ++ cond b (e.1 ∷ []) [])) [
       | true ↦ λ is. ap (λ (rows : List ZoneRow). Some (rows ++ e.1 ∷ []))
-          (ap (λ o. unwrap_or o []) (has e.0) ∙ rows_back (rows_of_zone entries e.0) ∙ ap (rows_of_zone entries) (sym (same_name name e.0 is)))
+          (ap (λ o. unwrap_or o []) (has e.0) ∙ rows_back (rows_of_zone entries e.0) ∙ ap (rows_of_zone entries) (sym ((bytes_eq-Decides name e.0).0 is)))
           ∙ sym (some_pushed (rows_of_zone entries name) e.1)
       | false ↦ λ is. has name ∙ ap some_rows (sym (append-nil (rows_of_zone entries name)))
     ] refl
@@ -107,7 +102,7 @@ or_some (Some x) p h = refl
 module _ (old : ZoneList) (entries : List ZoneEntry) (has : HasRows old entries) where
   -- a name that isn't `UTC` has its rows alone
   named_other : (name : List ℕ) → bytes_eq name (codes "UTC") ≡ false → value_under old name ≡ zone_named entries name
-  named_other name is = has name ∙ sym (or_none (some_rows (rows_of_zone entries name)))
+  named_other name is = has name ∙ sym (option_or-none (some_rows (rows_of_zone entries name)))
       ∙ ap (λ b. option_or (some_rows (rows_of_zone entries name)) (cond b (given_zone (codes "UTC")) None)) (sym is)
 
   -- `UTC` has rows
@@ -115,7 +110,7 @@ module _ (old : ZoneList) (entries : List ZoneEntry) (has : HasRows old entries)
   HasZones-there there name =
       elim (bytes_eq name (codes "UTC")) as (λ b. bytes_eq name (codes "UTC") ≡ b → value_under old name ≡ zone_named entries name) [
         | true ↦ λ is. has name ∙ sym (or_some (some_rows (rows_of_zone entries name)) (given_zone name)
-            (subst IsSome (ap (value_under old) (sym (same_name name (codes "UTC") is)) ∙ has name) there))
+            (subst IsSome (ap (value_under old) (sym ((bytes_eq-Decides name (codes "UTC")).0 is)) ∙ has name) there))
         | false ↦ λ is. named_other name is
       ] refl
 
@@ -127,8 +122,9 @@ module _ (old : ZoneList) (entries : List ZoneEntry) (has : HasRows old entries)
       ∙ elim (bytes_eq name (codes "UTC")) as (λ b. bytes_eq name (codes "UTC") ≡ b
       → cond b (given_zone (codes "UTC")) (value_under old name) ≡ option_or (some_rows (rows_of_zone entries name))
       (cond b (given_zone (codes "UTC")) None)) [
-        | true ↦ λ is. ap (λ o. option_or o (given_zone (codes "UTC"))) (sym none ∙ ap (value_under old) (sym (same_name name (codes "UTC") is)) ∙ has name)
-        | false ↦ λ is. has name ∙ sym (or_none (some_rows (rows_of_zone entries name)))
+        | true ↦ λ is. ap (λ o. option_or o (given_zone (codes "UTC"))) (sym none
+        ∙ ap (value_under old) (sym ((bytes_eq-Decides name (codes "UTC")).0 is)) ∙ has name)
+        | false ↦ λ is. has name ∙ sym (option_or-none (some_rows (rows_of_zone entries name)))
       ] refl
 
 pub on_ok : {T E P Q : Type 0} (r : Result T E) → (P → Q) → OnOk r P → OnOk r Q

@@ -1,3 +1,4 @@
 pub mod Chaining
 pub mod Placing
 pub mod Counting
+pub mod DriveEnds

@@ -1,19 +1,14 @@
--- The arcs of a node by their places in its list, and the ends of the arc of a drive.
-use Rattle.std.proofs.Common.{◌≡◌, ℕ, ◌<◌, Option, Some, None, List, length, get_or, sym, ◌∙◌, ap, subst}
+-- The arcs of a node by their places in its list.
+use Rattle.std.proofs.Common.{◌≡◌, ℕ, ◌<◌, List, length, get_or, sym, ◌∙◌, ap, subst}
 use Rattle.std.specs.Prelude.{Contains}
-use Rattle.std.specs.Option.{option_map}
 use Rattle.std.proofs.Math.Logic.{∥∥₁_elim}
 use Rattle.std.proofs.Props.{props}
 use Rattle.std.proofs.lemmas.List.{get_or_default}
 use Rattle.std.proofs.lemmas.List.Elements.{Contains-get_or}
-use Rattle.route_base.specs.Itinerary.{Position, Drives}
-use Rattle.route_base.specs.Net.{Net, at_number, road_of, setting_of}
-use Rattle.route_base.specs.Setting.{Road}
+use Rattle.route_base.specs.Net.{Net}
 use Rattle.route_base.specs.declared.types.ArcId.{ArcId}
-use Rattle.route_base.specs.declared.types.TimedArc.{TimedArc}
-use Rattle.node_arcs.specs.Stars.{Star, arcs_of, AreArcsAt, EndsAt, node_at}
+use Rattle.node_arcs.specs.Stars.{Star, arcs_of, AreArcsAt, EndsAt}
 use Rattle.node_arcs.specs.declared.links.End.{End}
-use Rattle.node_arcs.specs.declared.links.End.TheVariants.{Tail, Head}
 
 -- the number of the arc at a place
 abbrev pub arc_at : List ArcId → ℕ → ℕ
@@ -33,19 +28,3 @@ module _ (net : Net) (end : End) (star : Star) (all : ∥ AreArcsAt net end star
       let arc : ArcId = record { 0 = a } in
       let one : Contains arcs arc = subst (λ (w : List ArcId). Contains w arc) (sym own) ((whole v).all a ends) in
       subst P (ap (λ (w : ArcId). w.0) (get_or_default arcs one.0 (record { 0 = 0 }) arc one.1 ∙ one.2)) (at_place one.0 one.1))
-
-ends_by_road : (o : Option TimedArc) (road : Road) → option_map road_of o ≡ Some road → (option_map (node_at Tail) o ≡ Some road.tail)
-    × (option_map (node_at Head) o ≡ Some road.head)
-ends_by_road None road is = absurd (cc)
-ends_by_road (Some arc) road is = (
-  let same : road_of arc ≡ road = cc
-      in ap (λ (r : Road). Some r.tail) same,
-  let same : road_of arc ≡ road = cc in ap (λ (r : Road). Some r.head) same,
-)
-
--- a drive begins at its arc's tail and ends at its head
-pub drives_tail : (net : Net) (until a : ℕ) (p q : Position) → Drives (setting_of net) until a p q → EndsAt net Tail p.node a
-drives_tail net until a p q drives = (ends_by_road (at_number net.arcs a) drives.road drives.is).0 ∙ ap Some drives.tail
-
-pub drives_head : (net : Net) (until a : ℕ) (p q : Position) → Drives (setting_of net) until a p q → EndsAt net Head q.node a
-drives_head net until a p q drives = (ends_by_road (at_number net.arcs a) drives.road drives.is).1 ∙ ap Some (sym drives.node)

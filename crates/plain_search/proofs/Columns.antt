@@ -15,8 +15,9 @@ use Rattle.plain_search.specs.Inside.CostTable.{cost_of}
 use Rattle.plain_search.specs.Inside.Soundness.{IsFinalTable}
 use Rattle.plain_search.specs.declared.cost_table.CostTable.{CostTable}
 use Rattle.plain_search.specs.Values.{IsLeastCost, HasPoint, IsNodeWithPoints, AreValues}
-use Rattle.plain_search.proofs.Founding.{TakesTime, walk_to}
+use Rattle.plain_search.proofs.Founding.{walk_to}
 use Rattle.route_base.proofs.Walking.{move_in_time}
+use Rattle.route_base.proofs.Arcs.{TakesTime}
 use Rattle.plain_search.proofs.Lowering.{known_inside}
 use Rattle.plain_search.proofs.Reading.{bounded_at}
 

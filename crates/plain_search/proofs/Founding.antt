@@ -1,12 +1,13 @@
 -- Each known cost is that of a walk, and entering the end of a lawful step keeps that.
-use Rattle.std.proofs.Common.{◌≡◌, ◌⊎◌, inl, inr, ⊎_elim, ℕ, zero, suc, ◌≤◌, ◌<◌, Some, List, [], ◌∷◌, ◌++◌, sym, ◌∙◌, ap, subst, arith}
+use Rattle.std.proofs.Common.{◌≡◌, ◌⊎◌, inl, inr, ⊎_elim, ℕ, zero, suc, ◌≤◌, ◌<◌, List, [], ◌∷◌, ◌++◌, sym, ◌∙◌, ap, subst, arith}
 use Rattle.std.proofs.lemmas.Bool.{cases_lt, cases_eq}
-use Rattle.route_base.specs.Setting.{Setting, Road}
-use Rattle.route_base.specs.Itinerary.{Position, Step, drive, wait, Moves, Walks}
+use Rattle.route_base.specs.Setting.{Setting}
+use Rattle.route_base.specs.Itinerary.{Step, Moves, Walks}
 use Rattle.route_base.specs.Legs.{start_of, CostsFit}
 use Rattle.route_base.specs.declared.types.Request.{Request}
 use Rattle.route_base.proofs.Waiting.{same_position}
-use Rattle.route_base.proofs.Walking.{walk-push}
+use Rattle.route_base.proofs.Walking.{walk-push, moves_later}
+use Rattle.route_base.proofs.Arcs.{TakesTime}
 use Rattle.plain_search.specs.Inside.Costs.{none, Lowers, ChangesLater, at, ComesByStep, ComesBySteps}
 
 pub later_of : (old new : ℕ → ℕ → ℕ) (v t t' x : ℕ) → Lowers old new v t' x → t < t' → ChangesLater old new t
@@ -22,15 +23,7 @@ later_of old new v t t' x lowers later = record {
   same = λ w k le. lowers.others w k (λ _ e. omega (arith, e, le, later));
 }
 
--- each arc takes time
-abbrev pub TakesTime : Setting → Type 0
-TakesTime s = (a : ℕ) (road : Road) → s.road a ≡ Some road → 1 ≤ road.minutes
-
 module _ (s : Setting) (r : Request) where
-  pub moves_later : TakesTime s → (x : Step) (p q : Position) → Moves s r.until x p q → p.minute < q.minute
-  moves_later takes (drive a) p q move = omega (arith, move.minute, takes a move.road move.is)
-  moves_later takes wait p q move = omega (arith, move.minute)
-
   pub walk_to : TakesTime s → (cost : ℕ → ℕ → ℕ) (now : ℕ) → ComesBySteps s r cost now → (n v t : ℕ) → t < n → cost v t < none
       → (steps : List Step) × Walks s r.until steps (start_of r) (at cost v t)
   walk_to takes cost now founded zero v t below known = absurd (omega (arith, below))
@@ -42,7 +35,7 @@ module _ (s : Setting) (r : Request) where
             (sym founded.start ∙ ap (λ (w : ℕ). cost w r.depart) (sym first.0) ∙ ap (λ (w : ℕ). cost v w) (sym first.1)),
       ))
       (λ (from : ComesByStep s r.until cost now v t).
-      let earlier = moves_later takes from.step (at cost from.node from.minute) (at cost v t) from.move in
+      let earlier = moves_later s r.until takes from.step (at cost from.node from.minute) (at cost v t) from.move in
       let walk = walk_to takes cost now founded n from.node from.minute (omega (arith, earlier, below)) from.known in
       (walk.0 ++ from.step ∷ [], walk-push s r.until walk.0 from.step (start_of r) (at cost from.node from.minute) (at cost v t) walk.1 from.move))
       (founded.each v t known)

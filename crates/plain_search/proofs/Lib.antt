@@ -3,7 +3,6 @@ pub mod Backward
 pub mod Columns
 pub mod Founding
 pub mod Lowering
-pub mod NetFacts
 pub mod Reading
 pub mod Sounding
 pub mod Staying

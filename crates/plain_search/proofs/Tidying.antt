@@ -9,14 +9,11 @@ use Rattle.route_base.specs.Legs.{steps_of, steps_of_leg, HasNoEmptyWait, HasNoN
 use Rattle.route_base.specs.declared.types.Leg.{Leg}
 use Rattle.route_base.specs.declared.types.Leg.TheVariants.{Drive, Wait}
 use Rattle.route_base.specs.declared.types.ArcId.{ArcId}
-use Rattle.route_base.proofs.LegLists.{steps_of-push, no_empty-push}
+use Rattle.route_base.proofs.LegLists.{steps_of-push, no_empty-push, some_wait}
 use Rattle.plain_search.specs.Inside.Tidiness.{IsTidy}
 
 pub waits-add : (k m : ℕ) → steps_of_leg (Wait (k + m)) ≡ steps_of_leg (Wait k) ++ steps_of_leg (Wait m)
 waits-add k m = sym (replicate-append-replicate k m wait)
-
-some_wait : (k : ℕ) → 1 ≤ k → Wait k ≢ Wait 0
-some_wait k le same = let e : k ≡ 0 = cc in omega (arith, e, le)
 
 -- the last leg doesn't matter to those before it
 no_empty-front : (xs : List Leg) (x : Leg) → HasNoEmptyWait (xs ++ x ∷ []) → HasNoEmptyWait xs

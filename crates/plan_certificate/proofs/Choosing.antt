@@ -105,16 +105,6 @@ next_item {A} done rest all x whole = subst (λ (w : List A). at_number w (lengt
     here [] = refl
     here (y ∷ xs) = here xs
 
--- no item is behind the last
-pub number_past : {A : Type 0} (xs : List A) (n : ℕ) → length xs < n → at_number xs n ≡ None
-number_past xs zero past = absurd (omega (arith, past))
-number_past {A} xs (suc k) past = beyond xs k (omega (arith, past))
-  where
-    beyond : (ys : List A) (i : ℕ) → length ys ≤ i → slice_get ys i ≡ None
-    beyond [] i le = refl
-    beyond (y ∷ ys) zero le = absurd (omega (arith, le))
-    beyond (y ∷ ys) (suc i) le = beyond ys i (omega (arith, le))
-
 pub pieces_there : (ps : List Piece) → 1 ≤ length ps → some_pieces (Some ps) ≡ Some ps
 pieces_there [] some = absurd (omega (arith, some))
 pieces_there (p ∷ ps) some = refl

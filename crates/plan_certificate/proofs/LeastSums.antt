@@ -13,6 +13,7 @@ use Rattle.route_base.proofs.Numbered.{at_number-all}
 use Rattle.potentials.specs.Inside.Totals.{total}
 use Rattle.potentials.specs.Sums.{Leads, IsLeastSum, AreLeastBounds}
 use Rattle.potentials.proofs.Totals.{total_one}
+use Rattle.potentials.proofs.Ending.{few_by}
 use Rattle.plan_certificate.specs.CheapRoads.{HasCheapRoads}
 
 -- the minutes of a road and its head
@@ -61,11 +62,6 @@ lower_here x z (Some y) is less =
     let e : one_if (ltb y x) ≡ 0 = ap one_if (le-ltb y x (omega (arith, same))) in
     let f : one_if (ltb y z) ≡ 1 = ap one_if (lt-ltb y z (omega (arith, less, same))) in
     omega (arith, e, f)
-
-total_at_most : (n : ℕ) (f : ℕ → ℕ) → ((i : ℕ) → f i ≤ 1) → total n f ≤ n
-unfolding total
-total_at_most zero f le = omega arith
-total_at_most (suc n) f le = omega (arith, total_at_most n f le, le n)
 
 module _ (net : Net) (good : IsGoodNet net) (goal : ℕ) (bounds : ℕ → Option Bound) (least : AreLeastBounds (setting_of net) goal bounds) where
   abbrev s : Setting
@@ -143,7 +139,7 @@ module _ (net : Net) (good : IsGoodNet net) (goal : ℕ) (bounds : ℕ → Optio
       (next_from v x at)
 
   nodes_at_most : (x : ℕ) → nodes_before x ≤ net.nodes
-  nodes_at_most x = total_at_most net.nodes (has_fewer x) (λ i. lower_at_most x (minutes_at (suc i)))
+  nodes_at_most x = few_by net.nodes (has_fewer x) (λ i. lower_at_most x (minutes_at (suc i)))
 
   -- a least walk has at most one road for each node
   pub least_minutes : (v : ℕ) (b : Bound) → bounds v ≡ Some b → b.minutes ≤ LONGEST_DRIVE * net.nodes

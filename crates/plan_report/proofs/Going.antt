@@ -11,6 +11,7 @@ use Rattle.route_base.specs.declared.types.Leg.TheVariants.{Drive, Wait}
 use Rattle.route_base.specs.declared.types.Pair.{Pair}
 use Rattle.route_base.specs.declared.types.Request.{Request}
 use Rattle.route_base.proofs.Waiting.{same_position}
+use Rattle.route_base.proofs.Walking.{walk_in_time}
 use Rattle.plan_report.specs.Inside.{Lead, IsKnown, IsPassable}
 use Rattle.plan_report.specs.Stages.{Stage, no_road, road_at, weight_at, position_after, stages_from, numbered_text}
 
@@ -63,12 +64,6 @@ module _ (s : Setting) (until : ℕ) where
       let more = rises xs walk.0 q walk.2 in
       (omega (arith, more.0, walk.1.minute), omega (arith, more.1, walk.1.cost))
 
-  -- a walk that begins in time ends in time
-  pub in_time : (xs : List Step) (p q : Position) → p.minute ≤ until → Walks s until xs p q → q.minute ≤ until
-  in_time [] p q early walk = subst (λ (x : Position). x.minute ≤ until) walk early
-  in_time (drive a ∷ xs) p q early walk = in_time xs walk.0 q (omega (arith, walk.1.minute, walk.1.in_time)) walk.2
-  in_time (wait ∷ xs) p q early walk = in_time xs walk.0 q (omega (arith, walk.1.minute, walk.1.in_time)) walk.2
-
   -- a leg ends no earlier than the first instant
   pub minute_after : (leg : Leg) (p : Position) → first_instant ≤ p.minute → first_instant ≤ (position_after s p leg).minute
   minute_after (Drive a) p le = omega (arith, le)
@@ -92,7 +87,7 @@ pub arrives : (s : Setting) (r : Request) (legs : List Leg) (pair : Pair) → Ac
     → IsInstant pair.arrival
 arrives s r legs pair lawful depart until = (
   omega (arith, (rises s r.until (steps_of legs) (start_of r) (end_of r pair) lawful.walk).0, depart.0),
-  omega (arith, in_time s r.until (steps_of legs) (start_of r) (end_of r pair) lawful.in_time lawful.walk, until.1),
+  omega (arith, walk_in_time s r.until (steps_of legs) (start_of r) (end_of r pair) lawful.in_time lawful.walk, until.1),
 )
 
 -- one leg more is written

@@ -1,5 +1,5 @@
 -- Arcs of a net, and where they end.
-use Rattle.std.proofs.Common.{◌≡◌, inl, ⊎_elim, ℕ, zero, suc, ◌+◌, ◌≤◌, ◌<◌, Option, Some, None, List, [], length, refl, sym, ◌∙◌, ap, subst, arith}
+use Rattle.std.proofs.Common.{◌≡◌, inl, ⊎_elim, ℕ, zero, suc, ◌+◌, ◌≤◌, ◌<◌, Option, Some, None, List, [], length, sym, ◌∙◌, ap, subst, arith}
 use Rattle.std.specs.Prelude.{Contains, slice_get}
 use Rattle.std.specs.Option.{option_map}
 use Rattle.std.proofs.lemmas.Bool.{cases_eq}
@@ -15,6 +15,8 @@ use Rattle.potentials.specs.Inside.Totals.{total}
 use Rattle.node_arcs.specs.Stars.{Star, arcs_of, EndsAt, AreIncoming}
 use Rattle.node_arcs.specs.declared.links.End.TheVariants.{Head}
 use Rattle.route_base.specs.declared.limits.TheConstants.{HIGHEST_COST}
+use Rattle.route_base.proofs.Logic.{map_some}
+use Rattle.route_base.proofs.Arcs.{good_arc}
 use Rattle.potentials.specs.declared.sums.Counted.{Counted}
 use Rattle.potentials.specs.declared.sums.Counted.TheVariants.{Minutes, Cost}
 use Rattle.potentials.proofs.Summing.{takes_least}
@@ -34,22 +36,11 @@ road_head (Some w) road v is head = let e : road_of w ≡ road = cc in ap (λ n.
 pub ends_of : (net : Net) (a v : ℕ) (road : Road) → (setting_of net).road a ≡ Some road → road.head ≡ v → EndsAt net Head v a
 ends_of net a v road is head = road_head (at_number net.arcs a) road v is head
 
-pub road_is : (o : Option TimedArc) (arc : TimedArc) (road : Road) → o ≡ Some arc → option_map road_of o ≡ Some road → road_of arc ≡ road
-road_is None arc road is by = cc
-road_is (Some b) arc road is by = let e : b ≡ arc = cc in let f : road_of b ≡ road = cc in ap road_of (sym e) ∙ f
-
-some_arc : (o : Option TimedArc) (road : Road) → option_map road_of o ≡ Some road → (arc : TimedArc) × (o ≡ Some arc) × (road_of arc ≡ road)
-some_arc None road is = cc
-some_arc (Some arc) road is = (arc, refl, cc)
-
 -- no arc ends at node 0
 pub no_zero : (net : Net) → IsGoodNet net → (a : ℕ) (road : Road) → (setting_of net).road a ≡ Some road → road.head ≡ 0 → ⊥
-no_zero net good zero road is none = cc
-no_zero net good (suc i) road is none =
-    let arc = some_arc (at_number net.arcs (suc i)) road is in
-    let fine = good.each_arc i arc.0 (slice_get_within net.arcs i arc.0 arc.1) in
-    let fine' : IsGoodArc net arc.0 = subst (λ (w : TimedArc). IsGoodArc net w) (get_or_from_slice_get net.arcs i arc.0 arc.0 arc.1) fine in
-    omega (arith, fine'.head, none, ap (λ (z : Road). z.head) arc.2)
+no_zero net good a road is none =
+    let arc = map_some (at_number net.arcs a) road_of road is in
+    omega (arith, (good_arc net good a arc.0 arc.1).head, none, ap (λ (z : Road). z.head) arc.2)
 
 pub place_ends : (net : Net) (star : Star) (v : ℕ) (arcs : List ArcId) (i : ℕ) (a : ArcId) → AreIncoming net star → arcs ≡ arcs_of star v
     → slice_get arcs i ≡ Some a → EndsAt net Head v a.0
@@ -63,7 +54,7 @@ ends_place net star v arcs a all is ends =
     let x : ArcId = record { 0 = a } in
     (one.0, one.1, slice_get-get_or arcs one.0 x one.1 ∙ ap (λ y. Some y) one.2)
 
-few_by : (n : ℕ) (f : ℕ → ℕ) → ((v : ℕ) → f v ≤ 1) → total n f ≤ n
+pub few_by : (n : ℕ) (f : ℕ → ℕ) → ((v : ℕ) → f v ≤ 1) → total n f ≤ n
 unfolding total
 few_by zero f le = omega arith
 few_by (suc n) f le = omega (arith, few_by n f le, le n)

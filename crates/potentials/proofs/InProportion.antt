@@ -1,12 +1,11 @@
 -- Where costs are in proportion to minutes, the least minutes follow from the least costs.
-use Rattle.std.proofs.Common.{◌≡◌, ℕ, zero, suc, ◌+◌, ◌*◌, ◌/◌, Option, Some, None, List, [], ◌∷◌, map, refl, sym, ◌∙◌, ap, subst, arith}
-use Rattle.std.specs.Prelude.{slice_get}
-use Rattle.std.specs.Option.{option_map, option_flatten}
-use Rattle.std.proofs.lemmas.Option.{slice_get-map}
+use Rattle.std.proofs.Common.{◌≡◌, ℕ, ◌+◌, ◌*◌, ◌/◌, Option, Some, None, List, [], ◌∷◌, map, refl, sym, ◌∙◌, ap, subst, arith}
+use Rattle.std.specs.Option.{option_map}
 use Rattle.route_base.specs.Setting.{Road}
 use Rattle.route_base.specs.Net.{Net, setting_of}
 use Rattle.route_base.specs.declared.limits.TheConstants.{COST_OF_MINUTE}
 use Rattle.label_queue.specs.Keys.{key_at}
+use Rattle.label_queue.proofs.Viewing.{key_at-map}
 use Rattle.potentials.specs.Sums.{Leads, IsLeastSum}
 use Rattle.potentials.specs.Inside.Proportion.{IsProportional, AreProportional}
 use Rattle.potentials.specs.Inside.Summing.{AreLeastSums}
@@ -46,19 +45,10 @@ module _ (roads : ℕ → Option Road) (goal : ℕ) (all : AreProportional roads
         λ arcs m leads. omega (arith, least.1 arcs (COST_OF_MINUTE * m) (in_cost arcs v m leads)),
       )
 
-pub key_map : (f : ℕ → ℕ) (keys : List (Option ℕ)) (v : ℕ) → key_at (map (option_map f) keys) v ≡ option_map f (key_at keys v)
-unfolding key_at
-key_map f keys zero = refl
-key_map f keys (suc i) = ap option_flatten (slice_get-map (option_map f) keys i) ∙ flat (slice_get keys i)
-  where
-    flat : (o : Option (Option ℕ)) → option_flatten (option_map (option_map f) o) ≡ option_map f (option_flatten o)
-    flat None = refl
-    flat (Some o) = refl
-
 -- so the minutes of the least costs are the least
 pub are_least_minutes : (net : Net) (goal : ℕ) (costs minutes : List (Option ℕ)) → AreProportional (setting_of net).road → AreLeastSums net Cost goal costs
     → minutes ≡ map (option_map (λ x. x / COST_OF_MINUTE)) costs → AreLeastSums net Minutes goal minutes
 are_least_minutes net goal costs minutes all least is v =
     subst (IsLeastSum (setting_of net).road (λ r. r.minutes) goal v)
-    (sym (ap (λ (keys : List (Option ℕ)). key_at keys v) is ∙ key_map (λ x. x / COST_OF_MINUTE) costs v))
+    (sym (ap (λ (keys : List (Option ℕ)). key_at keys v) is ∙ key_at-map (λ x. x / COST_OF_MINUTE) costs v))
     (minutes_least (setting_of net).road goal all v (key_at costs v) (least v))

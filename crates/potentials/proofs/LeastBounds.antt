@@ -1,16 +1,17 @@
 -- Least sums as bounds.
 use Rattle.std.specs.Option.{option_flatten}
-use Rattle.std.proofs.Common.{◌≡◌, ⊎_elim, ℕ, zero, suc, ◌+◌, ◌-◌, ◌≤◌, ◌<◌, Option, Some, None, List, [], ◌∷◌, ◌++◌, length, refl, sym, ◌∙◌, ap, subst, arith}
+use Rattle.std.proofs.Common.{◌≡◌, ⊎_elim, ℕ, suc, ◌+◌, ◌-◌, ◌≤◌, ◌<◌, Option, Some, None, List, [], ◌∷◌, ◌++◌, length, refl, sym, ◌∙◌, ap, subst, arith}
 use Rattle.std.specs.Prelude.{slice_get}
 use Rattle.std.proofs.lemmas.Bool.{cases_lt}
 use Rattle.route_base.specs.Net.{at_number}
 use Rattle.label_queue.specs.Keys.{key_at}
 use Rattle.label_queue.proofs.Places.{key_past, key_zero}
-use Rattle.potentials.proofs.Lists.{number_past}
 use Rattle.std.specs.Option.{option_map}
 use Rattle.route_base.specs.Setting.{Setting, Road}
 use Rattle.route_base.specs.Relaxing.{AreBounds, IsBoundThrough}
 use Rattle.route_base.specs.declared.types.Bound.{Bound}
+use Rattle.route_base.proofs.Numbered.{number_past}
+use Rattle.route_base.proofs.Items.{slice_get-append_left, slice_get-push_end}
 use Rattle.potentials.specs.Sums.{Leads, IsLeastSum, AreLeastBounds, bound_at}
 use Rattle.potentials.specs.Inside.Summing.{bound_of_sums}
 
@@ -68,25 +69,18 @@ module _ (s : Setting) (goal : ℕ) (bounds : ℕ → Option Bound) (least : Are
     each = λ a road h is there. through a road h is (bounds road.head) (bounds road.tail) there (least road.head) (least road.tail);
   }
 
-push_below : {A : Type 0} (xs : List A) (y : A) (k : ℕ) → k < length xs → slice_get (xs ++ y ∷ []) k ≡ slice_get xs k
-push_below [] y k below = absurd (omega (arith, below))
-push_below (x ∷ xs) y zero below = refl
-push_below (x ∷ xs) y (suc k) below = push_below xs y k (omega (arith, below))
-
-push_end : {A : Type 0} (xs : List A) (y : A) → slice_get (xs ++ y ∷ []) (length xs) ≡ Some y
-push_end [] y = refl
-push_end (x ∷ xs) y = push_end xs y
-
 at_next : {A : Type 0} (xs : List A) (k : ℕ) → at_number xs (k + 1) ≡ slice_get xs k
 at_next xs k = let e : k + 1 ≡ suc k = omega arith in ap (at_number xs) e
 
 pub bound_pushed : (bounds : List (Option Bound)) (b : Option Bound) (place : ℕ) (f : ℕ → Option Bound) → length bounds ≡ place
     → ((k : ℕ) → k < place → bound_at bounds (k + 1) ≡ f k) → b ≡ f place → (k : ℕ) → k < place + 1 → bound_at (bounds ++ b ∷ []) (k + 1) ≡ f k
 bound_pushed bounds b place f long each new k below = ⊎_elim
-    (λ (before : k < place). ap option_flatten (at_next (bounds ++ b ∷ []) k ∙ (push_below bounds b k (omega (arith, before, long)) ∙ sym (at_next bounds k)))
+    (λ (before : k < place). ap option_flatten (at_next (bounds ++ b ∷ []) k
+    ∙ (slice_get-append_left bounds (b ∷ []) k (omega (arith, before, long)) ∙ sym (at_next bounds k)))
     ∙ each k before)
     (λ (here : place ≤ k). let same : k ≡ length bounds = omega (arith, here, below, long) in
-    ap option_flatten (at_next (bounds ++ b ∷ []) k ∙ (ap (slice_get (bounds ++ b ∷ [])) same ∙ push_end bounds b)) ∙ (new ∙ ap f (omega (arith, same, long))))
+    ap option_flatten (at_next (bounds ++ b ∷ []) k
+    ∙ (ap (slice_get (bounds ++ b ∷ [])) same ∙ slice_get-push_end bounds b)) ∙ (new ∙ ap f (omega (arith, same, long))))
     (cases_lt k place)
 
 pub bound_all : (bounds : List (Option Bound)) (minutes costs : List (Option ℕ)) (n : ℕ) → length bounds ≡ n → length minutes ≡ n

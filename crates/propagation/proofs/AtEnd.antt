@@ -2,23 +2,19 @@
 use Rattle.std.proofs.Common.{◌≡◌, ℕ, ◌≤◌, false, List, [], ◌∷◌, get_or, ap, arith}
 use Rattle.std.proofs.lemmas.List.{get_or_default}
 use Rattle.route_base.specs.Setting.{Setting}
-use Rattle.route_base.specs.Itinerary.{Position, Step, drive, wait, Moves, Walks}
+use Rattle.route_base.specs.Itinerary.{Position, Step, Walks}
 use Rattle.route_base.specs.Legs.{start_of}
 use Rattle.route_base.specs.Relaxing.{AreBounds}
 use Rattle.route_base.specs.declared.types.Pair.{Pair}
+use Rattle.route_base.proofs.Walking.{moves_forward}
 use Rattle.potentials.specs.Sums.{AreLeastBounds}
 use Rattle.propagation.specs.Found.{IsOptimal, IsJustified}
 use Rattle.propagation.specs.Inside.Invariants.{Task, Progress, point, IsResting}
 use Rattle.propagation.proofs.Parting.{finished, front}
 
--- no step goes back in time
-step_forward : (s : Setting) (until : ℕ) (x : Step) (p q : Position) → Moves s until x p q → p.minute ≤ q.minute
-step_forward s until (drive a) p q move = omega (arith, move.minute)
-step_forward s until wait p q move = omega (arith, move.minute)
-
 walk_forward : (s : Setting) (until : ℕ) (xs : List Step) (p q : Position) → Walks s until xs p q → p.minute ≤ q.minute
 walk_forward s until [] p q walk = omega (arith, ap (λ (w : Position). w.minute) walk)
-walk_forward s until (x ∷ xs) p q walk = omega (arith, step_forward s until x p walk.0 walk.1, walk_forward s until xs walk.0 q walk.2)
+walk_forward s until (x ∷ xs) p q walk = omega (arith, moves_forward s until x p walk.0 walk.1, walk_forward s until xs walk.0 q walk.2)
 
 module _ (k : Task) (now : Progress) (facts : IsResting k now) (done : (v t : ℕ) → now.pending v t ≡ false) where
   pub optimal_at_end : k.request.depart ≤ k.request.until → AreBounds k.setting k.request.goal.0 k.bounds → AreLeastBounds k.setting k.request.goal.0 k.bounds

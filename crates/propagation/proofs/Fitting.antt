@@ -1,14 +1,10 @@
--- What costs fit, where arcs begin, and what stays of a part.
-use Rattle.std.proofs.Common.{◌≡◌, ℕ, ◌<◌, Option, Some, None, List, length, sym, ◌∙◌, ap, subst}
+-- What costs fit, the places of arcs, and what stays of a part.
+use Rattle.std.proofs.Common.{◌≡◌, ℕ, ◌<◌, Option, Some, List, length, sym, ◌∙◌, ap, subst}
 use Rattle.std.specs.Prelude.{Contains, slice_get}
-use Rattle.std.specs.Option.{option_map}
 use Rattle.std.proofs.lemmas.Option.{slice_get-get_or, slice_get_within, get_or_from_slice_get}
-use Rattle.route_base.specs.Setting.{Road}
-use Rattle.route_base.specs.Itinerary.{Position, Drives}
 use Rattle.route_base.specs.Legs.{CostsFit}
-use Rattle.route_base.specs.Net.{Net, road_of, setting_of, at_number}
+use Rattle.route_base.specs.Net.{Net}
 use Rattle.route_base.specs.declared.types.ArcId.{ArcId}
-use Rattle.route_base.specs.declared.types.TimedArc.{TimedArc}
 use Rattle.propagation.proofs.Keeping.{within_kept}
 use Rattle.propagation.specs.Inside.Invariants.{Improves, IsSound, Progress, Task, point}
 use Rattle.propagation.specs.Inside.Offers.{IsKnownPart}
@@ -24,14 +20,6 @@ part_kept k old new v part better holds = record {
   reached = holds.reached;
   known = λ t x is. within_kept k old new (point v t x) better (holds.known t x is);
 }
-
-tail_of : (o : Option TimedArc) (road : Road) (v : ℕ) → option_map road_of o ≡ Some road → road.tail ≡ v → option_map (λ arc. arc.tail.0) o ≡ Some v
-tail_of None road v is tail = cc
-tail_of (Some arc) road v is tail = let e : road_of arc ≡ road = cc in ap (λ n. Some n) (ap (λ (w : Road). w.tail) e ∙ tail)
-
--- the arc of a drive begins where the drive does
-pub drive_begins : (net : Net) (until a : ℕ) (p q : Position) → Drives (setting_of net) until a p q → EndsAt net Tail p.node a
-drive_begins net until a p q step = tail_of (at_number net.arcs a) step.road p.node step.is step.tail
 
 -- the arc at each place of the list begins at the node
 pub place_begins : (net : Net) (star : Star) (v : ℕ) (arcs : List ArcId) (i : ℕ) (a : ArcId) → AreOutgoing net star → arcs ≡ arcs_of star v

@@ -12,10 +12,6 @@ use Rattle.propagation.specs.Inside.Invariants.{ArePartStepsRelaxed, ComesBy, Dr
 use Rattle.propagation.specs.Inside.Invariants.{IsPrunable, IsRelaxedIn, IsSearching, IsSound, AreInReach, Progress, Reaches, TakesOffer, Task, no_part, point}
 use Rattle.propagation.specs.Found.{IsStart}
 
-option_cases : {A : Type 0} (o : Option A) → (o ≡ None) ⊎ ((x : A) × (o ≡ Some x))
-option_cases None = inl refl
-option_cases (Some x) = inr (x, refl)
-
 -- an excuse by pairs is one by better pairs
 pub prunable_kept : (k : Task) (old new : List Pair) (p : Position) → ((t x : ℕ) → HasPair old t x → HasPair new t x) → IsPrunable k old p → IsPrunable k new p
 prunable_kept k old new p better = by (k.bounds p.node)

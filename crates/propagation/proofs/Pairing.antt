@@ -3,7 +3,7 @@ use Rattle.std.proofs.Common.{◌≡◌, ◌⊎◌, inl, inr, ⊎_elim, ℕ, zer
 use Rattle.std.proofs.Common.{drop, length, get_or, refl, sym, ◌∙◌, ap, subst, arith}
 use Rattle.std.specs.Prelude.{Contains, nat_le}
 use Rattle.std.specs.List.{filter, insert}
-use Rattle.std.proofs.lemmas.Bool.{cases_lt, le-leb, lt-leb, cond_both}
+use Rattle.std.proofs.lemmas.Bool.{cases_lt, le-leb, lt-leb, cond_both, and_from}
 use Rattle.std.proofs.lemmas.List.{get_or_default, take-append-drop}
 use Rattle.std.proofs.lemmas.List.Edits.{length-insert, get_or-insert_below, get_or-insert_at, get_or-insert_above}
 use Rattle.std.proofs.lemmas.List.Elements.{filter_passes, All-filter, All-contains_itself, All-contains, Contains-append_left, Contains-append_right}
@@ -37,14 +37,10 @@ stays_better pair q stays = ⊎_elim
     (λ (late : pair.arrival ≤ q.arrival). ⊎_elim
     (λ (cheap : q.cost < pair.cost). inr cheap)
     (λ (dear : pair.cost ≤ q.cost). let bad : false ≡ true =
-    sym (ap not (both (nat_le pair.arrival q.arrival) (nat_le pair.cost q.cost) (le-leb pair.arrival q.arrival late) (le-leb pair.cost q.cost dear)))
+    sym (ap not (and_from (nat_le pair.arrival q.arrival) (nat_le pair.cost q.cost) (le-leb pair.arrival q.arrival late) (le-leb pair.cost q.cost dear)))
     ∙ stays in cc)
     (cases_lt q.cost pair.cost))
     (cases_lt q.arrival pair.arrival)
-  where
-    both : (a b : Bool) → a ≡ true → b ≡ true → (a && b) ≡ true
-    both true b h k = k
-    both false b h k = cc
 
 -- a pair that goes out is as bad
 goes_bad : (pair q : Pair) → not (is_as_bad pair q) ≡ false → (pair.arrival ≤ q.arrival) × (pair.cost ≤ q.cost)

@@ -1,7 +1,7 @@
 -- The first minutes of pieces, and the piece of a value.
 use Rattle.std.proofs.Common.{◌≡◌, ℕ, suc, ◌-◌, ◌*◌, ◌≤◌, ◌<◌, Bool, true, false, Some, List, [], ◌∷◌, length, get_or, refl, ◌∙◌, ap, arith}
-use Rattle.std.specs.Prelude.{if◌then◌else◌, nat_le, ◌&&◌}
-use Rattle.std.proofs.lemmas.Bool.{leb-true}
+use Rattle.std.specs.Prelude.{if◌then◌else◌, nat_le}
+use Rattle.std.proofs.lemmas.Bool.{leb-true, and_parts}
 use Rattle.cost_functions.specs.Lines.{is_on_piece, line_at}
 use Rattle.cost_functions.specs.Pieces.{value_at, ArePieces}
 use Rattle.cost_functions.specs.declared.pieces.Piece.{Piece}
@@ -15,10 +15,6 @@ start_value ps i d are within =
     let cost : line_at p p.lo ≡ p.cost = omega (arith, flat) in
     value_at_place ps i d p.lo are within (omega arith) (are.each i d within).filled ∙ ap (λ n. Some n) cost
 
-and_first : (a b : Bool) → (a && b) ≡ true → a ≡ true
-and_first true b h = refl
-and_first false b h = cc
-
 -- a value is that of a piece which begins no later and costs no more there
 pub piece_of : (ps : List Piece) (t x : ℕ) → value_at ps t ≡ Some x → (i : ℕ) × (i < length ps)
     × ((d : Piece) → ((get_or ps i d).lo ≤ t) × ((get_or ps i d).cost ≤ x))
@@ -31,5 +27,5 @@ piece_of (p ∷ ps) t x is = by (λ rest. piece_of ps t x rest) (is_on_piece t p
         → (i : ℕ) × (i < length (p ∷ ps)) × ((d : Piece) → ((get_or (p ∷ ps) i d).lo ≤ t) × ((get_or (p ∷ ps) i d).cost ≤ x))
     by later true on here =
         let e : line_at p t ≡ x = cc in
-        (0, omega arith, λ d. (leb-true p.lo t (and_first (nat_le p.lo t) (nat_le t p.hi) on), omega (arith, e)))
+        (0, omega arith, λ d. (leb-true p.lo t (and_parts (nat_le p.lo t) (nat_le t p.hi) on).0, omega (arith, e)))
     by later false on rest = let found = later rest in (suc found.0, omega (arith, found.1), found.2)

@@ -3,11 +3,12 @@ use Rattle.std.proofs.Common.{◌≡◌, ⊎_elim, ℕ, ◌+◌, ◌-◌, ◌*�
 use Rattle.std.proofs.Common.{ap, arith}
 use Rattle.std.specs.Prelude.{if◌then◌else◌, nat_le}
 use Rattle.function_merge.specs.Moves.{moved_at, CanMove}
+use Rattle.function_merge.proofs.KeptParts.{moved_early}
 use Rattle.route_base.specs.Runs.{any_has}
 use Rattle.route_base.specs.declared.types.Run.{Run}
 use Rattle.propagation.specs.Inside.EntrySets.{AreEntries}
 use Rattle.std.specs.Option.{option_map}
-use Rattle.std.proofs.lemmas.Bool.{cases_lt, le-leb, lt-leb}
+use Rattle.std.proofs.lemmas.Bool.{cases_lt, le-leb}
 use Rattle.route_base.specs.Setting.{Road}
 use Rattle.route_base.specs.Itinerary.{drive, wait, Drives}
 use Rattle.route_base.specs.Legs.{start_of, CostsFit}
@@ -21,6 +22,7 @@ use Rattle.route_base.proofs.Waiting.{waits}
 use Rattle.propagation.specs.Inside.Invariants.{Reaches, point}
 use Rattle.propagation.specs.Inside.Offers.{IsDriven}
 use Rattle.route_base.specs.declared.limits.TheConstants.{HIGHEST_COST, LAST_INSTANT}
+use Rattle.route_base.proofs.Arcs.{road_is}
 
 -- what a shift of kept costs has at a minute comes from a cost that is kept
 shifted_some : (b : Bool) (o : Option ℕ) (c x : ℕ) → option_map (λ n. n + c) (if b then o else None) ≡ Some x → (b ≡ true) × (y : ℕ) × (o ≡ Some y)
@@ -39,14 +41,6 @@ moved_late minutes c values t =
     let late : nat_le minutes (t + minutes) ≡ true = le-leb minutes (t + minutes) (omega arith) in
     let e : t + minutes - minutes ≡ t = omega arith in
     rw (late, e) refl
-
-moved_early : (minutes c : ℕ) (values : ℕ → Option ℕ) (t : ℕ) → t < minutes → moved_at minutes c values t ≡ None
-moved_early minutes c values t before = let early : nat_le minutes t ≡ false = lt-leb minutes t before in rw early refl
-
--- the road of an arc is that of its number
-pub road_is : (o : Option TimedArc) (arc : TimedArc) (road : Road) → o ≡ Some arc → option_map road_of o ≡ Some road → road ≡ road_of arc
-road_is None arc road is by = cc
-road_is (Some b) arc road is by = let e : b ≡ arc = cc in let f : road_of b ≡ road = cc in sym f ∙ ap road_of e
 
 module _ (net : Net) (r : Request) (bounds : ℕ → Option Bound) where
   module _ (a v : ℕ) (arc : TimedArc) (is : at_number net.arcs a ≡ Some arc) (begins : arc.tail.0 ≡ v) where
@@ -79,7 +73,7 @@ module _ (net : Net) (r : Request) (bounds : ℕ → Option Bound) where
           (u, s.1, s.2, drive_of u s.1 (opens u s.0) (in_time u s.0) t x e s.3))
           (cases_lt t arc.minutes);
       to = λ u y q there step.
-          let same : step.road ≡ road_of arc = road_is (at_number net.arcs a) arc step.road is step.is in
+          let same : step.road ≡ road_of arc = sym (road_is (at_number net.arcs a) arc step.road is step.is) in
           let minutes : step.road.minutes ≡ arc.minutes = ap (λ (w : Road). w.minutes) same in
           let cost : step.road.cost ≡ arc.cost = ap (λ (w : Road). w.cost) same in
           let goes : IsOpen (setting_of net) a u arc.minutes = λ t low high. step.is_open t low (omega (arith, high, minutes)) in

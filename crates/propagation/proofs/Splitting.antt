@@ -1,9 +1,9 @@
 -- What is taken of the pending minutes of a node.
-use Rattle.std.proofs.Common.{◌≡◌, ◌⊎◌, inl, inr, ⊎_elim, ℕ, ◌-◌, ◌≤◌, ◌<◌, Bool, true, false, ◌&&◌, ◌||◌, not, Option, Some, None, List, [], length, get_or, set}
+use Rattle.std.proofs.Common.{◌≡◌, ◌⊎◌, inl, inr, ⊎_elim, ℕ, ◌-◌, ◌≤◌, ◌<◌, Bool, true, false, ◌&&◌, not, Option, Some, None, List, [], length, get_or, set}
 use Rattle.std.proofs.Common.{refl, sym, ◌∙◌, ap, subst}
 use Rattle.cost_functions.specs.Building.{AreBuilt}
 use Rattle.std.specs.Prelude.{All, nat_lt, if◌then◌else◌, IfSome, IsNone}
-use Rattle.std.proofs.lemmas.Bool.{cases_eq, lt-ltb}
+use Rattle.std.proofs.lemmas.Bool.{cases_eq, lt-ltb, and_parts, or_right}
 use Rattle.route_base.specs.Relaxing.{IsDominatedOrLate}
 use Rattle.route_base.specs.declared.types.Bound.{Bound}
 use Rattle.label_queue.specs.Keys.{key_at, IsSet}
@@ -14,10 +14,6 @@ use Rattle.function_merge.specs.Pruning.{IsPruned}
 use Rattle.propagation.specs.Inside.Invariants.{Progress, TakesPart, Task, point}
 use Rattle.propagation.specs.Inside.States.{IsAwaited, IsRequeued, IsShaped, IsSplit, is_pending, set_has}
 use Rattle.route_base.specs.declared.types.Run.{Run}
-
-and_left : (a b : Bool) → (a && b) ≡ true → a ≡ true
-and_left true b h = refl
-and_left false b h = cc
 
 part_or_rest : (a b : Bool) → a ≡ true → ((a && not b) ≡ true) ⊎ ((a && b) ≡ true)
 part_or_rest true true h = inr refl
@@ -65,7 +61,7 @@ split_is sets v first last own taken rest next low high is begins le took left s
       (λ (stays : (any_has own t && not (nat_lt t last)) ≡ true). inl (now t ∙ left t ∙ stays))
       (λ (goes : (any_has own t && nat_lt t last) ≡ true). inr (took t ∙ goes))
       (part_or_rest (any_has own t) (nat_lt t last) (sym (was t) ∙ there));
-  less = λ t there. was t ∙ and_left (any_has own t) (not (nat_lt t last)) (sym (left t) ∙ (sym (now t) ∙ there));
+  less = λ t there. was t ∙ (and_parts (any_has own t) (not (nat_lt t last)) (sym (left t) ∙ (sym (now t) ∙ there))).0;
   some = (first, begins, now first ∙ left first ∙ not_rest (any_has own first) (nat_lt first last) (lt-ltb first last le));
   left = by_some next some;
   none = λ empty t. now t ∙ none empty t;
@@ -152,10 +148,6 @@ shaped_again nodes v taken next old new shape absent split requeued functions pe
           (λ (other : u ≡ v → ⊥). let w = shape.waiting u key (sym (put.1.others u other) ∙ is) in (w.0, cut.others u w.0 other ∙ w.1))
           (cases_eq u v);
     }
-
-or_right : (a b : Bool) → b ≡ true → (a || b) ≡ true
-or_right true b h = refl
-or_right false b h = h
 
 -- a node with more pending minutes is in the queue
 pub shaped_awaited : (nodes h : ℕ) (more : ℕ → Bool) (old new : State) → IsShaped nodes 0 old → length new.functions.items ≡ length old.functions.items

@@ -1,7 +1,7 @@
 -- A write to the state is the taking of an offer.
-use Rattle.std.proofs.Common.{◌≡◌, ◌⊎◌, inl, inr, ⊎_elim, ℕ, ◌≤◌, ◌<◌, min, Bool, true, false, ◌||◌, Option, Some, None, refl, sym, ◌∙◌, ap, subst, arith}
+use Rattle.std.proofs.Common.{◌≡◌, ◌⊎◌, inl, inr, ⊎_elim, ℕ, ◌≤◌, ◌<◌, min, Bool, true, false, Option, Some, None, refl, sym, ◌∙◌, ap, subst, arith}
 use Rattle.std.specs.Prelude.{Contains}
-use Rattle.std.proofs.lemmas.Bool.{cases_eq, cases_lt, lt-ltb, le-ltb}
+use Rattle.std.proofs.lemmas.Bool.{cases_eq, cases_lt, lt-ltb, le-ltb, or_cases, or_left, or_right}
 use Rattle.route_base.specs.Front.{RiseAndFall}
 use Rattle.route_base.specs.Relaxing.{HasPair, IsDominatedOrLate, AreBounds}
 use Rattle.function_merge.specs.Least.{least_of, is_better}
@@ -39,18 +39,6 @@ true_lower (Some x) (Some y) low = ⊎_elim
     (λ (lt : y < x). omega (arith, lt))
     (λ (le : x ≤ y). let bad : true ≡ false = sym low ∙ le-ltb y x le in cc)
     (cases_lt y x)
-
-or_cases : (a b : Bool) → (a || b) ≡ true → (a ≡ true) ⊎ (b ≡ true)
-or_cases true b h = inl refl
-or_cases false b h = inr h
-
-or_left : (a b : Bool) → a ≡ true → (a || b) ≡ true
-or_left true b h = refl
-or_left false b h = cc
-
-or_right : (a b : Bool) → b ≡ true → (a || b) ≡ true
-or_right true b h = refl
-or_right false b h = h
 
 pub merged_of : (h : ℕ) (offer : ℕ → Option ℕ) (better : ℕ → Bool) (old new : ℕ → ℕ → Option ℕ) → IsLowered h offer better old new → IsMerged h offer old new
 merged_of h offer better old new low = record {

@@ -1,25 +1,19 @@
 -- Headers of a table, as a search for a file's header goes through them.
-use Rattle.std.proofs.Common.{◌≡◌, ℕ, Bor, zero, suc, ◌<◌, Bool, true, false, ◌&&◌, ◌||◌, List, [], ◌∷◌, length, drop, get_or, refl, inl, inr}
+use Rattle.std.proofs.Common.{◌≡◌, ℕ, Bor, zero, suc, ◌<◌, true, false, ◌||◌, List, [], ◌∷◌, length, drop, get_or, refl, inl, inr}
 use Rattle.std.proofs.Common.{◌∙◌, ap, arith}
 use Rattle.std.specs.Str.{bytes_eq}
 use Rattle.std.proofs.lemmas.Slice.Eq.{bytes_eq-Decides}
+use Rattle.std.proofs.lemmas.Bool.{and_parts}
 use Rattle.table_reader.specs.Records.{Record, record_eq, words_of, headers_of}
 use Rattle.table_reader.specs.Schema.{IsHeader, is_header}
-
-pub same_name : (a b : List ℕ) → bytes_eq a b ≡ true → a ≡ b
-same_name a b e = (bytes_eq-Decides a b).0 e
-
-both : (a b : Bool) → (a && b) ≡ true → (a ≡ true) × (b ≡ true)
-both true b e = (refl, e)
-both false b e = cc
 
 pub same_record : (a b : Record) → record_eq a b ≡ true → a ≡ b
 same_record [] [] e = refl
 same_record [] (y ∷ b) e = cc
 same_record (x ∷ a) [] e = cc
 same_record (x ∷ a) (y ∷ b) e =
-    let p = both (bytes_eq x y) (record_eq a b) e in
-    ap (λ (z : List ℕ). z ∷ a) (same_name x y p.0) ∙ ap (λ (more : Record). y ∷ more) (same_record a b p.1)
+    let p = and_parts (bytes_eq x y) (record_eq a b) e in
+    ap (λ (z : List ℕ). z ∷ a) ((bytes_eq-Decides x y).0 p.0) ∙ ap (λ (more : Record). y ∷ more) (same_record a b p.1)
 
 -- the headers from the next one on
 pub header-next : (headers : List (Bor (List (Bor (List ℕ))))) (first : Record) (i : ℕ) (d : Bor (List (Bor (List ℕ)))) → i < length headers

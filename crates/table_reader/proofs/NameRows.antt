@@ -1,8 +1,7 @@
 -- How an index of names views its map, whose keys are seen as names.
-use Rattle.std.proofs.Common.{◌≡◌, ℕ, Bool, true, false, cond, Option, Some, None, List, [], ◌∷◌, ◌++◌, map, refl, sym, ◌∙◌, ap, subst}
+use Rattle.std.proofs.Common.{◌≡◌, ℕ, Bool, true, false, cond, List, [], ◌∷◌, ◌++◌, map, refl, sym, ◌∙◌, ap, subst}
 use Rattle.std.specs.List.{position, IsDistinct, AllByRecursion}
 use Rattle.std.specs.Map.{lookup, set_value}
-use Rattle.std.specs.Option.{is_some}
 use Rattle.std.specs.Str.{bytes_eq}
 use Rattle.std.proofs.lemmas.List.{map-append}
 use Rattle.table_reader.specs.NameIndex.{value_under, names_of, place_among}
@@ -19,10 +18,6 @@ set_value-map {K} {L} {V} f test (e ∷ es) w = here (test (f e.0)) (set_value-m
         ≡ cond b ((f e.0, w) ∷ map (λ (e : K × V). (f e.0, e.1)) es) ((f e.0, e.1) ∷ set_value test (map (λ (e : K × V). (f e.0, e.1)) es) w)
     here true more = refl
     here false more = ap (λ (xs : List (L × V)). (f e.0, e.1) ∷ xs) more
-
-pub none_from : {A : Type 0} (o : Option A) → is_some o ≡ false → o ≡ None
-none_from None e = refl
-none_from (Some x) e = cc
 
 module _ {K V : Type 0} (items : K → List ℕ) (es : List (K × V)) (seen : List (List ℕ × V)) (is : map (λ (e : K × V). (items e.0, e.1)) es ≡ seen) where
   pub value_seen : (name : List ℕ) → lookup (λ k. bytes_eq name (items k)) es ≡ value_under seen name

@@ -1,4 +1,4 @@
 mod Fields
 mod Named
-mod VehicleRows
+pub mod VehicleRows
 mod CopiedWords

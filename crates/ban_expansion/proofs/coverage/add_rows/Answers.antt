@@ -4,11 +4,12 @@ use Rattle.std.proofs.lemmas.Bool.{and_parts, leb-true, ltb-true, cases_eq}
 use Rattle.std.proofs.lemmas.List.Elements.{All-tail}
 use Rattle.route_base.proofs.Lists.{first_and_rest}
 use Rattle.route_base.specs.Runs.{has_minute, any_has}
+use Rattle.route_base.proofs.Logic.{or-false}
 use Rattle.zone_rules.specs.Zones.{is_offset, row_at}
 use Rattle.zone_rules.specs.declared.rows.ZoneRow.{ZoneRow}
 use Rattle.ban_expansion.specs.Coverage.{covered_at}
 use Rattle.ban_expansion.specs.LocalDays.{local_covered}
-use Rattle.ban_expansion.proofs.Algebra.{or_false, or_part, and_agree}
+use Rattle.ban_expansion.proofs.Algebra.{or_part, and_agree}
 use Rattle.ban_expansion.proofs.Changes.{first_counts, others_count, rows_tail, before_starts, covered_by, both_parts}
 use Rattle.ban_expansion.proofs.Changes.{no_minutes, some_rows, starts_increase}
 use Rattle.ban_expansion.proofs.coverage.add_rows.Goals as goal
@@ -24,7 +25,7 @@ rows-init c = record {
   minutes = λ t.
       (let o : Bool = any_has c.args.runs.now.items t in
       let x : Bool = covered_at c.args.hours.now c.args.holidays.now c.args.rows.now t in
-      sym (ap (λ b. o || (b && x)) (no_minutes c.args.window.lo t) ∙ or_false o));
+      sym (ap (λ b. o || (b && x)) (no_minutes c.args.window.lo t) ∙ or-false o));
 }
 
 pub rows-preserved : goal.rows-preserved

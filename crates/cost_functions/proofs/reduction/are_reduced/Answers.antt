@@ -11,7 +11,7 @@ pairs-preserved c =
     let some = c.in-len1-up.len_at_least in
     let one = c.in-len1-up-rest.len_at_least in
     record {
-      pieces = pieces_rest left none some one inv.pieces;
+      pieces = pieces_rest left some inv.pieces;
       whole = λ reduced. inv.whole (reduced_whole left none some one inv.pieces (c.in_default-common_slope.ensures.none refl) reduced);
       part = λ reduced. reduced_rest left none some one inv.pieces (inv.part reduced);
     }

@@ -1,6 +1,7 @@
 use Rattle.std.proofs.Common.{◌∙◌, arith}
 use Rattle.cost_functions.specs.Lines.{IsSmallPiece}
-use Rattle.function_merge.proofs.FirstPieces.{rest_are, rest_every, rest_values, reach_all}
+use Rattle.cost_functions.proofs.Places.{pieces_rest}
+use Rattle.function_merge.proofs.FirstPieces.{rest_every, rest_values, reach_all}
 use Rattle.function_merge.proofs.suffixes.skip_pieces.Goals as goal
 
 pub skip-preserved : goal.skip-preserved
@@ -9,7 +10,7 @@ skip-preserved c =
     let inv = c.skip.invariant in
     let some = c.in-len1-up.len_at_least in
     record {
-      pieces = rest_are left some inv.pieces;
+      pieces = pieces_rest left some inv.pieces;
       small = rest_every left some inv.pieces IsSmallPiece inv.small;
       values = λ t late. rest_values left some inv.pieces t (omega (arith, late, c.if-from-first.false)) ∙ inv.values t late;
     }

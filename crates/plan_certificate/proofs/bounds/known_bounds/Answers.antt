@@ -2,8 +2,9 @@ use Rattle.std.proofs.Common.{◌+◌, ℕ, Option, List, sym, ◌∙◌, ap, su
 use Rattle.std.specs.Option.{option_flatten}
 use Rattle.route_base.specs.declared.types.Bound.{Bound}
 use Rattle.route_base.specs.declared.types.NodeId.{NodeId}
+use Rattle.route_base.proofs.Numbered.{number_past}
 use Rattle.potentials.specs.Sums.{bound_at}
-use Rattle.plan_certificate.proofs.Choosing.{AreChosen, choose, choose_none, all_chosen, number_past}
+use Rattle.plan_certificate.proofs.Choosing.{AreChosen, choose, choose_none, all_chosen}
 use Rattle.plan_certificate.proofs.bounds.known_bounds.Goals as goal
 use Rattle.plan_certificate.proofs.bounds.known_bounds.Goals.{in-Some+in_ok-push, in_default}
 

@@ -2,9 +2,10 @@ use Rattle.std.proofs.Common.{◌≡◌, ◌≤◌, ◌+◌, ◌==◌, Bool, fal
 use Rattle.std.proofs.Common.{refl, sym, ◌∙◌, ap, subst, arith, eqb-true}
 use Rattle.std.specs.Vec.Iter.{into_iter_items}
 use Rattle.route_base.specs.declared.types.NodeId.{NodeId}
+use Rattle.route_base.proofs.Numbered.{number_past}
 use Rattle.cost_functions.specs.declared.pieces.Piece.{Piece}
 use Rattle.plan_certificate.specs.Inside.Entries.{pieces_of, some_pieces}
-use Rattle.plan_certificate.proofs.Choosing.{AreChosen, choose, choose_none, all_chosen, next_item, number_past, pieces_there, pieces_missing}
+use Rattle.plan_certificate.proofs.Choosing.{AreChosen, choose, choose_none, all_chosen, next_item, pieces_there, pieces_missing}
 use Rattle.plan_certificate.proofs.functions.known_functions.Goals as goal
 
 -- one function more was taken: the count, what is whole, and what the next node has

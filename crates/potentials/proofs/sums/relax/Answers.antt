@@ -5,7 +5,8 @@ use Rattle.route_base.specs.Net.{road_of, setting_of, at_number}
 use Rattle.label_queue.specs.Keys.{key_at}
 use Rattle.potentials.specs.Inside.Summing.{HasSum, GetsSum, counted_on}
 use Rattle.route_base.specs.declared.limits.TheConstants.{HIGHEST_COST}
-use Rattle.potentials.proofs.Ending.{cheap, head_of, road_is}
+use Rattle.route_base.proofs.Arcs.{road_is}
+use Rattle.potentials.proofs.Ending.{cheap, head_of}
 use Rattle.potentials.proofs.Summing.{reach_keeps}
 use Rattle.potentials.proofs.sums.relax.Goals as goal
 

@@ -2,10 +2,11 @@ use Rattle.std.proofs.Common.{◌≡◌, ⊎_elim, ◌≤◌, ◌<◌, Some, len
 use Rattle.std.specs.Prelude.{slice_get}
 use Rattle.std.proofs.lemmas.Bool.{cases_lt}
 use Rattle.std.proofs.lemmas.Option.{slice_get-get_or}
+use Rattle.node_arcs.proofs.DriveEnds.{drives_tail}
 use Rattle.route_base.specs.Itinerary.{Drives}
 use Rattle.route_base.specs.Net.{setting_of}
 use Rattle.route_base.specs.declared.types.ArcId.{ArcId}
-use Rattle.propagation.proofs.Fitting.{part_kept, drive_begins, place_begins, begins_place}
+use Rattle.propagation.proofs.Fitting.{part_kept, place_begins, begins_place}
 use Rattle.propagation.proofs.Keeping.{relaxed_kept, improves-append}
 use Rattle.propagation.proofs.Parting.{settle}
 use Rattle.propagation.proofs.PieceStarts.{piece_of}
@@ -63,5 +64,5 @@ returns-clause-facts c =
     settle k (progress_of c.loop-a.state) c.args.v.0 (value_at c.args.part.now) c.loop-a.invariant.facts
     (λ t x there a q step.
     let place = begins_place c.args.plan.net.now c.args.plan.outgoing.now c.args.v.0 c.of-a-items.result.now a c.requires.asked.outgoing c.of-a-items.ensures
-    (drive_begins c.args.plan.net.now c.args.plan.request.until a (point c.args.v.0 t x) q step) in
+    (drives_tail c.args.plan.net.now c.args.plan.request.until a (point c.args.v.0 t x) q step) in
     c.loop-a.invariant.relaxed place.0 (record { 0 = a }) (omega (arith, place.1, c.loop-a-test.false)) place.2 t x q there step)

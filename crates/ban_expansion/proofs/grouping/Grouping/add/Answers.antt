@@ -1,11 +1,11 @@
 use Rattle.std.proofs.Common.{◌≡◌, ◌+◌, ◌++◌, ◌∷◌, [], List, ℕ, Option, Some, length, slice_get, unwrap_or, refl, ap, sym, ◌∙◌, subst}
 use Rattle.std.proofs.lemmas.List.{length-set}
 use Rattle.route_base.specs.declared.types.ArcId.{ArcId}
+use Rattle.route_base.proofs.Items.{slice_get-push_end}
 use Rattle.network_tables.specs.Access.{area_place}
 use Rattle.ban_expansion.specs.ArcGroups.{GroupsModel}
 use Rattle.ban_expansion.specs.Inside.Grouping.{AreGrouped, GroupingModel}
 use Rattle.ban_expansion.proofs.GroupedArcs.{begun_groups, joined_groups, stays_shared, shares_more}
-use Rattle.ban_expansion.proofs.ItemLists.{got_last}
 use Rattle.ban_expansion.proofs.grouping.Grouping.add.Goals as goal
 
 pub returns-in-Some : goal.returns-in-Some
@@ -40,6 +40,6 @@ returns c =
     let place : area_place net (k + 1) ≡ area = ap (λ (o : Option ℕ). unwrap_or o 0) c.area_of-area.ensures.value in
     subst (AreGrouped net (k + 1)) (sym c.in_ok-begin_shared.ensures) (record {
       groups = begun_groups net k a all refl c.requires.within before.groups;
-      shares = shares_more net firsts shared area group a (got_last all.firsts a) place (sym c.has_any.ensures ∙ c.if-has_any.false)
+      shares = shares_more net firsts shared area group a (slice_get-push_end all.firsts a) place (sym c.has_any.ensures ∙ c.if-has_any.false)
           (length-set shared area (Some group)) (stays_shared net all.firsts a shared before.shares);
     })

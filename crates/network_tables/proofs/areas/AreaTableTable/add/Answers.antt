@@ -1,6 +1,7 @@
 use Rattle.std.proofs.Common.{◌≡◌, ℕ, true, false, Option, Some, None, List, [], ◌∷◌, ◌++◌, ap, sym, ◌∙◌, subst, refl}
 use Rattle.std.specs.Option.{is_some}
 use Rattle.std.proofs.lemmas.Result.{on_ok_weaker}
+use Rattle.vehicle_classes.proofs.VehicleRows.{refused_weaker}
 use Rattle.csv.specs.Records.{fields_of}
 use Rattle.route_base.specs.declared.faults.Cause.{Cause}
 use Rattle.route_base.specs.declared.faults.Cause.TheVariants.{Unknown}
@@ -9,7 +10,7 @@ use Rattle.table_reader.specs.NameIndex.{value_under, names_of, place_among}
 use Rattle.table_reader.specs.Records.{Record}
 use Rattle.network_tables.specs.AreaPlaces.{AreaPlaces, HaveZones}
 use Rattle.network_tables.specs.Zones.{ZoneList}
-use Rattle.network_tables.proofs.AreaRows.{place_is_some, cause_placed, refused_weaker, HaveZones-more}
+use Rattle.network_tables.proofs.AreaRows.{place_is_some, cause_placed, HaveZones-more}
 use Rattle.table_reader.proofs.Lists.{filter_map-push}
 use Rattle.network_tables.proofs.areas.AreaTableTable.add.Goals as goal
 

@@ -1,7 +1,7 @@
 use Rattle.std.proofs.Common.{◌≡◌, ◌∙◌, ◌||◌, ◌++◌, ◌∷◌, [], None, ap, sym}
 use Rattle.std.specs.Option.{option_map}
+use Rattle.route_base.proofs.Logic.{none_from_test}
 use Rattle.indexmap.proofs.CallerLemmas.{insert_entry-new}
-use Rattle.table_reader.proofs.NameRows.{none_from}
 use Rattle.network_tables.specs.Rules.{has_arc_rules, rule_value_at}
 use Rattle.network_tables.specs.RuleLists.{RuleList, with_rule}
 use Rattle.network_tables.proofs.ArcRules.{arc_rules_more}
@@ -13,7 +13,7 @@ was_free : (c : goal.After-self-1) → rule_value_at c.self.inside.values.entrie
 was_free c =
     ap (λ (list : RuleList). rule_value_at list.rules c.args.place) c.self.view_is
     ∙ sym c.value.ensures
-    ∙ ap (option_map _) (none_from _ (sym c.is_some.ensures ∙ c.if-is_some.false))
+    ∙ ap (option_map _) (none_from_test _ (sym c.is_some.ensures ∙ c.if-is_some.false))
 
 -- the rule is the last one
 entries_now : (c : goal.After-self-1) → c.insert.new.self.entries ≡ c.self.inside.values.entries ++ (c.args.place, c.args.value) ∷ []

@@ -1,8 +1,8 @@
 use Rattle.std.proofs.Common.{ap, sym, ◌∙◌}
 use Rattle.std.specs.Prelude.{codes}
 use Rattle.std.specs.Option.{is_some}
+use Rattle.route_base.proofs.Logic.{none_from_test}
 use Rattle.table_reader.specs.NameIndex.{value_under}
-use Rattle.table_reader.proofs.NameRows.{none_from}
 use Rattle.network_tables.specs.Zones.{ZoneList}
 use Rattle.network_tables.proofs.ZoneRows.{HasZones-there, HasZones-given, lookup_pushed, on_ok}
 use Rattle.network_tables.proofs.zones.ZoneTable.give_utc.Goals as goal
@@ -14,13 +14,13 @@ returns-then-contains c = λ entries has.
 
 pub start-requires-clause-fresh : goal.start-requires-clause-fresh
 start-requires-clause-fresh c =
-    none_from _ (sym (ap (λ (zones : ZoneList). is_some (value_under zones (codes "UTC"))) c.self.view_is) ∙ sym c.contains.ensures ∙ c.if-contains.false)
+    none_from_test _ (sym (ap (λ (zones : ZoneList). is_some (value_under zones (codes "UTC"))) c.self.view_is) ∙ sym c.contains.ensures ∙ c.if-contains.false)
 
 pub returns : goal.returns
 returns c =
     let zones = c.args.self.now in
     let none =
-    none_from (value_under zones (codes "UTC"))
+    none_from_test (value_under zones (codes "UTC"))
     (sym (ap (λ (z : ZoneList). is_some (value_under z (codes "UTC"))) c.self.view_is) ∙ sym c.contains.ensures ∙ c.if-contains.false) in
     on_ok c.start.result (λ added entries has.
     HasZones-given zones entries has c.start.new.self none (λ other.

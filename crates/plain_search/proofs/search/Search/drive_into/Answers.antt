@@ -1,12 +1,12 @@
 use Rattle.std.proofs.Common.{◌≡◌, ◌+◌, ◌-◌, ◌≤◌, ◌<◌, Some, IsTrue, refl, sym, ◌∙◌, ap, rules, arith}
 use Rattle.std.specs.Option.{option_map}
 use Rattle.route_base.specs.Net.{setting_of, road_of, at_number}
+use Rattle.route_base.proofs.Arcs.{takes_time}
 use Rattle.node_arcs.specs.Stars.{node_at}
 use Rattle.node_arcs.specs.declared.links.End.TheVariants.{Head}
 use Rattle.plain_search.specs.Inside.Costs.{none, at}
 use Rattle.plain_search.specs.Inside.CostTable.{cost_of}
 use Rattle.plain_search.proofs.Founding.{cost_fits}
-use Rattle.plain_search.proofs.NetFacts.{takes_time}
 use Rattle.plain_search.proofs.search.Search.drive_into.Goals as goal
 
 pub overflow_add-before : goal.overflow_add-before

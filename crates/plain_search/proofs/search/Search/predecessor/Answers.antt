@@ -3,9 +3,10 @@ use Rattle.std.proofs.lemmas.Bool.{cases_lt}
 use Rattle.route_base.specs.Itinerary.{Drives}
 use Rattle.route_base.specs.Net.{setting_of}
 use Rattle.node_arcs.specs.declared.links.End.TheVariants.{Head}
+use Rattle.node_arcs.proofs.DriveEnds.{drives_head}
 use Rattle.plain_search.specs.Inside.Costs.{at, ComesByStep}
 use Rattle.plain_search.specs.Inside.CostTable.{cost_of}
-use Rattle.plain_search.proofs.ArcPlaces.{arc_at, place_ends, at_each_arc, drives_head}
+use Rattle.plain_search.proofs.ArcPlaces.{arc_at, place_ends, at_each_arc}
 use Rattle.plain_search.proofs.Backward.{NoDrive, WaitsHere, waits_here}
 use Rattle.plain_search.proofs.search.Search.predecessor.Goals as goal
 

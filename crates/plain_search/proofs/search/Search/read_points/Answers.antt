@@ -2,11 +2,11 @@ use Rattle.std.proofs.Common.{◌≡◌, ◌+◌, ◌∷◌, ◌++◌, [], ℕ, 
 use Rattle.route_base.specs.Net.{Net, IsGoodNet, setting_of}
 use Rattle.route_base.specs.declared.types.NodeId.{NodeId}
 use Rattle.route_base.specs.declared.types.Request.{Request}
+use Rattle.route_base.proofs.Arcs.{takes_time}
 use Rattle.plain_search.specs.Inside.CostTable.{cost_of}
 use Rattle.plain_search.specs.Inside.Soundness.{IsAsked, IsFinalTable}
 use Rattle.plain_search.specs.declared.cost_table.CostTable.{CostTable}
 use Rattle.plain_search.proofs.Columns.{AreReadTo, IsDone, node_skip, node_push, values_at_end, final_inside}
-use Rattle.plain_search.proofs.NetFacts.{takes_time}
 use Rattle.plain_search.proofs.search.Search.read_points.Goals as goal
 use Rattle.plain_search.proofs.search.Search.read_points.Goals.{then-len-gt0+in_ok-push, else-len-gt0}
 

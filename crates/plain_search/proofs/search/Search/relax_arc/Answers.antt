@@ -2,11 +2,11 @@ use Rattle.std.proofs.Common.{◌≡◌, ◌+◌, ◌≤◌, Some, IsTrue, refl,
 use Rattle.std.specs.Option.{option_map}
 use Rattle.route_base.specs.Itinerary.{drive}
 use Rattle.route_base.specs.Net.{setting_of, road_of, at_number}
+use Rattle.route_base.proofs.Arcs.{takes_time}
 use Rattle.node_arcs.specs.Stars.{node_at}
 use Rattle.plain_search.specs.Inside.CostTable.{cost_of}
 use Rattle.node_arcs.specs.declared.links.End.TheVariants.{Tail}
 use Rattle.plain_search.proofs.Founding.{cost_fits, later_of}
-use Rattle.plain_search.proofs.NetFacts.{takes_time}
 use Rattle.plain_search.proofs.Sounding.{sound_lower}
 use Rattle.plain_search.proofs.search.Search.relax_arc.Goals as goal
 

@@ -4,9 +4,10 @@ use Rattle.std.proofs.lemmas.Bool.{cases_lt}
 use Rattle.route_base.specs.Itinerary.{drive}
 use Rattle.route_base.specs.Net.{setting_of}
 use Rattle.node_arcs.specs.declared.links.End.TheVariants.{Tail}
+use Rattle.node_arcs.proofs.DriveEnds.{drives_tail}
 use Rattle.plain_search.specs.Inside.Costs.{at, IsRelaxedFrom}
 use Rattle.plain_search.specs.Inside.CostTable.{cost_of}
-use Rattle.plain_search.proofs.ArcPlaces.{arc_at, place_ends, at_each_arc, drives_tail}
+use Rattle.plain_search.proofs.ArcPlaces.{arc_at, place_ends, at_each_arc}
 use Rattle.plain_search.proofs.Staying.{changes-append, lands_kept}
 use Rattle.plain_search.proofs.search.Search.relax_arcs.Goals as goal
 

@@ -2,9 +2,9 @@ use Rattle.std.proofs.Common.{◌≡◌, ◌+◌, ◌≤◌, Some, refl, sym, �
 use Rattle.route_base.specs.Itinerary.{wait}
 use Rattle.route_base.specs.Net.{setting_of}
 use Rattle.route_base.proofs.Parks.{weight_small}
+use Rattle.route_base.proofs.Arcs.{takes_time}
 use Rattle.plain_search.specs.Inside.CostTable.{cost_of}
 use Rattle.plain_search.proofs.Founding.{cost_fits, later_of}
-use Rattle.plain_search.proofs.NetFacts.{takes_time}
 use Rattle.plain_search.proofs.Sounding.{sound_lower}
 use Rattle.plain_search.proofs.search.Search.relax_wait.Goals as goal
 

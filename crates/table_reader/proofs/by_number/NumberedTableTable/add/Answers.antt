@@ -1,10 +1,10 @@
 use Rattle.std.proofs.Common.{◌≡◌, ◌-◌, ◌≤◌, List, Option, Some, true, false, length, ap, sym, ◌∙◌, subst, arith}
 use Rattle.std.proofs.Math.ListN.{set}
 use Rattle.std.specs.Option.{is_some}
+use Rattle.route_base.proofs.Logic.{none_from_test}
 use Rattle.csv.specs.Records.{fields_of}
 use Rattle.table_reader.specs.ByNumber.{ValuesByNumber, HaveValues, NumberedRow, numbered_of, numbered_in, cause_of_numbered, name_at}
 use Rattle.table_reader.proofs.Lists.{filter_map-push}
-use Rattle.table_reader.proofs.NameRows.{none_from}
 use Rattle.table_reader.proofs.NumberedRows.{held_there, cause_there, HaveValues-more}
 use Rattle.table_reader.proofs.by_number.NumberedTableTable.add.Goals as goal
 
@@ -55,4 +55,4 @@ returns-clause-added g c = λ start before gives0.
     (record { names = table.names; values = set table.values (c.in-Some.number - 1) (Some c.in-Some-find.value) }) rows)
     (sym (filter_map-push numbered_of before (fields_of c.args.row.now) r (sym c.in-Some.ensures)))
     (HaveValues-more named start table (numbered_in before) r c.in-Some-find.value gives low high (sym c.in-Some-find.ensures)
-    (none_from (name_at (numbered_in before) c.in-Some.number) is))
+    (none_from_test (name_at (numbered_in before) c.in-Some.number) is))
