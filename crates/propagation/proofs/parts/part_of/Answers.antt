@@ -25,7 +25,7 @@ returns-clause-parts c =
     c.requires.bound (λ u t. refl) refl c.in_ok-split.ensures.split
     (λ t. c.in_ok-whole.ensures.values t ∙ ap (λ o. if any_has c.in_ok-split.split.taken t then o else None) (sym (own t)))
     (subst (λ (w : List Pair). IsPruned c.args.plan.request.until w c.args.bound (value_at c.in_ok-whole.whole) (value_at c.into_pruned-part.result))
-    c.deref-2.ensures.value c.into_pruned-part.ensures.values)
+    c.deref.ensures.value c.into_pruned-part.ensures.values)
 
 pub returns-clause-shape : goal.returns-clause-shape
 returns-clause-shape c = shaped_again c.args.plan.net.now.nodes c.args.v.0 (any_has c.in_ok-split.split.taken) c.in_ok-split.split.next c.args.state.now

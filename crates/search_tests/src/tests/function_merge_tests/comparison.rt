@@ -6,8 +6,8 @@ ghost use Rattle.route_base.specs.Front.{RiseAndFall};
 use super::plain_lists::{is_better, lesser, pruned, shifted, value, waited};
 use cost_functions::CostFn;
 use function_merge::{
-    can_shift, can_wait, cut_with_spare, improve_with_spare, into_pruned, is_improved, least, prune,
-    shift, shift_and_prune, shift_with_spare, wait_with_spare,
+    can_shift, can_wait, cut_with_spare, improve_with_spare, into_pruned, is_improved, least,
+    prune, shift, shift_and_prune, shift_with_spare, wait_with_spare,
 };
 use minute_sets::MinuteSet;
 use route_base::{Bound, OutOfMemory, Pair, Run};
