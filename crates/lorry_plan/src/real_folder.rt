@@ -63,15 +63,23 @@ impl<R: Files> Folder for RealFolder<'_, R> {
     // Counts the fault that it answers, and nothing else.
     fn read_part(&mut self, name: &str, at: u64, buf: &mut [u8]) -> Result<usize, PartError>
         ensures bound { IfOk result (λ k. k ≤ length buf.new) }
-        ensures kept { KeepsFiles (state self.old) (state self.new) }
-        ensures part { IfOk result (λ k. ReadsPart (state self.old) name.now at k buf.new) }
-        ensures not_there { result ≡ Err PartError.Missing
-            → LacksFile (state self.old) name.now }
-        ensures missing { result ≡ Err PartError.Missing
-            → MissedFile (state self.old) (state self.new) }
-        ensures failed { result ≡ Err PartError.Failed
-            → FailedToRead (state self.old) (state self.new) }
-        ensures after { state self.new ≡ after_read (state self.old) result }
+        ensures kept { KeepsFiles
+            (state_with self.old.missing self.old.read_faults self.old.write_faults)
+            (state_with self.new.missing self.new.read_faults self.new.write_faults) }
+        ensures part { IfOk result (λ k. ReadsPart
+            (state_with self.old.missing self.old.read_faults self.old.write_faults)
+            name.now at k buf.new) }
+        ensures not_there { result ≡ Err PartError.Missing → LacksFile
+            (state_with self.old.missing self.old.read_faults self.old.write_faults) name.now }
+        ensures missing { result ≡ Err PartError.Missing → MissedFile
+            (state_with self.old.missing self.old.read_faults self.old.write_faults)
+            (state_with self.new.missing self.new.read_faults self.new.write_faults) }
+        ensures failed { result ≡ Err PartError.Failed → FailedToRead
+            (state_with self.old.missing self.old.read_faults self.old.write_faults)
+            (state_with self.new.missing self.new.read_faults self.new.write_faults) }
+        ensures after { state_with self.new.missing self.new.read_faults self.new.write_faults
+            ≡ after_read
+            (state_with self.old.missing self.old.read_faults self.old.write_faults) result }
     {
         match read_at(self.files, name, at, buf) {
             Ok(count) => Ok(count),
@@ -89,15 +97,22 @@ impl<R: Files> Folder for RealFolder<'_, R> {
 
     // Counts the fault that it answers, and nothing else.
     fn write_file(&mut self, name: &str, bytes: &[u8]) -> Result<(), WriteError>
-        ensures ok { OnOk result (PutsFile (state self.old) (state self.new) name.now bytes.now) }
-        ensures spoilt { result ≡ Err WriteError.Failed
-            → SpoilsFile (state self.old) (state self.new) name.now }
-        ensures no_memory { result ≡ Err WriteError.OutOfMemory
-            → (state self.new).contents ≡ (state self.old).contents }
-        ensures counts { CountsRise (state self.old) (state self.new) }
-        ensures failed { result ≡ Err WriteError.Failed
-            → FailedToWrite (state self.old) (state self.new) }
-        ensures after { state self.new ≡ after_write (state self.old) result }
+        ensures ok { OnOk result (PutsFile
+            (state_with self.old.missing self.old.read_faults self.old.write_faults)
+            (state_with self.new.missing self.new.read_faults self.new.write_faults)
+            name.now bytes.now) }
+        ensures spoilt { result ≡ Err WriteError.Failed → SpoilsFile
+            (state_with self.old.missing self.old.read_faults self.old.write_faults)
+            (state_with self.new.missing self.new.read_faults self.new.write_faults) name.now }
+        ensures counts { CountsRise
+            (state_with self.old.missing self.old.read_faults self.old.write_faults)
+            (state_with self.new.missing self.new.read_faults self.new.write_faults) }
+        ensures failed { result ≡ Err WriteError.Failed → FailedToWrite
+            (state_with self.old.missing self.old.read_faults self.old.write_faults)
+            (state_with self.new.missing self.new.read_faults self.new.write_faults) }
+        ensures after { state_with self.new.missing self.new.read_faults self.new.write_faults
+            ≡ after_write
+            (state_with self.old.missing self.old.read_faults self.old.write_faults) result }
     {
         match write_whole(self.files, name, bytes) {
             Ok(()) => Ok(()),

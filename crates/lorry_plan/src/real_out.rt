@@ -40,15 +40,16 @@ impl<R: Print> Sink for RealOut<'_, R> {
 
     // Counts the fault that it answers, and nothing else.
     fn write(&mut self, bytes: &[u8]) -> Result<(), WriteError>
-        ensures ok { OnOk result (Appends (state self.old) (state self.new) bytes.now) }
+        ensures ok { OnOk result
+            (Appends (sink_with self.old.faults) (sink_with self.new.faults) bytes.now) }
         ensures prefix { result ≡ Err WriteError.Failed
-            → AppendsPrefix (state self.old) (state self.new) bytes.now }
+            → AppendsPrefix (sink_with self.old.faults) (sink_with self.new.faults) bytes.now }
         ensures no_memory { result ≡ Err WriteError.OutOfMemory
-            → StaysSilent (state self.old) (state self.new) }
-        ensures count { FaultsRise (state self.old) (state self.new) }
+            → StaysSilent (sink_with self.old.faults) (sink_with self.new.faults) }
+        ensures count { FaultsRise (sink_with self.old.faults) (sink_with self.new.faults) }
         ensures failed { result ≡ Err WriteError.Failed
-            → FailedToAppend (state self.old) (state self.new) }
-        ensures after { state self.new ≡ after_append (state self.old) result }
+            → FailedToAppend (sink_with self.old.faults) (sink_with self.new.faults) }
+        ensures after { sink_with self.new.faults ≡ after_append (sink_with self.old.faults) result }
     {
         match write_whole(self.out, bytes) {
             Ok(()) => Ok(()),
