@@ -123,7 +123,7 @@ module _ (old : ZoneList) (entries : List ZoneEntry) (has : HasRows old entries)
       → cond b (given_zone (codes "UTC")) (value_under old name) ≡ option_or (some_rows (rows_of_zone entries name))
       (cond b (given_zone (codes "UTC")) None)) [
         | true ↦ λ is. ap (λ o. option_or o (given_zone (codes "UTC"))) (sym none
-        ∙ ap (value_under old) (sym ((bytes_eq-Decides name (codes "UTC")).0 is)) ∙ has name)
+            ∙ ap (value_under old) (sym ((bytes_eq-Decides name (codes "UTC")).0 is)) ∙ has name)
         | false ↦ λ is. has name ∙ sym (option_or-none (some_rows (rows_of_zone entries name)))
       ] refl
 
