@@ -1,5 +1,5 @@
 -- Rules that are an arc's own.
-use Rattle.std.proofs.Common.{◌≡◌, ℕ, ◌||◌, Bool, true, false, Some, None, List, [], ◌∷◌, ◌++◌, refl, ◌∙◌, ap, true≢false, cond}
+use Rattle.std.proofs.Common.{◌≡◌, ℕ, ◌||◌, Bool, false, Some, None, List, [], ◌∷◌, ◌++◌, refl, ◌∙◌, ap, true≢false, cond}
 use Rattle.std.proofs.lemmas.List.Folds.{list_any-append}
 use Rattle.std.proofs.lemmas.Bool.{or_parts}
 use Rattle.route_base.proofs.Logic.{or-false}

@@ -1,5 +1,5 @@
 -- Areas with the places of their zones, after one row more and as a network has them.
-use Rattle.std.proofs.Common.{◌≡◌, ℕ, zero, suc, ◌<◌, Bool, true, cond, Result, Ok, Err, IfErr, Option, Some, None, List, [], ◌∷◌, ◌++◌, length, map}
+use Rattle.std.proofs.Common.{◌≡◌, ℕ, zero, suc, ◌<◌, Bool, true, cond, Option, Some, None, List, [], ◌∷◌, ◌++◌, length, map}
 use Rattle.std.proofs.Common.{get_or, refl, sym, ◌∙◌, ap, arith}
 use Rattle.std.specs.Prelude.{codes, unwrap_or, slice_get}
 use Rattle.std.specs.List.{list_any}
@@ -7,12 +7,8 @@ use Rattle.std.specs.Option.{is_some, option_and_then}
 use Rattle.std.specs.Str.{bytes_eq}
 use Rattle.std.proofs.lemmas.List.{map-append, length-map}
 use Rattle.std.proofs.lemmas.Map.Made.{is_some-lookup}
-use Rattle.route_base.specs.declared.faults.Cause.{Cause}
 use Rattle.route_base.specs.declared.faults.Cause.TheVariants.{Duplicate}
 use Rattle.network_tables.specs.NetworkParts.{zones_at}
-use Rattle.table_reader.specs.declared.faults.RowFault.{RowFault}
-use Rattle.table_reader.specs.declared.faults.RowFault.TheVariants as row
-use Rattle.table_reader.specs.Refusals.{IfBadCause}
 use Rattle.network_tables.specs.Areas.{AreaEntry, cause_of_area, areas_or_default}
 use Rattle.table_reader.specs.NameIndex.{value_under, names_of, place_among}
 use Rattle.network_tables.specs.NetworkFiles.{zone_for}
