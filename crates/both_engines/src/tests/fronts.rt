@@ -1,14 +1,16 @@
 // The fronts that both engines find.
-ghost use Rattle.std.specs.Prelude.{IsTrue};
-ghost use Rattle.route_base.specs.Net.{IsGoodNet};
+ghost use Rattle.std.specs.Prelude.{◌≤◌, IsTrue};
+ghost use Rattle.route_base.specs.Legs.{CostsFit};
+ghost use Rattle.route_base.specs.Net.{IsGoodNet, IsGoodRequest, setting_of};
 ghost use Rattle.both_engines.specs.SmallNets.{IsRequestOver};
 
 use super::nets::{NetLists, net_of};
 use crate::have_same_pairs;
-use itinerary_unpack::FunctionEngine;
+use itinerary_unpack::{FunctionEngine, unpack};
 use plain_search::TableEngine;
+use propagation::search;
 use route_base::limits::{LAST_INSTANT, LONGEST_HORIZON};
-use route_base::{FrontSearch, OutOfMemory, Pair, Request, Routes, TimedNet};
+use route_base::{FrontSearch, OutOfMemory, Pair, Request, Route, Routes, TimedNet};
 use std::alloc::Global;
 
 /// The routes that each engine found.
@@ -16,12 +18,14 @@ use std::alloc::Global;
 pub struct Fronts {
     pub table: Routes,
     pub functions: Routes,
+    // Whether `search` and `unpack`, called one by one, gave the routes of the second engine.
+    pub unpacked: bool,
 }
 
 impl Fronts {
-    /// Whether both engines found the same pairs.
+    /// Whether both engines found the same pairs, and the calls of the second engine its routes.
     pub fn agree(&self) -> bool {
-        have_same_pairs(self.table.as_slice(), self.functions.as_slice())
+        self.unpacked && have_same_pairs(self.table.as_slice(), self.functions.as_slice())
     }
 
     /// Whether the pairs are these.
@@ -43,7 +47,37 @@ pub fn fronts_of(
     }
     let table = TableEngine.front(alloc, &net, request)?;
     let functions = FunctionEngine.front(alloc, &net, request)?;
-    Ok(Some(Fronts { table, functions }))
+    let unpacked = unpacks(alloc, &net, request, functions.as_slice())?;
+    Ok(Some(Fronts {
+        table,
+        functions,
+        unpacked,
+    }))
+}
+
+// Whether `search` finds the pairs of these routes, and `unpack` their legs.
+fn unpacks(
+    alloc: Global,
+    net: &TimedNet,
+    request: Request,
+    routes: &[Route],
+) -> Result<bool, OutOfMemory>
+    requires good { IsGoodRequest net.now request }
+    requires in_time { request.depart ≤ request.until }
+    requires fit { CostsFit (setting_of net.now) request }
+{
+    let found = search(alloc, net, request)?;
+    let pairs = found.pairs();
+    if pairs.len() != routes.len() {
+        return Ok(false);
+    }
+    for k in 0..routes.len() {
+        let legs = unpack(alloc, net, request, &found, k)?;
+        if pairs[k] != routes[k].pair || legs.as_slice() != routes[k].legs.as_slice() {
+            return Ok(false);
+        }
+    }
+    Ok(true)
 }
 
 // Whether the request is one over the net, of at most 60 days.
