@@ -3,7 +3,7 @@ use Rattle.std.proofs.Common.{◌≡◌, ⊎_elim, ℕ, zero, suc, leb, ltb, ◌
 use Rattle.std.proofs.Common.{List, [], ◌∷◌, ◌++◌, refl, sym, ◌∙◌, ap, arith}
 use Rattle.std.specs.List.{list_any}
 use Rattle.std.proofs.lemmas.List.Folds.{list_any-append}
-use Rattle.std.proofs.lemmas.Bool.{or_cases, or_left, or_right, cases_eq, and_parts, leb-true, ltb-true}
+use Rattle.std.proofs.lemmas.Bool.{or_cases, and_parts, leb-true, ltb-true}
 use Rattle.route_base.specs.Runs.{has_minute, any_has}
 use Rattle.route_base.specs.declared.types.Run.{Run}
 use Rattle.route_base.proofs.Logic.{or-false}

@@ -1,5 +1,5 @@
 -- Arcs of one area with the same closures and the same rules of their own are closed at the same minutes.
-use Rattle.std.proofs.Common.{◌≡◌, ℕ, ◌||◌, Bool, true, false, not, Option, Some, None, unwrap_or, is_some, option_and_then, ltb}
+use Rattle.std.proofs.Common.{◌≡◌, ℕ, ◌||◌, Bool, true, false, not, Option, None, unwrap_or, is_some, option_and_then, ltb}
 use Rattle.std.proofs.Common.{List, [], ◌∷◌, All, length, refl, sym, ◌∙◌, ap, arith}
 use Rattle.std.specs.List.{list_any}
 use Rattle.std.specs.Option.{option_or}

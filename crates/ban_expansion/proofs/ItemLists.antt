@@ -1,5 +1,5 @@
 -- Items of lists that grow, and of two lists side by side.
-use Rattle.std.proofs.Common.{◌≡◌, ℕ, zero, suc, ◌||◌, Bool, true, false, Some, List, [], ◌∷◌, ◌++◌, All, length, map, get_or, slice_get}
+use Rattle.std.proofs.Common.{◌≡◌, ℕ, zero, suc, Bool, false, Some, List, [], ◌∷◌, ◌++◌, All, length, map, get_or, slice_get}
 use Rattle.std.proofs.Common.{refl, sym, ◌∙◌, ap, subst}
 use Rattle.std.specs.List.{AllZip, list_any}
 use Rattle.std.proofs.Math.ListN.{set}

@@ -1,5 +1,5 @@
 -- The last item that gives a value, in lists one after another.
-use Rattle.std.proofs.Common.{◌≡◌, Option, Some, None, List, [], ◌∷◌, ◌++◌, refl, sym, ◌∙◌, ap}
+use Rattle.std.proofs.Common.{◌≡◌, Option, List, [], ◌∷◌, ◌++◌, refl, sym, ◌∙◌, ap}
 use Rattle.std.specs.Option.{option_or}
 use Rattle.route_base.proofs.Logic.{option_or-none, option_or-assoc}
 use Rattle.conditional_rules.specs.Decisions.{last_given}

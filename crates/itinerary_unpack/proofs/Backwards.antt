@@ -1,22 +1,19 @@
 -- Back from a pair to the start, over falling minutes.
-use Rattle.std.proofs.Common.{◌≡◌, ⊎_elim, ℕ, zero, suc, ◌+◌, ◌≤◌, ◌<◌, Option, Some, None, List, [], ◌∷◌, ◌++◌, length, replicate, refl, sym, ◌∙◌, ap, subst}
+use Rattle.std.proofs.Common.{◌≡◌, ⊎_elim, ℕ, ◌+◌, ◌≤◌, ◌<◌, Option, Some, None, List, [], ◌∷◌, ◌++◌, length, replicate, refl, sym, ◌∙◌, ap, subst}
 use Rattle.std.proofs.Common.{arith, append_assoc}
 use Rattle.std.specs.Prelude.{Contains, reverse}
-use Rattle.std.specs.Option.{option_map}
 use Rattle.std.proofs.lemmas.Bool.{cases_lt, cases_eq}
 use Rattle.std.proofs.lemmas.List.{reverse-append, replicate-append-replicate}
-use Rattle.std.proofs.lemmas.Option.{slice_get_within, get_or_from_slice_get}
-use Rattle.route_base.specs.Setting.{Setting, Road}
-use Rattle.route_base.specs.Itinerary.{Position, Step, drive, wait, Moves, Walks}
+use Rattle.route_base.specs.Setting.{Setting}
+use Rattle.route_base.specs.Itinerary.{Position, Step, wait, Walks}
 use Rattle.route_base.specs.Front.{IsAchieved, IsFront}
 use Rattle.route_base.specs.Legs.{steps_of, steps_of_leg, start_of, end_of, CostsFit, IsReachable}
-use Rattle.route_base.specs.Net.{Net, IsGoodNet, IsGoodArc, road_of, setting_of, at_number}
+use Rattle.route_base.specs.Net.{Net, setting_of, at_number}
 use Rattle.route_base.specs.declared.limits.TheConstants.{HIGHEST_COST}
 use Rattle.route_base.specs.declared.types.Leg.{Leg}
 use Rattle.route_base.specs.declared.types.Leg.TheVariants.{Wait}
 use Rattle.route_base.specs.declared.types.Pair.{Pair}
 use Rattle.route_base.specs.declared.types.Request.{Request}
-use Rattle.route_base.specs.declared.types.TimedArc.{TimedArc}
 use Rattle.route_base.proofs.Walking.{along, cheaper, walk-append, moves_later}
 use Rattle.route_base.proofs.Arcs.{TakesTime, takes_time}
 use Rattle.route_base.proofs.Numbered.{number_past}
