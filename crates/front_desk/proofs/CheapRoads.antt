@@ -1,5 +1,5 @@
 -- The road setting of a vehicle has no dear minute.
-use Rattle.std.proofs.Common.{◌≡◌, ℕ, ◌*◌, ◌≤◌, Some, None, Option, refl, subst, arith}
+use Rattle.std.proofs.Common.{◌≡◌, ℕ, ◌+◌, ◌*◌, ◌≤◌, Some, None, Option, refl, subst, arith}
 use Rattle.std.specs.Option.{option_map, option_flatten}
 use Rattle.route_base.specs.Net.{at_number}
 use Rattle.route_base.specs.Setting.{Road}

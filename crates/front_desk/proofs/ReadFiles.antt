@@ -3,8 +3,7 @@ use Rattle.std.proofs.Common.{◌≡◌, ℕ, ◌+◌, ◌≤◌, Some, None, Op
 use Rattle.std.proofs.Common.{sym, subst, ap, ◌∙◌, arith}
 use Rattle.std.specs.Prelude.{map}
 use Rattle.std.specs.Option.{option_or}
-use Rattle.std.proofs.lemmas.List.{map_push, drop_more, take_more, take-append-drop, length-append, same_from_push}
-use Rattle.std.proofs.Math.Seq.{take-append_seam, drop-append_seam}
+use Rattle.std.proofs.lemmas.List.{map_push, drop_more, take_more, take-append-drop, same_from_push}
 use Rattle.route_base.specs.Contents.{Contents}
 use Rattle.route_base.specs.Counts.{HasRisen}
 use Rattle.route_base.specs.FolderState.{FolderState, KeepsFiles}

@@ -17,7 +17,6 @@ use Rattle.plan_report.specs.Plain.{plain_text_of}
 use Rattle.plan_report.specs.Refusals.{refusal_text_of}
 use Rattle.front_words.specs.Commands.{Command, command_of, to_plan, to_bans}
 use Rattle.front_words.specs.Forms.{is_folder_name, node_of}
-use Rattle.route_base.specs.Forms.{minute_of}
 use Rattle.calendar_days.specs.Days.{days_of_years, days_of_months, date_on}
 use Rattle.calendar_days.specs.Texts.{instant_of, instant_text_of, day_of_text, clock_of}
 use Rattle.front_desk.specs.Trips.{failed_check_over}
