@@ -4,7 +4,9 @@
 A document shows a command in a fenced block of the kind `console`: a line that begins with `$ ` is a command, and the
 lines below it, up to the next command or the block's end, are its whole standard output. A command with `<<'EOF'` goes on
 to the line `EOF`. A last line `[status N]` says that it ends with status N, otherwise it ends with 0. Each command runs at
-the top of the repository, in the order of the document."""
+the top of the repository, in the order of the document.
+
+A block whose kind is followed by a path, such as `rust crates/uses/src/plans.rt`, has to be that whole file."""
 import glob
 import os
 import re
@@ -13,6 +15,7 @@ import sys
 
 TOP = os.path.dirname(os.path.dirname(os.path.abspath(__file__)))
 BLOCK = re.compile(r"^```console\n(.*?)^```$", re.M | re.S)
+QUOTED = re.compile(r"^```\w+ (\S+)\n(.*?)^```$", re.M | re.S)
 HERE_DOCUMENT = re.compile(r".*<<'EOF'\n(?s:.*?)^EOF\n", re.M)
 STATUS = re.compile(r"^\[status (\d+)\]\n", re.M)
 
@@ -44,11 +47,28 @@ def differs(command, shown, status):
     return None if printed == shown else f"printed {printed!r} in place of {shown!r}"
 
 
+def differs_from_file(path, shown):
+    """How the text differs from the file; None where it doesn't."""
+    try:
+        with open(os.path.join(TOP, path), encoding="utf-8") as file:
+            return None if file.read() == shown else "the file has another text"
+    except OSError as error:
+        return error.strerror
+
+
 def main():
     passed = failed = 0
     for name in documents():
         with open(os.path.join(TOP, name), encoding="utf-8") as document:
-            for command, shown, status in commands(document.read()):
+            text = document.read()
+            for path, shown in QUOTED.findall(text):
+                difference = differs_from_file(path, shown)
+                if difference is None:
+                    passed += 1
+                else:
+                    failed += 1
+                    print(f"{name}: {path}: {difference}")
+            for command, shown, status in commands(text):
                 difference = differs(command, shown, status)
                 if difference is None:
                     passed += 1

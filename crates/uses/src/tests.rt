@@ -1,2 +1,3 @@
 mod callers;
+mod judgements;
 mod plans;

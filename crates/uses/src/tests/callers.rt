@@ -1,11 +1,13 @@
 // One worked case for each caller.
 ghost use Rattle.route_base.specs.Time.{IsInstant};
 
-use crate::{Codes, clock_shows, is_banned, read_lockers};
+use crate::{Codes, access_given, clock_shows, is_banned, read_lockers};
+use conditional_rules::{Access, ConditionalFault};
 use opening_hours::{Holidays, HoursFault};
 use route_base::{Cause, Minute, TableFault};
 use std::alloc::Global;
 use table_reader::NameIndex;
+use vehicle_classes::Vehicle;
 use zone_rules::{Wall, Zone, ZoneRow};
 
 // A zone that is always two hours ahead of UTC.
@@ -40,6 +42,29 @@ fn bans_trucks_on_sundays_in_local_time(rt: HostRuntime) -> Result<(), HoursFaul
     }
     let fault = is_banned_at(alloc, b"Sa 25:00", 26_564_880).err();
     assert!(rt; fault == Some(HoursFault::NotHours));
+    Ok(())
+}
+
+// The access that a value gives any vehicle in that zone at a minute, where there are no holidays.
+fn given_at(alloc: Global, value: &[u8], minute: Minute) -> Result<Option<Access>, ConditionalFault>
+    requires { IsInstant minute }
+{
+    let Ok(zone) = Zone::from_rows(alloc, &TWO_HOURS_AHEAD) else {
+        return Err(ConditionalFault::OutOfMemory);
+    };
+    let none = Holidays::from_days(Vec::new(alloc), Vec::new(alloc));
+    access_given(alloc, value, &Vehicle::any(alloc), &zone, &none, minute)
+}
+
+#[test]
+fn gives_the_access_of_a_rule_in_local_time(rt: HostRuntime) -> Result<(), ConditionalFault> {
+    let alloc = rt.alloc();
+    for (minute, due) in [(26_564_879, None), (26_564_880, Some(Access::Barred))] {
+        let given = given_at(alloc, b"no @ (Sa 22:00-Su 22:00)", minute)?;
+        assert!(rt; given == due, "at {minute}");
+    }
+    let fault = given_at(alloc, b"no @ Saturday", 26_564_880).err();
+    assert!(rt; fault == Some(ConditionalFault::NotConditional));
     Ok(())
 }
 

@@ -1,7 +1,9 @@
-// A trip over a network of three nodes, planned by a caller of the libraries.
-use crate::plan_trip;
+// A trip and a drive over a network of three nodes, asked by callers of the libraries.
+ghost use Rattle.std.specs.Prelude.{◌≤◌};
+
+use crate::{is_open_for, plan_trip};
 use network_tables::{Files, Network, NetworkFault, read_network};
-use route_base::{FileBytes, FileKind, NodeId, OutOfMemory, Pair, Request};
+use route_base::{ArcId, FileBytes, FileKind, Minute, NodeId, OutOfMemory, Pair, Request};
 use std::alloc::Global;
 
 // The second road is closed from 2020-07-04T01:00Z to 03:00Z, and a lorry may wait at its beginning.
@@ -66,5 +68,33 @@ fn waits_for_the_pass_or_drives_around_it(rt: HostRuntime) -> Result<(), Network
     let network = pass(alloc)?;
     let planned = has_options(alloc, &network, &due)?;
     assert!(rt; planned);
+    Ok(())
+}
+
+// Whether the second road is open for an hour from a minute on, to any vehicle.
+fn is_pass_open(alloc: Global, network: &Network, from: Minute) -> Result<bool, NetworkFault>
+    requires low { 26563680 ≤ from }
+    requires high { from ≤ 26564080 }
+{
+    if network.graph().arc_count() != 3 || network.vehicles().len() != 1 {
+        return Ok(false);
+    }
+    let vehicle = network.vehicles().vehicle(0);
+    let open = is_open_for(alloc, network, vehicle, ArcId(2), from, 60)?;
+    Ok(open)
+}
+
+#[test]
+fn drives_over_the_pass_before_and_after_it_is_closed(rt: HostRuntime) -> Result<(), NetworkFault> {
+    let network = pass(rt.alloc())?;
+    for (from, due) in [
+        (26_563_680, true),
+        (26_563_681, false),
+        (26_563_859, false),
+        (26_563_860, true),
+    ] {
+        let open = is_pass_open(rt.alloc(), &network, from)?;
+        assert!(rt; open == due, "from {from}");
+    }
     Ok(())
 }

@@ -1,0 +1,33 @@
+// Certificates: the Pareto front of a file that a stranger wrote.
+ghost use Rattle.std.specs.Prelude.{IfOk, IfSome};
+ghost use Rattle.route_base.specs.Front.{IsFront, pairs_of};
+ghost use Rattle.route_base.specs.Net.{IsGoodRequest, setting_of};
+
+use certificate::{CertificateFault, read};
+use certificate_check::{Verdict, check};
+use route_base::{OutOfMemory, Request, Routes, TimedNet};
+use std::alloc::Global;
+
+/// The routes of a certificate, whoever wrote its bytes, where the checker accepts it: their pairs are then the Pareto front of the
+/// request. `None` where the bytes aren't a certificate, or not a good one. Linear in the bytes, and it takes the time and memory of
+/// `check`.
+pub fn certified_routes(
+    alloc: Global,
+    net: &TimedNet,
+    request: Request,
+    bytes: &[u8],
+) -> Result<Option<Routes>, OutOfMemory>
+    requires { IsGoodRequest net.now request }
+    ensures { IfOk result (λ found. IfSome found (λ routes.
+        IsFront (setting_of net.now) request (pairs_of routes))) }
+{
+    let certificate = match read(alloc, bytes) {
+        Ok(certificate) => certificate,
+        Err(CertificateFault::NotACertificate) => return Ok(None),
+        Err(CertificateFault::OutOfMemory) => return Err(OutOfMemory),
+    };
+    match check(alloc, net, request, &certificate)? {
+        Verdict::Accepted => Ok(Some(certificate.routes)),
+        Verdict::Rejected(_) => Ok(None),
+    }
+}
