@@ -1,3 +1,4 @@
+pub mod Halves
 pub mod Keeping
 pub mod Parting
 pub mod Offering

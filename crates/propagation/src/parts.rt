@@ -1,7 +1,7 @@
 // The part of a node's pending minutes that a turn takes to drive on.
-ghost use Rattle.std.specs.Prelude.{◌≡◌, ◌≤◌, ◌<◌, ◌&&◌, not, nat_lt, ℕ, Option, Some, None, true, length, IfOk, OnOk};
+ghost use Rattle.std.specs.Prelude.{◌≡◌, ◌≤◌, ◌<◌, ◌&&◌, ◌||◌, not, nat_lt, max, ℕ, Option, Some, None, true, All, length, IfOk, OnOk};
 ghost use Rattle.route_base.specs.Front.{RiseAndFall};
-ghost use Rattle.route_base.specs.Runs.{any_has};
+ghost use Rattle.route_base.specs.Runs.{any_has, has_minute, AreRuns};
 ghost use Rattle.route_base.specs.declared.limits.TheConstants.{LAST_INSTANT};
 ghost use Rattle.cost_functions.specs.Pieces.{value_at, ArePieces, AreSmallPieces};
 ghost use Rattle.label_queue.specs.Keys.{key_at};
@@ -152,11 +152,58 @@ fn halves_at(alloc: Global, own: &MinuteSet, end: Minute) -> Result<Halves, OutO
     ensures after { IfOk result (λ halves. (t : ℕ) → any_has halves.after t
         ≡ (any_has own.now t && not (nat_lt t end))) }
 {
-    let window = MinuteSet::whole(alloc, Run { lo: 0, hi: end })?;
-    Ok(Halves {
-        before: own.intersection(alloc, &window)?,
-        after: own.minus(alloc, &window)?,
-    })
+    halves_of(alloc, own.runs(), end)
+}
+
+// The minutes of runs before an end, and the others.
+fn halves_of(alloc: Global, runs: &[Run], end: Minute) -> Result<Halves, OutOfMemory>
+    requires { AreRuns runs.now }
+    ensures before { IfOk result (λ halves. (t : ℕ) → any_has halves.before t
+        ≡ (any_has runs.now t && nat_lt t end)) }
+    ensures after { IfOk result (λ halves. (t : ℕ) → any_has halves.after t
+        ≡ (any_has runs.now t && not (nat_lt t end))) }
+{
+    let mut before = MinuteSet::empty(alloc);
+    let mut after = MinuteSet::empty(alloc);
+    let mut left = runs;
+    'runs: while let [run, rest @ ..] = left {
+        add_before(&mut before, *run, end)?;
+        add_after(&mut after, *run, end)?;
+        left = rest;
+    }
+    Ok(Halves { before, after })
+}
+
+// Adds the minutes of a later run before an end.
+fn add_before(set: &mut MinuteSet, run: Run, end: Minute) -> Result<(), OutOfMemory>
+    requires { All (λ r. r.lo ≤ run.lo) set.old }
+    ensures minutes { OnOk result ((t : ℕ) → any_has set.new t
+        ≡ (any_has set.old t || (has_minute t run && nat_lt t end))) }
+    ensures begins { OnOk result (All (λ r. r.lo ≤ run.lo) set.new) }
+{
+    if run.lo < end {
+        set.append(Run {
+            lo: run.lo,
+            hi: run.hi.min(end),
+        })?;
+    }
+    Ok(())
+}
+
+// Adds the minutes of a later run from an end on.
+fn add_after(set: &mut MinuteSet, run: Run, end: Minute) -> Result<(), OutOfMemory>
+    requires { All (λ r. r.lo ≤ max run.lo end) set.old }
+    ensures minutes { OnOk result ((t : ℕ) → any_has set.new t
+        ≡ (any_has set.old t || (has_minute t run && not (nat_lt t end)))) }
+    ensures begins { OnOk result (All (λ r. r.lo ≤ max run.lo end) set.new) }
+{
+    if end < run.hi {
+        set.append(Run {
+            lo: run.lo.max(end),
+            hi: run.hi,
+        })?;
+    }
+    Ok(())
 }
 
 // Puts the node back, if minutes are left.
