@@ -1,5 +1,6 @@
 -- Places of keys, one key after another.
-use Rattle.std.proofs.Common.{◌≡◌, ◌≤◌, length, arith, ℕ, zero, suc, ◌+◌, Bool, true, Option, Some, None, unwrap_or, List, [], ◌∷◌, ◌++◌, take, slice_get, refl, sym, ◌∙◌, ap}
+use Rattle.std.proofs.Common.{◌≡◌, ◌≤◌, length, arith, ℕ, zero, suc, ◌+◌, Bool, true, Option, Some}
+use Rattle.std.proofs.Common.{None, unwrap_or, List, [], ◌∷◌, ◌++◌, take, slice_get, refl, sym, ◌∙◌, ap}
 use Rattle.std.specs.List.{list_any}
 use Rattle.std.specs.Option.{option_or, option_map}
 use Rattle.std.proofs.lemmas.Bool.{or_left, or_right}

@@ -1,5 +1,6 @@
 -- The timed net of a network is good and stands for its road setting.
-use Rattle.std.proofs.Common.{◌≡◌, ⊎_elim, ℕ, zero, suc, ◌+◌, ◌≤◌, ◌<◌, ◌&&◌, Bool, false, Some, None, Option, List, [], ◌∷◌, ◌++◌, length, map, get_or, slice_get}
+use Rattle.std.proofs.Common.{◌≡◌, ⊎_elim, ℕ, zero, suc, ◌+◌, ◌≤◌, ◌<◌, ◌&&◌, Bool, false}
+use Rattle.std.proofs.Common.{Some, None, Option, List, [], ◌∷◌, ◌++◌, length, map, get_or, slice_get}
 use Rattle.std.proofs.Common.{refl, sym, ◌∙◌, ap, subst, arith, add-one}
 use Rattle.std.specs.Prelude.{IsSome, unwrap_or}
 use Rattle.std.specs.Option.{option_map, option_flatten, ForSome}

@@ -71,7 +71,8 @@ fn closed_parts<R: Threads + Sync, G: Gate>(
             requires window { IsWindow window }
             requires some { 1 ≤ left_parts }
             requires few { part + left_parts ≤ 8 }
-            ensures { IfOk result (λ lists. AreClosedLists network.entry.now vehicle.entry.now window front.entry.now
+            ensures { IfOk result (λ lists. AreClosedLists network.entry.now vehicle.entry.now
+                window front.entry.now
                 (map (λ v. v.items) lists.items)) }
         {
             closed_parts(
@@ -85,7 +86,8 @@ fn closed_parts<R: Threads + Sync, G: Gate>(
             requires some { 1 ≤ left_parts }
             requires rest { left_parts < parts }
             requires few { part + parts ≤ 8 }
-            ensures { IfOk result (λ lists. AreClosedLists network.entry.now vehicle.entry.now window back.entry.now
+            ensures { IfOk result (λ lists. AreClosedLists network.entry.now vehicle.entry.now
+                window back.entry.now
                 (map (λ v. v.items) lists.items)) }
         {
             closed_parts(

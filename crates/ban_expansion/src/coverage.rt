@@ -46,7 +46,7 @@ fn add_minutes(
     minutes: Run,
 ) -> Result<(), OutOfMemory>
     requires offset { IsTrue (is_offset row.offset) }
-    requires window { minutes.lo < minutes.hi → IsWindow minutes }
+    requires window { IsWindow minutes }
     ensures { OnOk result (Adds runs.old.items runs.new.items (λ t. has_minute t minutes
         && local_covered hours.now holidays.now (unsigned_abs (pos t +ℤ row.offset)))) }
 {

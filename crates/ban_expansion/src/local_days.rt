@@ -1,8 +1,8 @@
 // Local days, laid out as runs of UTC minutes.
-ghost use Rattle.std.specs.Prelude.{◌≡◌, ◌<◌, ◌≤◌, ◌&&◌, ℕ, OnOk};
+ghost use Rattle.std.specs.Prelude.{◌≡◌, ◌<◌, ◌≤◌, ◌+◌, ◌&&◌, ℕ, OnOk};
 ghost use Rattle.std.specs.List.{list_any};
 ghost use Rattle.route_base.specs.Runs.{has_minute};
-ghost use Rattle.ban_expansion.specs.Coverage.{IsWindow};
+ghost use Rattle.route_base.specs.Time.{first_instant, last_instant};
 ghost use Rattle.ban_expansion.specs.LocalDays.{Adds, local_of, is_in, span_holds, day_covers, local_covered};
 
 use opening_hours::{Holidays, Hours, TimeSpan, spans_on};
@@ -96,7 +96,8 @@ pub fn add_stretch(
 ) -> Result<(), OutOfMemory>
     requires ahead { stretch.ahead ≤ 2160 }
     requires some { stretch.minutes.lo < stretch.minutes.hi }
-    requires window { IsWindow stretch.minutes }
+    requires from { first_instant ≤ stretch.minutes.lo }
+    requires to { stretch.minutes.hi ≤ last_instant + 1 }
     ensures { OnOk result (Adds runs.old.items runs.new.items (λ t.
         is_in stretch t && local_covered hours.now holidays.now (local_of stretch.ahead t))) }
 {

@@ -26,7 +26,12 @@ module _ {A : Type 0} (read : Tokens → Option A) where
       → first_line read (token_lines bytes) ≡ Some (x, token_lines rest)
   first_read bytes line rest x parts is =
       ap (λ ls. first_line read (map spaced_tokens ls)) parts
-      ∙ read_first (spaced_tokens line) (token_lines rest) x (omega (arith, some_part (λ b. b == 10) rest, length-map (slice_split (λ b. b == 10) rest) spaced_tokens)) is
+      ∙ read_first (spaced_tokens line) (token_lines rest) x (omega (
+        arith,
+        some_part (λ b. b == 10) rest,
+        length-map
+            (slice_split (λ b. b == 10) rest) spaced_tokens,
+      )) is
 
   -- fewer lines are left
   pub first_shorter : (lines : List Tokens) (x : A) (others : List Tokens) → first_line read lines ≡ Some (x, others) → length others < length lines

@@ -1,7 +1,7 @@
 -- Single lines, both ways: each line that can be written is read as what it writes, and a line that is read is written so.
 use Rattle.std.proofs.Common.{◌≡◌, ⊎_elim, ◌==◌, ◌&&◌, ◌||◌, ℕ, ◌^◌, ◌≤◌, ◌<◌, Bool, true, false, cond, Option, Some, None, List, [], ◌∷◌, refl, sym, ◌∙◌, ap}
 use Rattle.std.proofs.Common.{subst, arith, rules}
-use Rattle.std.specs.Prelude.{codes, decimal, nat_le, nat_lt, unwrap_or, option_map, option_and_then}
+use Rattle.std.specs.Prelude.{codes, decimal, nat_le, nat_lt, option_map, option_and_then}
 use Rattle.std.specs.Str.{bytes_eq}
 use Rattle.std.proofs.lemmas.Bool.{cases_lt, le-leb, lt-leb, lt-ltb, le-ltb, eq-eqb, ne_eqb, eqb-true, and_parts}
 use Rattle.std.proofs.lemmas.Option.{same_Some}

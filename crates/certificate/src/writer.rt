@@ -7,7 +7,7 @@ ghost use Rattle.certificate.specs.Inside.Spelling.{bound_text, piece_text, func
 
 use crate::{Certificate, NodeBounds, NodeFunctions};
 use cost_functions::{CostFn, Piece};
-use itoa::Buffer;
+use line_texts::{push_field, push_text};
 use route_base::{Bound, Leg, NodeId, OutOfMemory, Route};
 use std::alloc::Global;
 
@@ -29,22 +29,12 @@ pub fn write(alloc: Global, certificate: &Certificate) -> Result<Vec<u8>, OutOfM
     Ok(out)
 }
 
-// Appends a space and a number in decimal digits.
-fn push_number(out: &mut Vec<u8>, number: u64) -> Result<(), OutOfMemory>
-    ensures { OnOk result (out.new.items ≡ out.old.items ++ spaced number) }
-{
-    let mut buffer = Buffer::new();
-    out.push(b' ')?;
-    out.extend_from_slice(buffer.format(number).as_bytes())?;
-    Ok(())
-}
-
 // Appends numbers, with a space before each.
 fn push_numbers(out: &mut Vec<u8>, numbers: &[u64]) -> Result<(), OutOfMemory>
     ensures { OnOk result (out.new.items ≡ out.old.items ++ flat_map spaced numbers.now) }
 {
     for number in numbers {
-        push_number(out, *number)?;
+        push_field(out, " ", *number)?;
     }
     Ok(())
 }
@@ -54,10 +44,9 @@ fn push_line(out: &mut Vec<u8>, word: &str, numbers: &[u64]) -> Result<(), OutOf
     ensures { OnOk result
         (out.new.items ≡ out.old.items ++ line_text (word.now ∷ map decimal numbers.now)) }
 {
-    out.extend_from_slice(word.as_bytes())?;
+    push_text(out, word)?;
     push_numbers(out, numbers)?;
-    out.push(b'\n')?;
-    Ok(())
+    push_text(out, "\n")
 }
 
 // Appends the line of a leg.

@@ -16,7 +16,7 @@ pub fn bound_of(bounds: &NodeBounds, node: NodeId) -> Option<Bound>
     ensures value { result ≡ item_at bounds.now node.0 }
     ensures range { IsBoundInRange result }
 {
-    bounds.get(node).copied()
+    bounds.at(node).copied()
 }
 
 /// The pieces of a node's function; none where it has no function. One binary search.
@@ -24,7 +24,7 @@ pub fn pieces_of(functions: &NodeFunctions, node: NodeId) -> &[Piece]
     ensures pieces { ArePieces result.now }
     ensures values { (t : ℕ) → value_at result.now t ≡ value_of functions.now node.0 t }
 {
-    match functions.get(node) {
+    match functions.at(node) {
         Some(function) => function.pieces(),
         None => &[],
     }

@@ -139,7 +139,8 @@ clause_over clause rest h =
 
 abbrev AreClausePieces : Clause → Type 0
 AreClausePieces clause =
-    IsJoinedPart first_semicolon (codes "; ") IsClause (clause_text clause) clause × IsJoinedPart first_semicolon (codes "; ") IsClause (32 ∷ clause_text clause) clause
+    IsJoinedPart first_semicolon (codes "; ") IsClause (clause_text clause) clause × IsJoinedPart first_semicolon (codes "; ") IsClause
+    (32 ∷ clause_text clause) clause
 
 clause_pieces : (clause : Clause) → Each IsAgain clause.parts → AreClausePieces clause
 clause_pieces clause h =

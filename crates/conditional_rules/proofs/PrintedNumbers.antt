@@ -1,6 +1,6 @@
 -- Numbers that are printed in decimal digits are read as themselves, and numbers of few digits are small.
 use Rattle.std.proofs.Common.{◌≡◌, ℕ, zero, suc, ◌+◌, ◌-◌, ◌*◌, ◌/◌, ◌%◌, ◌^◌, ◌<◌, ◌≤◌, ◌&&◌, Some}
-use Rattle.std.proofs.Common.{List, [], ◌∷◌, length, length-append, refl, sym, ap, ◌∙◌, arith}
+use Rattle.std.proofs.Common.{List, [], ◌∷◌, ◌++◌, codes, decimal, length, length-append, append_assoc, refl, sym, ap, ◌∙◌, arith}
 use Rattle.std.specs.Prelude.{nat_le}
 use Rattle.std.proofs.lemmas.Bool.{leb-true, and_parts}
 use Rattle.std.proofs.lemmas.Option.{same_Some}
@@ -9,7 +9,8 @@ use Rattle.std.proofs.Math.Arith.{mod-mul}
 use Rattle.route_base.specs.Digits.{digits_from, number_of}
 use Rattle.route_base.proofs.Logic.{behind_test}
 use Rattle.route_base.proofs.DecimalDigits.{digit_behind}
-use Rattle.conditional_rules.specs.CanonicalText.{last_digits}
+use Rattle.line_texts.specs.Words.{thousandths_of, three_digits}
+use Rattle.conditional_rules.specs.CanonicalText.{last_digits, measure_text}
 
 -- the last digits of a number write what is left of it
 pub last_digits_write : (k n : ℕ) → digits_from 0 (last_digits k n) ≡ Some (n % 10 ^ k)
@@ -41,3 +42,10 @@ number_below [] n h = absurd (cc)
 number_below (b ∷ bs) n h =
     let parts = behind_test (nat_le (length (b ∷ bs)) 18) (digits_from 0 (b ∷ bs)) n h in
     omega (arith, digits_below 0 n (b ∷ bs) parts.1)
+
+-- a size of three decimals is printed as a number of thousandths
+pub thousandths_are : (n : ℕ) → thousandths_of n ≡ measure_text 3 n
+thousandths_are n =
+    let hundreds : n / 100 ≡ n / 10 / 10 = omega arith in
+    append_assoc (decimal (n / 1000)) (codes ".") (three_digits n)
+    ∙ ap (λ h. decimal (n / 1000) ++ 46 ∷ (48 + h % 10) ∷ (48 + n / 10 % 10) ∷ (48 + n % 10) ∷ []) hundreds

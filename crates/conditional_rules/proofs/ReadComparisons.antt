@@ -22,7 +22,8 @@ use Rattle.conditional_rules.specs.Comparisons.{quantity_text, decimals_in, unit
 use Rattle.conditional_rules.specs.Comparisons as law
 use Rattle.conditional_rules.specs.Conditions.{is_small_letter}
 use Rattle.conditional_rules.specs.Cutting.{AreBlanks}
-use Rattle.conditional_rules.specs.Inside.Comparisons.{behind, quantity_of, with_equal, sign_at, bounded_number_of, decimals_at, decimal_point_at, measure_at}
+use Rattle.conditional_rules.specs.Inside.Comparisons.{bytes_behind, quantity_of, with_equal, sign_at}
+use Rattle.conditional_rules.specs.Inside.Comparisons.{bounded_number_of, decimals_at, decimal_point_at, measure_at}
 use Rattle.conditional_rules.specs.Inside.Comparisons.{Compared, is_unit, measured, signed, comparison_of}
 use Rattle.conditional_rules.proofs.Runs.{run_again, behind_again, run_whole, run_all, stops_behind, number_all, stops_number}
 
@@ -238,11 +239,11 @@ decimals_found decimals n digits bs v rest short is e = by (bounded_number_of de
     more = take_while is_digit bs
 
     by : (o : Option ℕ) → bounded_number_of decimals more ≡ o
-        → option_map {U = ℕ × List ℕ} (λ d. (n * 10 ^ decimals + d * 10 ^ (decimals - length more), behind is_digit bs)) o ≡ Some (v, rest)
+        → option_map {U = ℕ × List ℕ} (λ d. (n * 10 ^ decimals + d * 10 ^ (decimals - length more), bytes_behind is_digit bs)) o ≡ Some (v, rest)
         → Measured decimals (digits ++ 46 ∷ bs) v rest
     by None f e = absurd cc
     by (Some d) f e =
-        let p = some_pair_parts (n * 10 ^ decimals + d * 10 ^ (decimals - length more)) v (behind is_digit bs) rest e in
+        let p = some_pair_parts (n * 10 ^ decimals + d * 10 ^ (decimals - length more)) v (bytes_behind is_digit bs) rest e in
         let few = short_number_found decimals more d f in
         let whole : bs ≡ more ++ rest = run_whole is_digit bs ∙ ap (λ (r : List ℕ). more ++ r) p.1 in (
           digits ++ 46 ∷ more,
@@ -270,11 +271,11 @@ measure_found : (decimals : ℕ) (text : List ℕ) (v : ℕ) (rest : List ℕ) �
 unfolding measure_at
 measure_found decimals text v rest e =
     let digits = take_while is_digit text in
-    option_and_then_some (λ n. decimal_point_at decimals n (behind is_digit text)) (bounded_number_of 6 digits) (v, rest) e
+    option_and_then_some (λ n. decimal_point_at decimals n (bytes_behind is_digit text)) (bounded_number_of 6 digits) (v, rest) e
     (λ n found after.
     let short = short_number_found 6 digits n found in
     subst (λ (t : List ℕ). Measured decimals t v rest) (sym (run_whole is_digit text))
-    (point_found decimals n digits (behind is_digit text) v rest short.0 short.1 after))
+    (point_found decimals n digits (bytes_behind is_digit text) v rest short.0 short.1 after))
 
 unit_found : (q : Quantity) (unit : List ℕ) → is_unit q unit ≡ true → (unit ≡ []) ⊎ (unit ≡ unit_text q)
 unit_found q unit e = by (or_cases (bytes_eq unit []) (bytes_eq unit (unit_text q)) e)
@@ -301,24 +302,24 @@ three q p s t w v e =
 measured_found : (q p : Quantity) (s t : Comparison) (text : List ℕ) (v : ℕ) → measured q s text ≡ Some (p, t, v) → EndsCompared q s text p t v
 unfolding measured
 measured_found q p s t text v e =
-    option_and_then_some (λ f. cond (is_unit q (behind is_blank f.1)) (Some (q, s, f.0)) None) (measure_at (decimals_in q) text) (p, t, v) e
-    (λ f found after. by f.0 f.1 (is_unit q (behind is_blank f.1)) refl found after)
+    option_and_then_some (λ f. cond (is_unit q (bytes_behind is_blank f.1)) (Some (q, s, f.0)) None) (measure_at (decimals_in q) text) (p, t, v) e
+    (λ f found after. by f.0 f.1 (is_unit q (bytes_behind is_blank f.1)) refl found after)
   where
-    by : (w : ℕ) (rest : List ℕ) (u : Bool) → is_unit q (behind is_blank rest) ≡ u → measure_at (decimals_in q) text ≡ Some (w, rest)
+    by : (w : ℕ) (rest : List ℕ) (u : Bool) → is_unit q (bytes_behind is_blank rest) ≡ u → measure_at (decimals_in q) text ≡ Some (w, rest)
         → ◌≡◌ {A = Option (Compared)} (cond u (Some (q, s, w)) None) (Some (p, t, v)) → EndsCompared q s text p t v
     by w rest true unit found e =
         let same = three q p s t w v e in
         let m = measure_found (decimals_in q) text w rest found in
-        let whole : text ≡ m.0 ++ (take_while is_blank rest ++ behind is_blank rest) = m.1 ∙ ap (λ (r : List ℕ). m.0 ++ r) (run_whole is_blank rest) in (
+        let whole : text ≡ m.0 ++ (take_while is_blank rest ++ bytes_behind is_blank rest) = m.1 ∙ ap (λ (r : List ℕ). m.0 ++ r) (run_whole is_blank rest) in (
           same.0,
           same.1,
           m.0,
           take_while is_blank rest,
-          behind is_blank rest,
+          bytes_behind is_blank rest,
           whole,
           subst (IsMeasure (decimals_in q) m.0) same.2 m.2,
           run_all is_blank rest,
-          unit_found q (behind is_blank rest) unit,
+          unit_found q (bytes_behind is_blank rest) unit,
         )
     by w rest false unit found e = absurd cc
 
@@ -331,18 +332,19 @@ Begins q text p t v =
 signed_found : (q p : Quantity) (t : Comparison) (text : List ℕ) (v : ℕ) → signed q text ≡ Some (p, t, v) → Begins q text p t v
 unfolding signed
 signed_found q p t text v e =
-    option_and_then_some (λ f. measured q f.0 (behind is_blank f.1)) (sign_at text) (p, t, v) e
+    option_and_then_some (λ f. measured q f.0 (bytes_behind is_blank f.1)) (sign_at text) (p, t, v) e
     (λ f found after.
     let sign = sign_found text f.0 f.1 found in
-    let whole : text ≡ sign.0 ++ (take_while is_blank f.1 ++ behind is_blank f.1) = sign.1 ∙ ap (λ (r : List ℕ). sign.0 ++ r) (run_whole is_blank f.1) in (
+    let whole : text ≡ sign.0 ++ (take_while is_blank f.1 ++ bytes_behind is_blank f.1) = sign.1 ∙ ap (λ (r : List ℕ). sign.0 ++ r)
+    (run_whole is_blank f.1) in (
       sign.0,
       take_while is_blank f.1,
-      behind is_blank f.1,
+      bytes_behind is_blank f.1,
       f.0,
       whole,
       sign.2,
       run_all is_blank f.1,
-      measured_found q p f.0 t (behind is_blank f.1) v after,
+      measured_found q p f.0 t (bytes_behind is_blank f.1) v after,
     ))
 
 built : (text a after : List ℕ) (q p : Quantity) (t : Comparison) (v : ℕ) → text ≡ quantity_text q ++ (a ++ after) → AreBlanks a
@@ -359,14 +361,14 @@ pub comparison_found : (text : List ℕ) (p : Quantity) (t : Comparison) (v : �
 unfolding comparison_of
 comparison_found text p t v e =
     let word = take_while is_small_letter text in
-    let rest = behind is_small_letter text in
-    option_and_then_some (λ q. signed q (behind is_blank rest)) (quantity_of word) (p, t, v) e
+    let rest = bytes_behind is_small_letter text in
+    option_and_then_some (λ q. signed q (bytes_behind is_blank rest)) (quantity_of word) (p, t, v) e
     (λ q found after.
-    let whole : text ≡ quantity_text q ++ (take_while is_blank rest ++ behind is_blank rest) =
+    let whole : text ≡ quantity_text q ++ (take_while is_blank rest ++ bytes_behind is_blank rest) =
     run_whole is_small_letter text ∙ ap (λ (w : List ℕ). w ++ rest) (quantity_found word q found)
     ∙ ap (λ (r : List ℕ). quantity_text q ++ r) (run_whole is_blank rest) in
-    built text (take_while is_blank rest) (behind is_blank rest) q p t v whole (run_all is_blank rest)
-    (signed_found q p t (behind is_blank rest) v after))
+    built text (take_while is_blank rest) (bytes_behind is_blank rest) q p t v whole (run_all is_blank rest)
+    (signed_found q p t (bytes_behind is_blank rest) v after))
 
 pub comparison_only : (text : List ℕ) (a c : Compared) → comparison_of text ≡ Some c → IsComparison text a.0 a.1 a.2 → a ≡ c
 comparison_only text a c e h = let f = comparison_read h in cc

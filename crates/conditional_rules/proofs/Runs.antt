@@ -11,7 +11,7 @@ use Rattle.route_base.specs.Digits.{digits_from, number_of}
 use Rattle.route_base.proofs.Logic.{when_true, behind_test}
 use Rattle.opening_hours.specs.Tokens.{is_digit}
 use Rattle.opening_hours.proofs.Lists.{Stops}
-use Rattle.conditional_rules.specs.Inside.Comparisons.{behind}
+use Rattle.conditional_rules.specs.Inside.Comparisons.{bytes_behind}
 
 pub run_again : (kind : ℕ → Bool) (w rest : List ℕ) → list_all kind w ≡ true → Stops kind rest → take_while kind (w ++ rest) ≡ w
 run_again kind [] [] h s = refl
@@ -21,13 +21,13 @@ run_again kind (b ∷ bs) rest h s =
     take_while-cons kind b (bs ++ rest) ∙ ap (λ v. cond v (b ∷ take_while kind (bs ++ rest)) []) p.0
     ∙ ap (λ (ws : List ℕ). b ∷ ws) (run_again kind bs rest p.1 s)
 
-pub behind_again : (kind : ℕ → Bool) (w rest : List ℕ) → list_all kind w ≡ true → Stops kind rest → behind kind (w ++ rest) ≡ rest
+pub behind_again : (kind : ℕ → Bool) (w rest : List ℕ) → list_all kind w ≡ true → Stops kind rest → bytes_behind kind (w ++ rest) ≡ rest
 behind_again kind w rest h s = ap (λ (v : List ℕ). drop (length v) (w ++ rest)) (run_again kind w rest h s) ∙ drop_at w rest (length w) refl
 
-pub run_whole : (kind : ℕ → Bool) (text : List ℕ) → text ≡ take_while kind text ++ behind kind text
+pub run_whole : (kind : ℕ → Bool) (text : List ℕ) → text ≡ take_while kind text ++ bytes_behind kind text
 run_whole kind text =
     sym (take-append-drop (length (take_while kind text)) text)
-    ∙ ap (λ (w : List ℕ). w ++ behind kind text) (ap (λ n. take n text) (length-prefix_len kind text))
+    ∙ ap (λ (w : List ℕ). w ++ bytes_behind kind text) (ap (λ n. take n text) (length-prefix_len kind text))
 
 all_cond : (kind : ℕ → Bool) (b : ℕ) (w : List ℕ) (v : Bool) → kind b ≡ v → list_all kind w ≡ true → list_all kind (cond v (b ∷ w) []) ≡ true
 all_cond kind b w true e h = and_from (kind b) (list_all kind w) e h

@@ -7,7 +7,7 @@ ghost use Rattle.vehicle_classes.specs.declared.classes.Quantity.{Quantity as Si
 ghost use Rattle.conditional_rules.specs.declared.conditional.Comparison.{Comparison as Sign};
 ghost use Rattle.conditional_rules.specs.Comparisons.{decimals_in, unit_text, IsComparison};
 ghost use Rattle.conditional_rules.specs.Conditions.{is_small_letter};
-ghost use Rattle.conditional_rules.specs.Inside.Comparisons.{behind, quantity_of, sign_at, is_unit, bounded_number_of};
+ghost use Rattle.conditional_rules.specs.Inside.Comparisons.{bytes_behind, quantity_of, sign_at, is_unit, bounded_number_of};
 ghost use Rattle.conditional_rules.specs.Inside.Comparisons.{decimals_at, decimal_point_at, measure_at};
 ghost use Rattle.conditional_rules.specs.Inside.Comparisons.{Compared, measured, signed, comparison_of};
 
@@ -52,7 +52,7 @@ fn blanks(text: &[u8]) -> usize
 
 // The bytes behind the blanks at the front of a text.
 fn behind_blanks(text: &[u8]) -> &[u8]
-    ensures { result.now ≡ behind is_blank text.now }
+    ensures { result.now ≡ bytes_behind is_blank text.now }
 {
     let (_, rest) = text.split_at(blanks(text));
     rest

@@ -103,7 +103,8 @@ pub fn parse(alloc: Global, text: &[u8]) -> Result<Conditional, ConditionalFault
     // The function on lists gives these clauses.
     ensures value { IfOk result (λ clauses. conditional_of text.now ≡ Some clauses) }
     // It gives nothing for a text that is refused.
-    ensures unread { IsErrOf result ConditionalFault.NotConditional → conditional_of text.now ≡ None }
+    ensures unread { IsErrOf result ConditionalFault.NotConditional → conditional_of text.now
+        ≡ None }
 {
     let clauses = read_clauses(alloc, text)?;
     Ok(Conditional { clauses })

@@ -26,6 +26,7 @@ mod laws;
 mod parser;
 mod parts;
 mod printer;
+mod threads;
 
 pub use access::{Access, lets_in, read_value};
 pub use conditional::{Clause, Comparison, Conditional, Part, Parts, Word, parse};

@@ -61,7 +61,8 @@ fn copied(alloc: Global, text: &[u8]) -> Result<Word, OutOfMemory>
 fn compared(text: &[u8]) -> Result<Part, ConditionalFault>
     requires { has_sign text.now ≡ true }
     ensures found { IfOk result (λ part. IsPart text.now part) }
-    ensures none { IsErrOf result ConditionalFault.NotConditional → (part : Piece) → IsPart text.now part → ⊥ }
+    ensures none { IsErrOf result ConditionalFault.NotConditional → (part : Piece)
+        → IsPart text.now part → ⊥ }
 {
     match read_comparison(text) {
         Some((quantity, comparison, value)) => Ok(Part::Compare(quantity, comparison, value)),
@@ -75,7 +76,8 @@ fn timed(alloc: Global, text: &[u8]) -> Result<Part, ConditionalFault>
     requires no_sign { has_sign text.now ≡ false }
     requires no_flag { is_flag text.now ≡ false }
     ensures found { IfOk result (λ part. IsPart text.now part) }
-    ensures none { IsErrOf result ConditionalFault.NotConditional → (part : Piece) → IsPart text.now part → ⊥ }
+    ensures none { IsErrOf result ConditionalFault.NotConditional → (part : Piece)
+        → IsPart text.now part → ⊥ }
 {
     match parse(alloc, text) {
         Ok(hours) => Ok(Part::Times(hours)),
@@ -87,7 +89,8 @@ fn timed(alloc: Global, text: &[u8]) -> Result<Part, ConditionalFault>
 // The part that the text is.
 fn any_part(alloc: Global, text: &[u8]) -> Result<Part, ConditionalFault>
     ensures found { IfOk result (λ part. IsPart text.now part) }
-    ensures none { IsErrOf result ConditionalFault.NotConditional → (part : Piece) → IsPart text.now part → ⊥ }
+    ensures none { IsErrOf result ConditionalFault.NotConditional → (part : Piece)
+        → IsPart text.now part → ⊥ }
 {
     if any_sign(text) {
         compared(text)
@@ -107,7 +110,8 @@ pub(crate) fn read_part(alloc: Global, text: &[u8]) -> Result<Part, ConditionalF
     // It is no other.
     ensures only { IfOk result (λ part. (other : Piece) → IsPart text.now other → other ≡ part) }
     // A text that is refused is none.
-    ensures none { IsErrOf result ConditionalFault.NotConditional → (part : Piece) → IsPart text.now part → ⊥ }
+    ensures none { IsErrOf result ConditionalFault.NotConditional → (part : Piece)
+        → IsPart text.now part → ⊥ }
 {
     any_part(alloc, text)
 }

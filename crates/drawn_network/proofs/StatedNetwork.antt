@@ -7,17 +7,17 @@ use Rattle.table_reader.specs.NameIndex.{names_of, place_among}
 use Rattle.table_reader.specs.Records.{Record, rows_of}
 use Rattle.table_reader.proofs.NumberedRows.{given_at_first}
 use Rattle.vehicle_classes.specs.Vehicles.{vehicles_in}
-use Rattle.network_tables.specs.Areas.{areas_in, areas_or_default}
+use Rattle.area_tables.specs.Areas.{areas_in, areas_or_default}
 use Rattle.network_tables.specs.Closures.{closures_in, runs_by_arc}
-use Rattle.network_tables.specs.Holidays.{calendar_days, days_listed, holidays_in}
+use Rattle.area_tables.specs.Holidays.{calendar_days, days_listed, holidays_in}
 use Rattle.network_tables.specs.NetworkFiles.{arc_count_of, area_in, areas_of, closed_runs_of, holidays_of, network_in_files}
 use Rattle.network_tables.specs.NetworkFiles.{ratings_of, roads_of, vehicles_of, weights_of, zones_of}
 use Rattle.network_tables.specs.NetworkModel.{Area}
 use Rattle.network_tables.specs.Parking.{weights_by_node}
 use Rattle.network_tables.specs.Ratings.{Rating}
-use Rattle.network_tables.specs.Roads.{area_by_arc}
+use Rattle.area_tables.specs.Roads.{area_by_arc}
 use Rattle.network_tables.specs.Rules.{rules_in, passed_over_in}
-use Rattle.network_tables.specs.Zones.{zone_entries_in, zone_named}
+use Rattle.area_tables.specs.Zones.{zone_entries_in, zone_named}
 use Rattle.net_generator.specs.Sizes.{IsDrawable}
 use Rattle.drawn_network.specs.DrawnFiles.{drawn_files}
 use Rattle.drawn_network.specs.DrawnNetwork.{only_area, network_drawn}

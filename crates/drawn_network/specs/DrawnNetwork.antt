@@ -3,7 +3,7 @@ use Rattle.std.specs.Prelude.{ℕ, pos, [], ◌∷◌, length, codes, replicate}
 use Rattle.route_base.specs.Time.{first_instant}
 use Rattle.vehicle_classes.specs.VehicleModel.{any_vehicle}
 use Rattle.network_tables.specs.NetworkModel.{Area, NetworkModel}
-use Rattle.network_tables.specs.Zones.{zone_row}
+use Rattle.area_tables.specs.Zones.{zone_row}
 use Rattle.net_generator.specs.Layout.{roads_drawn}
 use Rattle.drawn_network.specs.DrawnGraph.{drawn_graph}
 use Rattle.drawn_network.specs.DrawnRows.{drawn_runs, drawn_weights}

@@ -46,7 +46,8 @@ pub fn draw_network(
     ensures graph { IfOk result (λ drawn. drawn.files.graph ≡ graph_file number rows columns) }
     ensures closures { IfOk result
         (λ drawn. drawn.files.closures ≡ closures_file number rows columns) }
-    ensures parking { IfOk result (λ drawn. drawn.files.parking ≡ parking_file number rows columns) }
+    ensures parking { IfOk result (λ drawn. drawn.files.parking
+        ≡ parking_file number rows columns) }
     ensures ratings { IfOk result (λ drawn. drawn.files.ratings ≡ ratings_file) }
     ensures network { IfOk result
         (λ drawn. drawn.network ≡ network_in_files (drawn_files number rows columns)) }

@@ -1,10 +1,9 @@
 -- A table of jobs that was read, and the texts of its jobs.
-use Rattle.std.proofs.Common.{◌≡◌, ℕ, ◌+◌, false, Some, None, Option, List, length, refl, ap, sym, subst, ◌∙◌, arith}
+use Rattle.std.proofs.Common.{◌≡◌, ℕ, ◌+◌, false, Some, None, Option, List, Ok, length, refl, ap, sym, subst, ◌∙◌, arith}
 use Rattle.std.specs.Option.{option_or}
-use Rattle.std.proofs.lemmas.Bool.{both_ways}
 use Rattle.route_base.specs.Causes.{IsOfContents}
 use Rattle.route_base.specs.Contents.{Contents}
-use Rattle.route_base.specs.FolderState.{FolderState}
+use Rattle.route_base.specs.FolderState.{FolderState, KeepsFiles}
 use Rattle.route_base.specs.declared.faults.BadInput.{BadInput}
 use Rattle.route_base.specs.declared.faults.RequestFault.{RequestFault}
 use Rattle.route_base.specs.declared.types.Form.{Form}
@@ -14,34 +13,35 @@ use Rattle.network_tables.specs.declared.jobs.Job.{Job}
 use Rattle.plan_report.specs.Batch.{batch_text_of}
 use Rattle.plan_report.specs.Refusals.{refusal_text_of}
 use Rattle.plan_report.specs.Reports.{report_text}
-use Rattle.plan_report.specs.declared.outcomes.Refusal.TheVariants.{Usage, Input, Request}
+use Rattle.plan_report.specs.declared.outcomes.Refusal.TheVariants.{Request}
 use Rattle.trip_batch.specs.Right.{AreRight}
 use Rattle.front_desk.specs.Batch.{batch_fault, jobs_held, trip_of_job, IsTripText, IsJobText, IsTextAt, IsBatchText}
-use Rattle.front_desk.specs.CommandLine.{Batch, Plan, to_batch}
-use Rattle.front_desk.specs.Files.{IfTold}
-use Rattle.front_desk.specs.Inside.Halting.{ReportsOn, StopsReading, StopsStating}
+use Rattle.front_words.specs.declared.commands.Batch.{Batch}
+use Rattle.front_words.specs.declared.commands.Plan.{Plan}
+use Rattle.front_words.specs.declared.commands.Invocation.TheVariants.{Batch as to_batch}
+use Rattle.network_folder.specs.Files.{IfTold}
+use Rattle.front_desk.specs.Inside.Ending.{Ends}
+use Rattle.front_desk.proofs.Ending.{kept_rises, reports}
+use Rattle.network_folder.specs.Faults.{StopsReading, StopsStating}
 use Rattle.front_desk.specs.Inside.Planning.{IsReady}
 use Rattle.front_desk.specs.Plan.{trip_setting}
-use Rattle.front_desk.specs.ReadingOrder.{network_held}
+use Rattle.network_folder.specs.ReadingOrder.{network_held}
 use Rattle.front_desk.specs.Trips.{Trip, failed_check, request_of}
-use Rattle.front_desk.specs.declared.outcome.Halt.{Halt}
-use Rattle.front_desk.specs.declared.outcome.Halt.TheVariants.{Refused, ReadFault, WriteFault, NoMemory}
+use Rattle.network_folder.specs.declared.faults.LoadFault.{LoadFault}
+use Rattle.network_folder.specs.declared.faults.LoadFault.TheVariants.{Bad, Failed, OutOfMemory}
 use Rattle.front_desk.specs.declared.outcome.Report.{Report}
 use Rattle.front_desk.specs.declared.plan.Planned.{Planned}
 
 -- of two faults, of which the first counts
 module _ (old new : FolderState) (first second : Contents → Option BadInput) where
   -- the first stops reading
-  pub stops_first : (halt : Halt) → StopsReading first old new halt → StopsReading (λ held. option_or (first held) (second held)) old new halt
-  stops_first (Refused Usage) why = why
-  stops_first (Refused (Input fault)) why = record {
+  pub stops_first : (why : LoadFault) → StopsReading first old new why → StopsReading (λ held. option_or (first held) (second held)) old new why
+  stops_first (Bad fault) why = record {
     first = λ held is. ap (λ (o : Option BadInput). option_or o (second held)) (why.first held is);
     missed = why.missed;
   }
-  stops_first (Refused (Request fault)) why = why
-  stops_first ReadFault why = why
-  stops_first WriteFault why = why
-  stops_first NoMemory why = tt
+  stops_first Failed why = why
+  stops_first OutOfMemory why = tt
 
   module _ (fault : Option BadInput) (faultless : IfTold old (λ held. first held ≡ None)) (same : IfTold old (λ held. second held ≡ fault)) where
     -- the first isn't there
@@ -49,16 +49,13 @@ module _ (old new : FolderState) (first second : Contents → Option BadInput) w
     second_counts held is = ap (λ (o : Option BadInput). option_or o (second held)) (faultless held is) ∙ same held is
 
     -- the second stops reading
-    pub stops_second : (halt : Halt) → StopsStating fault halt → StopsReading (λ held. option_or (first held) (second held)) old new halt
-    stops_second (Refused Usage) why = why
-    stops_second (Refused (Input bad)) why = record {
+    pub stops_second : (why : LoadFault) → StopsStating fault why → StopsReading (λ held. option_or (first held) (second held)) old new why
+    stops_second (Bad bad) why = record {
       first = λ held is. second_counts held is ∙ why.0;
       missed = λ missing. absurd (subst IsOfContents missing why.1);
     }
-    stops_second (Refused (Request failed)) why = why
-    stops_second ReadFault why = absurd why
-    stops_second WriteFault why = why
-    stops_second NoMemory why = tt
+    stops_second Failed why = absurd why
+    stops_second OutOfMemory why = tt
 
 module _ (network : NetworkModel) (job : Job) (trip : Trip) (same : trip ≡ trip_of_job job) (text : List ℕ) where
   of_job : IsTripText network trip (failed_check network trip) text → IsJobText network job text
@@ -97,14 +94,15 @@ module _ (b : Batch) (old new : FolderState) (network : NetworkModel) (jobs : Li
     (faultless : IfTold old (λ held. batch_fault b held ≡ None)) (found : IfTold old (λ held. network ≡ network_held held b.dir))
     (stated : IfTold old (λ held. jobs ≡ jobs_held b held)) where
   -- a report that has right texts of the folder's jobs is that of the batch
-  pub reports_batch : (report : Report) → report.rejects ≡ false → IsBatchText network jobs report.text.items → ReportsOn (to_batch b) old new report
-  reports_batch report accepts right = record {
-    answered = λ _ held is. record {
+  pub ends_batch : (report : Report) → report.rejects ≡ false → IsBatchText network jobs report.text.items → KeepsFiles old new
+      → Ends (to_batch b) old new (Ok report)
+  ends_batch report accepts right kept = record {
+    concludes = reports (to_batch b) old new report accepts (λ held is. record {
       faultless = faultless held is;
       good = refl;
       answer = subst (λ (n : NetworkModel). IsBatchText n (jobs_held b held) report.text.items) (found held is)
           (subst (λ (js : List Job). IsBatchText network js report.text.items) (stated held is) right);
-    };
-    judges = λ rejects. absurd (both_ways report.rejects accepts rejects);
-    rejected = λ rejects. absurd (both_ways report.rejects accepts rejects);
+    });
+    left = kept;
+    counts = kept_rises old new kept;
   }

@@ -1,22 +1,27 @@
 -- The trip over a drawn network passes all checks, and the drawn files are written.
-use Rattle.std.proofs.Common.{◌≡◌, inr, ℕ, ◌*◌, ◌≤◌, Bool, true, false, cond, Some, None, Option, List, codes, refl, ap, sym, subst, ◌∙◌, arith}
+use Rattle.std.proofs.Common.{◌≡◌, inr, ℕ, ◌*◌, ◌≤◌, Bool, true, false, cond, Some, None, Option, List, [], Ok, Err, codes, refl, ap, sym, subst, ◌∙◌, arith}
 use Rattle.std.specs.Prelude.{not}
 use Rattle.std.proofs.lemmas.Bool.{both_ways, le-leb, and_from}
 use Rattle.std.proofs.Math.Nat.{mul-le-mul_left}
 use Rattle.route_base.specs.Contents.{Contents}
-use Rattle.route_base.specs.FolderState.{FolderState}
+use Rattle.route_base.specs.FolderState.{FolderState, CountsRise}
+use Rattle.route_base.specs.declared.sink.WriteError.{WriteError}
+use Rattle.route_base.specs.declared.sink.WriteError.TheVariants.{Failed, OutOfMemory}
+use Rattle.route_base.specs.declared.status.Status.{Status}
 use Rattle.route_base.specs.declared.faults.RequestFault.TheVariants.{OriginRange, GoalRange}
 use Rattle.network_tables.specs.NetworkModel.{NetworkModel}
 use Rattle.net_generator.specs.Sizes.{IsDrawable}
 use Rattle.drawn_network.specs.DrawnNetwork.{network_drawn}
-use Rattle.front_desk.specs.CommandLine.{Gen, to_gen}
+use Rattle.front_words.specs.declared.commands.Gen.{Gen}
+use Rattle.front_words.specs.declared.commands.Invocation.TheVariants.{Gen as to_gen}
 use Rattle.front_desk.specs.Commands.{LeavesGen}
-use Rattle.front_desk.specs.Gen.{FileToWrite, HoldsEach, IsSummary, drawn_trip, files_written, stated_network}
-use Rattle.front_desk.specs.Inside.Halting.{ReportsOn, StopsCommand, status_of_halt}
-use Rattle.front_desk.specs.Inside.Writing.{FailsToPutEach}
+use Rattle.network_folder.specs.Writing.{FileToWrite, HoldsEach}
+use Rattle.front_desk.specs.Gen.{IsSummary, drawn_trip, files_written, stated_network}
+use Rattle.front_desk.specs.Inside.Ending.{Ends, halt_of_write}
+use Rattle.front_desk.proofs.Ending.{reports, status_done}
+use Rattle.network_folder.specs.Writing.{FailsToPutEach}
 use Rattle.front_desk.specs.Trips.{failed_check, failed_check_over, is_node}
-use Rattle.front_desk.specs.declared.outcome.Halt.{Halt}
-use Rattle.front_desk.specs.declared.outcome.Halt.TheVariants.{Refused, ReadFault, WriteFault, NoMemory}
+use Rattle.front_desk.specs.declared.outcome.Halt.TheVariants.{NoMemory}
 use Rattle.front_desk.specs.declared.outcome.Report.{Report}
 
 -- a trip of 60 days from the first node to the last
@@ -35,34 +40,39 @@ drawn_passes g drawable same =
     subst (λ (network : NetworkModel). failed_check network (drawn_trip g) ≡ None) (sym same)
     (last_passes (g.rows * g.columns) (omega (arith, drawable.rows_low, mul-le-mul_left g.rows drawable.columns_low)))
 
-module _ (g : Gen) (old new : FolderState) (files : List FileToWrite) (same : files ≡ files_written g) where
+module _ (g : Gen) (old new : FolderState) (counts : CountsRise old new) (files : List FileToWrite) (same : files ≡ files_written g) where
   -- a report that sums up the drawn network is that of its command, where the files were written
-  pub reports_drawn : (report : Report) → report.rejects ≡ false → IsSummary g report.text.items
-      → HoldsEach g.dir files old.contents new.contents → ReportsOn (to_gen g) old new report
-  reports_drawn report accepts summary written = record {
-    answered = λ _ held is. record {
-      faultless = refl;
-      good = refl;
-      answer = record {
-        summary = summary;
-        written = subst (λ (o : Option Contents). HoldsEach g.dir (files_written g) o new.contents) is
-            (subst (λ (fs : List FileToWrite). HoldsEach g.dir fs old.contents new.contents) same written);
-      };
-    };
-    judges = λ rejects. absurd (both_ways report.rejects accepts rejects);
-    rejected = λ rejects. absurd (both_ways report.rejects accepts rejects);
-  }
+  pub ends_drawn : (report : Report) → report.rejects ≡ false → IsSummary g report.text.items → HoldsEach g.dir files old.contents new.contents
+      → Ends (to_gen g) old new (Ok report)
+  ends_drawn report accepts summary written =
+      let all = subst (λ (fs : List FileToWrite). HoldsEach g.dir fs old.contents new.contents) same written in
+      record {
+        concludes = reports (to_gen g) old new report accepts (λ held is. record {
+          faultless = refl;
+          good = refl;
+          answer = record { summary = summary; written = subst (λ (o : Option Contents). HoldsEach g.dir (files_written g) o new.contents) is all };
+        });
+        left = subst (λ (status : Status). LeavesGen g old new status) (sym (status_done report accepts)) all;
+        counts = counts;
+      }
 
   -- a file that couldn't be written stops the command
-  pub unwritten_stops : (halt : Halt) → FailsToPutEach old new g.dir files halt → StopsCommand (to_gen g) old new halt
-  unwritten_stops (Refused refusal) why = absurd why
-  unwritten_stops ReadFault why = absurd why
-  unwritten_stops WriteFault why = record { writes = tt; faultless = λ held is. refl; good = λ held is. refl; counted = why.0 }
-  unwritten_stops NoMemory why = tt
+  pub ends_unwritten : (error : WriteError) → FailsToPutEach old new g.dir files error → Ends (to_gen g) old new (Err (halt_of_write error))
+  ends_unwritten Failed why = record {
+    concludes = record { writes = tt; faultless = λ held is. refl; good = λ held is. refl; counted = why.0 };
+    left = inr (subst (λ (fs : List FileToWrite). FailsToPutEach old new g.dir fs Failed) same why);
+    counts = counts;
+  }
+  ends_unwritten OutOfMemory why = record {
+    concludes = tt;
+    left = subst (λ (fs : List FileToWrite). FailsToPutEach old new g.dir fs OutOfMemory) same why;
+    counts = counts;
+  }
 
-  pub unwritten_left : (halt : Halt) → FailsToPutEach old new g.dir files halt → LeavesGen g old new (status_of_halt halt)
-  unwritten_left (Refused refusal) why = absurd why
-  unwritten_left ReadFault why = absurd why
-  unwritten_left WriteFault why =
-      let named = subst (λ (fs : List FileToWrite). FailsToPutEach old new g.dir fs WriteFault) same why in inr named
-  unwritten_left NoMemory why = subst (λ (fs : List FileToWrite). FailsToPutEach old new g.dir fs NoMemory) same why
+-- memory ran out before a file was written
+pub ends_undrawn : (g : Gen) (old : FolderState) → Ends (to_gen g) old old (Err NoMemory)
+ends_undrawn g old = record {
+  concludes = tt;
+  left = record { written = []; others = files_written g; parts = refl; held = refl };
+  counts = record { missing = omega arith; read_faults = omega arith; write_faults = omega arith };
+}

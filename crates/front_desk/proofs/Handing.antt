@@ -1,23 +1,26 @@
 -- A plan that is ready is handed over.
-use Rattle.std.proofs.Common.{◌≡◌, inl, inr, ℕ, false, Some, None, Option, List, Result, Ok, Err, ap, sym, subst, ◌∙◌, arith}
-use Rattle.std.specs.Prelude.{IfOk, IfErr, OnOk}
-use Rattle.std.proofs.lemmas.Bool.{both_ways}
+use Rattle.std.proofs.Common.{◌≡◌, inl, inr, ℕ, Some, None, Option, List, Ok, Err, ap, sym, subst, ◌∙◌, arith}
 use Rattle.route_base.specs.Contents.{Contents, Holds, LeavesOpen}
 use Rattle.route_base.specs.Counts.{HasRisen}
 use Rattle.route_base.specs.FolderState.{FolderState, CountsRise, KeepsFiles, FailedToWrite}
 use Rattle.route_base.specs.Front.{IsRight}
 use Rattle.route_base.specs.Setting.{Setting}
 use Rattle.route_base.proofs.FolderStates.{keeps_more}
+use Rattle.route_base.specs.declared.sink.WriteError.{WriteError}
+use Rattle.route_base.specs.declared.sink.WriteError.TheVariants.{Failed, OutOfMemory}
+use Rattle.route_base.specs.declared.status.Status.{Status}
 use Rattle.route_base.specs.declared.status.Status.TheVariants.{Done}
 use Rattle.network_tables.specs.NetworkModel.{NetworkModel}
 use Rattle.plan_report.specs.declared.outcomes.Refusal.TheVariants.{Usage, Input, Request}
-use Rattle.front_desk.specs.CommandLine.{Plan, to_plan}
-use Rattle.front_desk.specs.Commands.{PlanWrites, LeavesPlan}
-use Rattle.front_desk.specs.Files.{IfTold, path_of}
-use Rattle.front_desk.specs.Inside.Halting.{ReportsOn, StopsCommand, status_of_halt}
+use Rattle.front_words.specs.declared.commands.Plan.{Plan}
+use Rattle.front_words.specs.declared.commands.Invocation.TheVariants.{Plan as to_plan}
+use Rattle.front_desk.specs.Commands.{PlanWrites, LeavesFiles, LeavesPlan}
+use Rattle.network_folder.specs.Files.{IfTold, path_of}
+use Rattle.front_desk.proofs.Ending.{kept_rises, reports, status_done}
+use Rattle.front_desk.specs.Inside.Ending.{Ends, StopsCommand, halt_of_write, status_of_halt}
 use Rattle.front_desk.specs.Inside.Planning.{IsFileFor, IsReady, IsWritten, IsUnwritten, HandsOver}
 use Rattle.front_desk.specs.Plan.{Certifies, HoldsCertificate, IsPlanned, plan_fault, plan_check, trip_setting}
-use Rattle.front_desk.specs.ReadingOrder.{network_held}
+use Rattle.network_folder.specs.ReadingOrder.{network_held}
 use Rattle.front_desk.specs.Trips.{failed_check, request_of}
 use Rattle.front_desk.specs.declared.outcome.Halt.{Halt}
 use Rattle.front_desk.specs.declared.outcome.Halt.TheVariants.{Refused, ReadFault, WriteFault, NoMemory}
@@ -39,15 +42,8 @@ rise_more old mid new a b = record {
   write_faults = omega (arith, a.write_faults, b.write_faults);
 }
 
-pub kept_rises : (old new : FolderState) → KeepsFiles old new → CountsRise old new
-kept_rises old new a = record {
-  missing = a.missing;
-  read_faults = a.read_faults;
-  write_faults = omega (arith, a.write_faults);
-}
-
 -- files that are as they were are left so by every halt
-pub kept_leaves : (p : Plan) (asked : Option (List ℕ)) (old new : FolderState) (halt : Halt) → KeepsFiles old new
+kept_leaves : (p : Plan) (asked : Option (List ℕ)) (old new : FolderState) (halt : Halt) → KeepsFiles old new
     → LeavesPlan p asked old new (status_of_halt halt)
 kept_leaves p None old new halt kept = kept
 kept_leaves p (Some name) old new (Refused Usage) kept = kept
@@ -56,6 +52,9 @@ kept_leaves p (Some name) old new (Refused (Request fault)) kept = kept
 kept_leaves p (Some name) old new ReadFault kept = kept
 kept_leaves p (Some name) old new WriteFault kept = inl kept
 kept_leaves p (Some name) old new NoMemory kept = inl kept.contents
+
+pub left_unread : (p : Plan) (old new : FolderState) → KeepsFiles old new → (halt : Halt) → LeavesFiles (Some (to_plan p)) old new (status_of_halt halt)
+left_unread p old new kept halt = kept_leaves p p.certificate old new halt kept
 
 failed_since : (old mid new : FolderState) → KeepsFiles old mid → FailedToWrite mid new → FailedToWrite old new
 failed_since old mid new a b = subst (λ (n : ℕ). HasRisen n new.write_faults) a.write_faults b
@@ -86,26 +85,21 @@ module _ (p : Plan) (old mid new : FolderState) (kept : KeepsFiles old mid) (net
   rises None written = kept_rises old new (keeps_more old mid new kept written)
   rises (Some file) written = rise_more old mid new kept written.0
 
-  unwritten_rises : (file : Option CertificateFile) (halt : Halt) → IsUnwritten mid new p.dir file halt → CountsRise old new
-  unwritten_rises None halt why = absurd why
-  unwritten_rises (Some file) (Refused refusal) why = absurd why
-  unwritten_rises (Some file) ReadFault why = absurd why
-  unwritten_rises (Some file) WriteFault why = rise_more old mid new kept why.0
-  unwritten_rises (Some file) NoMemory why = rise_more old mid new kept why.0
+  unwritten_rises : (file : Option CertificateFile) (error : WriteError) → IsUnwritten mid new p.dir file error → CountsRise old new
+  unwritten_rises None error why = absurd why
+  unwritten_rises (Some file) error why = rise_more old mid new kept why.0
 
-  unwritten_leaves : (asked : Option (List ℕ)) (file : Option CertificateFile) (halt : Halt)
-      → IsFileFor (trip_setting network p.trip) (request_of p.trip) ready.routes asked file → IsUnwritten mid new p.dir file halt
-      → LeavesPlan p asked old new (status_of_halt halt)
-  unwritten_leaves asked None halt for why = absurd why
-  unwritten_leaves None (Some file) halt for why = absurd for
-  unwritten_leaves (Some name) (Some file) (Refused refusal) for why = absurd why
-  unwritten_leaves (Some name) (Some file) ReadFault for why = absurd why
-  unwritten_leaves (Some name) (Some file) WriteFault for why = inr (inr (
+  unwritten_leaves : (asked : Option (List ℕ)) (file : Option CertificateFile) (error : WriteError)
+      → IsFileFor (trip_setting network p.trip) (request_of p.trip) ready.routes asked file → IsUnwritten mid new p.dir file error
+      → LeavesPlan p asked old new (status_of_halt (halt_of_write error))
+  unwritten_leaves asked None error for why = absurd why
+  unwritten_leaves None (Some file) error for why = absurd for
+  unwritten_leaves (Some name) (Some file) Failed for why = inr (inr (
     failed_since old mid new kept why.1.0,
     subst (λ (n : List ℕ). LeavesOpen old.contents new.contents (path_of p.dir n)) for.0
         (subst (λ (o : Option Contents). LeavesOpen o new.contents (path_of p.dir file.name.now)) kept.contents why.1.1),
   ))
-  unwritten_leaves (Some name) (Some file) NoMemory for why = inl (why.1 ∙ kept.contents)
+  unwritten_leaves (Some name) (Some file) OutOfMemory for why = inl (why.1 ∙ kept.contents)
 
   writes : (asked : Option (List ℕ)) (file : CertificateFile)
       → IsFileFor (trip_setting network p.trip) (request_of p.trip) ready.routes asked (Some file) → PlanWrites asked
@@ -137,23 +131,22 @@ module _ (p : Plan) (old mid new : FolderState) (kept : KeepsFiles old mid) (net
       };
     }
 
-    unwritten_stops : (file : Option CertificateFile) (halt : Halt)
-        → IsFileFor (trip_setting network p.trip) (request_of p.trip) ready.routes p.certificate file → IsUnwritten mid new p.dir file halt
-        → StopsCommand (to_plan p) old new halt
-    unwritten_stops None halt for why = absurd why
-    unwritten_stops (Some file) (Refused refusal) for why = absurd why
-    unwritten_stops (Some file) ReadFault for why = absurd why
-    unwritten_stops (Some file) WriteFault for why = record {
+    unwritten_stops : (file : Option CertificateFile) (error : WriteError)
+        → IsFileFor (trip_setting network p.trip) (request_of p.trip) ready.routes p.certificate file → IsUnwritten mid new p.dir file error
+        → StopsCommand (to_plan p) old new (halt_of_write error)
+    unwritten_stops None error for why = absurd why
+    unwritten_stops (Some file) Failed for why = record {
       writes = writes p.certificate file for;
       faultless = faultless;
       good = passes;
       counted = failed_since old mid new kept why.1.0;
     }
-    unwritten_stops (Some file) NoMemory for why = tt
+    unwritten_stops (Some file) OutOfMemory for why = tt
 
-    pub reports_handed : (result : Result Report Halt) → HandsOver mid new p.dir planned result → IfOk result (ReportsOn (to_plan p) old new)
-    reports_handed (Ok report) h = record {
-      answered = λ _ held is. record {
+    -- the text is handed over
+    pub ends_handed : (report : Report) → HandsOver mid new p.dir planned (Ok report) → Ends (to_plan p) old new (Ok report)
+    ends_handed report h = record {
+      concludes = reports (to_plan p) old new report h.0 (λ held is. record {
         faultless = faultless held is;
         good = passes held is;
         answer = subst (λ (n : NetworkModel). IsPlanned (trip_setting n p.trip) p (Some held) new.contents report.text.items) (found held is)
@@ -163,29 +156,16 @@ module _ (p : Plan) (old mid new : FolderState) (kept : KeepsFiles old mid) (net
               is_text = h.1.0 ∙ ready.is_text;
               certified = certified (trip_setting network p.trip) p.certificate planned.certificate held is ready.file h.1.1;
             });
-      };
-      judges = λ rejects. absurd (both_ways report.rejects h.0 rejects);
-      rejected = λ rejects. absurd (both_ways report.rejects h.0 rejects);
+      });
+      left = subst (λ (status : Status). LeavesPlan p p.certificate old new status) (sym (status_done report h.0))
+          (leaves p.certificate planned.certificate ready.file h.1.1);
+      counts = rises planned.certificate h.1.1;
     }
-    reports_handed (Err halt) h = tt
 
-    pub halted_handed : (result : Result Report Halt) → HandsOver mid new p.dir planned result → IfErr result (StopsCommand (to_plan p) old new)
-    halted_handed (Ok report) h = tt
-    halted_handed (Err halt) h = unwritten_stops planned.certificate halt ready.file h
-
-    pub left_handed : (result : Result Report Halt) → HandsOver mid new p.dir planned result → OnOk result (LeavesPlan p p.certificate old new Done)
-    left_handed (Ok report) h = leaves p.certificate planned.certificate ready.file h.1.1
-    left_handed (Err halt) h = tt
-
-  pub done_handed : (result : Result Report Halt) → HandsOver mid new p.dir planned result → IfOk result (λ report. report.rejects ≡ false)
-  done_handed (Ok report) h = h.0
-  done_handed (Err halt) h = tt
-
-  pub left_halted : (result : Result Report Halt) → HandsOver mid new p.dir planned result
-      → IfErr result (λ halt. LeavesPlan p p.certificate old new (status_of_halt halt))
-  left_halted (Ok report) h = tt
-  left_halted (Err halt) h = unwritten_leaves p.certificate planned.certificate halt ready.file h
-
-  pub counts_handed : (result : Result Report Halt) → HandsOver mid new p.dir planned result → CountsRise old new
-  counts_handed (Ok report) h = rises planned.certificate h.1.1
-  counts_handed (Err halt) h = unwritten_rises planned.certificate halt h
+    -- the certificate couldn't be written
+    pub ends_unwritten : (error : WriteError) → HandsOver mid new p.dir planned (Err error) → Ends (to_plan p) old new (Err (halt_of_write error))
+    ends_unwritten error h = record {
+      concludes = unwritten_stops planned.certificate error ready.file h;
+      left = unwritten_leaves p.certificate planned.certificate error ready.file h;
+      counts = unwritten_rises planned.certificate error h;
+    }

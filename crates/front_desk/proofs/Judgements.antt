@@ -1,5 +1,5 @@
 -- The report on a certificate's file judges it.
-use Rattle.std.proofs.Common.{◌≡◌, ℕ, true, None, List, refl, ap, sym, subst, ◌∙◌}
+use Rattle.std.proofs.Common.{◌≡◌, ℕ, true, None, List, Ok, refl, ap, sym, subst, ◌∙◌}
 use Rattle.std.proofs.lemmas.Bool.{both_ways}
 use Rattle.route_base.specs.Front.{IsFront, pairs_of}
 use Rattle.route_base.specs.Setting.{Setting}
@@ -10,17 +10,19 @@ use Rattle.certificate.specs.declared.Certificate.{Certificate}
 use Rattle.certificate_check.specs.Verdicts.{IsVerdict}
 use Rattle.certificate_check.specs.declared.checker.Verdict.{Verdict}
 use Rattle.certificate_check.specs.declared.checker.Verdict.TheVariants.{Accepted, Rejected}
-use Rattle.route_base.specs.FolderState.{FolderState}
+use Rattle.route_base.specs.FolderState.{FolderState, KeepsFiles}
 use Rattle.network_tables.specs.NetworkModel.{NetworkModel}
 use Rattle.plan_report.specs.Check.{check_text_of}
 use Rattle.plan_report.specs.declared.outcomes.Verdict3.TheVariants.{Rejected as Rejected3}
 use Rattle.front_desk.specs.Check.{no_certificate, condition_fails, check_fault, certificate_held, FailsWith, IsAccepted, IsRejected}
-use Rattle.front_desk.specs.CommandLine.{Check, to_check}
-use Rattle.front_desk.specs.Files.{IfTold}
-use Rattle.front_desk.specs.Inside.Halting.{ReportsOn}
+use Rattle.front_words.specs.declared.commands.Check.{Check}
+use Rattle.front_words.specs.declared.commands.Invocation.TheVariants.{Check as to_check}
+use Rattle.network_folder.specs.Files.{IfTold}
+use Rattle.front_desk.specs.Inside.Ending.{Ends, ReportsOn}
+use Rattle.front_desk.proofs.Ending.{kept_rises}
 use Rattle.front_desk.specs.Inside.Judging.{Tells, IsJudged}
 use Rattle.front_desk.specs.Plan.{trip_setting}
-use Rattle.front_desk.specs.ReadingOrder.{network_held}
+use Rattle.network_folder.specs.ReadingOrder.{network_held}
 use Rattle.front_desk.specs.Trips.{failed_check, request_of}
 use Rattle.front_desk.specs.declared.outcome.Report.{Report}
 
@@ -73,8 +75,7 @@ module _ (s z : Setting) (request : Request)
 module _ (k : Check) (old new : FolderState) (network : NetworkModel) (bytes : List ℕ) (report : Report)
     (faultless : IfTold old (λ held. check_fault k held ≡ None)) (found : IfTold old (λ held. network ≡ network_held held k.dir))
     (certificate : IfTold old (λ held. bytes ≡ certificate_held k held)) (passed : failed_check network k.trip ≡ None) where
-  -- a report that judges the bytes of the check's certificate is that of the check
-  pub reports_judged : IsJudged (trip_setting network k.trip) (request_of k.trip) bytes report → ReportsOn (to_check k) old new report
+  reports_judged : IsJudged (trip_setting network k.trip) (request_of k.trip) bytes report → ReportsOn (to_check k) old new report
   reports_judged judged = record {
     answered = λ accepts held is. record {
       faultless = faultless held is;
@@ -94,3 +95,8 @@ module _ (k : Check) (old new : FolderState) (network : NetworkModel) (bytes : L
           (judged.rejected rejects));
     };
   }
+
+  -- a report that judges the bytes of the check's certificate is that of the check
+  pub ends_judged : IsJudged (trip_setting network k.trip) (request_of k.trip) bytes report → KeepsFiles old new
+      → Ends (to_check k) old new (Ok report)
+  ends_judged judged kept = record { concludes = reports_judged judged; left = kept; counts = kept_rises old new kept }

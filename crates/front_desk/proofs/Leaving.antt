@@ -1,14 +1,23 @@
 -- The text that is due with a report, and the files that a status leaves.
-use Rattle.std.proofs.Common.{◌≡◌, ◌⊎◌, inl, inr, ⊎_elim, ℕ, Bool, true, false, cond, Some, None, Option, List, [], refl, sym, subst}
-use Rattle.route_base.specs.FolderState.{FolderState}
+use Rattle.std.proofs.Common.{◌≡◌, ◌≢◌, ◌⊎◌, inl, inr, ⊎_elim, ℕ, Bool, true, false, cond}
+use Rattle.std.proofs.Common.{Some, None, Option, List, [], Result, Ok, Err, refl, sym, subst, arith}
+use Rattle.route_base.specs.FolderState.{FolderState, KeepsFiles}
 use Rattle.route_base.specs.declared.status.Status.{Status}
 use Rattle.route_base.specs.declared.status.Status.TheVariants.{Done, Rejected, Usage, BadInput, ReadFault, WriteFault, NoMemory, BadRequest}
-use Rattle.front_desk.specs.CommandLine.{Command, Plan, Gen, to_plan, to_check, to_bans, to_batch, to_gen, command_of}
-use Rattle.front_desk.specs.Commands.{Judges, LeavesCertificate, LeavesPlan, LeavesGen, LeavesFiles}
+use Rattle.front_words.specs.declared.commands.Invocation.{Invocation as Command}
+use Rattle.front_words.specs.declared.commands.Plan.{Plan}
+use Rattle.front_words.specs.declared.commands.Gen.{Gen}
+use Rattle.front_words.specs.declared.commands.Invocation.TheVariants.{Plan as to_plan, Check as to_check, Bans as to_bans, Batch as to_batch, Gen as to_gen}
+use Rattle.front_words.specs.Commands.{command_of}
+use Rattle.front_desk.specs.Commands.{Judges, LeavesCertificate, LeavesPlan, LeavesGen, LeavesFiles, ReadsNothing}
 use Rattle.front_desk.specs.Gen.{files_written}
-use Rattle.front_desk.specs.Files.{IfTold}
-use Rattle.front_desk.specs.Inside.Halting.{ReportsOn, status_of_report}
-use Rattle.front_desk.specs.Run.{IsAnsweredBy, IsRejectedBy, IsDue}
+use Rattle.network_folder.specs.Files.{IfTold}
+use Rattle.plan_report.specs.declared.outcomes.Refusal.{Refusal}
+use Rattle.plan_report.specs.declared.outcomes.Refusal.TheVariants as refusal
+use Rattle.front_desk.specs.Inside.Ending.{Concludes, ConcludesWords, Ends, EndsWords, ReportsOn, StopsCommand, StopsWords, status_of_end, status_of_report}
+use Rattle.front_desk.specs.Run.{IsAnsweredBy, IsRejectedBy, IsCause, IsCauseFor, IsDue}
+use Rattle.front_desk.specs.declared.outcome.Halt.{Halt}
+use Rattle.front_desk.specs.declared.outcome.Halt.TheVariants as halt
 use Rattle.front_desk.specs.declared.outcome.Report.{Report}
 
 module _ (words : List (List ℕ)) (command : Command) (is : command_of words ≡ Some command) (old new : FolderState) where
@@ -22,10 +31,6 @@ module _ (words : List (List ℕ)) (command : Command) (is : command_of words �
   -- a report on the command of the words is due with its status
   pub report_due : (report : Report) → ReportsOn command old new report → IsDue words old new (status_of_report report) report.text.items
   report_due report reports = due_by report.text.items report.rejects reports.answered reports.judges reports.rejected
-
--- the status of a report that rejects nothing
-pub status_done : (report : Report) → report.rejects ≡ false → status_of_report report ≡ Done
-status_done report accepts = subst (λ (b : Bool). cond b Rejected Done ≡ Done) (sym accepts) refl
 
 module _ (old new : FolderState) where
   certificate_fault : (p : Plan) (name : List ℕ) (due : Status) → (due ≡ NoMemory → ⊥) → LeavesCertificate p name old new due
@@ -129,3 +134,78 @@ never_memory report = not report.rejects
     not : (rejects : Bool) → cond rejects Rejected Done ≡ NoMemory → ⊥
     not true same = cc
     not false same = cc
+
+-- how words end by the end of their command
+module _ (words : List (List ℕ)) (command : Command) (is : command_of words ≡ Some command) (old new : FolderState) where
+  -- a command that reads nothing never ends at a failed read
+  never_read : (end : Result Report Halt) (k : Command) → ReadsNothing (Some k) → LeavesFiles (Some k) old new (status_of_end end) → end ≢ Err halt.ReadFault
+  never_read end (to_plan p) nothing left = absurd nothing
+  never_read end (to_check c) nothing left = absurd nothing
+  never_read end (to_bans b) nothing left = absurd nothing
+  never_read end (to_batch b) nothing left = absurd nothing
+  never_read end (to_gen g) nothing left = λ same. subst (λ (e : Result Report Halt). LeavesGen g old new (status_of_end e)) same left
+
+  refused_words : (refusal : Refusal) → IsCauseFor command old new refusal → IsCause words old new refusal
+  refused_words refusal.Usage why = absurd why
+  refused_words (refusal.Input fault) why = record { command = command; is_command = is; cause = why }
+  refused_words (refusal.Request fault) why = record { command = command; is_command = is; cause = why }
+
+  stops_words : (halt : Halt) → StopsCommand command old new halt → StopsWords words old new halt
+  stops_words (halt.Refused refused) why = refused_words refused why
+  stops_words halt.ReadFault why = why
+  stops_words halt.WriteFault why = record { command = command; is_command = is; stops = why }
+  stops_words halt.NoMemory why = tt
+
+  concludes_words : (end : Result Report Halt) → Concludes command old new end → ConcludesWords words old new end
+  concludes_words (Ok report) reports = report_due words command is old new report reports
+  concludes_words (Err halt) why = stops_words halt why
+
+  pub ends_words : (end : Result Report Halt) → Ends command old new end → EndsWords words old new end
+  ends_words end e = record {
+    concludes = concludes_words end e.concludes;
+    unread = λ nothing. never_read end command (subst (λ (c : Option Command). ReadsNothing c) is nothing) e.left;
+    left = subst (λ (c : Option Command). LeavesFiles c old new (status_of_end end)) (sym is) e.left;
+    counts = e.counts;
+  }
+
+same_state : (old : FolderState) → KeepsFiles old old
+same_state old = record { contents = refl; missing = omega arith; read_faults = omega arith; write_faults = refl }
+
+-- nothing was read or written yet, and memory has run out
+short_leaves : (command : Option Command) (old : FolderState) → LeavesFiles command old old NoMemory
+short_leaves None old = same_state old
+short_leaves (Some (to_plan p)) old = short_plan p.certificate
+  where
+    short_plan : (asked : Option (List ℕ)) → LeavesPlan p asked old old NoMemory
+    short_plan None = same_state old
+    short_plan (Some name) = inl refl
+short_leaves (Some (to_check c)) old = same_state old
+short_leaves (Some (to_bans b)) old = same_state old
+short_leaves (Some (to_batch b)) old = same_state old
+short_leaves (Some (to_gen g)) old = record { written = []; others = files_written g; parts = refl; held = refl }
+
+ends_short : (words : List (List ℕ)) (old : FolderState) → EndsWords words old old (Err halt.NoMemory)
+ends_short words old = record {
+  concludes = tt;
+  unread = λ nothing same. cc;
+  left = short_leaves (command_of words) old;
+  counts = record { missing = omega arith; read_faults = omega arith; write_faults = omega arith };
+}
+
+ends_unknown : (words : List (List ℕ)) (old : FolderState) → command_of words ≡ None → EndsWords words old old (Err (halt.Refused refusal.Usage))
+ends_unknown words old none = record {
+  concludes = none;
+  unread = λ nothing same. cc;
+  left = subst (λ (c : Option Command). LeavesFiles c old old Usage) (sym none) (same_state old);
+  counts = record { missing = omega arith; read_faults = omega arith; write_faults = omega arith };
+}
+
+-- words that are no command, or whose command memory can't hold, end at once
+pub ends_no_command : (words : List (List ℕ)) (old : FolderState) (why : Halt)
+    → (why ≡ halt.NoMemory) ⊎ ((why ≡ halt.Refused refusal.Usage) × (command_of words ≡ None)) → EndsWords words old old (Err why)
+ends_no_command words old why causes =
+    ⊎_elim
+    (λ (short : why ≡ halt.NoMemory). subst (λ (h : Halt). EndsWords words old old (Err h)) (sym short) (ends_short words old))
+    (λ (none : (why ≡ halt.Refused refusal.Usage) × (command_of words ≡ None)).
+    subst (λ (h : Halt). EndsWords words old old (Err h)) (sym none.0) (ends_unknown words old none.1))
+    causes

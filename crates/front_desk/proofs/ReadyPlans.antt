@@ -9,7 +9,8 @@ use Rattle.certificate.specs.declared.Certificate.{Certificate}
 use Rattle.certificate_check.specs.Verdicts.{IsGood}
 use Rattle.plan_certificate.specs.Tight.{IsTight}
 use Rattle.plan_report.specs.Reports.{report_text}
-use Rattle.front_desk.specs.CommandLine.{IsTimed, Plan}
+use Rattle.front_words.specs.declared.commands.Plan.{Plan}
+use Rattle.front_words.specs.Commands.{IsTimed}
 use Rattle.front_desk.specs.Inside.Planning.{IsFileFor, IsPlannable, IsReady, IsTripNet}
 use Rattle.front_desk.specs.Trips.{IsGoodTrip, Trip, request_of}
 use Rattle.front_desk.specs.declared.plan.CertificateFile.{CertificateFile}
@@ -33,6 +34,7 @@ module _ (s z : Setting) (p : Plan)
       good = good is.1.certificate is.1.good;
       tight = tight is.1.certificate is.1.tight;
       is_text = is.1.is_text;
+      short = is.1.short;
     },
   )
 

@@ -12,16 +12,18 @@ use Rattle.route_base.specs.declared.faults.RequestFault.TheVariants.{OriginRang
 use Rattle.route_base.specs.declared.types.Form.TheVariants.{Plain}
 use Rattle.plan_report.specs.declared.outcomes.Refusal.TheVariants.{Usage, Input, Request}
 use Rattle.plan_report.specs.Bans.{bans_text_of}
-use Rattle.plan_report.specs.Costs.{thousandths_of}
+use Rattle.line_texts.specs.Costs.{thousandths_of}
 use Rattle.plan_report.specs.Plain.{plain_text_of}
 use Rattle.plan_report.specs.Refusals.{refusal_text_of}
-use Rattle.front_words.specs.Commands.{Command, command_of, to_plan, to_bans}
+use Rattle.front_words.specs.declared.commands.Invocation.{Invocation as Command}
+use Rattle.front_words.specs.declared.commands.Invocation.TheVariants.{Plan as to_plan, Bans as to_bans}
+use Rattle.front_words.specs.Commands.{command_of}
 use Rattle.front_words.specs.Forms.{is_folder_name, node_of}
 use Rattle.calendar_days.specs.Days.{days_of_years, days_of_months, date_on}
 use Rattle.calendar_days.specs.Texts.{instant_of, instant_text_of, day_of_text, clock_of}
 use Rattle.front_desk.specs.Trips.{failed_check_over}
-use Rattle.front_desk.specs.Files.{first_unreadable}
-use Rattle.front_desk.specs.ReadingOrder.{network_files, first_folder_fault}
+use Rattle.network_folder.specs.Files.{first_unreadable}
+use Rattle.network_folder.specs.ReadingOrder.{network_files, first_folder_fault}
 
 -- the words of a plan from `d`, with these for FROM, TO, DEPART and UNTIL
 abbrev words_with : List ℕ → List ℕ → List ℕ → List ℕ → List (List ℕ)

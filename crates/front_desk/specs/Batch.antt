@@ -5,10 +5,8 @@ use Rattle.route_base.specs.Contents.{Contents}
 use Rattle.route_base.specs.Front.{IsRight}
 use Rattle.route_base.specs.Setting.{Setting}
 use Rattle.route_base.specs.declared.faults.BadInput.{BadInput}
-use Rattle.route_base.specs.declared.faults.Cause.TheVariants.{TooLong}
 use Rattle.route_base.specs.declared.faults.FileKind.TheVariants.{Jobs as JobsKind}
 use Rattle.route_base.specs.declared.faults.RequestFault.{RequestFault}
-use Rattle.route_base.specs.declared.limits.TheConstants.{LONGEST_FILE}
 use Rattle.route_base.specs.declared.types.Form.TheVariants.{Plain}
 use Rattle.route_base.specs.declared.types.Route.{Route}
 use Rattle.table_reader.specs.Records.{rows_of}
@@ -20,15 +18,11 @@ use Rattle.plan_report.specs.Batch.{batch_text_of}
 use Rattle.plan_report.specs.Refusals.{refusal_text_of}
 use Rattle.plan_report.specs.Reports.{report_text}
 use Rattle.plan_report.specs.declared.outcomes.Refusal.TheVariants.{Request as RequestRefusal}
-use Rattle.front_desk.specs.CommandLine.{Batch}
-use Rattle.front_desk.specs.Files.{FileToRead, bytes_at}
+use Rattle.front_words.specs.declared.commands.Batch.{Batch}
+use Rattle.network_folder.specs.Files.{bytes_at}
 use Rattle.front_desk.specs.Plan.{trip_setting}
-use Rattle.front_desk.specs.ReadingOrder.{first_fault_with, network_held}
+use Rattle.network_folder.specs.ReadingOrder.{jobs_file, first_fault_with, network_held}
 use Rattle.front_desk.specs.Trips.{Trip, failed_check, request_of}
-
--- a table of jobs, which has to be there
-abbrev pub jobs_file : List ℕ → FileToRead
-jobs_file name = record { kind = JobsKind; name = name; required = true; limit = LONGEST_FILE; beyond = TooLong }
 
 -- the bytes of the table of jobs
 abbrev pub jobs_bytes : Batch → Contents → List ℕ

@@ -1,28 +1,22 @@
 -- The judgement of the command that checks a certificate (source: own).
-use Rattle.std.specs.Prelude.{◌≡◌, ℕ, true, Option, List, length}
+use Rattle.std.specs.Prelude.{◌≡◌, ℕ, Option, None, List, length}
 use Rattle.route_base.specs.Contents.{Contents}
 use Rattle.route_base.specs.Front.{IsFront, pairs_of}
 use Rattle.route_base.specs.Setting.{Setting}
 use Rattle.route_base.specs.declared.faults.BadInput.{BadInput}
-use Rattle.route_base.specs.declared.faults.Cause.TheVariants.{TooLong}
-use Rattle.route_base.specs.declared.faults.FileKind.TheVariants.{Certificate as CertificateKind}
 use Rattle.route_base.specs.declared.faults.RequestFault.{RequestFault}
-use Rattle.route_base.specs.declared.limits.TheConstants.{LONGEST_CERTIFICATE}
 use Rattle.route_base.specs.declared.types.Request.{Request}
 use Rattle.certificate.specs.Writable.{IsCertificateText, IsNoCertificateText}
 use Rattle.certificate.specs.declared.Certificate.{Certificate}
 use Rattle.certificate_check.specs.Verdicts.{IsGood, FailsFirst}
 use Rattle.plan_report.specs.Check.{check_text_of}
 use Rattle.plan_report.specs.declared.outcomes.Verdict3.TheVariants.{Accepted, Rejected}
-use Rattle.front_desk.specs.CommandLine.{Check}
-use Rattle.front_desk.specs.Files.{FileToRead, bytes_at}
+use Rattle.front_words.specs.declared.commands.Check.{Check}
+use Rattle.front_words.specs.declared.commands.Plan.{Plan}
+use Rattle.network_folder.specs.Files.{bytes_at}
 use Rattle.front_desk.specs.Plan.{trip_setting}
-use Rattle.front_desk.specs.ReadingOrder.{first_fault_with, network_held}
+use Rattle.network_folder.specs.ReadingOrder.{certificate_file, first_fault_with, network_held}
 use Rattle.front_desk.specs.Trips.{failed_check, request_of}
-
--- a certificate, which has to be there
-abbrev pub certificate_file : List ℕ → FileToRead
-certificate_file name = record { kind = CertificateKind; name = name; required = true; limit = LONGEST_CERTIFICATE; beyond = TooLong }
 
 -- the first fault of a check's files, of which the certificate is read last
 abbrev pub check_fault : Check → Contents → Option BadInput
@@ -39,6 +33,12 @@ certificate_held c held = bytes_at held c.dir (certificate_file c.name)
 -- the setting of a check: the roads of the folder's network for the trip's vehicle
 abbrev pub check_setting : Check → Contents → Setting
 check_setting c held = trip_setting (network_held held c.dir) c.trip
+
+-- the bytes are the text of a good certificate
+pub record IsGoodText (s : Setting) (request : Request) (bytes : List ℕ) : Type 0 where
+  pub certificate : Certificate
+  pub read : IsCertificateText bytes certificate
+  pub good : IsGood s request certificate
 
 -- the bytes are the text of a good certificate, whose pairs are the Pareto front of the trip; the text tells their number
 pub record IsAccepted (s : Setting) (request : Request) (bytes text : List ℕ) : Type 0 where
@@ -67,3 +67,13 @@ AcceptsCertificate c held text = IsAccepted (check_setting c held) (request_of c
 -- the text rejects the file
 abbrev pub RejectsCertificate : Check → Contents → List ℕ → Type 0
 RejectsCertificate c held text = IsRejected (check_setting c held) (request_of c.trip) (certificate_held c held) text
+
+-- the check of the certificate that the plan writes under this name
+abbrev pub check_of : Plan → List ℕ → Check
+check_of p name = record { dir = p.dir; trip = p.trip; name = name }
+
+-- the files of the check have no fault, its trip passes all checks, and its certificate is a good one
+pub record HasGoodCertificate (c : Check) (held : Contents) : Type 0 where
+  pub faultless : check_fault c held ≡ None
+  pub passed : check_check c held ≡ None
+  pub good : IsGoodText (check_setting c held) (request_of c.trip) (certificate_held c held)

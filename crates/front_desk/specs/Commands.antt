@@ -1,4 +1,4 @@
--- The answer, the refusals and the files of each command, one line a command (source: own).
+-- The answer, the refusals and the files of each command: one line a command, and a last line for all others (source: own).
 use Rattle.std.specs.Prelude.{◌≡◌, ◌⊎◌, ℕ, ⊤, Option, Some, None, List}
 use Rattle.route_base.specs.Contents.{Contents}
 use Rattle.route_base.specs.FolderState.{FolderState, KeepsFiles, SpoilsFile, FailedToRead, FailedToWrite}
@@ -11,9 +11,13 @@ use Rattle.route_base.specs.declared.status.Status.TheVariants.{WriteFault, NoMe
 use Rattle.front_desk.specs.Bans.{IsBansReport, bans_fault, bans_check}
 use Rattle.front_desk.specs.Batch.{IsBatchReport, batch_fault}
 use Rattle.front_desk.specs.Check.{AcceptsCertificate, RejectsCertificate, check_fault, check_check}
-use Rattle.front_desk.specs.CommandLine.{Command, Plan, Gen, to_plan, to_check, to_bans, to_batch, to_gen}
-use Rattle.front_desk.specs.Files.{IfTold, path_of}
-use Rattle.front_desk.specs.Gen.{IsGenReport, HoldsEach, HoldsFirst, SpoilsNext, files_written}
+use Rattle.front_words.specs.declared.commands.Invocation.{Invocation as Command}
+use Rattle.front_words.specs.declared.commands.Plan.{Plan}
+use Rattle.front_words.specs.declared.commands.Gen.{Gen}
+use Rattle.front_words.specs.declared.commands.Invocation.TheVariants.{Plan as to_plan, Check as to_check, Bans as to_bans, Batch as to_batch, Gen as to_gen}
+use Rattle.network_folder.specs.Files.{IfTold, path_of}
+use Rattle.network_folder.specs.Writing.{HoldsEach, HoldsFirst, SpoilsNext}
+use Rattle.front_desk.specs.Gen.{IsGenReport, files_written}
 use Rattle.front_desk.specs.Plan.{IsPlanReport, IsCertified, plan_fault, plan_check}
 
 -- the first fault of the files that the command reads
@@ -42,35 +46,24 @@ Answers (to_gen g) held after text = IsGenReport g held after text
 
 -- the command has a request, which may fail a check; each job of a batch has its own
 abbrev pub HasRequest : Command → Type 0
-HasRequest (to_plan p) = ⊤
-HasRequest (to_check c) = ⊤
-HasRequest (to_bans b) = ⊤
 HasRequest (to_batch b) = ⊥
 HasRequest (to_gen g) = ⊥
+HasRequest command = ⊤
 
 -- the command judges a file, which it may reject
 abbrev pub Judges : Command → Type 0
-Judges (to_plan p) = ⊥
 Judges (to_check c) = ⊤
-Judges (to_bans b) = ⊥
-Judges (to_batch b) = ⊥
-Judges (to_gen g) = ⊥
+Judges command = ⊥
 
 -- the text that the command prints where it rejects the file that it judges
 abbrev pub Rejects : Command → Contents → List ℕ → Type 0
-Rejects (to_plan p) held text = ⊥
 Rejects (to_check c) held text = RejectsCertificate c held text
-Rejects (to_bans b) held text = ⊥
-Rejects (to_batch b) held text = ⊥
-Rejects (to_gen g) held text = ⊥
+Rejects command held text = ⊥
 
 -- the command has come to its end
 abbrev pub IsFinished : Command → Status → Type 0
-IsFinished (to_plan p) status = status ≡ Done
 IsFinished (to_check c) status = (status ≡ Done) ⊎ (status ≡ Rejected)
-IsFinished (to_bans b) status = status ≡ Done
-IsFinished (to_batch b) status = status ≡ Done
-IsFinished (to_gen g) status = status ≡ Done
+IsFinished command status = status ≡ Done
 
 -- the plan writes a file of this name
 abbrev pub PlanWrites : Option (List ℕ) → Type 0
@@ -80,10 +73,8 @@ PlanWrites (Some name) = ⊤
 -- the command writes files
 abbrev pub WritesFiles : Command → Type 0
 WritesFiles (to_plan p) = PlanWrites p.certificate
-WritesFiles (to_check c) = ⊥
-WritesFiles (to_bans b) = ⊥
-WritesFiles (to_batch b) = ⊥
 WritesFiles (to_gen g) = ⊤
+WritesFiles command = ⊥
 
 -- no failed read or write was counted that could stop the command
 pub record IsUndisturbed (command : Command) (old new : FolderState) (from to : SinkState) : Type 0 where
@@ -94,11 +85,8 @@ pub record IsUndisturbed (command : Command) (old new : FolderState) (from to : 
 -- words that read no file: those that are no command, and those that make a network
 abbrev pub ReadsNothing : Option Command → Type 0
 ReadsNothing None = ⊤
-ReadsNothing (Some (to_plan p)) = ⊥
-ReadsNothing (Some (to_check c)) = ⊥
-ReadsNothing (Some (to_bans b)) = ⊥
-ReadsNothing (Some (to_batch b)) = ⊥
 ReadsNothing (Some (to_gen g)) = ⊤
+ReadsNothing (Some command) = ⊥
 
 -- a certificate of the plan's routes was written under the name, whole, where the folder tells its contents; all else is as it was
 pub record PutsCertificate (p : Plan) (name : List ℕ) (old new : FolderState) : Type 0 where
@@ -138,9 +126,6 @@ LeavesGen g old new BadRequest = ⊥
 
 -- the state in which the words leave the folder
 abbrev pub LeavesFiles : Option Command → FolderState → FolderState → Status → Type 0
-LeavesFiles None old new status = KeepsFiles old new
 LeavesFiles (Some (to_plan p)) old new status = LeavesPlan p p.certificate old new status
-LeavesFiles (Some (to_check c)) old new status = KeepsFiles old new
-LeavesFiles (Some (to_bans b)) old new status = KeepsFiles old new
-LeavesFiles (Some (to_batch b)) old new status = KeepsFiles old new
 LeavesFiles (Some (to_gen g)) old new status = LeavesGen g old new status
+LeavesFiles command old new status = KeepsFiles old new

@@ -1,6 +1,6 @@
 -- The files and the summary of the command that makes a network (source: own).
-use Rattle.std.specs.Prelude.{◌≡◌, ℕ, ◌*◌, Option, Some, List, [], ◌∷◌, ◌++◌, length, codes}
-use Rattle.route_base.specs.Contents.{Contents, Holds, LeavesOpen}
+use Rattle.std.specs.Prelude.{◌≡◌, ℕ, ◌*◌, Option, Some, List, [], ◌∷◌, length, codes}
+use Rattle.route_base.specs.Contents.{Contents}
 use Rattle.route_base.specs.Front.{IsRight}
 use Rattle.route_base.specs.Labels.{label_of}
 use Rattle.route_base.specs.declared.faults.FileKind.TheVariants as kind
@@ -10,11 +10,10 @@ use Rattle.network_tables.specs.NetworkModel.{NetworkModel}
 use Rattle.net_generator.specs.Generated.{graph_file, closures_file, parking_file, ratings_file}
 use Rattle.drawn_network.specs.DrawnFiles.{drawn_files}
 use Rattle.plan_report.specs.Summary.{summary_text_of}
-use Rattle.front_desk.specs.CommandLine.{Gen}
-use Rattle.front_desk.specs.Files.{path_of}
+use Rattle.front_words.specs.declared.commands.Gen.{Gen}
+use Rattle.network_folder.specs.Writing.{FileToWrite, HoldsEach}
 use Rattle.front_desk.specs.Plan.{trip_setting}
 use Rattle.front_desk.specs.Trips.{Trip, request_of}
-use Rattle.front_desk.specs.declared.writing.FileToWrite.{FileToWrite as FileWords}
 
 -- the trip over a drawn network: from the first node to the last, within the 60 days from 2020-07-04T00:00Z
 abbrev pub drawn_trip : Gen → Trip
@@ -24,15 +23,6 @@ drawn_trip g =
 -- the network that the drawn files state
 abbrev pub stated_network : Gen → NetworkModel
 stated_network g = network_in_files (drawn_files g.number g.rows g.columns)
-
--- a file to write: its name below the folder, and its bytes
-pub record FileToWrite : Type 0 where
-  pub name : List ℕ
-  pub bytes : List ℕ
-
--- the file that the code holds
-abbrev pub written_in : FileWords → FileToWrite
-written_in words = record { name = words.name.now; bytes = words.bytes.now }
 
 -- the files of these bytes in the order in which they are written
 abbrev pub files_to_write : List ℕ → List ℕ → List ℕ → List ℕ → List FileToWrite
@@ -48,29 +38,6 @@ abbrev pub files_written : Gen → List FileToWrite
 files_written g =
     files_to_write (graph_file g.number g.rows g.columns) (closures_file g.number g.rows g.columns)
     (parking_file g.number g.rows g.columns) ratings_file
-
--- dir holds these files, written one after another, and all else is as it was
-abbrev pub HoldsEach : List ℕ → List FileToWrite → Option Contents → Option Contents → Type 0
-HoldsEach dir [] before after = after ≡ before
-HoldsEach dir (f ∷ fs) before after =
-    (mid : Option Contents) × (Holds before mid (path_of dir f.name) f.bytes × HoldsEach dir fs mid after)
-
--- dir holds the first of these files, and all else is as it was
-pub record HoldsFirst (dir : List ℕ) (files : List FileToWrite) (before after : Option Contents) : Type 0 where
-  pub written : List FileToWrite
-  pub others : List FileToWrite
-  pub parts : files ≡ written ++ others
-  pub held : HoldsEach dir written before after
-
--- dir holds the first of these files, the content of the next is open, and all else is as it was
-pub record SpoilsNext (dir : List ℕ) (files : List FileToWrite) (before after : Option Contents) : Type 0 where
-  pub written : List FileToWrite
-  pub next : FileToWrite
-  pub others : List FileToWrite
-  pub parts : files ≡ written ++ next ∷ others
-  pub between : Option Contents
-  pub held : HoldsEach dir written before between
-  pub spoiled : LeavesOpen between after (path_of dir next.name)
 
 -- the text sums up right routes of the trip over the network that the drawn files state
 pub record IsSummary (g : Gen) (text : List ℕ) : Type 0 where

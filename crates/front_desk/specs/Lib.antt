@@ -1,13 +1,10 @@
 pub mod Bans
 pub mod Batch
 pub mod Check
-pub mod CommandLine
 pub mod Commands
-pub mod Files
 pub mod Gen
 pub mod Inside
 pub mod Plan
-pub mod ReadingOrder
 pub mod Run
 pub mod Trips
 pub mod Words

@@ -1,10 +1,11 @@
 -- The report of the command that plans a trip (source: own).
-use Rattle.std.specs.Prelude.{◌≡◌, ℕ, ⊤, Option, Some, None, List}
+use Rattle.std.specs.Prelude.{◌≡◌, ℕ, ◌≤◌, ⊤, Option, Some, None, List, length}
 use Rattle.route_base.specs.Contents.{Contents, Holds}
 use Rattle.route_base.specs.Front.{IsRight}
 use Rattle.route_base.specs.Setting.{Setting}
 use Rattle.route_base.specs.declared.faults.BadInput.{BadInput}
 use Rattle.route_base.specs.declared.faults.RequestFault.{RequestFault}
+use Rattle.route_base.specs.declared.limits.TheConstants.{LONGEST_CERTIFICATE}
 use Rattle.route_base.specs.declared.types.Request.{Request}
 use Rattle.route_base.specs.declared.types.Route.{Route}
 use Rattle.network_tables.specs.NetworkModel.{NetworkModel}
@@ -14,18 +15,19 @@ use Rattle.certificate.specs.declared.Certificate.{Certificate}
 use Rattle.certificate_check.specs.Verdicts.{IsGood}
 use Rattle.plan_certificate.specs.Tight.{IsTight}
 use Rattle.plan_report.specs.Reports.{report_text}
-use Rattle.front_desk.specs.CommandLine.{Plan}
-use Rattle.front_desk.specs.Files.{path_of}
-use Rattle.front_desk.specs.ReadingOrder.{first_folder_fault, network_held}
+use Rattle.front_words.specs.declared.commands.Plan.{Plan}
+use Rattle.network_folder.specs.Files.{path_of}
+use Rattle.network_folder.specs.ReadingOrder.{first_folder_fault, network_held}
 use Rattle.front_desk.specs.Trips.{Trip, failed_check, request_of, vehicle_named}
 
--- the bytes are the text of a good and tight certificate with just these routes
+-- the bytes are the text of a good and tight certificate with just these routes, and no more than `check` reads
 pub record IsCertificateOf (s : Setting) (request : Request) (routes : List Route) (bytes : List ℕ) : Type 0 where
   pub certificate : Certificate
   pub same : certificate.routes ≡ routes
   pub good : IsGood s request certificate
   pub tight : IsTight s request certificate
   pub is_text : IsCertificateText bytes certificate
+  pub short : length bytes ≤ LONGEST_CERTIFICATE
 
 -- the folder holds a good and tight certificate of the routes under this path, and all else is as it was
 pub record HoldsCertificate (s : Setting) (request : Request) (routes : List Route) (path : List ℕ) (before after : Option Contents) : Type 0 where

@@ -1,10 +1,9 @@
 -- The text that a run prints for its words over a folder, by its status (source: own).
-use Rattle.std.specs.Prelude.{◌≡◌, ◌⊎◌, ℕ, ⊤, Option, Some, None, List}
+use Rattle.std.specs.Prelude.{◌≡◌, ◌≢◌, ◌⊎◌, ℕ, ⊤, Option, Some, None, List}
 use Rattle.route_base.specs.Contents.{Contents}
-use Rattle.route_base.specs.FolderState.{FolderState, MissedFile, FailedToWrite}
-use Rattle.route_base.specs.SinkState.{SinkState, Appends, AppendsPrefix, StaysSilent, FailedToAppend}
+use Rattle.route_base.specs.FolderState.{FolderState, CountsRise, FailedToRead, FailedToWrite}
+use Rattle.route_base.specs.SinkState.{SinkState, Appends, AppendsPrefix, StaysSilent, FailedToAppend, FaultsRise}
 use Rattle.route_base.specs.declared.faults.BadInput.{BadInput}
-use Rattle.route_base.specs.declared.faults.Cause.TheVariants.{Missing}
 use Rattle.route_base.specs.declared.faults.RequestFault.{RequestFault}
 use Rattle.route_base.specs.declared.status.Status.{Status}
 use Rattle.route_base.specs.declared.status.Status.TheVariants.{Done, Rejected, Usage, BadInput as BadInputStatus, ReadFault}
@@ -12,9 +11,15 @@ use Rattle.route_base.specs.declared.status.Status.TheVariants.{WriteFault, NoMe
 use Rattle.plan_report.specs.Refusals.{refusal_text_of}
 use Rattle.plan_report.specs.declared.outcomes.Refusal.{Refusal}
 use Rattle.plan_report.specs.declared.outcomes.Refusal.TheVariants.{Usage as UsageRefusal, Input, Request}
-use Rattle.front_desk.specs.CommandLine.{Command, command_of}
+use Rattle.front_desk.specs.Check.{HasGoodCertificate}
+use Rattle.front_words.specs.declared.commands.Check.{Check}
+use Rattle.front_words.specs.declared.commands.Invocation.{Invocation as Command}
+use Rattle.front_words.specs.declared.commands.Invocation.TheVariants.{Check as to_check}
+use Rattle.front_words.specs.Commands.{command_of}
 use Rattle.front_desk.specs.Commands.{first_fault_for, failed_check_for, Answers, Judges, HasRequest, Rejects, WritesFiles, LeavesFiles}
-use Rattle.front_desk.specs.Files.{IfTold}
+use Rattle.front_desk.specs.Commands.{IsFinished, IsUndisturbed, ReadsNothing}
+use Rattle.network_folder.specs.Faults.{IsFirstFault}
+use Rattle.network_folder.specs.Files.{IfTold}
 
 -- the command's files have no fault, its request passes all checks, and the text is its answer
 pub record IsAnsweredBy (command : Command) (held : Contents) (after : Option Contents) (text : List ℕ) : Type 0 where
@@ -40,11 +45,6 @@ pub record IsRejection (words : List (List ℕ)) (old : FolderState) (text : Lis
   pub is_command : command_of words ≡ Some command
   pub judges : Judges command
   pub rejected : IfTold old (λ held. IsRejectedBy command held text)
-
--- a fault is the first, where the folder tells its contents; a missing file was counted
-pub record IsFirstFault (first_fault : Contents → Option BadInput) (old new : FolderState) (fault : BadInput) : Type 0 where
-  pub first : IfTold old (λ held. first_fault held ≡ Some fault)
-  pub missed : fault.cause ≡ Missing → MissedFile old new
 
 -- the command has a request, and where the folder tells its contents, its files have no fault and this is the first check that fails
 pub record IsFailedCheck (command : Command) (old : FolderState) (fault : RequestFault) : Type 0 where
@@ -120,15 +120,23 @@ pub record FailsToPrint (words : List (List ℕ)) (old new : FolderState) (from 
   pub left : LeavesFiles (command_of words) old new status
   pub gained : AppendsPrefix from to text
 
--- a failed write of a file was counted, by a command that writes files; where the folder tells its contents, the command's files have no
--- fault and its request passes all checks; nothing was printed
-pub record FailsInFolder (words : List (List ℕ)) (old new : FolderState) (from to : SinkState) : Type 0 where
-  pub command : Command
-  pub is_command : command_of words ≡ Some command
+-- a command that writes files failed to write one, which was counted; where the folder tells its contents, the command's files have no
+-- fault and its request passes all checks
+pub record StopsAtFile (command : Command) (old new : FolderState) : Type 0 where
   pub writes : WritesFiles command
   pub faultless : IfTold old (λ held. first_fault_for command held ≡ None)
   pub good : IfTold old (λ held. failed_check_for command held ≡ None)
   pub counted : FailedToWrite old new
+
+-- the words are such a command
+pub record StopsWriting (words : List (List ℕ)) (old new : FolderState) : Type 0 where
+  pub command : Command
+  pub is_command : command_of words ≡ Some command
+  pub stops : StopsAtFile command old new
+
+-- a file wasn't written, and nothing was printed
+pub record FailsInFolder (words : List (List ℕ)) (old new : FolderState) (from to : SinkState) : Type 0 where
+  pub stops : StopsWriting words old new
   pub silent : StaysSilent from to
 
 -- how writing failed: in the folder, or in the sink
@@ -138,3 +146,49 @@ FailsToWrite words old new from to = FailsInFolder words old new from to ⊎ Fai
 -- reading, writing or memory failed
 abbrev pub HasFailed : Status → Type 0
 HasFailed status = (status ≡ ReadFault) ⊎ ((status ≡ WriteFault) ⊎ (status ≡ NoMemory))
+
+-- words that are no command are refused, unless reading, writing or memory fails
+abbrev pub RefusesUsage : List (List ℕ) → Status → Type 0
+RefusesUsage words status = command_of words ≡ None → (status ≡ Usage) ⊎ HasFailed status
+
+-- the same of a command whose files have a fault, where the folder tells its contents
+abbrev pub RefusesBadInput : List (List ℕ) → FolderState → Status → Type 0
+RefusesBadInput words old status =
+    (held : Contents) (command : Command) (fault : BadInput) → old.contents ≡ Some held → command_of words ≡ Some command
+    → first_fault_for command held ≡ Some fault → (status ≡ BadInputStatus) ⊎ HasFailed status
+
+-- the same of a command whose files have no fault and whose request fails a check
+abbrev pub RefusesBadRequest : List (List ℕ) → FolderState → Status → Type 0
+RefusesBadRequest words old status =
+    (held : Contents) (command : Command) (fault : RequestFault) → old.contents ≡ Some held → command_of words ≡ Some command
+    → first_fault_for command held ≡ None → failed_check_for command held ≡ Some fault → (status ≡ BadRequest) ⊎ HasFailed status
+
+-- every other command comes to its end, unless memory runs out, where no fault was counted that could stop it
+abbrev pub Completes : List (List ℕ) → FolderState → FolderState → SinkState → SinkState → Status → Type 0
+Completes words old new from to status =
+    (held : Contents) (command : Command) → old.contents ≡ Some held → command_of words ≡ Some command
+    → first_fault_for command held ≡ None → failed_check_for command held ≡ None → IsUndisturbed command old new from to
+    → IsFinished command status ⊎ (status ≡ NoMemory)
+
+-- a check accepts each good certificate, unless reading, writing or memory fails
+abbrev pub AcceptsGood : List (List ℕ) → FolderState → Status → Type 0
+AcceptsGood words old status =
+    (held : Contents) (check : Check) → old.contents ≡ Some held → command_of words ≡ Some (to_check check)
+    → HasGoodCertificate check held → (status ≡ Done) ⊎ HasFailed status
+
+-- all that a run of words promises, by the states of its folder and of its sink before and after, and by its status
+pub record Runs (words : List (List ℕ)) (old new : FolderState) (from to : SinkState) (status : Status) : Type 0 where
+  pub done : status ≡ Done → Prints (IsAnswer words old new) from to
+  pub refused : IsRefused status → Prints (IsDue words old new status) from to
+  pub write_fault : status ≡ WriteFault → FailsToWrite words old new from to
+  pub silent : (status ≡ ReadFault) ⊎ (status ≡ NoMemory) → StaysSilent from to
+  pub read_fault : status ≡ ReadFault → FailedToRead old new
+  pub nothing_read : ReadsNothing (command_of words) → status ≢ ReadFault
+  pub usage_due : RefusesUsage words status
+  pub bad_input_due : RefusesBadInput words old status
+  pub bad_request_due : RefusesBadRequest words old status
+  pub complete : Completes words old new from to status
+  pub accepted : AcceptsGood words old status
+  pub left : LeavesFiles (command_of words) old new status
+  pub folder_counts : CountsRise old new
+  pub sink_count : FaultsRise from to

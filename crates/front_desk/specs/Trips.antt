@@ -8,7 +8,7 @@ use Rattle.route_base.specs.declared.faults.RequestFault.TheVariants.{HorizonToo
 use Rattle.table_reader.specs.NameIndex.{names_of, place_among, value_under}
 use Rattle.vehicle_classes.specs.VehicleModel.{VehicleModel, any_vehicle}
 use Rattle.network_tables.specs.NetworkModel.{NetworkModel}
-pub use Rattle.front_words.specs.Commands.{Trip}
+pub use Rattle.front_words.specs.declared.commands.Trip.{Trip}
 use Rattle.front_desk.specs.declared.requests.Trip.{Trip as TripWords}
 
 -- one of n nodes

@@ -1,13 +1,13 @@
 // The command that prints the closed minutes of an arc.
-ghost use Rattle.std.specs.Prelude.{◌≡◌, ◌≤◌, false, length, IfOk, IfErr};
-ghost use Rattle.front_desk.specs.Words.{KeepsFiles, IsInstant, StopsCommand, ReportsOn};
-ghost use Rattle.front_desk.specs.Words.{bans_in, to_bans, vehicle_named, IsBansText};
+ghost use Rattle.std.specs.Prelude.{◌≡◌, ◌≤◌, length, IfOk};
+ghost use Rattle.front_desk.specs.Words.{IsInstant, Ends};
+ghost use Rattle.front_desk.specs.Words.{to_bans, vehicle_named, IsBansText};
 
-use crate::command_line::Bans;
-use crate::networks::load_network;
 use crate::outcome::{Halt, Report};
 use crate::requests::vehicle_of_bans;
 use ban_expansion::closed_set;
+use front_words::Bans;
+use network_folder::load_network;
 use network_tables::Network;
 use plan_report::{Refusal, bans_text};
 use route_base::{ArcId, Folder, OutOfMemory, Run};
@@ -19,14 +19,14 @@ fn closed_report(
     alloc: Global,
     network: &Network,
     vehicle: &Vehicle,
-    bans: Bans<'_>,
+    bans: &Bans,
 ) -> Result<Vec<u8>, OutOfMemory>
-    requires low { 1 ≤ bans.arc }
-    requires high { bans.arc ≤ length network.now.graph.arcs }
-    requires depart { IsInstant bans.depart }
-    requires until { IsInstant bans.until }
-    requires vehicle { vehicle.now ≡ vehicle_named network.now bans.vehicle.now }
-    ensures { IfOk result (λ text. IsBansText network.now (bans_in bans.entry) text.items) }
+    requires low { 1 ≤ bans.now.arc }
+    requires high { bans.now.arc ≤ length network.now.graph.arcs }
+    requires depart { IsInstant bans.now.depart }
+    requires until { IsInstant bans.now.until }
+    requires vehicle { vehicle.now ≡ vehicle_named network.now bans.now.vehicle }
+    ensures { IfOk result (λ text. IsBansText network.now bans.now text.items) }
 {
     let window = Run {
         lo: bans.depart,
@@ -38,17 +38,13 @@ fn closed_report(
 
 /// The minutes of the command's window at which its arc is closed to its vehicle, over the files of its folder, as a text. It takes
 /// the time and memory of `closed_set` beside reading.
-pub fn report_bans<F: Folder>(alloc: Global, folder: &mut F, bans: Bans<'_>) -> Result<Report, Halt>
-    requires depart { IsInstant bans.depart }
-    requires until { IsInstant bans.until }
-    ensures reports { IfOk result (ReportsOn (to_bans (bans_in bans.entry))
-        (F.state folder.old) (F.state folder.new)) }
-    ensures done { IfOk result (λ report. report.rejects ≡ false) }
-    ensures halted { IfErr result (StopsCommand (to_bans (bans_in bans.entry))
-        (F.state folder.old) (F.state folder.new)) }
-    ensures kept { KeepsFiles (F.state folder.old) (F.state folder.new) }
+pub fn report_bans<F: Folder>(alloc: Global, folder: &mut F, bans: &Bans) -> Result<Report, Halt>
+    requires depart { IsInstant bans.now.depart }
+    requires until { IsInstant bans.now.until }
+    ensures { Ends (to_bans bans.now)
+        (F.state folder.old) (F.state folder.new) result }
 {
-    let network = load_network(alloc, folder, bans.dir)?;
+    let network = load_network(alloc, folder, &bans.dir)?;
     match vehicle_of_bans(&network, bans) {
         Err(fault) => Err(Halt::Refused(Refusal::Request(fault))),
         Ok(vehicle) => Ok(Report {

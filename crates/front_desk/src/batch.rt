@@ -1,32 +1,36 @@
 // The command that plans a table of jobs.
-ghost use Rattle.std.specs.Prelude.{◌≡◌, ◌≤◌, None, false, All, IfOk, OnOk, IfErr};
-ghost use Rattle.front_desk.specs.Words.{KeepsFiles, IfTold, network_held, StopsReading, StopsStating, StopsCommand, ReportsOn};
-ghost use Rattle.front_desk.specs.Words.{batch_in, to_batch, batch_fault, jobs_fault, jobs_held, trip_in, IsBatchText};
-ghost use Rattle.front_desk.specs.Batch.{IsJobText, trip_of_job};
+ghost use Rattle.std.specs.Prelude.{◌≡◌, ◌≤◌, None, All, IfOk, OnOk, IfErr};
+ghost use Rattle.front_desk.specs.Words.{KeepsFiles, IfTold, network_held, StopsReading, StopsStating, Ends};
+ghost use Rattle.front_desk.specs.Words.{to_batch, batch_fault, jobs_fault, jobs_held, trip_in, IsBatchText};
+ghost use Rattle.front_desk.specs.Batch.{IsJobText, IsTripReport, trip_of_job};
+ghost use Rattle.front_desk.specs.Words.{IsGoodNetwork, IsGoodTrip, IsTimed, trip_setting, vehicle_named};
 ghost use Rattle.front_desk.specs.Inside.Grouping.{KeepsGroups};
 ghost use Rattle.ban_expansion.specs.ArcGroups.{AreGroups};
 ghost use Rattle.network_tables.specs.Jobs.{IsTimedJob, jobs_in};
 ghost use Rattle.table_reader.specs.Records.{rows_of};
 
-use crate::command_line::{Batch, Plan};
-use crate::file_to_read::FileToRead;
-use crate::networks::load_with;
+use crate::networks::net_of_trip;
 use crate::outcome::{Halt, Report};
-use crate::plan::planned_trip;
-use crate::requests::{Trip, vehicle_of_trip};
+use crate::requests::{Trip, request_of, vehicle_of_trip};
 use ban_expansion::{ArcGroups, group_arcs};
+use front_words::Batch;
+use itinerary_unpack::FunctionEngine;
+use network_folder::{FileToRead, LoadFault, load_with};
 use network_tables::{Job, Jobs, Network, read_jobs};
-use plan_report::{Refusal, batch_text, refusal_text};
-use route_base::{BadInput, FileKind, Folder, Form, Gate, JobText, OutOfMemory, TableFault};
+use plan_report::{Refusal, batch_text, plan_text, refusal_text, reports_agree};
+use route_base::{
+    BadInput, FileKind, Folder, Form, FrontSearch, Gate, JobText, OutOfMemory, TableFault,
+    settings_agree,
+};
 use std::alloc::Global;
 use std::thread::Threads;
 use trip_batch::{JobPlanner, run_batch};
+use vehicle_classes::Vehicle;
 
 // The trips of jobs over one network, whose arcs are grouped once. Workers share it.
 #[derive(Drop)]
 struct Trips<'a> {
     alloc: Global,
-    dir: &'a str,
     network: &'a Network,
     groups: &'a ArcGroups,
     jobs: &'a Jobs,
@@ -47,13 +51,37 @@ fn trip_of(job: &Job) -> Trip<'_>
     }
 }
 
-// A right text of a job: the plan of its trip, or the first check that it fails.
-fn text_of_job<'a>(
+// The text of the plan of a trip that passes the checks, for its vehicle, in plain lines.
+fn text_of_trip(
     alloc: Global,
-    dir: &'a str,
     network: &Network,
     groups: &ArcGroups,
-    job: &'a Job,
+    vehicle: &Vehicle,
+    trip: Trip<'_>,
+) -> Result<Vec<u8>, OutOfMemory>
+    requires groups { AreGroups network.now groups.now }
+    requires network { IsGoodNetwork network.now }
+    requires vehicle { vehicle.now ≡ vehicle_named network.now (trip_in trip).vehicle }
+    requires good { IsGoodTrip network.now.graph.nodes (trip_in trip) }
+    requires timed { IsTimed (trip_in trip) }
+    ensures { IfOk result (λ text. IsTripReport (trip_setting network.now (trip_in trip.entry))
+        (trip_in trip.entry) text.items) }
+{
+    let net = net_of_trip(alloc, network, groups, vehicle, trip)?;
+    settings_agree();
+    reports_agree();
+    let request = request_of(trip);
+    let routes = FunctionEngine.front(alloc, &net, request)?;
+    let text = plan_text(alloc, Form::Plain, &net, request, &routes)?;
+    Ok(text)
+}
+
+// A right text of a job: the plan of its trip, or the first check that it fails.
+fn text_of_job(
+    alloc: Global,
+    network: &Network,
+    groups: &ArcGroups,
+    job: &Job,
 ) -> Result<Vec<u8>, OutOfMemory>
     requires groups { AreGroups network.now groups.now }
     requires timed { IsTimedJob job.now }
@@ -61,16 +89,7 @@ fn text_of_job<'a>(
 {
     let trip = trip_of(job);
     match vehicle_of_trip(network, trip) {
-        Ok(vehicle) => {
-            let plan = Plan {
-                dir,
-                trip,
-                form: Form::Plain,
-                certificate: None,
-            };
-            let planned = planned_trip(alloc, network, groups, vehicle, plan)?;
-            Ok(planned.text)
-        }
+        Ok(vehicle) => text_of_trip(alloc, network, groups, vehicle, trip),
         Err(fault) => refusal_text(alloc, Refusal::Request(fault)),
     }
 }
@@ -85,26 +104,26 @@ impl JobPlanner for Trips<'_> {
 
     fn plan_job(&self, job: usize) -> Result<JobText, OutOfMemory> {
         let job = &self.jobs.as_slice()[job];
-        let text = text_of_job(self.alloc, self.dir, self.network, self.groups, job)?;
+        let text = text_of_job(self.alloc, self.network, self.groups, job)?;
         Ok(JobText::from_vec(text))
     }
 }
 
 // The jobs that a table states.
-fn jobs_of(alloc: Global, bytes: &[u8]) -> Result<Jobs, Halt>
+fn jobs_of(alloc: Global, bytes: &[u8]) -> Result<Jobs, LoadFault>
     ensures faultless { OnOk result (jobs_fault bytes.now ≡ None) }
     ensures stated { IfOk result (λ jobs. jobs ≡ jobs_in (rows_of bytes.now)) }
     ensures timed { IfOk result (λ jobs. All IsTimedJob jobs) }
-    ensures halted { IfErr result (StopsStating (jobs_fault bytes.now)) }
+    ensures refused { IfErr result (StopsStating (jobs_fault bytes.now)) }
 {
     match read_jobs(alloc, bytes) {
         Ok(jobs) => Ok(jobs),
-        Err(TableFault::BadRow { row, cause }) => Err(Halt::Refused(Refusal::Input(BadInput {
+        Err(TableFault::BadRow { row, cause }) => Err(LoadFault::Bad(BadInput {
             file: FileKind::Jobs,
             row,
             cause,
-        }))),
-        Err(TableFault::OutOfMemory) => Err(Halt::NoMemory),
+        })),
+        Err(TableFault::OutOfMemory) => Err(LoadFault::OutOfMemory),
     }
 }
 
@@ -112,21 +131,21 @@ fn jobs_of(alloc: Global, bytes: &[u8]) -> Result<Jobs, Halt>
 fn load_batch<F: Folder>(
     alloc: Global,
     folder: &mut F,
-    batch: Batch<'_>,
-) -> Result<(Network, Jobs), Halt>
+    batch: &Batch,
+) -> Result<(Network, Jobs), LoadFault>
     ensures faultless { OnOk result (IfTold (F.state folder.old)
-        (λ held. batch_fault (batch_in batch.entry) held ≡ None)) }
+        (λ held. batch_fault batch.now held ≡ None)) }
     ensures network { IfOk result (λ loaded. IfTold (F.state folder.old)
-        (λ held. loaded.0 ≡ network_held held batch.entry.dir.now)) }
+        (λ held. loaded.0 ≡ network_held held batch.now.dir)) }
     ensures jobs { IfOk result (λ loaded. IfTold (F.state folder.old)
-        (λ held. loaded.1 ≡ jobs_held (batch_in batch.entry) held)) }
+        (λ held. loaded.1 ≡ jobs_held batch.now held)) }
     ensures timed { IfOk result (λ loaded. All IsTimedJob loaded.1) }
-    ensures halted { IfErr result (StopsReading (batch_fault (batch_in batch.entry))
+    ensures refused { IfErr result (StopsReading (batch_fault batch.now)
         (F.state folder.old) (F.state folder.new)) }
     ensures kept { KeepsFiles (F.state folder.old) (F.state folder.new) }
 {
-    let table = FileToRead::jobs(batch.jobs);
-    let (network, bytes) = load_with(alloc, folder, batch.dir, table)?;
+    let table = FileToRead::jobs(&batch.jobs);
+    let (network, bytes) = load_with(alloc, folder, &batch.dir, table)?;
     let jobs = jobs_of(alloc, bytes.as_slice())?;
     Ok((network, jobs))
 }
@@ -137,17 +156,16 @@ fn texts_of_jobs<R: Threads + Sync, G: Gate>(
     alloc: Global,
     network: &Network,
     jobs: &Jobs,
-    batch: Batch<'_>,
+    batch: &Batch,
     gate: &G,
 ) -> Result<Vec<u8>, OutOfMemory>
     requires timed { All IsTimedJob jobs.now }
-    requires workers { 1 ≤ batch.workers }
+    requires workers { 1 ≤ batch.now.workers }
     ensures { IfOk result (λ text. IsBatchText network.now jobs.now text.items) }
 {
     let groups = group_arcs(alloc, network)?;
     let trips = Trips {
         alloc,
-        dir: batch.dir,
         network,
         groups: &groups,
         jobs,
@@ -164,16 +182,12 @@ pub fn report_batch<R: Threads + Sync, F: Folder, G: Gate>(
     rt: &R,
     alloc: Global,
     folder: &mut F,
-    batch: Batch<'_>,
+    batch: &Batch,
     gate: &G,
 ) -> Result<Report, Halt>
-    requires workers { 1 ≤ batch.workers }
-    ensures reports { IfOk result (ReportsOn (to_batch (batch_in batch.entry))
-        (F.state folder.old) (F.state folder.new)) }
-    ensures done { IfOk result (λ report. report.rejects ≡ false) }
-    ensures halted { IfErr result (StopsCommand (to_batch (batch_in batch.entry))
-        (F.state folder.old) (F.state folder.new)) }
-    ensures kept { KeepsFiles (F.state folder.old) (F.state folder.new) }
+    requires workers { 1 ≤ batch.now.workers }
+    ensures { Ends (to_batch batch.now)
+        (F.state folder.old) (F.state folder.new) result }
 {
     let (network, jobs) = load_batch(alloc, folder, batch)?;
     Ok(Report {

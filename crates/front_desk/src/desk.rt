@@ -1,9 +1,9 @@
 // The top call.
-ghost use Rattle.std.specs.Prelude.{◌≡◌, ◌≢◌, ◌⊎◌, Some, None};
-ghost use Rattle.front_desk.specs.Words.{Contents, CountsRise, FailedToRead, FaultsRise, StaysSilent, BadInput, RequestFault};
-ghost use Rattle.front_desk.specs.Words.{Command, command_of, first_fault_for, failed_check_for, IsFinished, IsUndisturbed};
-ghost use Rattle.front_desk.specs.Words.{ReadsNothing, LeavesFiles, IsAnswer, IsDue, IsRefused, Prints, FailsToWrite};
-ghost use Rattle.front_desk.specs.Words.{HasFailed, status_of, refusal_text_of, Writes};
+ghost use Rattle.std.specs.Prelude.{◌≡◌, ◌≢◌, ◌⊎◌};
+ghost use Rattle.front_desk.specs.Words.{CountsRise, FailedToRead, FaultsRise, StaysSilent};
+ghost use Rattle.front_desk.specs.Words.{command_of, ReadsNothing, LeavesFiles, IsAnswer, IsDue, IsRefused, Prints, FailsToWrite};
+ghost use Rattle.front_desk.specs.Words.{RefusesUsage, RefusesBadInput, RefusesBadRequest, Completes, AcceptsGood, Runs};
+ghost use Rattle.front_desk.specs.Words.{refusal_text_of, status_of, Writes};
 
 use crate::commands::answer;
 use crate::outcome::{Halt, status_of_refusal};
@@ -77,20 +77,14 @@ pub fn run<R: Threads + Sync, F: Folder, S: Sink>(
     ensures nothing_read { ReadsNothing (command_of words.now) → result ≢ Status.ReadFault }
 
     // Each refusal comes where it has to, unless reading, writing or memory fails; and without a cause none comes.
-    ensures usage_due { command_of words.now ≡ None → (result ≡ Status.Usage) ⊎ HasFailed result }
-    ensures bad_input_due { (held : Contents) (command : Command) (fault : BadInput)
-        → (F.state folder.old).contents ≡ Some held → command_of words.now ≡ Some command
-        → first_fault_for command held ≡ Some fault → (result ≡ Status.BadInput) ⊎ HasFailed result }
-    ensures bad_request_due { (held : Contents) (command : Command) (fault : RequestFault)
-        → (F.state folder.old).contents ≡ Some held → command_of words.now ≡ Some command
-        → first_fault_for command held ≡ None → failed_check_for command held ≡ Some fault
-        → (result ≡ Status.BadRequest) ⊎ HasFailed result }
-    ensures complete { (held : Contents) (command : Command)
-        → (F.state folder.old).contents ≡ Some held → command_of words.now ≡ Some command
-        → first_fault_for command held ≡ None → failed_check_for command held ≡ None
-        → IsUndisturbed command (F.state folder.old) (F.state folder.new)
-        (S.state out.old) (S.state out.new)
-        → IsFinished command result ⊎ (result ≡ Status.NoMemory) }
+    ensures usage_due { RefusesUsage words.now result }
+    ensures bad_input_due { RefusesBadInput words.now (F.state folder.old) result }
+    ensures bad_request_due { RefusesBadRequest words.now (F.state folder.old) result }
+    ensures complete { Completes words.now (F.state folder.old) (F.state folder.new)
+        (S.state out.old) (S.state out.new) result }
+
+    // A good certificate is accepted.
+    ensures accepted { AcceptsGood words.now (F.state folder.old) result }
 
     // The folder's files afterwards; no count of faults falls.
     ensures left { LeavesFiles (command_of words.now)
@@ -101,8 +95,8 @@ pub fn run<R: Threads + Sync, F: Folder, S: Sink>(
     run_gated(rt, alloc, words, folder, out, &NoGate)
 }
 
-/// Runs the program as `run` does, with the same contract; each worker goes through the gate before it begins a job of a batch, or its part
-/// of the closed minutes of another command. So a test can see that workers work at once.
+/// Runs the program as `run` does, with the same contract, whose clauses are the fields of `Runs`; each worker goes through the gate before it
+/// begins a job of a batch, or its part of the closed minutes of another command. So a test can see that workers work at once.
 pub fn run_gated<R: Threads + Sync, F: Folder, S: Sink, G: Gate>(
     rt: &R,
     alloc: Global,
@@ -111,38 +105,8 @@ pub fn run_gated<R: Threads + Sync, F: Folder, S: Sink, G: Gate>(
     out: &mut S,
     gate: &G,
 ) -> Status
-    ensures done { result ≡ Status.Done
-        → Prints (IsAnswer words.now (F.state folder.old) (F.state folder.new))
-        (S.state out.old) (S.state out.new) }
-    ensures refused { IsRefused result
-        → Prints (IsDue words.now (F.state folder.old) (F.state folder.new) result)
-        (S.state out.old) (S.state out.new) }
-    ensures write_fault { result ≡ Status.WriteFault
-        → FailsToWrite words.now (F.state folder.old) (F.state folder.new)
-        (S.state out.old) (S.state out.new) }
-    ensures silent { (result ≡ Status.ReadFault) ⊎ (result ≡ Status.NoMemory)
-        → StaysSilent (S.state out.old) (S.state out.new) }
-    ensures read_fault { result ≡ Status.ReadFault
-        → FailedToRead (F.state folder.old) (F.state folder.new) }
-    ensures nothing_read { ReadsNothing (command_of words.now) → result ≢ Status.ReadFault }
-    ensures usage_due { command_of words.now ≡ None → (result ≡ Status.Usage) ⊎ HasFailed result }
-    ensures bad_input_due { (held : Contents) (command : Command) (fault : BadInput)
-        → (F.state folder.old).contents ≡ Some held → command_of words.now ≡ Some command
-        → first_fault_for command held ≡ Some fault → (result ≡ Status.BadInput) ⊎ HasFailed result }
-    ensures bad_request_due { (held : Contents) (command : Command) (fault : RequestFault)
-        → (F.state folder.old).contents ≡ Some held → command_of words.now ≡ Some command
-        → first_fault_for command held ≡ None → failed_check_for command held ≡ Some fault
-        → (result ≡ Status.BadRequest) ⊎ HasFailed result }
-    ensures complete { (held : Contents) (command : Command)
-        → (F.state folder.old).contents ≡ Some held → command_of words.now ≡ Some command
-        → first_fault_for command held ≡ None → failed_check_for command held ≡ None
-        → IsUndisturbed command (F.state folder.old) (F.state folder.new)
-        (S.state out.old) (S.state out.new)
-        → IsFinished command result ⊎ (result ≡ Status.NoMemory) }
-    ensures left { LeavesFiles (command_of words.now)
-        (F.state folder.old) (F.state folder.new) result }
-    ensures folder_counts { CountsRise (F.state folder.old) (F.state folder.new) }
-    ensures sink_count { FaultsRise (S.state out.old) (S.state out.new) }
+    ensures { Runs words.now (F.state folder.old) (F.state folder.new)
+        (S.state out.old) (S.state out.new) result }
 {
     match answer(rt, alloc, words, folder, gate) {
         Ok(report) => put(out, report.text.as_slice(), report.status()),

@@ -1,20 +1,19 @@
 // The command that makes a network.
-ghost use Rattle.std.specs.Prelude.{◌≡◌, ◌≢◌, false, map, IfOk, OnOk, IfErr};
-ghost use Rattle.front_desk.specs.Words.{CountsRise, IsGoodNetwork, trip_setting, vehicle_named, request_of, trip_in, IsGoodTrip, IsTimed};
-ghost use Rattle.front_desk.specs.Words.{gen_in, to_gen, drawn_trip, stated_network, written_in, files_to_write, files_written, IsSummary};
-ghost use Rattle.front_desk.specs.Words.{StopsCommand, ReportsOn, LeavesGen, status_of_halt};
+ghost use Rattle.std.specs.Prelude.{◌≡◌, map, IfOk};
+ghost use Rattle.front_desk.specs.Words.{IsGoodNetwork, trip_setting, vehicle_named, request_of, trip_in, IsGoodTrip, IsTimed};
+ghost use Rattle.front_desk.specs.Words.{to_gen, drawn_trip, stated_network, written_in, files_to_write, files_written, IsSummary};
+ghost use Rattle.front_desk.specs.Words.{Ends};
 ghost use Rattle.net_generator.specs.Sizes.{IsDrawable};
 ghost use Rattle.route_base.specs.Front.{IsRight};
-ghost use Rattle.route_base.specs.declared.status.Status.TheVariants.{Done};
 
-use crate::command_line::Gen;
 use crate::networks::net_at_once;
 use crate::outcome::{Halt, Report};
 use crate::requests::{Trip, request_of, vehicle_of_trip};
-use crate::writing::{FileToWrite, put_each};
 use drawn_network::{draw_network, drawn_files_are_good};
+use front_words::Gen;
 use itinerary_unpack::FunctionEngine;
 use net_generator::Generated;
+use network_folder::{FileToWrite, put_each};
 use network_tables::Network;
 use plan_report::summary_text;
 use route_base::{FileKind, Folder, FrontSearch, Gate, OutOfMemory, Routes, settings_agree};
@@ -23,9 +22,9 @@ use std::thread::Threads;
 use vehicle_classes::Vehicle;
 
 // The trip that is planned over a drawn network: from its first node to its last, in 60 days.
-fn drawn_trip(grid: Gen<'_>) -> Trip<'static>
-    requires { IsDrawable grid.number grid.rows grid.columns }
-    ensures { trip_in result ≡ drawn_trip (gen_in grid.entry) }
+fn drawn_trip(grid: &Gen) -> Trip<'static>
+    requires { IsDrawable grid.now.number grid.now.rows grid.now.columns }
+    ensures { trip_in result ≡ drawn_trip grid.now }
 {
     Trip {
         vehicle: b"any",
@@ -59,12 +58,12 @@ fn front_of_trip<R: Threads + Sync, G: Gate>(
 }
 
 // The vehicle of the trip over a drawn network: the trip passes all checks.
-fn vehicle_of_drawn<'a>(network: &'a Network, grid: Gen<'_>) -> &'a Vehicle
-    requires drawable { IsDrawable grid.number grid.rows grid.columns }
-    requires network { network.now ≡ stated_network (gen_in grid) }
+fn vehicle_of_drawn<'a>(network: &'a Network, grid: &Gen) -> &'a Vehicle
+    requires drawable { IsDrawable grid.now.number grid.now.rows grid.now.columns }
+    requires network { network.now ≡ stated_network grid.now }
     ensures network { IsGoodNetwork network.now }
-    ensures vehicle { result.now ≡ vehicle_named network.now (drawn_trip (gen_in grid.entry)).vehicle }
-    ensures good { IsGoodTrip network.now.graph.nodes (drawn_trip (gen_in grid.entry)) }
+    ensures vehicle { result.now ≡ vehicle_named network.now (drawn_trip grid.now).vehicle }
+    ensures good { IsGoodTrip network.now.graph.nodes (drawn_trip grid.now) }
 {
     drawn_files_are_good();
     let trip = drawn_trip(grid);
@@ -79,12 +78,12 @@ fn summary_of<R: Threads + Sync, G: Gate>(
     rt: &R,
     alloc: Global,
     network: &Network,
-    grid: Gen<'_>,
+    grid: &Gen,
     gate: &G,
 ) -> Result<Vec<u8>, OutOfMemory>
-    requires drawable { IsDrawable grid.number grid.rows grid.columns }
-    requires network { network.now ≡ stated_network (gen_in grid) }
-    ensures { IfOk result (λ text. IsSummary (gen_in grid.entry) text.items) }
+    requires drawable { IsDrawable grid.now.number grid.now.rows grid.now.columns }
+    requires network { network.now ≡ stated_network grid.now }
+    ensures { IfOk result (λ text. IsSummary grid.now text.items) }
 {
     let vehicle = vehicle_of_drawn(network, grid);
     let trip = drawn_trip(grid);
@@ -98,13 +97,13 @@ fn summary_of<R: Threads + Sync, G: Gate>(
 fn drawn<R: Threads + Sync, G: Gate>(
     rt: &R,
     alloc: Global,
-    grid: Gen<'_>,
+    grid: &Gen,
     gate: &G,
 ) -> Result<(Generated, Vec<u8>), OutOfMemory>
-    requires { IsDrawable grid.number grid.rows grid.columns }
+    requires { IsDrawable grid.now.number grid.now.rows grid.now.columns }
     ensures files { IfOk result (λ made. files_to_write made.0.graph made.0.closures
-        made.0.parking made.0.ratings ≡ files_written (gen_in grid.entry)) }
-    ensures summary { IfOk result (λ made. IsSummary (gen_in grid.entry) made.1.items) }
+        made.0.parking made.0.ratings ≡ files_written grid.now) }
+    ensures summary { IfOk result (λ made. IsSummary grid.now made.1.items) }
 {
     let drawn = draw_network(alloc, grid.number, grid.rows, grid.columns)?;
     let text = summary_of(rt, alloc, &drawn.network, grid, gate)?;
@@ -142,25 +141,16 @@ pub fn report_gen<R: Threads + Sync, F: Folder, G: Gate>(
     rt: &R,
     alloc: Global,
     folder: &mut F,
-    grid: Gen<'_>,
+    grid: &Gen,
     gate: &G,
 ) -> Result<Report, Halt>
-    requires drawable { IsDrawable grid.number grid.rows grid.columns }
-    ensures reports { IfOk result (ReportsOn (to_gen (gen_in grid.entry))
-        (F.state folder.old) (F.state folder.new)) }
-    ensures done { IfOk result (λ report. report.rejects ≡ false) }
-    ensures halted { IfErr result (StopsCommand (to_gen (gen_in grid.entry))
-        (F.state folder.old) (F.state folder.new)) }
-    ensures unread { IfErr result (λ halt. halt ≢ Halt.ReadFault) }
-    ensures left { OnOk result (LeavesGen (gen_in grid.entry)
-        (F.state folder.old) (F.state folder.new) Done) }
-    ensures left_halted { IfErr result (λ halt. LeavesGen (gen_in grid.entry)
-        (F.state folder.old) (F.state folder.new) (status_of_halt halt)) }
-    ensures counts { CountsRise (F.state folder.old) (F.state folder.new) }
+    requires drawable { IsDrawable grid.now.number grid.now.rows grid.now.columns }
+    ensures { Ends (to_gen grid.now)
+        (F.state folder.old) (F.state folder.new) result }
 {
     let (drawn, text) = drawn(rt, alloc, grid, gate)?;
     let files = files_of(&drawn);
-    put_each(alloc, folder, grid.dir, &files)?;
+    put_each(alloc, folder, &grid.dir, &files)?;
     Ok(Report {
         text,
         rejects: false,

@@ -1,20 +1,20 @@
 // The command that judges a certificate.
 ghost use Rattle.std.specs.Prelude.{◌≡◌, true, false, None, List, ℕ, IfOk, OnOk, IfErr};
 ghost use Rattle.front_desk.specs.Words.{IfTold, network_held, check_fault, certificate_held, StopsReading};
-ghost use Rattle.front_desk.specs.Words.{KeepsFiles, trip_setting, check_in, to_check, IsTimed, IsTripNet};
-ghost use Rattle.front_desk.specs.Words.{request_of, StopsCommand, ReportsOn, Tells, IsJudged};
+ghost use Rattle.front_desk.specs.Words.{KeepsFiles, trip_setting, to_check, IsTimed, IsTripNet};
+ghost use Rattle.front_desk.specs.Words.{request_of, Ends, Tells, IsJudged};
 ghost use Rattle.front_desk.specs.Trips.{Trip as TripModel};
 ghost use Rattle.front_desk.specs.declared.outcome.Report.{Report as ReportModel};
 ghost use Rattle.network_tables.specs.NetworkModel.{NetworkModel};
 ghost use Rattle.route_base.specs.Net.{Net, IsGoodRequest, setting_of};
 
-use crate::command_line::Check;
-use crate::file_to_read::FileToRead;
-use crate::networks::{load_with, net_at_once};
+use crate::networks::net_at_once;
 use crate::outcome::{Halt, Report};
-use crate::requests::{request_of, vehicle_of_trip};
+use crate::requests::{request_of, trip_of, vehicle_of_trip};
 use certificate::{Certificate, CertificateFault, read};
 use certificate_check::{Verdict, check, verdicts_agree};
+use front_words::Check;
+use network_folder::{FileToRead, LoadFault, load_with};
 use network_tables::Network;
 use plan_report::{Refusal, Verdict3, check_text};
 use route_base::{FileBytes, Folder, Gate, OutOfMemory, Request, TimedNet, settings_agree};
@@ -82,20 +82,20 @@ fn judged(
 fn load_to_check<F: Folder>(
     alloc: Global,
     folder: &mut F,
-    check: Check<'_>,
-) -> Result<(Network, FileBytes), Halt>
+    check: &Check,
+) -> Result<(Network, FileBytes), LoadFault>
     ensures faultless { OnOk result (IfTold (F.state folder.old)
-        (λ held. check_fault (check_in check.entry) held ≡ None)) }
+        (λ held. check_fault check.now held ≡ None)) }
     ensures found { IfOk result (λ loaded. IfTold (F.state folder.old)
-        (λ held. loaded.0 ≡ network_held held check.entry.dir.now)) }
+        (λ held. loaded.0 ≡ network_held held check.now.dir)) }
     ensures certificate { IfOk result (λ loaded. IfTold (F.state folder.old)
-        (λ held. loaded.1 ≡ certificate_held (check_in check.entry) held)) }
-    ensures halted { IfErr result (StopsReading (check_fault (check_in check.entry))
+        (λ held. loaded.1 ≡ certificate_held check.now held)) }
+    ensures refused { IfErr result (StopsReading (check_fault check.now)
         (F.state folder.old) (F.state folder.new)) }
     ensures kept { KeepsFiles (F.state folder.old) (F.state folder.new) }
 {
-    let file = FileToRead::certificate(check.name);
-    load_with(alloc, folder, check.dir, file)
+    let file = FileToRead::certificate(&check.name);
+    load_with(alloc, folder, &check.dir, file)
 }
 
 /// The judgement of the certificate in the check's folder for its trip over the files of that folder. Several workers make the net at
@@ -104,23 +104,21 @@ pub fn report_check<R: Threads + Sync, F: Folder, G: Gate>(
     rt: &R,
     alloc: Global,
     folder: &mut F,
-    check: Check<'_>,
+    check: &Check,
     gate: &G,
 ) -> Result<Report, Halt>
-    requires timed { IsTimed (check_in check).trip }
-    ensures reports { IfOk result (ReportsOn (to_check (check_in check.entry))
-        (F.state folder.old) (F.state folder.new)) }
-    ensures halted { IfErr result (StopsCommand (to_check (check_in check.entry))
-        (F.state folder.old) (F.state folder.new)) }
-    ensures kept { KeepsFiles (F.state folder.old) (F.state folder.new) }
+    requires timed { IsTimed check.now.trip }
+    ensures { Ends (to_check check.now)
+        (F.state folder.old) (F.state folder.new) result }
 {
     let (network, bytes) = load_to_check(alloc, folder, check)?;
-    match vehicle_of_trip(&network, check.trip) {
+    let trip = trip_of(&check.trip);
+    match vehicle_of_trip(&network, trip) {
         Ok(vehicle) => {
-            let net = net_at_once(rt, alloc, &network, vehicle, check.trip, gate)?;
+            let net = net_at_once(rt, alloc, &network, vehicle, trip, gate)?;
             drop(network);
             judgements_agree();
-            let report = judged(alloc, &net, request_of(check.trip), bytes)?;
+            let report = judged(alloc, &net, request_of(trip), bytes)?;
             Ok(report)
         }
         Err(fault) => Err(Halt::Refused(Refusal::Request(fault))),

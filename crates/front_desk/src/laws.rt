@@ -1,5 +1,10 @@
-// The numbers of the limits.
-ghost use Rattle.std.specs.Prelude.{◌≡◌};
+// The numbers of the limits, and the law of certificates.
+ghost use Rattle.std.specs.Prelude.{◌≡◌, ℕ, List, Some, true};
+ghost use Rattle.front_desk.specs.Check.{HasGoodCertificate, check_of};
+ghost use Rattle.front_words.specs.declared.commands.Plan.{Plan};
+ghost use Rattle.front_desk.specs.Plan.{IsCertified};
+ghost use Rattle.front_words.specs.Forms.{is_certificate_name};
+ghost use Rattle.route_base.specs.Contents.{Contents};
 ghost use Rattle.certificate.specs.declared.limits.TheConstants.{LONGEST_BOUND};
 ghost use Rattle.front_words.specs.declared.limits.TheConstants.{MOST_WORKERS, USUAL_WORKERS};
 ghost use Rattle.net_generator.specs.declared.limits.TheConstants.{LAST_NUMBER, MOST_GENERATED_NODES, MOST_LINES};
@@ -41,4 +46,12 @@ pub fn limits_are_these()
     ensures parking { MOST_PARKING_ROWS ≡ 500000 }
     ensures holidays { MOST_HOLIDAYS ≡ 100000 }
     ensures jobs { MOST_JOBS ≡ 10000 }
+{}
+
+/// The law that `check` accepts what a plan writes: where the certificate of a plan was written under its name, it is a good one of the folder
+/// as it is then, which a check of the same trip reads and doesn't reject (`accepted` of `run`). The call does nothing.
+pub fn written_certificates_are_good()
+    ensures { (plan : Plan) (name : List ℕ) (held after : Contents)
+        → is_certificate_name name ≡ true → IsCertified plan name held (Some after)
+        → HasGoodCertificate (check_of plan name) after }
 {}

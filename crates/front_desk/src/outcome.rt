@@ -1,10 +1,11 @@
 // Why a command ends without its text.
 ghost use Rattle.std.specs.Prelude.{◌≡◌};
 ghost use Rattle.front_desk.specs.Run.{status_of};
-ghost use Rattle.front_desk.specs.Inside.Halting.{status_of_report};
+ghost use Rattle.front_desk.specs.Inside.Ending.{status_of_report};
 
+use network_folder::LoadFault;
 use plan_report::Refusal;
-use route_base::{OutOfMemory, Status};
+use route_base::{OutOfMemory, Status, WriteError};
 
 /// The status of a refusal.
 pub fn status_of_refusal(refusal: Refusal) -> Status
@@ -53,5 +54,32 @@ impl From<OutOfMemory> for Halt {
 
     fn from(_: OutOfMemory) -> Self {
         Halt::NoMemory
+    }
+}
+
+impl From<LoadFault> for Halt {
+    ghost use Rattle.front_desk.specs.Inside.Ending.{halt_of_load};
+
+    ghost from_gives = { λ fault halt. halt ≡ halt_of_load fault };
+
+    fn from(fault: LoadFault) -> Self {
+        match fault {
+            LoadFault::Bad(fault) => Halt::Refused(Refusal::Input(fault)),
+            LoadFault::Failed => Halt::ReadFault,
+            LoadFault::OutOfMemory => Halt::NoMemory,
+        }
+    }
+}
+
+impl From<WriteError> for Halt {
+    ghost use Rattle.front_desk.specs.Inside.Ending.{halt_of_write};
+
+    ghost from_gives = { λ error halt. halt ≡ halt_of_write error };
+
+    fn from(error: WriteError) -> Self {
+        match error {
+            WriteError::Failed => Halt::WriteFault,
+            WriteError::OutOfMemory => Halt::NoMemory,
+        }
     }
 }

@@ -1,30 +1,29 @@
 // The command that plans a trip.
-ghost use Rattle.std.specs.Prelude.{◌≡◌, Some, IfOk, OnOk, IfErr, false};
-ghost use Rattle.front_desk.specs.Words.{CountsRise, IsGoodNetwork, trip_setting, vehicle_named, plan_in, to_plan, IsTimed};
+ghost use Rattle.std.specs.Prelude.{◌≡◌, IfOk, OnOk, IfErr};
+ghost use Rattle.front_desk.specs.Words.{IsGoodNetwork, trip_setting, vehicle_named, to_plan, IsTimed};
 ghost use Rattle.front_desk.specs.Words.{request_of, IsGoodTrip, IsPlannable, IsReady};
-ghost use Rattle.front_desk.specs.Words.{StopsCommand, ReportsOn, LeavesPlan, status_of_halt, HandsOver, IsWritten, IsUnwritten};
-ghost use Rattle.ban_expansion.specs.ArcGroups.{AreGroups};
-ghost use Rattle.front_desk.specs.CommandLine.{Plan as PlanModel};
+ghost use Rattle.front_desk.specs.Words.{Ends, HandsOver, IsWritten, IsUnwritten};
+ghost use Rattle.front_words.specs.declared.commands.Plan.{Plan as PlanModel};
 ghost use Rattle.front_desk.specs.Words.{IsTripNet};
 ghost use Rattle.front_desk.specs.declared.plan.Planned.{Planned as PlannedModel};
 ghost use Rattle.network_tables.specs.NetworkModel.{NetworkModel};
 ghost use Rattle.route_base.specs.Net.{Net, setting_of};
-ghost use Rattle.route_base.specs.declared.status.Status.TheVariants.{Done};
 
-use crate::command_line::Plan;
-use crate::networks::{load_network, net_at_once, net_of_trip};
+use crate::networks::net_at_once;
 use crate::outcome::{Halt, Report};
-use crate::requests::{request_of, vehicle_of_trip};
-use crate::writing::{FileToWrite, put_file};
-use ban_expansion::ArcGroups;
+use crate::requests::{request_of, trip_of, vehicle_of_trip};
 use certificate::write;
 use certificate_check::verdicts_agree;
+use front_words::Plan;
 use itinerary_unpack::FunctionEngine;
+use network_folder::{FileToWrite, load_network, put_file};
 use network_tables::Network;
 use plan_certificate::{certificates_agree, certify};
 use plan_report::{Refusal, plan_text, reports_agree};
+use route_base::limits::LONGEST_CERTIFICATE;
 use route_base::{
-    Folder, FrontSearch, Gate, OutOfMemory, Request, Routes, TimedNet, settings_agree,
+    Folder, FrontSearch, Gate, OutOfMemory, Request, Routes, Text, TimedNet, WriteError,
+    settings_agree,
 };
 use std::alloc::Global;
 use std::thread::Threads;
@@ -45,17 +44,17 @@ pub struct Planned<'a> {
 }
 
 // The text of a plan, and its certificate where one is asked for, over the net of its trip. It searches once: a certificate has the
-// routes that are printed.
+// routes that are printed. A certificate of more bytes than `check` reads would be no use: it counts as one for which there is no memory.
 fn planned_over<'a>(
     alloc: Global,
     net: &TimedNet,
-    plan: Plan<'a>,
+    plan: &'a Plan,
 ) -> Result<Planned<'a>, OutOfMemory>
-    requires { IsPlannable net.now (request_of (plan_in plan).trip) }
-    ensures { IfOk result (IsReady (setting_of net.now) (plan_in plan.entry)) }
+    requires { IsPlannable net.now (request_of plan.now.trip) }
+    ensures { IfOk result (IsReady (setting_of net.now) plan.now) }
 {
-    let request = request_of(plan.trip);
-    match plan.certificate {
+    let request = request_of(trip_of(&plan.trip));
+    match &plan.certificate {
         None => {
             let routes = FunctionEngine.front(alloc, net, request)?;
             let text = plan_text(alloc, plan.form, net, request, &routes)?;
@@ -68,9 +67,15 @@ fn planned_over<'a>(
             let certificate = certify(alloc, net, request)?;
             let text = plan_text(alloc, plan.form, net, request, &certificate.routes)?;
             let bytes = write(alloc, &certificate)?;
+            if bytes.len() as u64 > LONGEST_CERTIFICATE {
+                return Err(OutOfMemory);
+            }
             Ok(Planned {
                 text,
-                certificate: Some(CertificateFile { name, bytes }),
+                certificate: Some(CertificateFile {
+                    name: name.as_str(),
+                    bytes,
+                }),
             })
         }
     }
@@ -88,36 +93,13 @@ fn plans_agree()
     reports_agree();
 }
 
-/// The text of the plan of a trip that passes the checks, and its certificate where one is asked for, for its vehicle, over groups of
-/// arcs that are found once for a network.
-pub fn planned_trip<'a>(
-    alloc: Global,
-    network: &Network,
-    groups: &ArcGroups,
-    vehicle: &Vehicle,
-    plan: Plan<'a>,
-) -> Result<Planned<'a>, OutOfMemory>
-    requires groups { AreGroups network.now groups.now }
-    requires network { IsGoodNetwork network.now }
-    requires vehicle { vehicle.now ≡ vehicle_named network.now (plan_in plan).trip.vehicle }
-    requires good { IsGoodTrip network.now.graph.nodes (plan_in plan).trip }
-    requires timed { IsTimed (plan_in plan).trip }
-    ensures { IfOk result
-        (IsReady (trip_setting network.now (plan_in plan.entry).trip) (plan_in plan.entry)) }
-{
-    let net = net_of_trip(alloc, network, groups, vehicle, plan.trip)?;
-    plans_agree();
-    let planned = planned_over(alloc, &net, plan)?;
-    Ok(planned)
-}
-
 // Writes the certificate's file below dir, if there is one.
 fn put_certificate<F: Folder>(
     alloc: Global,
     folder: &mut F,
-    dir: &str,
+    dir: &Text,
     certificate: Option<CertificateFile<'_>>,
-) -> Result<(), Halt>
+) -> Result<(), WriteError>
     ensures written { OnOk result
         (IsWritten (F.state folder.old) (F.state folder.new) dir.now certificate.entry) }
     ensures unwritten { IfErr result
@@ -137,9 +119,9 @@ fn put_certificate<F: Folder>(
 fn hand_over<F: Folder>(
     alloc: Global,
     folder: &mut F,
-    dir: &str,
+    dir: &Text,
     planned: Planned<'_>,
-) -> Result<Report, Halt>
+) -> Result<Report, WriteError>
     ensures { HandsOver (F.state folder.old) (F.state folder.new) dir.now planned.entry result }
 {
     let Planned { text, certificate } = planned;
@@ -156,30 +138,23 @@ pub fn report_plan<R: Threads + Sync, F: Folder, G: Gate>(
     rt: &R,
     alloc: Global,
     folder: &mut F,
-    plan: Plan<'_>,
+    plan: &Plan,
     gate: &G,
 ) -> Result<Report, Halt>
-    requires timed { IsTimed (plan_in plan).trip }
-    ensures reports { IfOk result (ReportsOn (to_plan (plan_in plan.entry))
-        (F.state folder.old) (F.state folder.new)) }
-    ensures done { IfOk result (λ report. report.rejects ≡ false) }
-    ensures halted { IfErr result (StopsCommand (to_plan (plan_in plan.entry))
-        (F.state folder.old) (F.state folder.new)) }
-    ensures left { OnOk result (LeavesPlan (plan_in plan.entry) (plan_in plan.entry).certificate
-        (F.state folder.old) (F.state folder.new) Done) }
-    ensures left_halted { IfErr result (λ halt. LeavesPlan (plan_in plan.entry)
-        (plan_in plan.entry).certificate (F.state folder.old) (F.state folder.new)
-        (status_of_halt halt)) }
-    ensures counts { CountsRise (F.state folder.old) (F.state folder.new) }
+    requires timed { IsTimed plan.now.trip }
+    ensures { Ends (to_plan plan.now)
+        (F.state folder.old) (F.state folder.new) result }
 {
-    let network = load_network(alloc, folder, plan.dir)?;
-    match vehicle_of_trip(&network, plan.trip) {
+    let network = load_network(alloc, folder, &plan.dir)?;
+    let trip = trip_of(&plan.trip);
+    match vehicle_of_trip(&network, trip) {
         Ok(vehicle) => {
-            let net = net_at_once(rt, alloc, &network, vehicle, plan.trip, gate)?;
+            let net = net_at_once(rt, alloc, &network, vehicle, trip, gate)?;
             drop(network);
             plans_agree();
             let planned = planned_over(alloc, &net, plan)?;
-            hand_over(alloc, folder, plan.dir, planned)
+            let report = hand_over(alloc, folder, &plan.dir, planned)?;
+            Ok(report)
         }
         Err(fault) => Err(Halt::Refused(Refusal::Request(fault))),
     }

@@ -2,11 +2,11 @@
 ghost use Rattle.std.specs.Prelude.{◌≡◌, ◌+◌, ◌≤◌, Some, None, IfSome, IfOk, OnOk, IfErr, is_some, length};
 ghost use Rattle.std.specs.Result.{result_err};
 ghost use Rattle.route_base.specs.declared.limits.TheConstants.{LONGEST_HORIZON};
-ghost use Rattle.front_desk.specs.Words.{failed_time, failed_bans_check, bans_in};
+ghost use Rattle.front_desk.specs.Words.{failed_time, failed_bans_check};
 ghost use Rattle.front_desk.specs.Words.{is_node, failed_check_over, failed_check, request_of, trip_in, IsGoodTrip};
 ghost use Rattle.front_desk.specs.Words.{is_vehicle, vehicle_named, IsGoodNetwork};
 
-use crate::command_line::Bans;
+use front_words::{Bans, Trip as TripWords};
 use network_tables::Network;
 use route_base::limits::LONGEST_HORIZON;
 use route_base::{Minute, NodeId, Request, RequestFault};
@@ -21,6 +21,19 @@ pub struct Trip<'a> {
     pub goal: u32,
     pub depart: Minute,
     pub until: Minute,
+}
+
+/// The trip that words say, its vehicle's name borrowed.
+pub fn trip_of(words: &TripWords) -> Trip<'_>
+    ensures { trip_in result ≡ words.now }
+{
+    Trip {
+        vehicle: words.vehicle.as_str().as_bytes(),
+        origin: words.origin,
+        goal: words.goal,
+        depart: words.depart,
+        until: words.until,
+    }
 }
 
 // Whether a node is one of `count` nodes.
@@ -92,16 +105,13 @@ pub fn vehicle_of_trip<'a>(
 }
 
 /// The vehicle of the command's name, or the first check that the command fails over the network. In constant time on average.
-pub fn vehicle_of_bans<'a>(
-    network: &'a Network,
-    bans: Bans<'_>,
-) -> Result<&'a Vehicle, RequestFault>
-    ensures first { result_err result ≡ failed_bans_check network.now (bans_in bans.entry) }
-    ensures vehicle { IfOk result (λ v. v.now ≡ vehicle_named network.now bans.entry.vehicle.now) }
-    ensures low { OnOk result (1 ≤ bans.entry.arc) }
-    ensures high { OnOk result (bans.entry.arc ≤ length network.now.graph.arcs) }
+pub fn vehicle_of_bans<'a>(network: &'a Network, bans: &Bans) -> Result<&'a Vehicle, RequestFault>
+    ensures first { result_err result ≡ failed_bans_check network.now bans.now }
+    ensures vehicle { IfOk result (λ v. v.now ≡ vehicle_named network.now bans.now.vehicle) }
+    ensures low { OnOk result (1 ≤ bans.now.arc) }
+    ensures high { OnOk result (bans.now.arc ≤ length network.now.graph.arcs) }
 {
-    let Some(vehicle) = vehicle_of(network, bans.vehicle.as_bytes()) else {
+    let Some(vehicle) = vehicle_of(network, bans.vehicle.as_str().as_bytes()) else {
         return Err(RequestFault::UnknownVehicle);
     };
     if !is_known(network.graph().arc_count(), bans.arc) {

@@ -1,5 +1,5 @@
 -- One piece of words after another.
-use Rattle.std.proofs.Common.{◌≡◌, ℕ, Bool, false, Option, Some, None, List, [], ◌∷◌, ◌++◌, map, refl, ap, sym, ◌∙◌, append_assoc}
+use Rattle.std.proofs.Common.{◌≡◌, ℕ, Bool, false, Option, Some, None, List, [], ◌∷◌, ◌++◌, map, refl, ap, sym, ◌∙◌, append_assoc, append-nil, arith, length}
 use Rattle.std.proofs.Common.{ap₂}
 use Rattle.std.proofs.lemmas.List.{map-append}
 use Rattle.std.specs.Prelude.{option_map, not, ◌&&◌, if◌then◌else◌}
@@ -76,3 +76,10 @@ module _ {options words rest : List (List ℕ)} {done new : Split} where
         ∙ follow_given done option value (split_of options behind)
         ∙ ap (λ s. option_map (follow s) (split_of options behind)) (sym (same_split _ _ p g));
   }
+
+-- all words are done
+pub all_divided : (options words rest : List (List ℕ)) (done : Split) → IsDivided options words done rest → length rest ≡ 0
+    → split_of options words ≡ Some done
+all_divided options words [] done d e =
+    d.same ∙ ap (λ s. Some s) (same_split (follow done (record { places = []; given = [] })) done (append-nil done.places) (append-nil done.given))
+all_divided options words (word ∷ rest) done d e = absurd (omega arith)

@@ -1,9 +1,6 @@
-pub mod ClapBans
-pub mod ClapBatch
-pub mod ClapCheck
-pub mod ClapGen
-pub mod ClapPlan
+pub mod ClapLines
 pub mod ClapWalk
 pub mod Dividing
+pub mod Made
 pub mod Places
-pub mod Shown
+pub mod Plain

@@ -1,8 +1,10 @@
 -- The commands as `clap` has them, and the words that go to it; no law.
-use Rattle.std.specs.Prelude.{ℕ, ◌≡◌, Option, Some, None, List, [], ◌∷◌, true, codes, map}
+use Rattle.std.specs.Prelude.{ℕ, ◌≡◌, Option, Some, None, List, [], ◌∷◌, ◌++◌, true, codes, map, option_and_then, option_map}
 use Rattle.std.specs.Borrow.{Bor}
 use Rattle.std.specs.List.{fold}
 use Rattle.clap.specs.declared.parser.matches.ArgMatches.{ArgMatches}
+use Rattle.front_words.specs.Forms.{Value, WordForm, value_of_word}
+use Rattle.front_words.specs.Usages.{OptionUsage, Usage, value_if}
 use Rattle.clap.specs.Words.{App, Rule, first_of, first_value, found_of, matches_of, new_app, new_rule, takes, with_rule}
 
 -- a positional word that must be there
@@ -29,9 +31,13 @@ app_with = written_out
 abbrev pub app_in : List ℕ → List (Bor (List ℕ)) → List (Bor (List ℕ)) → App
 app_in name places choices = app_with name (map (λ w. w.now) places) (map (λ w. w.now) choices)
 
+-- the positional words of a trip
+abbrev pub trip_places : List (List ℕ)
+trip_places = codes "vehicle" ∷ codes "from" ∷ codes "to" ∷ codes "depart" ∷ codes "until" ∷ []
+
 -- the positional words of `plan`
 abbrev pub plan_places : List (List ℕ)
-plan_places = codes "dir" ∷ codes "vehicle" ∷ codes "from" ∷ codes "to" ∷ codes "depart" ∷ codes "until" ∷ []
+plan_places = codes "dir" ∷ trip_places
 
 -- the options of `plan`
 abbrev pub plan_choices : List (List ℕ)
@@ -43,7 +49,7 @@ plan_app = app_with (codes "plan") plan_places plan_choices
 
 -- the positional words of `check`
 abbrev pub check_places : List (List ℕ)
-check_places = codes "dir" ∷ codes "vehicle" ∷ codes "from" ∷ codes "to" ∷ codes "depart" ∷ codes "until" ∷ codes "name" ∷ []
+check_places = codes "dir" ∷ (trip_places ++ codes "name" ∷ [])
 
 -- `check DIR VEHICLE FROM TO DEPART UNTIL NAME`
 abbrev pub check_app : App
@@ -85,11 +91,42 @@ IsTaken app words = takes app words ≡ true
 unfoldable pub text_found : App → List (List ℕ) → List ℕ → Option (List ℕ)
 text_found app words id = first_of id (matches_of app words)
 
--- the matches hold this text for an argument
-abbrev pub HasText : ArgMatches → List ℕ → List ℕ → Type 0
-HasText matches id text = first_value (found_of matches) id ≡ Some text
-
 -- an option and its value, where it is given
 abbrev pub option_line : List ℕ → Option (List ℕ) → List (List ℕ)
 option_line name None = []
 option_line name (Some value) = name ∷ value ∷ []
+
+-- the line of a plan that goes to `clap`
+abbrev pub line_of_plan : Option (List ℕ) → Option (List ℕ) → List (List ℕ) → List (List ℕ)
+line_of_plan form name words = codes "plan" ∷ (option_line (codes "--form") form ++ (option_line (codes "--certificate") name ++ words))
+
+-- the line of a batch that goes to `clap`
+abbrev pub line_of_batch : Option (List ℕ) → List (List ℕ) → List (List ℕ)
+line_of_batch workers words = codes "batch" ∷ (option_line (codes "--workers") workers ++ words)
+
+-- the text of an argument in the matches, if it is there
+abbrev pub text_at : ArgMatches → List ℕ → Option (List ℕ)
+text_at matches id = first_value (found_of matches) id
+
+-- the value of an argument in its form
+abbrev pub value_at : ArgMatches → WordForm → List ℕ → Option Value
+value_at matches form id = option_and_then (value_of_word form) (text_at matches id)
+
+-- the values of positional words, each in its form
+abbrev pub values_at : ArgMatches → List (List ℕ) → List WordForm → Option (List Value)
+values_at matches [] [] = Some []
+values_at matches (id ∷ ids) (form ∷ forms) =
+    option_and_then (λ v. option_map (λ vs. v ∷ vs) (values_at matches ids forms)) (value_at matches form id)
+values_at matches ids forms = None
+
+-- the values of options, each in its form where it is there
+abbrev pub options_at : ArgMatches → List (List ℕ) → List OptionUsage → Option (List (Option Value))
+options_at matches [] [] = Some []
+options_at matches (id ∷ ids) (o ∷ os) =
+    option_and_then (λ v. option_map (λ vs. v ∷ vs) (options_at matches ids os)) (value_if o.form (text_at matches id))
+options_at matches ids os = None
+
+-- what the matches make by a row of the table, by the names of its positional words and of its options
+abbrev pub made_at : {A : Type 0} → ArgMatches → Usage A → List (List ℕ) → List (List ℕ) → Option A
+made_at matches usage places choices =
+    option_and_then (λ vs. option_and_then (usage.make vs) (options_at matches choices usage.options)) (values_at matches places usage.places)

@@ -1,67 +1,29 @@
--- The commands, and the table of their words (source: own).
-use Rattle.std.specs.Prelude.{ℕ, ◌*◌, ◌≤◌, nat_le, Option, Some, None, List, [], ◌∷◌, codes, if◌then◌else◌}
+-- The table of the commands' words; the commands are the types of the code (source: own).
+use Rattle.std.specs.Prelude.{ℕ, ◌*◌, ◌≤◌, nat_le, Option, Some, None, List, [], ◌∷◌, ◌++◌, codes, if◌then◌else◌}
 use Rattle.route_base.specs.Time.{IsInstant}
 use Rattle.route_base.specs.declared.types.Form.{Form}
 use Rattle.route_base.specs.declared.types.Form.TheVariants.{Plain}
-use Rattle.front_words.specs.Forms.{Value, of_text, of_number, of_report}
+use Rattle.front_words.specs.Forms.{Value, WordForm, of_text, of_number, of_report}
 use Rattle.front_words.specs.Forms.{folder, vehicle, number, instant, certificate, report, jobs, count}
 use Rattle.front_words.specs.Usages.{Usage, made_in}
-use Rattle.front_words.specs.declared.commands.Command.{Command as CommandWords}
-use Rattle.front_words.specs.declared.commands.Command.TheVariants.{Plan as PlanWords, Check as CheckWords, Bans as BansWords}
-use Rattle.front_words.specs.declared.commands.Command.TheVariants.{Batch as BatchWords, Gen as GenWords}
+pub use Rattle.front_words.specs.declared.commands.Trip.{Trip}
+pub use Rattle.front_words.specs.declared.commands.Plan.{Plan}
+pub use Rattle.front_words.specs.declared.commands.Check.{Check}
+pub use Rattle.front_words.specs.declared.commands.Bans.{Bans}
+pub use Rattle.front_words.specs.declared.commands.Batch.{Batch}
+pub use Rattle.front_words.specs.declared.commands.Gen.{Gen}
+pub use Rattle.front_words.specs.declared.commands.Invocation.{Invocation as Command}
+pub use Rattle.front_words.specs.declared.commands.Invocation.TheVariants.{Plan as to_plan, Check as to_check, Bans as to_bans}
+pub use Rattle.front_words.specs.declared.commands.Invocation.TheVariants.{Batch as to_batch, Gen as to_gen}
+use Rattle.front_words.specs.declared.flat.Command.{Command as FlatCommand}
+use Rattle.front_words.specs.declared.flat.Command.TheVariants as flat
 use Rattle.front_words.specs.declared.limits.TheConstants.{MOST_WORKERS, USUAL_WORKERS}
 use Rattle.net_generator.specs.declared.limits.TheConstants.{LAST_NUMBER, MOST_GENERATED_NODES, MOST_LINES}
 use Rattle.net_generator.specs.Sizes.{IsDrawable}
 
--- a trip of a vehicle from a node at a minute to a node, by a minute at the latest
-pub record Trip : Type 0 where
-  pub vehicle : List ℕ
-  pub origin : ℕ
-  pub goal : ℕ
-  pub depart : ℕ
-  pub until : ℕ
-
--- the command that plans a trip over the files of a folder, reports it in a form, and writes a certificate where a name is given
-pub record Plan : Type 0 where
-  pub dir : List ℕ
-  pub trip : Trip
-  pub form : Form
-  pub certificate : Option (List ℕ)
-
--- the command that judges the certificate of this name for a trip over the files of a folder
-pub record Check : Type 0 where
-  pub dir : List ℕ
-  pub trip : Trip
-  pub name : List ℕ
-
--- the command that prints the minutes from an instant up to, but not including, another at which an arc is closed to a vehicle
-pub record Bans : Type 0 where
-  pub dir : List ℕ
-  pub vehicle : List ℕ
-  pub arc : ℕ
-  pub depart : ℕ
-  pub until : ℕ
-
--- the command that plans each job of a file of jobs over the files of a folder, on some workers
-pub record Batch : Type 0 where
-  pub dir : List ℕ
-  pub jobs : List ℕ
-  pub workers : ℕ
-
--- the command that draws a network of some rows and columns from a number, and writes its files into a folder
-pub record Gen : Type 0 where
-  pub dir : List ℕ
-  pub number : ℕ
-  pub rows : ℕ
-  pub columns : ℕ
-
--- a command, with the values of its words
-pub data Command : Type 0 where
-  to_plan : Plan → Command
-  to_check : Check → Command
-  to_bans : Bans → Command
-  to_batch : Batch → Command
-  to_gen : Gen → Command
+-- the forms of the words of a trip
+abbrev pub trip_forms : List WordForm
+trip_forms = vehicle ∷ number ∷ number ∷ instant ∷ instant ∷ []
 
 -- the trip that these values make
 abbrev pub trip_to : List ℕ → ℕ → ℕ → ℕ → ℕ → Trip
@@ -118,7 +80,7 @@ gen_of places options = None
 abbrev pub plan_usage : Usage Command
 plan_usage = record {
   name = codes "plan";
-  places = folder ∷ vehicle ∷ number ∷ number ∷ instant ∷ instant ∷ [];
+  places = folder ∷ trip_forms;
   options = record { name = codes "--form"; form = report } ∷ record { name = codes "--certificate"; form = certificate } ∷ [];
   make = plan_of;
 }
@@ -127,7 +89,7 @@ plan_usage = record {
 abbrev pub check_usage : Usage Command
 check_usage = record {
   name = codes "check";
-  places = folder ∷ vehicle ∷ number ∷ number ∷ instant ∷ instant ∷ certificate ∷ [];
+  places = folder ∷ (trip_forms ++ certificate ∷ []);
   options = [];
   make = check_of;
 }
@@ -168,16 +130,14 @@ abbrev pub command_of : List (List ℕ) → Option Command
 command_of [] = None
 command_of (name ∷ words) = made_in usages name words
 
--- the command that the code holds
-abbrev pub command_in : CommandWords → Command
-command_in (PlanWords dir lorry from to start end form name) =
+-- the command that the code holds with all its words side by side
+abbrev pub command_in : FlatCommand → Command
+command_in (flat.Plan dir lorry from to start end form name) =
     to_plan (record { dir = dir; trip = trip_to lorry from to start end; form = form; certificate = name })
-command_in (CheckWords dir lorry from to start end name) =
-    to_check (record { dir = dir; trip = trip_to lorry from to start end; name = name })
-command_in (BansWords dir lorry arc start end) =
-    to_bans (record { dir = dir; vehicle = lorry; arc = arc; depart = start; until = end })
-command_in (BatchWords dir file workers) = to_batch (record { dir = dir; jobs = file; workers = workers })
-command_in (GenWords dir from rows columns) = to_gen (record { dir = dir; number = from; rows = rows; columns = columns })
+command_in (flat.Check dir lorry from to start end name) = to_check (record { dir = dir; trip = trip_to lorry from to start end; name = name })
+command_in (flat.Bans dir lorry arc start end) = to_bans (record { dir = dir; vehicle = lorry; arc = arc; depart = start; until = end })
+command_in (flat.Batch dir file workers) = to_batch (record { dir = dir; jobs = file; workers = workers })
+command_in (flat.Gen dir from rows columns) = to_gen (record { dir = dir; number = from; rows = rows; columns = columns })
 
 -- the trip begins and ends at instants
 pub record IsTimed (trip : Trip) : Type 0 where

@@ -55,3 +55,8 @@ module _ {A : Type 0} where
   made_in [] name words = None
   made_in (usage ∷ usages) name words =
       if bytes_eq name usage.name then made_by usage words else made_in usages name words
+
+  -- the options of the row of a table that has this name; none where no row has it
+  abbrev pub options_named : List (Usage A) → List ℕ → List (List ℕ)
+  options_named [] name = []
+  options_named (usage ∷ usages) name = if bytes_eq name usage.name then option_names usage.options else options_named usages name

@@ -1,11 +1,11 @@
-// The line of words that goes to `clap`, and the texts that it gives back.
-ghost use Rattle.std.specs.Prelude.{◌≡◌, ◌∷◌, ◌++◌, ℕ, List, IfErr, IfOk, IsSome, Some, codes, map, option_map};
-ghost use Rattle.clap.specs.Words.{app_of, first_value, found_of, kind_of, with_rule};
-ghost use Rattle.front_words.specs.ClapCommands.{HasText, IsTaken, app_in, choice, option_line, place, text_found, with_rules};
+// The line of words that goes to `clap`, and the matches that it gives back.
+ghost use Rattle.std.specs.Prelude.{◌≡◌, ◌∷◌, ◌++◌, ℕ, List, IfErr, IfOk, map, option_map};
+ghost use Rattle.clap.specs.Words.{app_of, kind_of, with_rule};
+ghost use Rattle.front_words.specs.ClapCommands.{IsTaken, app_in, choice, option_line, place, text_at, text_found, with_rules};
 
 use clap::error::ErrorKind;
 use clap::{Arg, ArgMatches, Command, Error};
-use route_base::{OutOfMemory, Text};
+use route_base::OutOfMemory;
 use std::alloc::{AllocError, Global};
 
 // The command with a positional word more, which must be there.
@@ -86,7 +86,7 @@ fn parse_line<'a>(
 ) -> Result<ArgMatches<'a>, Error>
     requires { IsTaken (app_in name.now places.now choices.now) (map (λ w. w.now) line.now) }
     ensures found { let app = app_in name.entry.now places.entry.now choices.entry.now in
-        IfOk result (λ m. (id : List ℕ) → first_value (found_of m) id
+        IfOk result (λ m. (id : List ℕ) → text_at m id
         ≡ text_found app (map (λ w. w.now) line.entry.now) id) }
     ensures refused { IfErr result (λ e. kind_of e ≡ ErrorKind.OutOfMemory) }
 {
@@ -104,7 +104,7 @@ pub fn matches_for<'a>(
 ) -> Result<ArgMatches<'a>, OutOfMemory>
     requires { IsTaken (app_in name.now places.now choices.now) (map (λ w. w.now) line.now) }
     ensures { let app = app_in name.entry.now places.entry.now choices.entry.now in
-        IfOk result (λ m. (id : List ℕ) → first_value (found_of m) id
+        IfOk result (λ m. (id : List ℕ) → text_at m id
         ≡ text_found app (map (λ w. w.now) line.entry.now) id) }
 {
     match parse_line(alloc, name, places, choices, line) {
@@ -148,43 +148,12 @@ pub fn line_of<'a>(
     places: &[&'a str],
 ) -> Result<Vec<&'a str>, OutOfMemory>
     ensures { IfOk result (λ line. map (λ w. w.now) line.items
-        ≡ name.entry.now ∷ (map (λ w. w.now) options.entry.now ++ map (λ w. w.now) places.entry.now)) }
+        ≡ name.entry.now
+        ∷ (map (λ w. w.now) options.entry.now ++ map (λ w. w.now) places.entry.now)) }
 {
     let mut line = Vec::new(alloc);
     line.push(name)?;
     push_words(&mut line, options)?;
     push_words(&mut line, places)?;
     Ok(line)
-}
-
-// A copy of the text of an argument that is there.
-pub fn text_of(alloc: Global, matches: &ArgMatches, id: &str) -> Result<Text, OutOfMemory>
-    requires { IsSome (first_value (found_of matches.now) id.now) }
-    ensures { IfOk result (λ t. first_value (found_of matches.now) id.now ≡ Some t) }
-{
-    match matches.get_str(id) {
-        Some(text) => Text::of(alloc, text),
-        None => unreachable!(),
-    }
-}
-
-// Copies of the texts of the folder and of the vehicle.
-pub fn dir_and_vehicle(alloc: Global, matches: &ArgMatches) -> Result<(Text, Text), OutOfMemory>
-    requires dir { IsSome (first_value (found_of matches.now) (codes "dir")) }
-    requires vehicle { IsSome (first_value (found_of matches.now) (codes "vehicle")) }
-    ensures { IfOk result (λ t. HasText matches.now (codes "dir") t.0
-        × HasText matches.now (codes "vehicle") t.1) }
-{
-    let dir = text_of(alloc, matches, "dir")?;
-    Ok((dir, text_of(alloc, matches, "vehicle")?))
-}
-
-// A copy of the text of an argument, if it is there.
-pub fn text_if(alloc: Global, matches: &ArgMatches, id: &str) -> Result<Option<Text>, OutOfMemory>
-    ensures { IfOk result (λ t. first_value (found_of matches.now) id.now ≡ t) }
-{
-    match matches.get_str(id) {
-        Some(text) => Ok(Some(Text::of(alloc, text)?)),
-        None => Ok(None),
-    }
 }

@@ -4,53 +4,71 @@ ghost use Rattle.std.specs.Prelude.{◌≡◌};
 use route_base::{Form, Minute, OutOfMemory, Text};
 use std::alloc::AllocFailed;
 
-/// A command, with the values of its words. Nodes and arcs are numbered from 1; minutes are Unix minutes.
+/// A trip of a vehicle from the node `origin` at `depart` to the node `goal`, by `until` at the latest. Nodes are numbered from 1, and minutes
+/// are Unix minutes.
 #[derive(Drop)]
-pub enum Command {
-    /// Plans a trip over the files of the folder `dir`, reports it in a form, and writes a certificate into the folder where a name is
-    /// given for it.
-    Plan {
-        dir: Text,
-        vehicle: Text,
-        from: u32,
-        to: u32,
-        depart: Minute,
-        until: Minute,
-        form: Form,
-        certificate: Option<Text>,
-    },
-    /// Judges the certificate `name` for a trip over the files of the folder `dir`.
-    Check {
-        dir: Text,
-        vehicle: Text,
-        from: u32,
-        to: u32,
-        depart: Minute,
-        until: Minute,
-        name: Text,
-    },
-    /// Prints the minutes from `depart` up to, but not including, `until` at which an arc is closed to a vehicle, over the files of the folder
-    /// `dir`.
-    Bans {
-        dir: Text,
-        vehicle: Text,
-        arc: u32,
-        depart: Minute,
-        until: Minute,
-    },
-    /// Plans each job of the file `jobs` over the files of the folder `dir`, on this many workers.
-    Batch {
-        dir: Text,
-        jobs: Text,
-        workers: u32,
-    },
-    /// Draws a network of these rows and columns from a number, and writes its files into the folder `dir`.
-    Gen {
-        dir: Text,
-        number: u64,
-        rows: u32,
-        columns: u32,
-    },
+pub struct Trip {
+    pub vehicle: Text,
+    pub origin: u32,
+    pub goal: u32,
+    pub depart: Minute,
+    pub until: Minute,
+}
+
+/// Plans a trip over the files of the folder `dir`, reports it in a form, and writes a certificate into the folder where a name is given
+/// for it.
+#[derive(Drop)]
+pub struct Plan {
+    pub dir: Text,
+    pub trip: Trip,
+    pub form: Form,
+    pub certificate: Option<Text>,
+}
+
+/// Judges the certificate `name` for a trip over the files of the folder `dir`.
+#[derive(Drop)]
+pub struct Check {
+    pub dir: Text,
+    pub trip: Trip,
+    pub name: Text,
+}
+
+/// Prints the minutes from `depart` up to, but not including, `until` at which an arc is closed to a vehicle, over the files of the folder
+/// `dir`. Arcs are numbered from 1, and minutes are Unix minutes.
+#[derive(Drop)]
+pub struct Bans {
+    pub dir: Text,
+    pub vehicle: Text,
+    pub arc: u32,
+    pub depart: Minute,
+    pub until: Minute,
+}
+
+/// Plans each job of the file `jobs` over the files of the folder `dir`, on this many workers.
+#[derive(Drop)]
+pub struct Batch {
+    pub dir: Text,
+    pub jobs: Text,
+    pub workers: u32,
+}
+
+/// Draws a network of these rows and columns from a number, and writes its files into the folder `dir`.
+#[derive(Drop)]
+pub struct Gen {
+    pub dir: Text,
+    pub number: u64,
+    pub rows: u32,
+    pub columns: u32,
+}
+
+/// A command with the values of its words, those of each command in a struct of its own.
+#[derive(Drop)]
+pub enum Invocation {
+    Plan(Plan),
+    Check(Check),
+    Bans(Bans),
+    Batch(Batch),
+    Gen(Gen),
 }
 
 /// Why words give no command.

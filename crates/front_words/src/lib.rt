@@ -4,16 +4,17 @@
 //! divide into positional words and options; `Usages` what a row of the table of commands is, and what words make by it. `Commands` has
 //! the commands and their table, and `command_of`, the command that words are.
 //!
-//! `read_words` answers exactly this. Its own tests decide: `splitting` divides the words, `options` finds the value of an option, `forms`
-//! has the forms. `plan`, `check`, `bans`, `batch` and `generate` have one row of the table each, in its order. The words that pass go to
-//! one simple command of `clap` each, in one order: the options with their values, then the positional words. `clap` then fails only when
-//! it is out of memory (`refused` of `plan_matches`, `check_matches`, `bans_matches`, `batch_matches` and `gen_matches`), and the texts of
-//! a command are those that it gives back.
+//! `read_invocation` answers exactly this, and `read_words` the same with all words side by side (`flat`). `splitting` divides the words, and `options` finds the value of an option. `plan`, `check`, `bans`,
+//! `batch` and `generate` have one row of the table each: where the words are as many as its forms, they go to one simple command of `clap`
+//! in one order, the options with their values and then the positional words. `clap` then fails only when it is out of memory (`refused` of
+//! `parse_line`), and `found` reads the values of the words that it gives back, in the forms of `forms`; `trip_words` reads those of a
+//! trip, in all commands that have one.
 //!
 //! `limits` bounds the workers of a batch; a number, rows and columns are those from which `net_generator` draws a network (`IsDrawable`).
 //!
 //! `Inside` and `ClapCommands` are no law: they have what the calls hand to one another, and the commands as `clap` has them.
-//! `proofs/ClapWalk` is the walk of `clap` over words that begin with no dash, and `proofs/Shown` shows that words in their forms are such.
+//! `proofs/ClapWalk` is the walk of `clap` over words that begin with no dash, `proofs/Plain` shows that those of a split are such, and
+//! `proofs/ClapLines` has the line of each command.
 #![tactic(auto)]
 
 mod bans;
@@ -21,14 +22,18 @@ mod batch;
 mod check;
 mod clap_words;
 mod commands;
+mod flat;
 mod forms;
+mod found;
 mod generate;
 mod limits;
 mod options;
 mod plan;
 mod reading;
 mod splitting;
+mod trip_words;
 
-pub use commands::{Command, WordsFault};
+pub use commands::{Bans, Batch, Check, Gen, Invocation, Plan, Trip, WordsFault};
+pub use flat::Command;
 pub use limits::{MOST_WORKERS, USUAL_WORKERS};
-pub use reading::read_words;
+pub use reading::{read_invocation, read_words};

@@ -1,15 +1,29 @@
 // Reads the words of the command line.
-ghost use Rattle.std.specs.Prelude.{◌≡◌, None, Some, IfErr, IfOk};
-ghost use Rattle.front_words.specs.Commands.{AsksSupported, command_in, command_of};
+ghost use Rattle.std.specs.Prelude.{◌≡◌, None, Some, IfErr, IfOk, map};
+ghost use Rattle.front_words.specs.Commands.{AsksSupported, command_in, command_of, usages};
+ghost use Rattle.front_words.specs.Usages.{options_named};
 
 use crate::bans::read_bans;
 use crate::batch::read_batch;
 use crate::check::read_check;
+use crate::flat::side_by_side;
 use crate::generate::read_gen;
 use crate::plan::read_plan;
-use crate::{Command, WordsFault};
+use crate::splitting::split_words;
+use crate::{Command, Invocation, WordsFault};
 use route_base::Text;
 use std::alloc::Global;
+
+// The options of a command, by the command's name.
+fn options_of(name: &str) -> &'static [&'static str]
+    ensures { map (λ o. o.now) result.now ≡ options_named usages name.now }
+{
+    match name {
+        "plan" => &["--form", "--certificate"],
+        "batch" => &["--workers"],
+        _ => &[],
+    }
+}
 
 /// The command that the words are: the command's name first, without the name of the program. NotACommand exactly where they are none,
 /// unless memory runs out. Linear in the length of the words.
@@ -23,20 +37,32 @@ use std::alloc::Global;
 /// bits without a leading zero; DEPART and UNTIL are instants, as texts or as Unix minutes; F is `plain`, `table`, `csv` or `json`, and
 /// `plain` where it isn't given; NAME is a name that ends in `.cert`. N is 1 to 64, and 4 where it isn't given; NUMBER is 1 to
 /// 2,147,483,646; ROWS and COLUMNS are 1 to 400 each, and their product is at most 22,500; none of these has a leading zero.
+pub fn read_invocation(alloc: Global, words: &[Text]) -> Result<Invocation, WordsFault>
+    ensures command { IfOk result (λ c. command_of words.now ≡ Some c) }
+    ensures none { IfErr result (λ e. e ≡ WordsFault.NotACommand → command_of words.now ≡ None) }
+    ensures supported { IfOk result AsksSupported }
+{
+    let Some((name, rest)) = words.split_first() else {
+        return Err(WordsFault::NotACommand);
+    };
+    let split = split_words(alloc, options_of(name.as_str()), rest)?;
+    let places = split.places.as_slice();
+    match name.as_str() {
+        "plan" => read_plan(alloc, places, split.given.as_slice()),
+        "check" => read_check(alloc, places),
+        "bans" => read_bans(alloc, places),
+        "batch" => read_batch(alloc, places, split.given.as_slice()),
+        "gen" => read_gen(alloc, places),
+        _ => Err(WordsFault::NotACommand),
+    }
+}
+
+/// The same command, with all its words side by side. It costs what `read_invocation` costs.
 pub fn read_words(alloc: Global, words: &[Text]) -> Result<Command, WordsFault>
     ensures command { IfOk result (λ c. command_of words.now ≡ Some (command_in c)) }
     ensures none { IfErr result (λ e. e ≡ WordsFault.NotACommand → command_of words.now ≡ None) }
     ensures supported { IfOk result (λ c. AsksSupported (command_in c)) }
 {
-    let Some((name, rest)) = words.split_first() else {
-        return Err(WordsFault::NotACommand);
-    };
-    match name.as_str() {
-        "plan" => read_plan(alloc, rest),
-        "check" => read_check(alloc, rest),
-        "bans" => read_bans(alloc, rest),
-        "batch" => read_batch(alloc, rest),
-        "gen" => read_gen(alloc, rest),
-        _ => Err(WordsFault::NotACommand),
-    }
+    let invocation = read_invocation(alloc, words)?;
+    Ok(side_by_side(invocation))
 }

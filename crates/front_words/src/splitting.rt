@@ -1,7 +1,7 @@
 // Divides the words behind a command's name into positional words and options.
-ghost use Rattle.std.specs.Prelude.{◌≡◌, map};
+ghost use Rattle.std.specs.Prelude.{◌≡◌, IfOk, map};
 ghost use Rattle.front_words.specs.Splitting.{is_dashed, is_option, piece_of, split_of};
-ghost use Rattle.front_words.specs.Inside.{AnswersWith, piece_of_word, split_in};
+ghost use Rattle.front_words.specs.Inside.{AnswersWith, IsPlainSplit, piece_of_word, split_in};
 
 use crate::WordsFault;
 use route_base::Text;
@@ -69,13 +69,15 @@ fn read_piece<'a>(options: &[&str], word: &'a str) -> Piece<'a>
     }
 }
 
-// Divides words for a command with these options.
+// Divides words for a command with these options. No positional word and no value begins with `-`.
 pub fn split_words<'a>(
     alloc: Global,
     options: &[&str],
     words: &'a [Text],
 ) -> Result<Split<'a>, WordsFault>
-    ensures { AnswersWith split_in (split_of (map (λ o. o.now) options.now) words.now) result }
+    ensures split { AnswersWith split_in
+        (split_of (map (λ o. o.now) options.now) words.now) result }
+    ensures plain { IfOk result (λ s. IsPlainSplit (split_in s)) }
 {
     let mut places = Vec::new(alloc);
     let mut given = Vec::new(alloc);

@@ -37,11 +37,13 @@ module _ (f g : List Piece) (t : ℕ) where
   pub better_both : (a b : ℕ) → value_at f t ≡ Some a → value_at g t ≡ Some b → better_at f g t ≡ ltb b a
   better_both a b first second = ap (λ v. is_better v (value_at g t)) first ∙ ap (λ v. is_better (Some a) v) second
 
-module _ (f g : List Piece) (from : ℕ) (s : Segment) (starts : from ≤ (piece_of s).lo) (filled : (piece_of s).lo ≤ (piece_of s).hi) (minutes : (piece_of s).hi ≤ LAST_INSTANT)
+module _ (f g : List Piece) (from : ℕ) (s : Segment) (starts : from ≤ (piece_of s).lo) (filled : (piece_of s).lo ≤ (piece_of s).hi)
+    (minutes : (piece_of s).hi ≤ LAST_INSTANT)
     (small : IsSmallPiece (piece_of s))
     (gap_f : (t : ℕ) → from ≤ t → t < (piece_of s).lo → value_at f t ≡ None) (gap_g : (t : ℕ) → from ≤ t → t < (piece_of s).lo → value_at g t ≡ None) where
   pub next_first : (p : Piece) → ((t : ℕ) → (piece_of s).lo ≤ t → line_at (piece_of s) t ≡ line_at p t)
-      → ((t : ℕ) → (piece_of s).lo ≤ t → t ≤ (piece_of s).hi → value_at f t ≡ Some (line_at p t)) → ((t : ℕ) → (piece_of s).lo ≤ t → t ≤ (piece_of s).hi → value_at g t ≡ None)
+      → ((t : ℕ) → (piece_of s).lo ≤ t → t ≤ (piece_of s).hi → value_at f t ≡ Some (line_at p t)) →
+      ((t : ℕ) → (piece_of s).lo ≤ t → t ≤ (piece_of s).hi → value_at g t ≡ None)
       → improves s ≡ false → IsNextSegment f g from s
   next_first p line first second improves = record {
     starts = starts;
@@ -55,7 +57,8 @@ module _ (f g : List Piece) (from : ℕ) (s : Segment) (starts : from ≤ (piece
   }
 
   pub next_second : (q : Piece) → ((t : ℕ) → (piece_of s).lo ≤ t → line_at (piece_of s) t ≡ line_at q t)
-      → ((t : ℕ) → (piece_of s).lo ≤ t → t ≤ (piece_of s).hi → value_at f t ≡ None) → ((t : ℕ) → (piece_of s).lo ≤ t → t ≤ (piece_of s).hi → value_at g t ≡ Some (line_at q t))
+      → ((t : ℕ) → (piece_of s).lo ≤ t → t ≤ (piece_of s).hi → value_at f t ≡ None) →
+      ((t : ℕ) → (piece_of s).lo ≤ t → t ≤ (piece_of s).hi → value_at g t ≡ Some (line_at q t))
       → improves s ≡ true → IsNextSegment f g from s
   next_second q line first second improves = record {
     starts = starts;

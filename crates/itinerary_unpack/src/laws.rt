@@ -7,8 +7,8 @@ ghost use Rattle.route_base.specs.declared.limits.TheConstants.{DEAREST_MINUTE, 
 ghost use Rattle.route_base.specs.declared.types.Request.{Request};
 
 /// The law that the costs of a request of at most `LONGEST_HORIZON` minutes fit over a good net whose roads cost at most
-/// `DEAREST_MINUTE` thousandths a minute. So a caller meets the premise `fit` of `front`, of `search`, of `unpack` and of `certify`. The call does
-/// nothing.
+/// `DEAREST_MINUTE` thousandths a minute. So a caller meets the premise `fit` of `front`, of `search`, of `unpack` and of
+/// `certify`. The call does nothing.
 pub fn costs_fit()
     ensures { (net : Net) (r : Request) → IsGoodNet net
         → ((a : ℕ) (road : Road) → (setting_of net).road a ≡ Some road

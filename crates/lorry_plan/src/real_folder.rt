@@ -1,4 +1,4 @@
-// The files of the system. Their contents aren't told, so nothing is proved of them: this is the trusted edge.
+// The files of the system. No contract describes their contents, so nothing is proved of them: this is the trusted edge.
 ghost use Rattle.std.specs.Prelude.{◌≡◌, ◌≤◌, length, IfOk, OnOk};
 ghost use Rattle.route_base.specs.FolderState.{CountsRise, KeepsFiles, MissedFile, FailedToRead, FailedToWrite};
 ghost use Rattle.route_base.specs.FolderState.{ReadsPart, LacksFile, PutsFile, SpoilsFile};

@@ -49,7 +49,8 @@ impl<R: Print> Sink for RealOut<'_, R> {
         ensures count { FaultsRise (sink_with self.old.faults) (sink_with self.new.faults) }
         ensures failed { result ≡ Err WriteError.Failed
             → FailedToAppend (sink_with self.old.faults) (sink_with self.new.faults) }
-        ensures after { sink_with self.new.faults ≡ after_append (sink_with self.old.faults) result }
+        ensures after { sink_with self.new.faults ≡ after_append
+            (sink_with self.old.faults) result }
     {
         match write_whole(self.out, bytes) {
             Ok(()) => Ok(()),

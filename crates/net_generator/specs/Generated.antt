@@ -1,5 +1,5 @@
 -- The files of a drawn network (source: DIMACS 9 for the graph, RFC 4180 for the tables).
-use Rattle.std.specs.Prelude.{ℕ, ◌+◌, ◌*◌, List, ◌∷◌, ◌++◌, length, codes, decimal, flat_map}
+use Rattle.std.specs.Prelude.{ℕ, ◌*◌, List, ◌∷◌, ◌++◌, length, codes, decimal, flat_map}
 use Rattle.net_generator.specs.Draws.{Drawn}
 use Rattle.net_generator.specs.Layout.{roads_drawn, closures_drawn, parking_drawn}
 use Rattle.net_generator.specs.declared.layout.Road.{Road}

@@ -56,7 +56,8 @@ fn push_both_ways(
     tail: u32,
     head: u32,
 ) -> Result<(), OutOfMemory>
-    ensures { OnOk result (Continues (both_ways tail head) out.old.items draws.old out.new.items draws.new) }
+    ensures { OnOk result (Continues (both_ways tail head) out.old.items draws.old out.new.items
+        draws.new) }
 {
     let minutes = 20 + draws.below(41);
     out.push(Road {
@@ -110,7 +111,8 @@ pub fn draw_roads(alloc: Global, draws: &mut Draws, grid: Grid) -> Result<Vec<Ro
 
 // Draws whether an arc is closed, and when.
 fn push_closure(out: &mut Vec<Closure>, draws: &mut Draws, arc: u64) -> Result<(), OutOfMemory>
-    ensures { OnOk result (Continues (closures_at arc) out.old.items draws.old out.new.items draws.new) }
+    ensures { OnOk result (Continues (closures_at arc) out.old.items draws.old out.new.items
+        draws.new) }
 {
     if draws.below(10) == 0 {
         let from = 26_563_680 + draws.below(14_400);
@@ -126,7 +128,8 @@ pub fn draw_closures(
     draws: &mut Draws,
     arcs: usize,
 ) -> Result<Vec<Closure>, OutOfMemory>
-    ensures { IfOk result (λ closures. Continues (drawn_to closures_at arcs) [] draws.old closures.items draws.new) }
+    ensures { IfOk result (λ closures. Continues
+        (drawn_to closures_at arcs) [] draws.old closures.items draws.new) }
 {
     let mut out = Vec::new(alloc);
     for done in 0..arcs {
@@ -137,7 +140,8 @@ pub fn draw_closures(
 
 // Draws whether a node has a parking area, and its rating.
 fn push_parking(out: &mut Vec<Parking>, draws: &mut Draws, node: u32) -> Result<(), OutOfMemory>
-    ensures { OnOk result (Continues (parking_at node) out.old.items draws.old out.new.items draws.new) }
+    ensures { OnOk result (Continues (parking_at node) out.old.items draws.old out.new.items
+        draws.new) }
 {
     if draws.below(8) == 0 {
         let rating = b'a' + draws.below(3) as u8;
@@ -153,7 +157,8 @@ pub fn draw_parking(
     nodes: u32,
 ) -> Result<Vec<Parking>, OutOfMemory>
     requires { nodes ≤ MOST_GENERATED_NODES }
-    ensures { IfOk result (λ parking. Continues (drawn_to parking_at nodes) [] draws.old parking.items draws.new) }
+    ensures { IfOk result (λ parking. Continues
+        (drawn_to parking_at nodes) [] draws.old parking.items draws.new) }
 {
     let mut out = Vec::new(alloc);
     for done in 0..nodes {

@@ -1,29 +1,12 @@
 // Writes the roads, the closures and the parking areas.
-ghost use Rattle.std.specs.Prelude.{◌≡◌, ◌≤◌, ◌*◌, ◌++◌, OnOk, IfOk, decimal, flat_map};
+ghost use Rattle.std.specs.Prelude.{◌≡◌, ◌≤◌, ◌*◌, ◌++◌, OnOk, IfOk, flat_map};
 ghost use Rattle.net_generator.specs.Generated.{size_text, comment_text, graph_text, road_text, closure_text, closures_text, parking_text, parkings_text};
 ghost use Rattle.net_generator.specs.declared.limits.TheConstants.{MOST_GENERATED_NODES};
 
 use crate::layout::{Closure, Grid, Parking, Road};
-use itoa::Buffer;
+use line_texts::{push_field, push_number, push_text};
 use route_base::OutOfMemory;
 use std::alloc::Global;
-
-// Appends a text.
-fn push_text(out: &mut Vec<u8>, text: &str) -> Result<(), OutOfMemory>
-    ensures { OnOk result (out.new.items ≡ out.old.items ++ text.now) }
-{
-    out.extend_from_slice(text.as_bytes())?;
-    Ok(())
-}
-
-// Appends a word and a number in decimal digits.
-fn push_field(out: &mut Vec<u8>, before: &str, number: u64) -> Result<(), OutOfMemory>
-    ensures { OnOk result (out.new.items ≡ out.old.items ++ (before.now ++ decimal number)) }
-{
-    push_text(out, before)?;
-    let mut buffer = Buffer::new();
-    push_text(out, buffer.format(number))
-}
 
 // Appends the rows and columns of a grid, and ends the line.
 fn push_size(out: &mut Vec<u8>, grid: Grid) -> Result<(), OutOfMemory>
@@ -81,7 +64,7 @@ pub fn graph(alloc: Global, number: u64, grid: Grid, roads: &[Road]) -> Result<V
 fn push_closure(out: &mut Vec<u8>, closure: Closure) -> Result<(), OutOfMemory>
     ensures { OnOk result (out.new.items ≡ out.old.items ++ closure_text closure) }
 {
-    push_field(out, "", closure.arc)?;
+    push_number(out, closure.arc)?;
     push_field(out, ",", closure.from)?;
     push_field(out, ",", closure.to)?;
     push_text(out, "\n")
@@ -103,7 +86,7 @@ pub fn closures(alloc: Global, closures: &[Closure]) -> Result<Vec<u8>, OutOfMem
 fn push_parking(out: &mut Vec<u8>, parking: Parking) -> Result<(), OutOfMemory>
     ensures { OnOk result (out.new.items ≡ out.old.items ++ parking_text parking) }
 {
-    push_field(out, "", parking.node as u64)?;
+    push_number(out, parking.node as u64)?;
     push_text(out, ",")?;
     out.push(parking.rating)?;
     push_text(out, "\n")

@@ -7,7 +7,7 @@ use Rattle.std.proofs.lemmas.Option.{slice_get-map, slice_get_read}
 use Rattle.opening_hours.specs.Holidays.{HolidayLists}
 use Rattle.zone_rules.specs.declared.rows.ZoneRow.{ZoneRow}
 use Rattle.network_tables.specs.NetworkParts.{zones_at, areas_with}
-use Rattle.network_tables.specs.Areas.{AreaEntry}
+use Rattle.area_tables.specs.Areas.{AreaEntry}
 use Rattle.network_tables.specs.NetworkModel.{Area}
 
 pub length-areas_with : (zones : List (List ZoneRow)) (holidays : List HolidayLists) → length holidays ≡ length zones

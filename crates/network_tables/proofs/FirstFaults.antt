@@ -7,7 +7,8 @@ use Rattle.network_tables.specs.declared.faults.NetworkFault.{NetworkFault}
 use Rattle.network_tables.specs.declared.faults.NetworkFault.TheVariants as network
 use Rattle.network_tables.specs.declared.files.Files.{Files}
 use Rattle.network_tables.specs.Inside.{places_fault, access_fault, limits_fault}
-use Rattle.network_tables.specs.NetworkFiles.{graph_fault, zones_fault, areas_fault, roads_fault, vehicles_fault, rules_fault, closures_fault, ratings_fault, parking_fault}
+use Rattle.network_tables.specs.NetworkFiles.{graph_fault, zones_fault, areas_fault, roads_fault}
+use Rattle.network_tables.specs.NetworkFiles.{vehicles_fault, rules_fault, closures_fault, ratings_fault, parking_fault}
 use Rattle.network_tables.specs.NetworkFiles.{holidays_fault, contents_fault, first_some}
 use Rattle.network_tables.specs.Refusals.{IsInputRefusal, Reads}
 

@@ -2,9 +2,9 @@ pub mod ArcRules
 pub mod AreaLists
 pub mod AreaRows
 pub mod ClosureRows
-pub mod DatedRows
-pub mod DayLists
 pub mod FirstFaults
+pub mod FileFaults
+pub mod HeldClosures
 mod JobRows
 pub mod NetLists
 pub mod RoadRows
@@ -12,6 +12,4 @@ pub mod RuleRows
 pub mod SamePlaces
 mod Rows
 mod WorkedJobs
-mod WorkedZones
 pub mod SmallWeights
-pub mod ZoneRows

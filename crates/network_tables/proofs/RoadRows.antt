@@ -6,10 +6,10 @@ use Rattle.std.specs.Str.{bytes_eq}
 use Rattle.std.proofs.lemmas.List.{length-map}
 use Rattle.std.proofs.lemmas.List.Elements.{All-map}
 use Rattle.std.proofs.lemmas.Option.{option_and_then_some}
-use Rattle.network_tables.specs.Areas.{AreaEntry, areas_or_default}
+use Rattle.area_tables.specs.Areas.{AreaEntry, areas_or_default}
 use Rattle.table_reader.specs.NameIndex.{names_of, place_among}
 use Rattle.table_reader.specs.ByNumber.{NumberedRow, name_at, given_to, given_by_number}
-use Rattle.network_tables.specs.Roads.{area_by_arc}
+use Rattle.area_tables.specs.Roads.{area_by_arc}
 use Rattle.network_tables.specs.NetworkModel.{AreBelow}
 use Rattle.table_reader.proofs.Lists.{map-map, position_within}
 use Rattle.table_reader.proofs.NumberedRows.{length-given_by_number}

@@ -5,11 +5,11 @@ use Rattle.route_base.specs.declared.faults.BadInput.{BadInput}
 use Rattle.table_reader.specs.NameIndex.{names_of}
 use Rattle.table_reader.specs.Records.{rows_of}
 use Rattle.zone_rules.specs.declared.rows.ZoneRow.{ZoneRow}
-use Rattle.network_tables.specs.AreaPlaces.{HaveZones}
-use Rattle.network_tables.specs.Holidays.{holidays_named}
+use Rattle.area_tables.specs.AreaPlaces.{HaveZones}
+use Rattle.area_tables.specs.Holidays.{holidays_named}
 use Rattle.network_tables.specs.NetworkFiles.{areas_of, roads_of, holidays_of, first_some}
 use Rattle.network_tables.specs.NetworkFiles.{zones_fault, areas_fault, roads_fault, vehicles_fault, rules_fault, closures_fault, ratings_fault, parking_fault}
-use Rattle.network_tables.specs.Zones.{HasZones, ZoneList, zone_entries_in}
+use Rattle.area_tables.specs.Zones.{HasZones, ZoneList, zone_entries_in}
 use Rattle.network_tables.specs.declared.files.Files.{Files}
 
 -- the first fault of zones, areas and roads

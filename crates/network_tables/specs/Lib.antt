@@ -1,10 +1,6 @@
 pub mod Access
-pub mod AreaPlaces
-pub mod Areas
 pub mod Closures
 pub mod Files
-pub mod HolidayDays
-pub mod Holidays
 pub mod Inside
 pub mod Jobs
 pub mod NetworkFiles
@@ -14,8 +10,6 @@ pub mod Parking
 pub mod Ratings
 pub mod Refusals
 pub mod RoadSetting
-pub mod Roads
 pub mod Words
-pub mod Zones
 pub mod Rules
 pub mod RuleLists

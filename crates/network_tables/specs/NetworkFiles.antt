@@ -13,17 +13,17 @@ use Rattle.table_reader.specs.ByNumber.{numbered_in}
 use Rattle.table_reader.specs.NameIndex.{names_of}
 use Rattle.table_reader.specs.Records.{records_of, rows_of}
 use Rattle.table_reader.specs.Schema.{Schema, first_table_fault}
-use Rattle.network_tables.specs.Areas.{AreaEntry, areas_schema, areas_in, areas_or_default}
+use Rattle.area_tables.specs.Areas.{AreaEntry, areas_schema, areas_in, areas_or_default}
 use Rattle.network_tables.specs.Closures.{closures_schema, closures_in, runs_by_arc}
-use Rattle.network_tables.specs.Holidays.{HolidayEntry, holidays_schema, holidays_in, holidays_named}
+use Rattle.area_tables.specs.Holidays.{HolidayEntry, holidays_schema, holidays_in, holidays_named}
 use Rattle.network_tables.specs.NetworkModel.{Area, NetworkModel}
 use Rattle.network_tables.specs.Parking.{parking_schema, weights_by_node}
 use Rattle.network_tables.specs.Ratings.{Rating, ratings_schema, ratings_in}
 use Rattle.vehicle_classes.specs.Vehicles.{VehicleEntry, vehicles_in, vehicles_schema}
 use Rattle.network_tables.specs.Rules.{rules_schema}
 use Rattle.network_tables.specs.RuleLists.{RuleList, rules_stated}
-use Rattle.network_tables.specs.Roads.{roads_schema, area_by_arc}
-use Rattle.network_tables.specs.Zones.{zones_schema, zone_entries_in, zone_named}
+use Rattle.area_tables.specs.Roads.{roads_schema, area_by_arc}
+use Rattle.area_tables.specs.Zones.{zones_schema, zone_entries_in, zone_named}
 use Rattle.network_tables.specs.declared.files.Files.{Files}
 
 -- a fault as that of a file

@@ -1,6 +1,7 @@
 -- Road networks as contracts see them (source: own).
 use Rattle.std.specs.Prelude.{◌≡◌, ℕ, ◌≤◌, ◌<◌, Option, Some, List, [], length, unwrap_or, All}
 use Rattle.route_base.specs.Net.{at_number}
+use Rattle.route_base.specs.declared.limits.TheConstants.{HEAVIEST_WEIGHT}
 use Rattle.route_base.specs.declared.types.Run.{Run}
 use Rattle.dimacs_reader.specs.GraphModel.{GraphModel}
 use Rattle.opening_hours.specs.Holidays.{HolidayLists}
@@ -31,7 +32,7 @@ closures_of net a = unwrap_or (at_number net.closures a) []
 
 -- a weight is at most 100 for a minute
 abbrev pub IsSmallWeight : Option ℕ → Type 0
-IsSmallWeight o = (w : ℕ) → o ≡ Some w → w ≤ 100000
+IsSmallWeight o = (w : ℕ) → o ≡ Some w → w ≤ HEAVIEST_WEIGHT
 
 -- each of these places is below n
 abbrev pub AreBelow : ℕ → List ℕ → Type 0

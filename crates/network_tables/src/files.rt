@@ -3,7 +3,7 @@ ghost use Rattle.std.specs.Prelude.{◌≡◌, []};
 ghost use Rattle.table_reader.specs.Records.{Record, header_of, rows_of};
 ghost use Rattle.network_tables.specs.Files.{no_files, with_file};
 ghost use Rattle.network_tables.specs.NetworkFiles.{table_fault};
-ghost use Rattle.network_tables.specs.Refusals.{Reads};
+ghost use Rattle.network_tables.specs.Refusals.{read_in, Reads};
 
 use crate::NetworkFault;
 use route_base::{BadInput, FileBytes, FileKind, TableFault};
@@ -68,6 +68,19 @@ impl Files {
     }
 }
 
+/// The table of a file, where it was read, or the table's fault as that of this file. At no cost.
+pub fn in_file<T: Drop>(file: FileKind, read: Result<T, TableFault>) -> Result<T, NetworkFault>
+    ensures { result ≡ read_in file read }
+{
+    match read {
+        Ok(table) => Ok(table),
+        Err(TableFault::BadRow { row, cause }) => {
+            Err(NetworkFault::Bad(BadInput { file, row, cause }))
+        }
+        Err(TableFault::OutOfMemory) => Err(NetworkFault::OutOfMemory),
+    }
+}
+
 /// Adds the rows of a file to an empty table. Linear in the bytes.
 pub fn read_file<T: Table>(
     alloc: Global,
@@ -79,11 +92,5 @@ pub fn read_file<T: Table>(
     ensures { Reads result (table_fault file (T.schema table) bytes.now)
         (λ read. T.becomes table read (header_of bytes.now) (rows_of bytes.now)) }
 {
-    match read_table(alloc, bytes.as_slice(), table) {
-        Ok(table) => Ok(table),
-        Err(TableFault::BadRow { row, cause }) => {
-            Err(NetworkFault::Bad(BadInput { file, row, cause }))
-        }
-        Err(TableFault::OutOfMemory) => Err(NetworkFault::OutOfMemory),
-    }
+    in_file(file, read_table(alloc, bytes.as_slice(), table))
 }

@@ -1,39 +1,37 @@
-//! Reads the tables of a road network from the bytes of its files (csv, RFC 4180), beside its graph, and a table of jobs, the trips
-//! of a batch.
+//! Reads a road network from the bytes of its files: a graph, and tables (csv, RFC 4180). It also reads a table of jobs, the trips of a
+//! batch.
 //!
-//! The law is in `specs/`. A module for each table says its schema and what its rows state: `Zones`, `Areas`, `Roads`, `Rules`,
-//! `Closures`, `Ratings`, `Parking` and `Holidays` (vehicles are read by `vehicle_classes`), each over `Schema` of `table_reader`.
-//! `NetworkModel` says what a network is, `NetworkFiles` which network all files state together and what the first fault of their
-//! contents is, `Access` which access an arc gives a vehicle at an instant, and `RoadSetting` the setting in which trips over a
-//! network are planned. It is met by `read_network` and the calls of `Network`.
+//! The law is in `specs/`. A module for each table of this crate says its schema and what its rows state: `Rules`, `Closures`, `Ratings`
+//! and `Parking`, each over `Schema` of `table_reader`. The others are read by libraries below: zones, areas, roads and holidays by
+//! `area_tables`, and vehicles by `vehicle_classes`. `NetworkModel` says what a network is, `NetworkFiles` which network all files
+//! state together and what the first fault of their contents is, `Access` which access an arc gives a vehicle at an instant, and
+//! `RoadSetting` the setting in which trips over a network are planned. It is met by `read_network` and the calls of `Network`.
 //!
 //! `Jobs` is the law of `read_jobs`: which jobs a table of jobs states, its schema, and the instants of its trips. A table of jobs is read
 //! without a network, so no vehicle and no node is looked up.
 //!
 //! `Files` has the bytes of a network's files by their kinds, and is made by `Files::new` and `put`.
 //!
-//! The other modules are machinery: `AreaPlaces`, `HolidayDays` and `RuleLists` are tables while they are read, `NetworkParts` is how a
-//! network is held, `Refusals` are words for contracts.
+//! The other modules are machinery: `RuleLists` has rules while they are read, `NetworkParts` is how a network is held, `Refusals` are
+//! words for contracts.
 //!
-//! A source file has all of one table: its schema in code, a row, the state, and the call that reads it.
+//! A source file has all of one table: its schema in code, a row, the state, and the call that reads it. `area_files` and `vehicle_file`
+//! call the libraries below. The tests are in the crate `network_tests`.
 #![tactic(auto)]
 
-mod areas;
+mod area_files;
 mod closures;
 mod faults;
 mod files;
-mod holidays;
 mod jobs;
 pub mod limits;
 mod network;
 mod network_files;
 mod parking;
 mod ratings;
-mod roads;
 mod rules;
 mod threads;
-mod vehicles;
-mod zones;
+mod vehicle_file;
 
 pub use faults::NetworkFault;
 pub use files::Files;

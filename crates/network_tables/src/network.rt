@@ -115,7 +115,8 @@ impl Network {
     /// average.
     pub fn area_conditional(&self, area: usize, key: Key) -> Option<&Conditional>
         requires { area < length self.now.areas }
-        ensures { option_map (λ c. c.now) result ≡ conditional_at self.now.rules (Scope.Area area) key }
+        ensures { option_map (λ c. c.now) result ≡ conditional_at self.now.rules
+            (Scope.Area area) key }
     {
         self.parts.rules.conditional(Scope::Area(area), key)
     }
@@ -130,7 +131,8 @@ impl Network {
 
     /// The arc's own conditional value for the key; `None` exactly where it has none. In constant time on average.
     pub fn arc_conditional(&self, a: ArcId, key: Key) -> Option<&Conditional>
-        ensures { option_map (λ c. c.now) result ≡ conditional_at self.now.rules (Scope.Arc a.0) key }
+        ensures { option_map (λ c. c.now) result ≡ conditional_at self.now.rules
+            (Scope.Arc a.0) key }
     {
         self.parts.rules.conditional(Scope::Arc(a.0), key)
     }

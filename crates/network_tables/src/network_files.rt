@@ -6,17 +6,15 @@ ghost use Rattle.network_tables.specs.Inside.{places_fault, access_fault, limits
 ghost use Rattle.network_tables.specs.Words.{arc_count_of, areas_of, holidays_fault, names_of, rules_of, vehicles_of};
 ghost use Rattle.network_tables.specs.Refusals.{Reads};
 
-use crate::areas::{Areas, read_areas};
+use crate::area_files::{read_area_file, read_holiday_file, read_road_file, read_zone_file};
 use crate::closures::read_closures;
-use crate::holidays::read_holidays;
 use crate::network::NetworkParts;
 use crate::parking::read_parking;
 use crate::ratings::read_ratings;
-use crate::roads::read_roads;
 use crate::rules::{Rules, read_rules};
-use crate::vehicles::read_vehicle_file;
-use crate::zones::{Zones, read_zones, zone_list};
+use crate::vehicle_file::read_vehicle_file;
 use crate::{Files, Network, NetworkFault};
+use area_tables::{Areas, Zones};
 use dimacs_reader::{Graph, GraphFault, read_graph};
 use opening_hours::Holidays;
 use route_base::{BadInput, Cost, FileKind, Run};
@@ -49,28 +47,27 @@ fn read_places(
     ensures { Reads result (places_fault files.now)
         (λ read. ArePlaces files.now read.0 read.1 read.2.items) }
 {
-    let zones = read_zones(alloc, files)?;
-    let (zones, areas) = read_areas(alloc, files, zones)?;
-    let (areas, roads) = read_roads(alloc, files, arcs, areas)?;
+    let zones = read_zone_file(alloc, files)?;
+    let areas = read_area_file(alloc, files, &zones)?;
+    let roads = read_road_file(alloc, files, arcs, &areas)?;
     Ok((zones, areas, roads))
 }
 
-// The vehicles and the rules, with the areas that the rules name. Linear in the bytes and the arcs.
+// The vehicles, and the rules for these areas. Linear in the bytes.
 fn read_access(
     alloc: Global,
     files: &Files,
     arcs: u32,
-    areas: Areas,
-) -> Result<(Areas, Vehicles, Rules), NetworkFault>
+    areas: &Areas,
+) -> Result<(Vehicles, Rules), NetworkFault>
     requires arcs { arcs ≡ arc_count_of files.now }
-    requires areas { names_of areas ≡ names_of (areas_of files.now) }
+    requires areas { names_of areas.now ≡ names_of (areas_of files.now) }
     ensures { Reads result (access_fault files.now)
-        (λ read. (read.0 ≡ areas)
-        × ((read.1 ≡ vehicles_of files.now) × (read.2 ≡ rules_of files.now))) }
+        (λ read. (read.0 ≡ vehicles_of files.now) × (read.1 ≡ rules_of files.now)) }
 {
     let vehicles = read_vehicle_file(alloc, files)?;
-    let (areas, rules) = read_rules(alloc, files, arcs, areas)?;
-    Ok((areas, vehicles, rules))
+    let rules = read_rules(alloc, files, arcs, areas)?;
+    Ok((vehicles, rules))
 }
 
 // The closed minutes of the arcs, and the weights of the nodes by their ratings. Linear in the bytes, the arcs and the nodes.
@@ -104,8 +101,8 @@ fn read_calendar(
     ensures { Reads result (holidays_fault files.now)
         (λ read. IsCalendar files.now zones areas read.0.items read.1.items read.2.items) }
 {
-    let (areas, holidays) = read_holidays(alloc, files, areas)?;
-    let zones = zone_list(alloc, zones)?;
+    let holidays = read_holiday_file(alloc, files, &areas)?;
+    let zones = zones.into_list(alloc)?;
     let zone_places = areas.into_zone_places(alloc)?;
     Ok((zones, zone_places, holidays))
 }
@@ -123,7 +120,7 @@ pub fn read_network(alloc: Global, files: &Files) -> Result<Network, NetworkFaul
     let graph = read_graph_file(alloc, files)?;
     let arcs = graph.arc_count();
     let (zones, areas, roads) = read_places(alloc, files, arcs)?;
-    let (areas, vehicles, rules) = read_access(alloc, files, arcs, areas)?;
+    let (vehicles, rules) = read_access(alloc, files, arcs, &areas)?;
     let (closures, weights) = read_limits(alloc, files, arcs, graph.node_count())?;
     let (zones, zone_places, holidays) = read_calendar(alloc, files, zones, areas)?;
     Ok(Network::new(NetworkParts {

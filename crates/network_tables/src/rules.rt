@@ -7,9 +7,9 @@ mod place;
 mod row;
 mod value;
 
-use crate::areas::Areas;
 use crate::files::read_file;
 use crate::{Files, NetworkFault};
+use area_tables::Areas;
 use conditional_rules::{Access, Conditional};
 use csv::ByteRecord;
 use indexmap::IndexMap;
@@ -137,21 +137,21 @@ impl Rules {
 
 /// Rules while the table is being read, with the areas and the number of arcs for which they stand.
 #[derive(Drop)]
-pub struct RuleTable {
-    areas: Areas,
+struct RuleTable<'a> {
+    areas: &'a Areas,
     arcs: u32,
     rules: Rules,
 }
 
-impl Model for RuleTable {
+impl<'a> Model for RuleTable<'a> {
     ghost use Rattle.network_tables.specs.RuleLists.{RulesSoFar};
 
     ghost Value = { RulesSoFar };
 
-    ghost view = { λ t. record { areas = t.areas; arcs = t.arcs; read = t.rules } };
+    ghost view = { λ t. record { areas = t.areas.now; arcs = t.arcs; read = t.rules } };
 }
 
-impl Table for RuleTable {
+impl<'a> Table for RuleTable<'a> {
     ghost schema = { λ t. rules_schema t.arcs (names_of t.areas) };
 
     ghost becomes = { λ start t header rows. HaveRules start t rows };
@@ -165,30 +165,28 @@ impl Table for RuleTable {
     }
 
     fn add(&mut self, alloc: Global, _header: &[&str], row: &ByteRecord) -> Result<(), RowFault> {
-        match read_rule(alloc, self.arcs, &self.areas, row)? {
+        match read_rule(alloc, self.arcs, self.areas, row)? {
             Some((place, value)) => self.rules.add(place, value),
             None => self.rules.pass_over(),
         }
     }
 }
 
-/// The areas, and the rules of the file. Linear in the bytes, on average.
+/// The rules of the file for these areas. Linear in the bytes, on average.
 pub fn read_rules(
     alloc: Global,
     files: &Files,
     arcs: u32,
-    areas: Areas,
-) -> Result<(Areas, Rules), NetworkFault>
+    areas: &Areas,
+) -> Result<Rules, NetworkFault>
     requires arcs { arcs ≡ arc_count_of files.now }
-    requires areas { names_of areas ≡ names_of (areas_of files.now) }
-    ensures { Reads result (rules_fault files.now)
-        (λ read. (read.0 ≡ areas) × (read.1 ≡ rules_of files.now)) }
+    requires areas { names_of areas.now ≡ names_of (areas_of files.now) }
+    ensures { Reads result (rules_fault files.now) (λ rules. rules ≡ rules_of files.now) }
 {
     let table = RuleTable {
         areas,
         arcs,
         rules: Rules::new(alloc),
     };
-    let RuleTable { areas, rules, .. } = read_file(alloc, FileKind::Rules, &files.rules, table)?;
-    Ok((areas, rules))
+    Ok(read_file(alloc, FileKind::Rules, &files.rules, table)?.rules)
 }

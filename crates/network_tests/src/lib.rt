@@ -1,5 +1,5 @@
 //! Tests of the libraries that read, draw and expand networks, as a stranger calls them. Each library's tests are in a module by its
-//! name; `networks` and `jobs` are those of `network_tables`. The crate has no calls of its own.
+//! name. The crate has no calls of its own.
 #![tactic(auto)]
 
 #[cfg(test)]

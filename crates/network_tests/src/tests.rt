@@ -1,5 +1,5 @@
+mod area_tables_tests;
 mod ban_expansion_tests;
 mod drawn_network_tests;
-mod jobs;
 mod minute_sets_tests;
-mod networks;
+mod network_tables_tests;

@@ -61,9 +61,11 @@ pub fn parse(alloc: Global, text: &[u8]) -> Result<Hours, HoursFault>
     // The text has these rules.
     ensures found { IfOk result (λ hours. IsHours text.now hours) }
     // It has no others.
-    ensures only { IfOk result (λ hours. (rules : List Rule) → IsHours text.now rules → rules ≡ hours) }
+    ensures only { IfOk result (λ hours. (rules : List Rule) → IsHours text.now rules → rules
+        ≡ hours) }
     // A text that is refused has none.
-    ensures none { IsErrOf result HoursFault.NotHours → (rules : List Rule) → IsHours text.now rules → ⊥ }
+    ensures none { IsErrOf result HoursFault.NotHours → (rules : List Rule)
+        → IsHours text.now rules → ⊥ }
 {
     let tokens = cut(alloc, text)?;
     let rules = rules(alloc, tokens.as_slice())?;

@@ -17,5 +17,6 @@ pub fn canonical_reading()
 
 /// The law that the function `hours_of` gives exactly the rules that a text has. The call does nothing.
 pub fn computed_reading()
-    ensures { (text : List ℕ) (rules : List Rule) → (hours_of text ≡ Some rules) ↔ IsHours text rules }
+    ensures { (text : List ℕ) (rules : List Rule) →
+        (hours_of text ≡ Some rules) ↔ IsHours text rules }
 {}

@@ -16,7 +16,7 @@ pub fn known_bounds(alloc: Global, bounds: &Bounds, nodes: u32) -> Result<NodeBo
     for v in 0..nodes {
         let node = NodeId(v + 1);
         if let Some(bound) = bounds.get(node) {
-            known.push(node, bound)?;
+            known.push((node, bound))?;
         }
     }
     Ok(known)

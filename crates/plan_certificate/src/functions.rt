@@ -17,7 +17,7 @@ pub fn known_functions(alloc: Global, functions: Vec<CostFn>) -> Result<NodeFunc
     for function in functions {
         node += 1;
         if !function.pieces().is_empty() {
-            known.push(NodeId(node), function)?;
+            known.push((NodeId(node), function))?;
         }
     }
     Ok(known)

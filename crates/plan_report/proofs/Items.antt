@@ -39,25 +39,20 @@ route_is route =
     (sym (append_assoc a (codes ",\"cost\":" ++ (c ++ codes ",\"legs\":")) rest
     ∙ ap (λ (t : List ℕ). a ++ (codes ",\"cost\":" ++ t)) (append_assoc c (codes ",\"legs\":") rest)))
 
--- five parts
-joined : (out a b c d e one two three four five : List ℕ) → one ≡ out ++ a → two ≡ one ++ b → three ≡ two ++ c → four ≡ three ++ d
-    → five ≡ four ++ e → five ≡ out ++ (a ++ (b ++ (c ++ (d ++ e))))
-joined out a b c d e one two three four five one-is two-is three-is four-is five-is =
-    five-is
-    ∙ ap (λ (t : List ℕ). t ++ e) (four-is
-    ∙ ap (λ (t : List ℕ). t ++ d) (three-is ∙ ap (λ (t : List ℕ). t ++ c) (two-is ∙ ap (λ (t : List ℕ). t ++ b) one-is)))
-    ∙ append_assoc (((out ++ a) ++ b) ++ c) d e
-    ∙ append_assoc ((out ++ a) ++ b) c (d ++ e)
-    ∙ append_assoc (out ++ a) b (c ++ (d ++ e))
-    ∙ append_assoc out a (b ++ (c ++ (d ++ e)))
-
--- a route up to its legs, written in five parts
-pub head_pushed : (out one two three four five : List ℕ) (route : Route) → one ≡ out ++ codes "{\"arrival\":"
-    → two ≡ one ++ decimal route.pair.arrival → three ≡ two ++ codes ",\"cost\":" → four ≡ three ++ decimal route.pair.cost
-    → five ≡ four ++ codes ",\"legs\":" → five ≡ out ++ json_head_text route
-head_pushed out one two three four five route =
-    joined out (codes "{\"arrival\":") (decimal route.pair.arrival) (codes ",\"cost\":") (decimal route.pair.cost) (codes ",\"legs\":")
-    one two three four five
+-- a route up to its legs, written in three parts
+pub head_pushed : (out one two three : List ℕ) (route : Route) → one ≡ out ++ (codes "{\"arrival\":" ++ decimal route.pair.arrival)
+    → two ≡ one ++ (codes ",\"cost\":" ++ decimal route.pair.cost) → three ≡ two ++ codes ",\"legs\":" → three ≡ out ++ json_head_text route
+head_pushed out one two three route one-is two-is three-is =
+    let a = decimal route.pair.arrival in
+    let c = decimal route.pair.cost in
+    let ends = codes ",\"legs\":" in
+    let later = codes ",\"cost\":" ++ c in
+    three-is
+    ∙ ap (λ (t : List ℕ). t ++ ends) (two-is ∙ ap (λ (t : List ℕ). t ++ later) one-is)
+    ∙ append_assoc (out ++ (codes "{\"arrival\":" ++ a)) later ends
+    ∙ append_assoc out (codes "{\"arrival\":" ++ a) (later ++ ends)
+    ∙ ap (λ (t : List ℕ). out ++ t) (append_assoc (codes "{\"arrival\":") a (later ++ ends)
+    ∙ ap (λ (t : List ℕ). codes "{\"arrival\":" ++ (a ++ t)) (append_assoc (codes ",\"cost\":") c ends))
 
 -- a route, written in three parts
 pub route_pushed : (out headed listed next : List ℕ) (route : Route) → headed ≡ out ++ json_head_text route

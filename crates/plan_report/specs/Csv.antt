@@ -8,7 +8,7 @@ use Rattle.route_base.specs.declared.types.Leg.{Leg}
 use Rattle.route_base.specs.declared.types.Leg.TheVariants.{Drive, Wait}
 use Rattle.route_base.specs.declared.types.Request.{Request}
 use Rattle.route_base.specs.declared.types.Route.{Route}
-use Rattle.plan_report.specs.Costs.{thousandths_of}
+use Rattle.line_texts.specs.Words.{thousandths_of}
 use Rattle.plan_report.specs.Stages.{Stage, minutes_of_leg, stages_of, numbered_text}
 
 -- the columns node, start, minutes, and the cost up to there

@@ -1,7 +1,6 @@
 pub mod Bans
 pub mod Batch
 pub mod Check
-pub mod Costs
 pub mod Csv
 pub mod Inside
 pub mod Json

@@ -2,7 +2,7 @@
 use Rattle.std.specs.Prelude.{ℕ, ◌-◌, Option, Some, None, List, [], ◌++◌, length, codes, decimal, slice_get}
 use Rattle.route_base.specs.declared.types.Pair.{Pair}
 use Rattle.route_base.specs.declared.types.Route.{Route}
-use Rattle.plan_report.specs.Costs.{thousandths_of}
+use Rattle.line_texts.specs.Words.{thousandths_of}
 
 -- the line of a pair behind a word, with its arrival in Unix minutes
 abbrev pub named_pair_text : List ℕ → Pair → List ℕ

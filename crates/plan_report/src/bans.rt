@@ -3,7 +3,8 @@ ghost use Rattle.std.specs.Prelude.{◌≡◌, ◌++◌, All, OnOk, IfOk, flat_m
 ghost use Rattle.plan_report.specs.Bans.{closed_text, bans_text_of};
 ghost use Rattle.route_base.specs.Time.{IsInstant};
 
-use crate::pushing::{push_instant, push_number, push_text};
+use crate::instants::push_instant;
+use line_texts::{push_field, push_text};
 use route_base::{OutOfMemory, Run};
 use std::alloc::Global;
 
@@ -38,12 +39,10 @@ pub fn bans_text(alloc: Global, runs: &[Run], passed: u64) -> Result<Vec<u8>, Ou
     ensures { IfOk result (λ v. v.items ≡ bans_text_of runs.now passed) }
 {
     let mut out = Vec::new(alloc);
-    push_text(&mut out, "bans ")?;
-    push_number(&mut out, runs.len() as u64)?;
+    push_field(&mut out, "bans ", runs.len() as u64)?;
     push_text(&mut out, "\n")?;
     push_closures(&mut out, runs)?;
-    push_text(&mut out, "passed ")?;
-    push_number(&mut out, passed)?;
+    push_field(&mut out, "passed ", passed)?;
     push_text(&mut out, "\n")?;
     Ok(out)
 }

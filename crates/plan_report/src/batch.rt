@@ -3,7 +3,7 @@ ghost use Rattle.std.specs.Prelude.{◌≡◌, ◌++◌, OnOk, IfOk};
 ghost use Rattle.plan_report.specs.Batch.{batch_text_of, job_text};
 ghost use Rattle.plan_report.specs.Stages.{numbered_text};
 
-use crate::pushing::{push_number, push_text};
+use line_texts::{push_field, push_text};
 use route_base::{JobText, OutOfMemory};
 use std::alloc::Global;
 
@@ -11,8 +11,7 @@ use std::alloc::Global;
 fn push_job(out: &mut Vec<u8>, number: u64, text: &JobText) -> Result<(), OutOfMemory>
     ensures { OnOk result (out.new.items ≡ out.old.items ++ job_text number text.now) }
 {
-    push_text(out, "job ")?;
-    push_number(out, number)?;
+    push_field(out, "job ", number)?;
     push_text(out, "\n")?;
     out.extend_from_slice(text.as_slice())?;
     Ok(())

@@ -3,7 +3,7 @@ ghost use Rattle.std.specs.Prelude.{◌≡◌, IfOk};
 ghost use Rattle.plan_report.specs.Check.{check_text_of};
 
 use crate::Verdict3;
-use crate::pushing::{push_number, push_text};
+use line_texts::{push_field, push_text};
 use route_base::OutOfMemory;
 use std::alloc::Global;
 
@@ -13,14 +13,8 @@ pub fn check_text(alloc: Global, verdict: Verdict3, pairs: usize) -> Result<Vec<
 {
     let mut out = Vec::new(alloc);
     match verdict {
-        Verdict3::Accepted => {
-            push_text(&mut out, "accepted ")?;
-            push_number(&mut out, pairs as u64)?;
-        }
-        Verdict3::Rejected(number) => {
-            push_text(&mut out, "rejected ")?;
-            push_number(&mut out, number as u64)?;
-        }
+        Verdict3::Accepted => push_field(&mut out, "accepted ", pairs as u64)?,
+        Verdict3::Rejected(number) => push_field(&mut out, "rejected ", number as u64)?,
     }
     push_text(&mut out, "\n")?;
     Ok(out)

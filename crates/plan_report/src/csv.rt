@@ -7,8 +7,9 @@ ghost use Rattle.route_base.specs.Legs.{Achieves};
 ghost use Rattle.route_base.specs.Net.{setting_of};
 ghost use Rattle.route_base.specs.Time.{IsInstant};
 
+use crate::instants::push_instant;
 use crate::places::{Place, first_place, next_place};
-use crate::pushing::{push_instant, push_number, push_text, push_thousandths};
+use line_texts::{push_field, push_number, push_text, push_thousandths};
 use route_base::{Leg, OutOfMemory, Pair, Request, Route, Routes, TimedNet, net_is_good};
 use std::alloc::Global;
 
@@ -21,8 +22,7 @@ fn push_place(out: &mut Vec<u8>, at: Place, minutes: u64) -> Result<(), OutOfMem
     push_number(out, at.node.0 as u64)?;
     push_text(out, ",")?;
     push_instant(out, at.minute)?;
-    push_text(out, ",")?;
-    push_number(out, minutes)?;
+    push_field(out, ",", minutes)?;
     push_text(out, ",")?;
     push_thousandths(out, at.cost)?;
     push_text(out, "\n")
@@ -34,8 +34,7 @@ fn push_kind(out: &mut Vec<u8>, leg: Leg) -> Result<(), OutOfMemory>
 {
     match leg {
         Leg::Drive(a) => {
-            push_text(out, ",drive,")?;
-            push_number(out, a.0 as u64)?;
+            push_field(out, ",drive,", a.0 as u64)?;
             push_text(out, ",")
         }
         Leg::Wait(_) => push_text(out, ",wait,,"),
@@ -59,8 +58,7 @@ fn push_leg(
 {
     let to = next_place(net, at, leg);
     push_number(out, route_number)?;
-    push_text(out, ",")?;
-    push_number(out, number)?;
+    push_field(out, ",", number)?;
     push_kind(out, leg)?;
     push_place(out, at, to.minute - at.minute)?;
     Ok(to)
@@ -105,8 +103,7 @@ fn push_arrival(
         cost: route.pair.cost,
     };
     push_number(out, route_number)?;
-    push_text(out, ",")?;
-    push_number(out, route.legs.len() as u64 + 1)?;
+    push_field(out, ",", route.legs.len() as u64 + 1)?;
     push_text(out, ",arrive,,")?;
     push_place(out, goal, 0)
 }

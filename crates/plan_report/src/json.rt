@@ -6,7 +6,7 @@ ghost use Rattle.serde_json.specs.Data.{array};
 ghost use Rattle.serde_json.specs.View.{view, items_of};
 ghost use Rattle.serde_json.specs.Written.{comma_if, compact_text};
 
-use crate::pushing::{push_number, push_text};
+use line_texts::{push_field, push_text};
 use route_base::{Leg, OutOfMemory, Route, Routes};
 use serde_json::{Value, json};
 use std::alloc::{AllocError, Global};
@@ -58,10 +58,8 @@ fn push_legs(alloc: Global, out: &mut Vec<u8>, legs: &[Leg]) -> Result<(), OutOf
 fn push_head(out: &mut Vec<u8>, route: &Route) -> Result<(), OutOfMemory>
     ensures { OnOk result (out.new.items ≡ out.old.items ++ json_head_text route.now) }
 {
-    push_text(out, "{\"arrival\":")?;
-    push_number(out, route.pair.arrival)?;
-    push_text(out, ",\"cost\":")?;
-    push_number(out, route.pair.cost)?;
+    push_field(out, "{\"arrival\":", route.pair.arrival)?;
+    push_field(out, ",\"cost\":", route.pair.cost)?;
     push_text(out, ",\"legs\":")?;
     Ok(())
 }

@@ -1,34 +1,18 @@
 // Writes routes as plain lines.
 ghost use Rattle.std.specs.Prelude.{◌≡◌, ◌++◌, OnOk, IfOk, flat_map};
-ghost use Rattle.plan_report.specs.Plain.{plain_leg_text, plain_route_text, plain_text_of};
+ghost use Rattle.line_texts.specs.Words.{plain_leg_text};
+ghost use Rattle.plan_report.specs.Plain.{plain_route_text, plain_text_of};
 
-use crate::pushing::{push_number, push_text, push_thousandths};
+use line_texts::{push_field, push_plain_leg, push_text, push_thousandths};
 use route_base::{Leg, OutOfMemory, Route, Routes};
 use std::alloc::Global;
-
-// Appends the line of a leg.
-fn push_leg(out: &mut Vec<u8>, leg: Leg) -> Result<(), OutOfMemory>
-    ensures { OnOk result (out.new.items ≡ out.old.items ++ plain_leg_text leg) }
-{
-    match leg {
-        Leg::Drive(arc) => {
-            push_text(out, "drive ")?;
-            push_number(out, arc.0 as u64)?;
-        }
-        Leg::Wait(minutes) => {
-            push_text(out, "wait ")?;
-            push_number(out, minutes)?;
-        }
-    }
-    push_text(out, "\n")
-}
 
 // Appends the lines of legs.
 fn push_legs(out: &mut Vec<u8>, legs: &[Leg]) -> Result<(), OutOfMemory>
     ensures { OnOk result (out.new.items ≡ out.old.items ++ flat_map plain_leg_text legs.now) }
 {
     for leg in legs {
-        push_leg(out, *leg)?;
+        push_plain_leg(out, *leg)?;
     }
     Ok(())
 }
@@ -37,8 +21,7 @@ fn push_legs(out: &mut Vec<u8>, legs: &[Leg]) -> Result<(), OutOfMemory>
 fn push_route(out: &mut Vec<u8>, route: &Route) -> Result<(), OutOfMemory>
     ensures { OnOk result (out.new.items ≡ out.old.items ++ plain_route_text route.now) }
 {
-    push_text(out, "pair ")?;
-    push_number(out, route.pair.arrival)?;
+    push_field(out, "pair ", route.pair.arrival)?;
     push_text(out, " ")?;
     push_thousandths(out, route.pair.cost)?;
     push_text(out, "\n")?;
@@ -61,8 +44,7 @@ pub fn plain_text(alloc: Global, routes: &Routes) -> Result<Vec<u8>, OutOfMemory
     ensures { IfOk result (λ v. v.items ≡ plain_text_of routes.now) }
 {
     let mut out = Vec::new(alloc);
-    push_text(&mut out, "pairs ")?;
-    push_number(&mut out, routes.len() as u64)?;
+    push_field(&mut out, "pairs ", routes.len() as u64)?;
     push_text(&mut out, "\n")?;
     push_routes(&mut out, routes.as_slice())?;
     Ok(out)

@@ -3,7 +3,7 @@ ghost use Rattle.std.specs.Prelude.{◌≡◌, ◌++◌, OnOk, IfOk};
 ghost use Rattle.plan_report.specs.Refusals.{fault_text, refusal_text_of};
 
 use crate::Refusal;
-use crate::pushing::{push_number, push_text};
+use line_texts::{push_field, push_text};
 use route_base::{BadInput, OutOfMemory};
 use std::alloc::Global;
 
@@ -13,8 +13,7 @@ fn push_fault(out: &mut Vec<u8>, fault: BadInput) -> Result<(), OutOfMemory>
 {
     push_text(out, "input ")?;
     push_text(out, fault.file.label())?;
-    push_text(out, " ")?;
-    push_number(out, fault.row)?;
+    push_field(out, " ", fault.row)?;
     push_text(out, " ")?;
     push_text(out, fault.cause.name())
 }

@@ -2,7 +2,7 @@
 ghost use Rattle.std.specs.Prelude.{◌≡◌, ◌++◌, OnOk, IfOk, option_copied};
 ghost use Rattle.plan_report.specs.Summary.{ends_text, named_route_text, summary_text_of};
 
-use crate::pushing::{push_number, push_text, push_thousandths};
+use line_texts::{push_field, push_text, push_thousandths};
 use route_base::{OutOfMemory, Route, Routes};
 use std::alloc::Global;
 
@@ -15,8 +15,7 @@ fn push_named(out: &mut Vec<u8>, word: &str, route: Option<&Route>) -> Result<()
         return Ok(());
     };
     push_text(out, word)?;
-    push_text(out, " ")?;
-    push_number(out, route.pair.arrival)?;
+    push_field(out, " ", route.pair.arrival)?;
     push_text(out, " ")?;
     push_thousandths(out, route.pair.cost)?;
     push_text(out, "\n")
@@ -41,12 +40,9 @@ pub fn summary_text(
     ensures { IfOk result (λ v. v.items ≡ summary_text_of nodes arcs routes.now) }
 {
     let mut out = Vec::new(alloc);
-    push_text(&mut out, "generated ")?;
-    push_number(&mut out, nodes as u64)?;
-    push_text(&mut out, " ")?;
-    push_number(&mut out, arcs as u64)?;
-    push_text(&mut out, "\npairs ")?;
-    push_number(&mut out, routes.len() as u64)?;
+    push_field(&mut out, "generated ", nodes as u64)?;
+    push_field(&mut out, " ", arcs as u64)?;
+    push_field(&mut out, "\npairs ", routes.len() as u64)?;
     push_text(&mut out, "\n")?;
     push_ends(&mut out, routes.as_slice())?;
     Ok(out)

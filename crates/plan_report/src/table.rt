@@ -7,8 +7,9 @@ ghost use Rattle.route_base.specs.Legs.{Achieves};
 ghost use Rattle.route_base.specs.Net.{setting_of};
 ghost use Rattle.route_base.specs.Time.{IsInstant};
 
+use crate::instants::push_instant;
 use crate::places::{Place, first_place, next_place};
-use crate::pushing::{push_instant, push_number, push_text, push_thousandths};
+use line_texts::{push_field, push_text, push_thousandths};
 use route_base::{Leg, OutOfMemory, Pair, Request, Route, Routes, TimedNet};
 use std::alloc::Global;
 
@@ -27,17 +28,11 @@ fn push_move(
 {
     match leg {
         Leg::Drive(a) => {
-            push_text(out, " drive ")?;
-            push_number(out, a.0 as u64)?;
-            push_text(out, " ")?;
-            push_number(out, at.node.0 as u64)?;
-            push_text(out, " ")?;
-            push_number(out, to.node.0 as u64)
+            push_field(out, " drive ", a.0 as u64)?;
+            push_field(out, " ", at.node.0 as u64)?;
+            push_field(out, " ", to.node.0 as u64)
         }
-        Leg::Wait(_) => {
-            push_text(out, " wait ")?;
-            push_number(out, at.node.0 as u64)
-        }
+        Leg::Wait(_) => push_field(out, " wait ", at.node.0 as u64),
     }
 }
 
@@ -52,8 +47,7 @@ fn push_leg(out: &mut Vec<u8>, net: &TimedNet, at: Place, leg: Leg) -> Result<Pl
     let to = next_place(net, at, leg);
     push_instant(out, at.minute)?;
     push_move(out, net, at, to, leg)?;
-    push_text(out, " ")?;
-    push_number(out, to.minute - at.minute)?;
+    push_field(out, " ", to.minute - at.minute)?;
     push_text(out, "\n")?;
     Ok(to)
 }
@@ -83,8 +77,7 @@ fn push_head(out: &mut Vec<u8>, number: u64, route: &Route) -> Result<(), OutOfM
     requires { IsInstant route.now.pair.arrival }
     ensures { OnOk result (out.new.items ≡ out.old.items ++ table_head_text number route.now) }
 {
-    push_text(out, "route ")?;
-    push_number(out, number)?;
+    push_field(out, "route ", number)?;
     push_text(out, " arrive ")?;
     push_instant(out, route.pair.arrival)?;
     push_text(out, " cost ")?;
@@ -141,8 +134,7 @@ pub fn table_text(
         (λ v. v.items ≡ table_text_of (setting_of net.now) request routes.now) }
 {
     let mut out = Vec::new(alloc);
-    push_text(&mut out, "routes ")?;
-    push_number(&mut out, routes.len() as u64)?;
+    push_field(&mut out, "routes ", routes.len() as u64)?;
     push_text(&mut out, "\n")?;
     push_routes(&mut out, net, request, routes.as_slice())?;
     Ok(out)

@@ -94,7 +94,8 @@ bound_all bounds minutes costs n long long' each v = ⊎_elim
     in subst (λ u. bound_at bounds u ≡ bound_of_sums (key_at minutes u) (key_at costs u)) e (each (v - 1) (omega (arith, some, within))))
     (cases_lt n v))
     (λ (none : v ≤ 0). let e : 0 ≡ v = omega (arith, none)
-    in subst (λ u. bound_at bounds u ≡ bound_of_sums (key_at minutes u) (key_at costs u)) e (sym (ap (λ o. bound_of_sums o (key_at costs 0)) (key_zero minutes))))
+    in subst (λ u. bound_at bounds u ≡ bound_of_sums (key_at minutes u) (key_at costs u)) e
+    (sym (ap (λ o. bound_of_sums o (key_at costs 0)) (key_zero minutes))))
     (cases_lt 0 v)
 
 pub least_all : (s : Setting) (goal : ℕ) (bounds : List (Option Bound)) (minutes costs : List (Option ℕ))

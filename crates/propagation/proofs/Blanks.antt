@@ -7,7 +7,7 @@ use Rattle.std.proofs.lemmas.Bool.{cases_eq}
 use Rattle.route_base.specs.Legs.{start_of}
 use Rattle.route_base.specs.Net.{at_number}
 use Rattle.label_queue.specs.Keys.{key_at, IsLeastTaken}
-use Rattle.propagation.specs.declared.state.State.{State}
+use Rattle.propagation.specs.declared.progress.Progress.{Progress as ProgressHeld}
 use Rattle.cost_functions.specs.Pieces.{value_at}
 use Rattle.route_base.specs.Runs.{any_has}
 use Rattle.propagation.specs.Inside.Invariants.{Progress, Task, point}
@@ -69,7 +69,7 @@ module _ (k : Task) where
       zero_of t x is at = let e : Some x ≡ Some 0 = sym is ∙ (ap costs at ∙ here) in cc
 
 -- the node that is taken out of the queue is at work
-pub shaped_taken : (nodes v key : ℕ) (old new : State) → IsShaped nodes 0 old → new.functions ≡ old.functions → new.pending ≡ old.pending
+pub shaped_taken : (nodes v key : ℕ) (old new : ProgressHeld) → IsShaped nodes 0 old → new.functions ≡ old.functions → new.pending ≡ old.pending
     → IsLeastTaken old.queue new.queue v key → IsShaped nodes v new
 shaped_taken nodes v key old new shape functions pending taken = record {
   functions = ap (λ w. length w.items) functions ∙ shape.functions;
@@ -90,11 +90,11 @@ shaped_taken nodes v key old new shape functions pending taken = record {
     none (suc i) t e is = omega (arith, e)
 
 -- where the queue is empty, no_part is pending
-pub idle_at_end : (nodes : ℕ) (state : State) → IsShaped nodes 0 state → ((v : ℕ) → key_at state.queue v ≡ None) → (v t : ℕ)
-    → is_pending state.pending.items v t ≡ false
-idle_at_end nodes state shape empty v t = by v (is_pending state.pending.items v t) refl
+pub idle_at_end : (nodes : ℕ) (progress : ProgressHeld) → IsShaped nodes 0 progress → ((v : ℕ) → key_at progress.queue v ≡ None) → (v t : ℕ)
+    → is_pending progress.pending.items v t ≡ false
+idle_at_end nodes progress shape empty v t = by v (is_pending progress.pending.items v t) refl
   where
-    by : (u : ℕ) (b : Bool) → is_pending state.pending.items u t ≡ b → is_pending state.pending.items u t ≡ false
+    by : (u : ℕ) (b : Bool) → is_pending progress.pending.items u t ≡ b → is_pending progress.pending.items u t ≡ false
     by u false is = is
     by zero true is = refl
     by (suc i) true is =

@@ -190,7 +190,8 @@ module _ (k : Task) (now : Progress) where
               (second.left (t + 1) after.0 after.1))
               (cases_lt (k.request.until - b.minutes) (t + 1))
 
-      pub covers_waited : k.bounds h ≡ Some b → IsCleared k now.pairs h costs clear → IsWaited clear waited (k.setting.wait_shut h) weight (k.request.until - b.minutes)
+      pub covers_waited : k.bounds h ≡ Some b → IsCleared k now.pairs h costs clear → IsWaited clear waited (k.setting.wait_shut h) weight
+          (k.request.until - b.minutes)
           → IsCleared k now.pairs h waited offer → Covers k now.pairs h costs offer
       covers_waited is_bound first waiting second t x is = ⊎_elim
           (λ (there : clear t ≡ Some x).

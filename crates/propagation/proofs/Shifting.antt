@@ -97,7 +97,8 @@ module _ (net : Net) (r : Request) (bounds : ℕ → Option Bound) where
 
   -- what waiting costs fits
   pub wait_fits : CostsFit (setting_of net) r → (h weight s y t : ℕ) → (setting_of net).weight h ≡ Some weight
-      → IsWaitOpen (setting_of net) h s (t - s) → Reaches (record { setting = setting_of net; request = r; bounds = bounds }) (point h s y) → s ≤ t → t ≤ r.until → y + weight * (t - s) ≤ HIGHEST_COST
+      → IsWaitOpen (setting_of net) h s (t - s) → Reaches (record { setting = setting_of net; request = r; bounds = bounds }) (point h s y) → s ≤ t
+      → t ≤ r.until → y + weight * (t - s) ≤ HIGHEST_COST
   wait_fits fit h weight s y t rated opens reached le late =
       let small = fit (reached.0 ++ replicate (t - s) wait) (point h (s + (t - s)) (y + (t - s) * weight))
       (walk-append (setting_of net) r.until reached.0 (replicate (t - s) wait) (start_of r) (point h s y)

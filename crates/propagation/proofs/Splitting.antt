@@ -7,7 +7,7 @@ use Rattle.std.proofs.lemmas.Bool.{cases_eq, lt-ltb, and_parts, or_right}
 use Rattle.route_base.specs.Relaxing.{IsDominatedOrLate}
 use Rattle.route_base.specs.declared.types.Bound.{Bound}
 use Rattle.label_queue.specs.Keys.{key_at, IsSet}
-use Rattle.propagation.specs.declared.state.State.{State}
+use Rattle.propagation.specs.declared.progress.Progress.{Progress as ProgressHeld}
 use Rattle.potentials.proofs.Lists.{number_read, number_set, number_set_other}
 use Rattle.route_base.specs.Runs.{any_has}
 use Rattle.function_merge.specs.Pruning.{IsPruned}
@@ -113,7 +113,7 @@ parts_are k v b taken next whole part old new bound same pairs split cuts prunes
   some = split.some;
 }
 
-pub shaped_again : (nodes v : ℕ) (taken : ℕ → Bool) (next : Option ℕ) (old new : State) → IsShaped nodes v old → key_at old.queue v ≡ None
+pub shaped_again : (nodes v : ℕ) (taken : ℕ → Bool) (next : Option ℕ) (old new : ProgressHeld) → IsShaped nodes v old → key_at old.queue v ≡ None
     → IsSplit v taken next (is_pending old.pending.items) (is_pending new.pending.items) → IsRequeued v next old.queue new.queue
     → new.functions ≡ old.functions → length new.pending.items ≡ length old.pending.items → IsShaped nodes 0 new
 shaped_again nodes v taken next old new shape absent split requeued functions pending = by next split requeued
@@ -150,7 +150,7 @@ shaped_again nodes v taken next old new shape absent split requeued functions pe
     }
 
 -- a node with more pending minutes is in the queue
-pub shaped_awaited : (nodes h : ℕ) (more : ℕ → Bool) (old new : State) → IsShaped nodes 0 old → length new.functions.items ≡ length old.functions.items
+pub shaped_awaited : (nodes h : ℕ) (more : ℕ → Bool) (old new : ProgressHeld) → IsShaped nodes 0 old → length new.functions.items ≡ length old.functions.items
     → All AreBuilt new.functions.items
     → length new.pending.items ≡ length old.pending.items → IsAwaited h more (is_pending old.pending.items) (is_pending new.pending.items)
     → (key : ℕ) × IsSet old.queue new.queue h (Some key) → (t : ℕ) × (more t ≡ true) → IsShaped nodes 0 new

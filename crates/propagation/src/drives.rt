@@ -8,12 +8,12 @@ ghost use Rattle.potentials.specs.Sums.{bound_at};
 ghost use Rattle.propagation.specs.Inside.Invariants.{IsOffer, Reaches, point};
 ghost use Rattle.propagation.specs.Inside.Offers.{IsKnownPart, AreClearDrives, IsClearSource, IsSource, IsCleared, IsWaited, Covers, CoversDrives};
 ghost use Rattle.propagation.specs.Inside.EntrySets.{AreEntrySets};
-ghost use Rattle.propagation.specs.Inside.States.{progress_of, task_of, IsGoodPlan};
+ghost use Rattle.propagation.specs.Inside.States.{progress_of, task_of, IsGoodTask};
 
 use crate::entry_sets::{EntrySets, make_room, place_of};
-use crate::plan::Plan;
+use crate::progress::Progress;
 use crate::spares::Spares;
-use crate::state::State;
+use crate::task::Task;
 use cost_functions::CostFn;
 use function_merge::{into_pruned, shift_and_prune, wait_with_spare};
 use route_base::{ArcId, Bound, Minute, NodeId, OutOfMemory, Pair, Park, TimedArc};
@@ -22,7 +22,7 @@ use std::alloc::Global;
 // The costs with which drives of the part over the arc end, where the goal is still worth reaching from there.
 fn driven(
     alloc: Global,
-    plan: Plan<'_>,
+    task: Task<'_>,
     sets: &mut EntrySets,
     spares: &mut Spares,
     pairs: &[Pair],
@@ -32,24 +32,24 @@ fn driven(
     arc: TimedArc,
     bound: Bound,
 ) -> Result<CostFn, OutOfMemory>
-    requires asked { IsGoodPlan plan }
-    requires is { at_number plan.net.now.arcs a.0 ≡ Some arc }
-    requires good { IsGoodArc plan.net.now arc }
+    requires asked { IsGoodTask task }
+    requires is { at_number task.net.now.arcs a.0 ≡ Some arc }
+    requires good { IsGoodArc task.net.now arc }
     requires begins { arc.tail.0 ≡ v.0 }
-    requires bound { bound_at plan.bounds.now arc.head.0 ≡ Some bound }
+    requires bound { bound_at task.bounds.now arc.head.0 ≡ Some bound }
     requires trade { RiseAndFall pairs.now }
-    requires entries { AreEntrySets plan.net.now plan.request.until sets.old }
+    requires entries { AreEntrySets task.net.now task.request.until sets.old }
     requires reached { (t x : ℕ) → value_at part.now t ≡ Some x
-        → Reaches (task_of plan) (point v.0 t x) }
+        → Reaches (task_of task) (point v.0 t x) }
     ensures driven { IfOk result
-        (λ g. AreClearDrives (task_of plan.entry) pairs.now a.0 v.0 (value_at part.now) arc.head.0
+        (λ g. AreClearDrives (task_of task.entry) pairs.now a.0 v.0 (value_at part.now) arc.head.0
         (value_at g)) }
     ensures built { IfOk result AreBuilt }
     ensures entries { OnOk result
-        (AreEntrySets plan.entry.net.now plan.entry.request.until sets.new) }
+        (AreEntrySets task.entry.net.now task.entry.request.until sets.new) }
 {
-    let until = plan.request.until;
-    let closed = plan.net.closed_runs(a);
+    let until = task.request.until;
+    let closed = task.net.closed_runs(a);
     let list = arc.closed as usize;
     make_room(alloc, sets, list)?;
     let place = place_of(alloc, &mut sets.lists[list], closed, until, arc.minutes)?;
@@ -68,21 +68,21 @@ fn driven(
 }
 
 // The costs at a node from which the goal is still worth reaching.
-fn cleared(plan: Plan<'_>, pairs: &[Pair], h: NodeId, bound: Bound, costs: CostFn) -> CostFn
-    requires is { bound_at plan.bounds.now h.0 ≡ Some bound }
+fn cleared(task: Task<'_>, pairs: &[Pair], h: NodeId, bound: Bound, costs: CostFn) -> CostFn
+    requires is { bound_at task.bounds.now h.0 ≡ Some bound }
     requires trade { RiseAndFall pairs.now }
     requires small { AreSmallPieces costs }
-    ensures cleared { IsCleared (task_of plan.entry) pairs.now h.0 (value_at costs)
+    ensures cleared { IsCleared (task_of task.entry) pairs.now h.0 (value_at costs)
         (value_at result) }
     ensures small { AreSmallPieces result }
 {
-    into_pruned(costs, plan.request.until, pairs, bound)
+    into_pruned(costs, task.request.until, pairs, bound)
 }
 
 // The costs with waits at a park, from these costs on until a minute.
 fn waited(
     alloc: Global,
-    plan: Plan<'_>,
+    task: Task<'_>,
     sets: &mut EntrySets,
     spares: &mut Spares,
     h: NodeId,
@@ -90,22 +90,22 @@ fn waited(
     costs: &CostFn,
     last: Minute,
 ) -> Result<CostFn, OutOfMemory>
-    requires asked { IsGoodPlan plan }
-    requires is { park_at plan.net.now h.0 ≡ Some park }
-    requires good { IsGoodPark plan.net.now park }
-    requires entries { AreEntrySets plan.net.now plan.request.until sets.old }
+    requires asked { IsGoodTask task }
+    requires is { park_at task.net.now h.0 ≡ Some park }
+    requires good { IsGoodPark task.net.now park }
+    requires entries { AreEntrySets task.net.now task.request.until sets.old }
     requires small { AreSmallPieces costs.now }
-    requires last { last ≤ plan.request.until }
+    requires last { last ≤ task.request.until }
     requires reached { (t x : ℕ) → value_at costs.now t ≡ Some x
-        → Reaches (task_of plan) (point h.0 t x) }
+        → Reaches (task_of task) (point h.0 t x) }
     ensures waited { IfOk result (λ g. IsWaited (value_at costs.now) (value_at g)
-        ((setting_of plan.entry.net.now).wait_shut h.0) park.weight last) }
+        ((setting_of task.entry.net.now).wait_shut h.0) park.weight last) }
     ensures built { IfOk result AreBuilt }
     ensures entries { OnOk result
-        (AreEntrySets plan.entry.net.now plan.entry.request.until sets.new) }
+        (AreEntrySets task.entry.net.now task.entry.request.until sets.new) }
 {
-    let until = plan.request.until;
-    let shut = plan.net.shut_runs(h);
+    let until = task.request.until;
+    let shut = task.net.shut_runs(h);
     let list = park.shut as usize;
     make_room(alloc, sets, list)?;
     let place = place_of(alloc, &mut sets.lists[list], shut, until, 1)?;
@@ -117,116 +117,116 @@ fn waited(
 // These costs, and where the node is rated those of waiting there.
 pub fn closed(
     alloc: Global,
-    plan: Plan<'_>,
+    task: Task<'_>,
     sets: &mut EntrySets,
     spares: &mut Spares,
-    state: &State,
+    progress: &Progress,
     h: NodeId,
     bound: Bound,
     costs: CostFn,
 ) -> Result<CostFn, OutOfMemory>
-    requires asked { IsGoodPlan plan }
+    requires asked { IsGoodTask task }
     requires low { 1 ≤ h.0 }
-    requires high { h.0 ≤ plan.net.now.nodes }
-    requires bound { bound_at plan.bounds.now h.0 ≡ Some bound }
-    requires trade { RiseAndFall state.now.pairs.items }
+    requires high { h.0 ≤ task.net.now.nodes }
+    requires bound { bound_at task.bounds.now h.0 ≡ Some bound }
+    requires trade { RiseAndFall progress.now.pairs.items }
     requires small { AreSmallPieces costs }
-    requires entries { AreEntrySets plan.net.now plan.request.until sets.old }
-    requires source { IsSource (task_of plan) (progress_of state.now) h.0 (value_at costs) }
+    requires entries { AreEntrySets task.net.now task.request.until sets.old }
+    requires source { IsSource (task_of task) (progress_of progress.now) h.0 (value_at costs) }
     ensures offer { IfOk result
-        (λ g. IsOffer (task_of plan.entry) (progress_of state.now) h.0 (value_at g)) }
+        (λ g. IsOffer (task_of task.entry) (progress_of progress.now) h.0 (value_at g)) }
     ensures covers { IfOk result
-        (λ g. Covers (task_of plan.entry) state.now.pairs.items h.0 (value_at costs)
+        (λ g. Covers (task_of task.entry) progress.now.pairs.items h.0 (value_at costs)
         (value_at g)) }
     ensures small { IfOk result AreSmallPieces }
     ensures entries { OnOk result
-        (AreEntrySets plan.entry.net.now plan.entry.request.until sets.new) }
+        (AreEntrySets task.entry.net.now task.entry.request.until sets.new) }
 {
-    let clear = cleared(plan, &state.pairs, h, bound, costs);
-    let offer = with_waits(alloc, plan, sets, spares, state, h, bound, clear)?;
+    let clear = cleared(task, &progress.pairs, h, bound, costs);
+    let offer = with_waits(alloc, task, sets, spares, progress, h, bound, clear)?;
     Ok(offer)
 }
 
 // Clear costs, and where the node is rated those of waiting there.
 fn with_waits(
     alloc: Global,
-    plan: Plan<'_>,
+    task: Task<'_>,
     sets: &mut EntrySets,
     spares: &mut Spares,
-    state: &State,
+    progress: &Progress,
     h: NodeId,
     bound: Bound,
     clear: CostFn,
 ) -> Result<CostFn, OutOfMemory>
-    requires asked { IsGoodPlan plan }
+    requires asked { IsGoodTask task }
     requires low { 1 ≤ h.0 }
-    requires high { h.0 ≤ plan.net.now.nodes }
-    requires bound { bound_at plan.bounds.now h.0 ≡ Some bound }
-    requires trade { RiseAndFall state.now.pairs.items }
+    requires high { h.0 ≤ task.net.now.nodes }
+    requires bound { bound_at task.bounds.now h.0 ≡ Some bound }
+    requires trade { RiseAndFall progress.now.pairs.items }
     requires small { AreSmallPieces clear }
-    requires entries { AreEntrySets plan.net.now plan.request.until sets.old }
-    requires clear { IsClearSource (task_of plan) (progress_of state.now) h.0 (value_at clear) }
+    requires entries { AreEntrySets task.net.now task.request.until sets.old }
+    requires clear { IsClearSource (task_of task) (progress_of progress.now) h.0 (value_at clear) }
     ensures offer { IfOk result
-        (λ g. IsOffer (task_of plan.entry) (progress_of state.now) h.0 (value_at g)) }
+        (λ g. IsOffer (task_of task.entry) (progress_of progress.now) h.0 (value_at g)) }
     ensures covers { IfOk result (λ g. (costs : ℕ → Option ℕ)
-        → IsCleared (task_of plan.entry) state.now.pairs.items h.0 costs (value_at clear)
-        → Covers (task_of plan.entry) state.now.pairs.items h.0 costs (value_at g)) }
+        → IsCleared (task_of task.entry) progress.now.pairs.items h.0 costs (value_at clear)
+        → Covers (task_of task.entry) progress.now.pairs.items h.0 costs (value_at g)) }
     ensures small { IfOk result AreSmallPieces }
     ensures entries { OnOk result
-        (AreEntrySets plan.entry.net.now plan.entry.request.until sets.new) }
+        (AreEntrySets task.entry.net.now task.entry.request.until sets.new) }
 {
-    let Some(park) = plan.net.park(h) else {
+    let Some(park) = task.net.park(h) else {
         return Ok(clear);
     };
-    let last = plan.request.until.saturating_sub(bound.minutes);
-    let with_waits = waited(alloc, plan, sets, spares, h, park, &clear, last)?;
+    let last = task.request.until.saturating_sub(bound.minutes);
+    let with_waits = waited(alloc, task, sets, spares, h, park, &clear, last)?;
     spares.put(clear)?;
-    let offer = cleared(plan, &state.pairs, h, bound, with_waits);
+    let offer = cleared(task, &progress.pairs, h, bound, with_waits);
     Ok(offer)
 }
 
 // The offer that drives of the part over the arc make to its head.
 pub fn offered(
     alloc: Global,
-    plan: Plan<'_>,
+    task: Task<'_>,
     sets: &mut EntrySets,
     spares: &mut Spares,
-    state: &State,
+    progress: &Progress,
     v: NodeId,
     part: &CostFn,
     a: ArcId,
     arc: TimedArc,
     bound: Bound,
 ) -> Result<CostFn, OutOfMemory>
-    requires asked { IsGoodPlan plan }
-    requires is { at_number plan.net.now.arcs a.0 ≡ Some arc }
-    requires good { IsGoodArc plan.net.now arc }
+    requires asked { IsGoodTask task }
+    requires is { at_number task.net.now.arcs a.0 ≡ Some arc }
+    requires good { IsGoodArc task.net.now arc }
     requires begins { arc.tail.0 ≡ v.0 }
-    requires bound { bound_at plan.bounds.now arc.head.0 ≡ Some bound }
-    requires trade { RiseAndFall state.now.pairs.items }
-    requires entries { AreEntrySets plan.net.now plan.request.until sets.old }
-    requires part { IsKnownPart (task_of plan) (progress_of state.now) v.0 (value_at part.now) }
+    requires bound { bound_at task.bounds.now arc.head.0 ≡ Some bound }
+    requires trade { RiseAndFall progress.now.pairs.items }
+    requires entries { AreEntrySets task.net.now task.request.until sets.old }
+    requires part { IsKnownPart (task_of task) (progress_of progress.now) v.0 (value_at part.now) }
     ensures offer { IfOk result
-        (λ g. IsOffer (task_of plan.entry) (progress_of state.now) arc.head.0 (value_at g)) }
+        (λ g. IsOffer (task_of task.entry) (progress_of progress.now) arc.head.0 (value_at g)) }
     ensures covers { IfOk result
-        (λ g. CoversDrives (task_of plan.entry) state.now.pairs.items a.0 v.0
+        (λ g. CoversDrives (task_of task.entry) progress.now.pairs.items a.0 v.0
         (value_at part.now) arc.head.0 (value_at g)) }
     ensures small { IfOk result AreSmallPieces }
     ensures entries { OnOk result
-        (AreEntrySets plan.entry.net.now plan.entry.request.until sets.new) }
+        (AreEntrySets task.entry.net.now task.entry.request.until sets.new) }
 {
     let clear = driven(
         alloc,
-        plan,
+        task,
         sets,
         spares,
-        &state.pairs,
+        &progress.pairs,
         v,
         part,
         a,
         arc,
         bound,
     )?;
-    let offer = with_waits(alloc, plan, sets, spares, state, arc.head, bound, clear)?;
+    let offer = with_waits(alloc, task, sets, spares, progress, arc.head, bound, clear)?;
     Ok(offer)
 }

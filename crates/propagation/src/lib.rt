@@ -4,11 +4,10 @@
 //! It is a label-correcting search over cost profiles with A* bounds (after the SEA 2020 paper on lorry routes with driving bans).
 //! Each node has a cost function of the minute, whose values only fall, and pending minutes: those at which its value fell
 //! and from which the arcs are still to be relaxed. A turn takes the node whose first pending minute and least minutes to the
-//! goal sum up to the least; it takes the pieces that begin within an hour of that minute (four hours, once a pair is found),
-//! whole, and relaxes each arc that leaves the node for all of them at once: the part is shifted to the minutes and costs at
-//! which the drives end, pruned by the bounds and by the pairs found so far, closed under waiting where the head is rated,
-//! pruned again, and merged into the head's function if it is better anywhere. What arrives at the goal enters the pairs. The
-//! search ends where nothing is pending.
+//! goal sum up to the least; it takes the pieces that begin within an hour of that minute, whole, and relaxes each arc that leaves
+//! the node for all of them at once: the part is shifted to the minutes and costs at which the drives end, pruned by the bounds
+//! and by the pairs found so far, closed under waiting where the head is rated, pruned again, and merged into the head's function
+//! if it is better anywhere. What arrives at the goal enters the pairs. The search ends where nothing is pending.
 //!
 //! The law is `IsFoundFor` of `specs/Found`: the pairs are the front of all lawful itineraries, the bounds are the least to the
 //! goal, and with them the functions leave no lawful itinerary out (`IsComplete` of `route_base`); each cost is that of a lawful
@@ -26,10 +25,10 @@ mod entry_sets;
 mod found;
 mod pairs;
 mod parts;
-mod plan;
+mod progress;
 mod searching;
 mod spares;
-mod state;
+mod task;
 mod turns;
 
 pub use found::Found;

@@ -1,4 +1,4 @@
-// The part of a node's pending minutes that a turn takes to drive on.
+// The part of a node's pending minutes whose arcs a turn relaxes.
 ghost use Rattle.std.specs.Prelude.{◌≡◌, ◌≤◌, ◌<◌, ◌&&◌, ◌||◌, not, nat_lt, max, ℕ, Option, Some, None, true, All, length, IfOk, OnOk};
 ghost use Rattle.route_base.specs.Front.{RiseAndFall};
 ghost use Rattle.route_base.specs.Runs.{any_has, has_minute, AreRuns};
@@ -9,9 +9,9 @@ ghost use Rattle.potentials.specs.Sums.{bound_at};
 ghost use Rattle.propagation.specs.Inside.Invariants.{TakesPart};
 ghost use Rattle.propagation.specs.Inside.States.{progress_of, task_of, is_pending, IsShaped, IsSplit, IsRequeued};
 
-use crate::plan::Plan;
+use crate::progress::{Progress, first_of};
 use crate::spares::Spares;
-use crate::state::{State, first_of};
+use crate::task::Task;
 use cost_functions::{CostFn, Piece};
 use function_merge::{beginning_by, cut_with_spare, into_pruned};
 use label_queue::LabelQueue;
@@ -40,37 +40,37 @@ pub struct Halves {
 // Takes a part of what is pending at a node that has left the queue, which is back in it if minutes are left.
 pub fn part_of(
     alloc: Global,
-    plan: Plan<'_>,
+    task: Task<'_>,
     spares: &mut Spares,
-    state: &mut State,
+    progress: &mut Progress,
     v: NodeId,
     bound: Bound,
     first: Minute,
 ) -> Result<CostFn, OutOfMemory>
-    requires bound { bound_at plan.bounds.now v.0 ≡ Some bound }
+    requires bound { bound_at task.bounds.now v.0 ≡ Some bound }
     requires low { 1 ≤ v.0 }
-    requires high { v.0 ≤ plan.net.now.nodes }
-    requires shape { IsShaped plan.net.now.nodes v.0 state.old }
-    requires absent { key_at state.old.queue v.0 ≡ None }
-    requires first { is_pending state.old.pending.items v.0 first ≡ true }
+    requires high { v.0 ≤ task.net.now.nodes }
+    requires shape { IsShaped task.net.now.nodes v.0 progress.old }
+    requires absent { key_at progress.old.queue v.0 ≡ None }
+    requires first { is_pending progress.old.pending.items v.0 first ≡ true }
     requires early { first ≤ LAST_INSTANT }
-    requires trade { RiseAndFall state.old.pairs.items }
+    requires trade { RiseAndFall progress.old.pairs.items }
     ensures parts { IfOk result
-        (λ part. TakesPart (task_of plan.entry) v.0 (value_at part) (progress_of state.old)
-        (progress_of state.new)) }
+        (λ part. TakesPart (task_of task.entry) v.0 (value_at part) (progress_of progress.old)
+        (progress_of progress.new)) }
     ensures small { IfOk result AreSmallPieces }
-    ensures shape { OnOk result (IsShaped plan.entry.net.now.nodes 0 state.new) }
+    ensures shape { OnOk result (IsShaped task.entry.net.now.nodes 0 progress.new) }
 {
     let place = v.0 as usize - 1;
     let end = end_of_turn(
-        state.functions[place].pieces(),
-        state.pending[place].runs(),
+        progress.functions[place].pieces(),
+        progress.pending[place].runs(),
         first,
     );
-    let split = split_at(alloc, &mut state.pending, v, first, end)?;
-    let whole = cut_with_spare(spares.take(alloc), &state.functions[place], &split.taken)?;
-    let part = into_pruned(whole, plan.request.until, &state.pairs, bound);
-    requeue(&mut state.queue, v, split.next, bound);
+    let split = split_at(alloc, &mut progress.pending, v, first, end)?;
+    let whole = cut_with_spare(spares.take(alloc), &progress.functions[place], &split.taken)?;
+    let part = into_pruned(whole, task.request.until, &progress.pairs, bound);
+    requeue(&mut progress.queue, v, split.next, bound);
     Ok(part)
 }
 

@@ -7,14 +7,14 @@ ghost use Rattle.node_arcs.specs.Stars.{AreIncoming};
 ghost use Rattle.propagation.specs.Found.{IsFoundFor, cost_at};
 ghost use Rattle.propagation.specs.Inside.Invariants.{IsBlank, IsResting};
 ghost use Rattle.propagation.specs.Inside.EntrySets.{AreEntrySets};
-ghost use Rattle.propagation.specs.Inside.States.{progress_of, task_of, is_pending, IsGoodPlan, IsShaped};
+ghost use Rattle.propagation.specs.Inside.States.{progress_of, task_of, is_pending, IsGoodTask, IsShaped};
 
 use crate::drives::closed;
 use crate::entry_sets::{EntrySets, no_entry_sets};
 use crate::found::Found;
-use crate::plan::Plan;
+use crate::progress::Progress;
 use crate::spares::Spares;
-use crate::state::State;
+use crate::task::Task;
 use crate::turns::{take_at, turn};
 use cost_functions::CostFn;
 use label_queue::LabelQueue;
@@ -54,65 +54,69 @@ pub fn search_over(
 {
     let bounds = to_goal_over(alloc, net, incoming, request.goal)?;
     let outgoing = NodeArcs::outgoing(alloc, net)?;
-    let plan = Plan {
+    let task = Task {
         net,
         outgoing: &outgoing,
         bounds: &bounds,
         request,
     };
-    let state = searched(alloc, plan)?;
-    Ok(Found::new(state.pairs, state.functions, bounds))
+    let progress = searched(alloc, task)?;
+    Ok(Found::new(progress.pairs, progress.functions, bounds))
 }
 
-// The state in which nothing is pending.
-fn searched(alloc: Global, plan: Plan<'_>) -> Result<State, OutOfMemory>
-    requires asked { IsGoodPlan plan }
-    ensures nodes { IfOk result (λ state. length state.functions.items ≡ plan.entry.net.now.nodes) }
-    ensures built { IfOk result (λ state. All AreBuilt state.functions.items) }
-    ensures facts { IfOk result (λ state. IsResting (task_of plan.entry) (progress_of state)) }
-    ensures done { IfOk result (λ state. (v t : ℕ) → is_pending state.pending.items v t ≡ false) }
+// The progress in which nothing is pending.
+fn searched(alloc: Global, task: Task<'_>) -> Result<Progress, OutOfMemory>
+    requires asked { IsGoodTask task }
+    ensures nodes { IfOk result (λ progress. length progress.functions.items
+        ≡ task.entry.net.now.nodes) }
+    ensures built { IfOk result (λ progress. All AreBuilt progress.functions.items) }
+    ensures facts { IfOk result (λ progress. IsResting (task_of task.entry)
+        (progress_of progress)) }
+    ensures done { IfOk result (λ progress. (v t : ℕ) → is_pending progress.pending.items v t
+        ≡ false) }
 {
     let mut sets = no_entry_sets(alloc);
     let mut spares = Spares::new(alloc);
-    let mut state = begun(alloc, plan, &mut sets, &mut spares)?;
-    'turns: while let Some(least) = state.queue.take_least() {
-        turn(alloc, plan, &mut sets, &mut spares, &mut state, least.0)?;
+    let mut progress = begun(alloc, task, &mut sets, &mut spares)?;
+    'turns: while let Some(least) = progress.queue.take_least() {
+        turn(alloc, task, &mut sets, &mut spares, &mut progress, least.0)?;
     }
-    Ok(state)
+    Ok(progress)
 }
 
 // The origin has its cost at the departure, and those of waiting there.
 fn begun(
     alloc: Global,
-    plan: Plan<'_>,
+    task: Task<'_>,
     sets: &mut EntrySets,
     spares: &mut Spares,
-) -> Result<State, OutOfMemory>
-    requires asked { IsGoodPlan plan }
-    requires entries { AreEntrySets plan.net.now plan.request.until sets.old }
-    ensures shape { IfOk result (IsShaped plan.entry.net.now.nodes 0) }
-    ensures facts { IfOk result (λ state. IsResting (task_of plan.entry) (progress_of state)) }
+) -> Result<Progress, OutOfMemory>
+    requires asked { IsGoodTask task }
+    requires entries { AreEntrySets task.net.now task.request.until sets.old }
+    ensures shape { IfOk result (IsShaped task.entry.net.now.nodes 0) }
+    ensures facts { IfOk result (λ progress. IsResting (task_of task.entry)
+        (progress_of progress)) }
     ensures entries { OnOk result
-        (AreEntrySets plan.entry.net.now plan.entry.request.until sets.new) }
+        (AreEntrySets task.entry.net.now task.entry.request.until sets.new) }
 {
-    let mut state = blank(alloc, plan.net)?;
-    let origin = plan.request.origin;
-    let Some(bound) = plan.bounds.get(origin) else {
-        return Ok(state);
+    let mut progress = blank(alloc, task.net)?;
+    let origin = task.request.origin;
+    let Some(bound) = task.bounds.get(origin) else {
+        return Ok(progress);
     };
-    let first = CostFn::single(alloc, plan.request.depart, 0)?;
-    let offer = closed(alloc, plan, sets, spares, &state, origin, bound, first)?;
-    take_at(alloc, plan, spares, &mut state, origin, bound, &offer)?;
-    Ok(state)
+    let first = CostFn::single(alloc, task.request.depart, 0)?;
+    let offer = closed(alloc, task, sets, spares, &progress, origin, bound, first)?;
+    take_at(alloc, task, spares, &mut progress, origin, bound, &offer)?;
+    Ok(progress)
 }
 
 // Nothing found yet.
-fn blank(alloc: Global, net: &TimedNet) -> Result<State, OutOfMemory>
+fn blank(alloc: Global, net: &TimedNet) -> Result<Progress, OutOfMemory>
     ensures shape { IfOk result (IsShaped net.now.nodes 0) }
-    ensures blank { IfOk result (λ state. IsBlank (progress_of state)) }
+    ensures blank { IfOk result (λ progress. IsBlank (progress_of progress)) }
 {
     let nodes = net.node_count();
-    Ok(State {
+    Ok(Progress {
         functions: no_costs(alloc, nodes)?,
         pending: no_minutes(alloc, nodes)?,
         pairs: Vec::new(alloc),

@@ -11,15 +11,15 @@ ghost use Rattle.propagation.specs.Inside.Invariants.{Improves, IsSearching, IsR
 ghost use Rattle.propagation.specs.Inside.Measures.{work};
 ghost use Rattle.propagation.specs.Inside.Offers.{IsKnownPart};
 ghost use Rattle.propagation.specs.Inside.EntrySets.{AreEntrySets};
-ghost use Rattle.propagation.specs.Inside.States.{progress_of, task_of, is_pending, IsGoodPlan, IsShaped};
+ghost use Rattle.propagation.specs.Inside.States.{progress_of, task_of, is_pending, IsGoodTask, IsShaped};
 
 use crate::drives::offered;
 use crate::entry_sets::EntrySets;
 use crate::pairs::add_pairs;
 use crate::parts::part_of;
-use crate::plan::Plan;
+use crate::progress::{Progress, await_at, first_of, lower_at};
 use crate::spares::Spares;
-use crate::state::{State, await_at, first_of, lower_at};
+use crate::task::Task;
 use cost_functions::CostFn;
 use route_base::{ArcId, Bound, NodeId, OutOfMemory};
 use std::alloc::Global;
@@ -27,36 +27,36 @@ use std::alloc::Global;
 // A turn at a node that has left the queue.
 pub fn turn(
     alloc: Global,
-    plan: Plan<'_>,
+    task: Task<'_>,
     sets: &mut EntrySets,
     spares: &mut Spares,
-    state: &mut State,
+    progress: &mut Progress,
     v: NodeId,
 ) -> Result<(), OutOfMemory>
-    requires asked { IsGoodPlan plan }
-    requires entries { AreEntrySets plan.net.now plan.request.until sets.old }
+    requires asked { IsGoodTask task }
+    requires entries { AreEntrySets task.net.now task.request.until sets.old }
     requires low { 1 ≤ v.0 }
-    requires high { v.0 ≤ plan.net.now.nodes }
-    requires shape { IsShaped plan.net.now.nodes v.0 state.old }
-    requires absent { key_at state.old.queue v.0 ≡ None }
-    requires some { (t : ℕ) × (is_pending state.old.pending.items v.0 t ≡ true) }
-    requires facts { IsResting (task_of plan) (progress_of state.old) }
+    requires high { v.0 ≤ task.net.now.nodes }
+    requires shape { IsShaped task.net.now.nodes v.0 progress.old }
+    requires absent { key_at progress.old.queue v.0 ≡ None }
+    requires some { (t : ℕ) × (is_pending progress.old.pending.items v.0 t ≡ true) }
+    requires facts { IsResting (task_of task) (progress_of progress.old) }
     ensures entries { OnOk result
-        (AreEntrySets plan.entry.net.now plan.entry.request.until sets.new) }
-    ensures shape { OnOk result (IsShaped plan.entry.net.now.nodes 0 state.new) }
-    ensures facts { OnOk result (IsResting (task_of plan.entry) (progress_of state.new)) }
+        (AreEntrySets task.entry.net.now task.entry.request.until sets.new) }
+    ensures shape { OnOk result (IsShaped task.entry.net.now.nodes 0 progress.new) }
+    ensures facts { OnOk result (IsResting (task_of task.entry) (progress_of progress.new)) }
     ensures less { OnOk result
-        (work plan.entry.net.now.nodes plan.entry.request.until (progress_of state.new)
-        < work plan.entry.net.now.nodes plan.entry.request.until (progress_of state.old)) }
+        (work task.entry.net.now.nodes task.entry.request.until (progress_of progress.new)
+        < work task.entry.net.now.nodes task.entry.request.until (progress_of progress.old)) }
 {
-    let Some(bound) = plan.bounds.get(v) else {
+    let Some(bound) = task.bounds.get(v) else {
         return Ok(());
     };
-    let Some(first) = first_of(&state.pending[v.0 as usize - 1]) else {
+    let Some(first) = first_of(&progress.pending[v.0 as usize - 1]) else {
         return Ok(());
     };
-    let part = part_of(alloc, plan, spares, state, v, bound, first)?;
-    drive_all(alloc, plan, sets, spares, state, v, &part)?;
+    let part = part_of(alloc, task, spares, progress, v, bound, first)?;
+    drive_all(alloc, task, sets, spares, progress, v, &part)?;
     spares.put(part)?;
     Ok(())
 }
@@ -64,32 +64,32 @@ pub fn turn(
 // Relaxes each arc that leaves the node, for the part.
 fn drive_all(
     alloc: Global,
-    plan: Plan<'_>,
+    task: Task<'_>,
     sets: &mut EntrySets,
     spares: &mut Spares,
-    state: &mut State,
+    progress: &mut Progress,
     v: NodeId,
     part: &CostFn,
 ) -> Result<(), OutOfMemory>
-    requires asked { IsGoodPlan plan }
-    requires entries { AreEntrySets plan.net.now plan.request.until sets.old }
+    requires asked { IsGoodTask task }
+    requires entries { AreEntrySets task.net.now task.request.until sets.old }
     requires low { 1 ≤ v.0 }
-    requires high { v.0 ≤ plan.net.now.nodes }
-    requires shape { IsShaped plan.net.now.nodes 0 state.old }
-    requires facts { IsSearching (task_of plan) (progress_of state.old) v.0 (value_at part.now) }
-    requires part { IsKnownPart (task_of plan) (progress_of state.old) v.0 (value_at part.now) }
+    requires high { v.0 ≤ task.net.now.nodes }
+    requires shape { IsShaped task.net.now.nodes 0 progress.old }
+    requires facts { IsSearching (task_of task) (progress_of progress.old) v.0 (value_at part.now) }
+    requires part { IsKnownPart (task_of task) (progress_of progress.old) v.0 (value_at part.now) }
     ensures entries { OnOk result
-        (AreEntrySets plan.entry.net.now plan.entry.request.until sets.new) }
-    ensures shape { OnOk result (IsShaped plan.entry.net.now.nodes 0 state.new) }
-    ensures facts { OnOk result (IsResting (task_of plan.entry) (progress_of state.new)) }
+        (AreEntrySets task.entry.net.now task.entry.request.until sets.new) }
+    ensures shape { OnOk result (IsShaped task.entry.net.now.nodes 0 progress.new) }
+    ensures facts { OnOk result (IsResting (task_of task.entry) (progress_of progress.new)) }
     ensures better { OnOk result
-        (Improves (task_of plan.entry) (progress_of state.old) (progress_of state.new)) }
+        (Improves (task_of task.entry) (progress_of progress.old) (progress_of progress.new)) }
 {
     if part.pieces().is_empty() {
         return Ok(());
     }
-    for a in plan.outgoing.of(v) {
-        drive_one(alloc, plan, sets, spares, state, v, part, *a)?;
+    for a in task.outgoing.of(v) {
+        drive_one(alloc, task, sets, spares, progress, v, part, *a)?;
     }
     Ok(())
 }
@@ -97,39 +97,39 @@ fn drive_all(
 // Relaxes one arc that leaves the node, for the part.
 fn drive_one(
     alloc: Global,
-    plan: Plan<'_>,
+    task: Task<'_>,
     sets: &mut EntrySets,
     spares: &mut Spares,
-    state: &mut State,
+    progress: &mut Progress,
     v: NodeId,
     part: &CostFn,
     a: ArcId,
 ) -> Result<(), OutOfMemory>
-    requires asked { IsGoodPlan plan }
-    requires entries { AreEntrySets plan.net.now plan.request.until sets.old }
-    requires begins { EndsAt plan.net.now Tail v.0 a.0 }
-    requires shape { IsShaped plan.net.now.nodes 0 state.old }
-    requires facts { IsSearching (task_of plan) (progress_of state.old) v.0 (value_at part.now) }
-    requires part { IsKnownPart (task_of plan) (progress_of state.old) v.0 (value_at part.now) }
+    requires asked { IsGoodTask task }
+    requires entries { AreEntrySets task.net.now task.request.until sets.old }
+    requires begins { EndsAt task.net.now Tail v.0 a.0 }
+    requires shape { IsShaped task.net.now.nodes 0 progress.old }
+    requires facts { IsSearching (task_of task) (progress_of progress.old) v.0 (value_at part.now) }
+    requires part { IsKnownPart (task_of task) (progress_of progress.old) v.0 (value_at part.now) }
     ensures entries { OnOk result
-        (AreEntrySets plan.entry.net.now plan.entry.request.until sets.new) }
-    ensures shape { OnOk result (IsShaped plan.entry.net.now.nodes 0 state.new) }
+        (AreEntrySets task.entry.net.now task.entry.request.until sets.new) }
+    ensures shape { OnOk result (IsShaped task.entry.net.now.nodes 0 progress.new) }
     ensures facts { OnOk result
-        (IsSearching (task_of plan.entry) (progress_of state.new) v.0 (value_at part.now)) }
+        (IsSearching (task_of task.entry) (progress_of progress.new) v.0 (value_at part.now)) }
     ensures better { OnOk result
-        (Improves (task_of plan.entry) (progress_of state.old) (progress_of state.new)) }
+        (Improves (task_of task.entry) (progress_of progress.old) (progress_of progress.new)) }
     ensures relaxed { OnOk result ((t x : ℕ) (q : Position) → value_at part.now t ≡ Some x
-        → Drives (setting_of plan.entry.net.now) plan.entry.request.until a.0 (point v.0 t x) q
-        → IsRelaxedIn (task_of plan.entry) (progress_of state.new) q) }
+        → Drives (setting_of task.entry.net.now) task.entry.request.until a.0 (point v.0 t x) q
+        → IsRelaxedIn (task_of task.entry) (progress_of progress.new) q) }
 {
-    let Some(arc) = plan.net.arc(a) else {
+    let Some(arc) = task.net.arc(a) else {
         return Ok(());
     };
-    let Some(bound) = plan.bounds.get(arc.head) else {
+    let Some(bound) = task.bounds.get(arc.head) else {
         return Ok(());
     };
-    let offer = offered(alloc, plan, sets, spares, state, v, part, a, arc, bound)?;
-    take_at(alloc, plan, spares, state, arc.head, bound, &offer)?;
+    let offer = offered(alloc, task, sets, spares, progress, v, part, a, arc, bound)?;
+    take_at(alloc, task, spares, progress, arc.head, bound, &offer)?;
     spares.put(offer)?;
     Ok(())
 }
@@ -137,38 +137,38 @@ fn drive_one(
 // Gives the offer to its node; what is better there is pending, or at the goal a pair.
 pub fn take_at(
     alloc: Global,
-    plan: Plan<'_>,
+    task: Task<'_>,
     spares: &mut Spares,
-    state: &mut State,
+    progress: &mut Progress,
     h: NodeId,
     bound: Bound,
     offer: &CostFn,
 ) -> Result<(), OutOfMemory>
-    requires asked { IsGoodPlan plan }
+    requires asked { IsGoodTask task }
     requires low { 1 ≤ h.0 }
-    requires high { h.0 ≤ plan.net.now.nodes }
-    requires shape { IsShaped plan.net.now.nodes 0 state.old }
-    requires trade { RiseAndFall state.old.pairs.items }
+    requires high { h.0 ≤ task.net.now.nodes }
+    requires shape { IsShaped task.net.now.nodes 0 progress.old }
+    requires trade { RiseAndFall progress.old.pairs.items }
     requires offer { AreSmallPieces offer.now }
     ensures takes { OnOk result
-        (TakesOffer (task_of plan.entry) h.0 (value_at offer.now) (progress_of state.old)
-        (progress_of state.new)) }
-    ensures shape { OnOk result (IsShaped plan.entry.net.now.nodes 0 state.new) }
+        (TakesOffer (task_of task.entry) h.0 (value_at offer.now) (progress_of progress.old)
+        (progress_of progress.new)) }
+    ensures shape { OnOk result (IsShaped task.entry.net.now.nodes 0 progress.new) }
 {
-    if h.0 == plan.request.goal.0 {
-        lower_at(alloc, &mut state.functions, h, offer, &mut spares.pieces)?;
-        add_pairs(&mut state.pairs, offer)?;
+    if h.0 == task.request.goal.0 {
+        lower_at(alloc, &mut progress.functions, h, offer, &mut spares.pieces)?;
+        add_pairs(&mut progress.pairs, offer)?;
         return Ok(());
     }
-    let improved = lower_at(alloc, &mut state.functions, h, offer, &mut spares.pieces)?;
+    let improved = lower_at(alloc, &mut progress.functions, h, offer, &mut spares.pieces)?;
     let Some(first) = first_of(&improved) else {
         return Ok(());
     };
     let key = first.saturating_add(bound.minutes);
     await_at(
         alloc,
-        &mut state.pending,
-        &mut state.queue,
+        &mut progress.pending,
+        &mut progress.queue,
         h,
         improved,
         key,

@@ -1,1 +1,2 @@
+pub mod CheapNets
 pub mod WorkedNet

@@ -1,1 +1,2 @@
+pub mod SmallNets
 pub mod WorkedNet

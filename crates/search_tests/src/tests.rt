@@ -1,6 +1,7 @@
 mod certificate_check_tests;
 mod certificate_tests;
 mod cost_functions_tests;
+mod engines;
 mod function_merge_tests;
 mod label_queue_tests;
 mod nets;

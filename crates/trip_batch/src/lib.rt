@@ -9,6 +9,7 @@
 
 mod parts;
 mod planner;
+mod threads;
 
 pub use parts::run_batch;
 pub use planner::{JobPlanner, JobTexts};

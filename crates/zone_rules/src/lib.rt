@@ -4,7 +4,7 @@
 //! met here by `Zone::from_rows`, `rows`, `offset` and `wall`.
 #![tactic(auto)]
 
-mod faults;
+mod row_checks;
 mod rows;
 mod threads;
 mod zone;

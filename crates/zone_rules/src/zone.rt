@@ -4,7 +4,7 @@ ghost use Rattle.route_base.specs.Time.{IsInstant};
 ghost use Rattle.zone_rules.specs.declared.rows.ZoneFault.TheVariants.{OutOfMemory};
 ghost use Rattle.zone_rules.specs.Zones.{IsZone, is_offset, zone_fault_of, row_at, offset_at, wall_at};
 
-use crate::faults::check_rows;
+use crate::row_checks::check_rows;
 use crate::{Wall, ZoneFault, ZoneRow};
 use route_base::Minute;
 use std::alloc::Global;
@@ -38,7 +38,8 @@ impl Zone {
     pub fn from_rows(alloc: Global, rows: &[ZoneRow]) -> Result<Zone, ZoneFault>
         ensures same { IfOk result (λ zone. zone ≡ rows.now) }
         ensures faultless { OnOk result (zone_fault_of rows.now ≡ None) }
-        ensures refused { IfErr result (λ fault. (fault ≡ OutOfMemory) ⊎ (zone_fault_of rows.now ≡ Some fault)) }
+        ensures refused { IfErr result (λ fault. (fault ≡ OutOfMemory) ⊎
+            (zone_fault_of rows.now ≡ Some fault)) }
     {
         check_rows(rows)?;
         Ok(Zone {

@@ -18,8 +18,8 @@ abbrev pub Compared : Type 0
 Compared = Quantity × Comparison × ℕ
 
 -- the bytes behind the leading ones of a kind
-abbrev pub behind : (ℕ → Bool) → List ℕ → List ℕ
-behind kind text = drop (length (take_while kind text)) text
+abbrev pub bytes_behind : (ℕ → Bool) → List ℕ → List ℕ
+bytes_behind kind text = drop (length (take_while kind text)) text
 
 -- the size of a word
 unfoldable pub quantity_of : List ℕ → Option Quantity
@@ -54,7 +54,7 @@ bounded_number_of most digits = if nat_le (length digits) most then number_of di
 abbrev pub decimals_at : ℕ → ℕ → List ℕ → Option (ℕ × List ℕ)
 decimals_at decimals n text =
     let digits = take_while is_digit text in
-    option_map (λ d. (n * 10 ^ decimals + d * 10 ^ (decimals - length digits), behind is_digit text))
+    option_map (λ d. (n * 10 ^ decimals + d * 10 ^ (decimals - length digits), bytes_behind is_digit text))
     (bounded_number_of decimals digits)
 
 -- the value of a whole number, and of a point and decimals where a point follows
@@ -65,7 +65,7 @@ decimal_point_at decimals n (b ∷ bs) = if b == 46 then decimals_at decimals n 
 -- the measure at the front of a text, and what is behind it
 unfoldable pub measure_at : ℕ → List ℕ → Option (ℕ × List ℕ)
 measure_at decimals text =
-    option_and_then (λ n. decimal_point_at decimals n (behind is_digit text)) (bounded_number_of 6 (take_while is_digit text))
+    option_and_then (λ n. decimal_point_at decimals n (bytes_behind is_digit text)) (bounded_number_of 6 (take_while is_digit text))
 
 -- whether this is nothing or the unit of a size
 abbrev pub is_unit : Quantity → List ℕ → Bool
@@ -75,16 +75,16 @@ is_unit quantity text = bytes_eq text [] || bytes_eq text (unit_text quantity)
 unfoldable pub measured : Quantity → Comparison → List ℕ → Option Compared
 measured quantity comparison text =
     option_and_then
-    (λ f. if is_unit quantity (behind is_blank f.1) then Some (quantity, comparison, f.0) else None)
+    (λ f. if is_unit quantity (bytes_behind is_blank f.1) then Some (quantity, comparison, f.0) else None)
     (measure_at (decimals_in quantity) text)
 
 -- the comparison with a size that begins with a sign
 unfoldable pub signed : Quantity → List ℕ → Option Compared
-signed quantity text = option_and_then (λ f. measured quantity f.0 (behind is_blank f.1)) (sign_at text)
+signed quantity text = option_and_then (λ f. measured quantity f.0 (bytes_behind is_blank f.1)) (sign_at text)
 
 -- the comparison that the text is
 unfoldable pub comparison_of : List ℕ → Option Compared
 comparison_of text =
     option_and_then
-    (λ quantity. signed quantity (behind is_blank (behind is_small_letter text)))
+    (λ quantity. signed quantity (bytes_behind is_blank (bytes_behind is_small_letter text)))
     (quantity_of (take_while is_small_letter text))

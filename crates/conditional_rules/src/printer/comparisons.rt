@@ -1,11 +1,11 @@
 // Writes comparisons.
-ghost use Rattle.std.specs.Prelude.{◌≡◌, ◌++◌, OnOk, decimal};
+ghost use Rattle.std.specs.Prelude.{◌≡◌, ◌++◌, OnOk};
 ghost use Rattle.conditional_rules.specs.declared.conditional.Part.TheVariants.{Compare};
 ghost use Rattle.conditional_rules.specs.Comparisons.{quantity_text, decimals_in};
 ghost use Rattle.conditional_rules.specs.CanonicalText.{sign_text, measure_text, part_text};
 
 use crate::conditional::Comparison;
-use itoa::Buffer;
+use line_texts::{push_number, push_text, push_thousandths};
 use route_base::OutOfMemory;
 use vehicle_classes::Quantity;
 
@@ -36,30 +36,6 @@ fn sign(comparison: Comparison) -> &'static str
     }
 }
 
-// Appends a number in decimal digits.
-fn push_number(out: &mut Vec<u8>, number: u64) -> Result<(), OutOfMemory>
-    ensures { OnOk result (out.new.items ≡ out.old.items ++ decimal number) }
-{
-    let mut buffer = Buffer::new();
-    out.extend_from_slice(buffer.format(number).as_bytes())?;
-    Ok(())
-}
-
-// Appends a value in thousandths, with its three decimals.
-fn push_thousandths(out: &mut Vec<u8>, value: u64) -> Result<(), OutOfMemory>
-    ensures { OnOk result (out.new.items ≡ out.old.items ++ measure_text 3 value) }
-{
-    let part = [
-        b'.',
-        b'0' + (value / 10 / 10 % 10) as u8,
-        b'0' + (value / 10 % 10) as u8,
-        b'0' + (value % 10) as u8,
-    ];
-    push_number(out, value / 1000)?;
-    out.extend_from_slice(&part)?;
-    Ok(())
-}
-
 // Appends a value in hundredths, with its two decimals.
 fn push_hundredths(out: &mut Vec<u8>, value: u64) -> Result<(), OutOfMemory>
     ensures { OnOk result (out.new.items ≡ out.old.items ++ measure_text 2 value) }
@@ -75,6 +51,7 @@ fn push_hundredths(out: &mut Vec<u8>, value: u64) -> Result<(), OutOfMemory>
 }
 
 // Appends a value with the decimals of its size.
+#[tactic(auto, using(crate::proofs::PrintedNumbers::thousandths_are))]
 fn push_value(out: &mut Vec<u8>, quantity: Quantity, value: u64) -> Result<(), OutOfMemory>
     ensures { OnOk result (
         out.new.items ≡ out.old.items ++ measure_text (decimals_in quantity) value) }
@@ -96,7 +73,7 @@ pub(crate) fn push_comparison(
     ensures { OnOk result (
         out.new.items ≡ out.old.items ++ part_text (Compare quantity comparison value)) }
 {
-    out.extend_from_slice(quantity_word(quantity).as_bytes())?;
-    out.extend_from_slice(sign(comparison).as_bytes())?;
+    push_text(out, quantity_word(quantity))?;
+    push_text(out, sign(comparison))?;
     push_value(out, quantity, value)
 }

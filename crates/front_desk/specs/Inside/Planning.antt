@@ -1,6 +1,6 @@
 -- The net of a trip, and what a plan has ready before it writes (source: own).
 use Rattle.std.specs.Prelude.{◌≡◌, ℕ, ◌-◌, ◌≤◌, false, ⊤, Option, Some, None, List, length, Result, Ok, Err}
-use Rattle.route_base.specs.FolderState.{FolderState, CountsRise, KeepsFiles, FailedToWrite, PutsFile, SpoilsFile}
+use Rattle.route_base.specs.FolderState.{FolderState, CountsRise, KeepsFiles, PutsFile}
 use Rattle.route_base.specs.Front.{IsRight}
 use Rattle.route_base.specs.Legs.{CostsFit}
 use Rattle.route_base.specs.Matching.{StandsFor}
@@ -8,18 +8,18 @@ use Rattle.route_base.specs.Net.{Net, IsGoodRequest, setting_of}
 use Rattle.route_base.specs.Setting.{Setting}
 use Rattle.route_base.specs.Time.{IsInstant}
 use Rattle.route_base.specs.declared.limits.TheConstants.{LONGEST_HORIZON, MOST_NODES, MOST_ARCS}
+use Rattle.route_base.specs.declared.sink.WriteError.{WriteError}
 use Rattle.route_base.specs.declared.types.Request.{Request}
 use Rattle.route_base.specs.declared.types.Route.{Route}
 use Rattle.route_base.specs.declared.types.Run.{Run}
 use Rattle.network_tables.specs.NetworkModel.{NetworkModel}
 use Rattle.plan_certificate.specs.CheapRoads.{HasCheapRoads}
 use Rattle.plan_report.specs.Reports.{report_text}
-use Rattle.front_desk.specs.CommandLine.{Plan}
-use Rattle.front_desk.specs.Files.{path_of}
+use Rattle.front_words.specs.declared.commands.Plan.{Plan}
+use Rattle.network_folder.specs.Files.{path_of}
+use Rattle.network_folder.specs.Writing.{FailsToPut}
 use Rattle.front_desk.specs.Plan.{IsCertificateOf, trip_setting}
 use Rattle.front_desk.specs.Trips.{Trip, request_of}
-use Rattle.front_desk.specs.declared.outcome.Halt.{Halt}
-use Rattle.front_desk.specs.declared.outcome.Halt.TheVariants.{Refused, ReadFault, WriteFault, NoMemory}
 use Rattle.front_desk.specs.declared.outcome.Report.{Report}
 use Rattle.front_desk.specs.declared.plan.CertificateFile.{CertificateFile}
 use Rattle.front_desk.specs.declared.plan.Planned.{Planned}
@@ -69,16 +69,12 @@ IsWritten old new dir None = KeepsFiles old new
 IsWritten old new dir (Some file) = CountsRise old new × PutsFile old new (path_of dir file.name.now) file.bytes.items
 
 -- the file couldn't be written
-abbrev pub IsUnwritten : FolderState → FolderState → List ℕ → Option CertificateFile → Halt → Type 0
-IsUnwritten old new dir None halt = ⊥
-IsUnwritten old new dir (Some file) (Refused refusal) = ⊥
-IsUnwritten old new dir (Some file) ReadFault = ⊥
-IsUnwritten old new dir (Some file) WriteFault =
-    CountsRise old new × (FailedToWrite old new × SpoilsFile old new (path_of dir file.name.now))
-IsUnwritten old new dir (Some file) NoMemory = CountsRise old new × (new.contents ≡ old.contents)
+abbrev pub IsUnwritten : FolderState → FolderState → List ℕ → Option CertificateFile → WriteError → Type 0
+IsUnwritten old new dir None error = ⊥
+IsUnwritten old new dir (Some file) error = CountsRise old new × FailsToPut old new (path_of dir file.name.now) error
 
 -- the text is handed over and its certificate was written, or why not
-abbrev pub HandsOver : FolderState → FolderState → List ℕ → Planned → Result Report Halt → Type 0
+abbrev pub HandsOver : FolderState → FolderState → List ℕ → Planned → Result Report WriteError → Type 0
 HandsOver old new dir planned (Ok report) =
     (report.rejects ≡ false) × ((report.text.items ≡ planned.text.items) × IsWritten old new dir planned.certificate)
-HandsOver old new dir planned (Err halt) = IsUnwritten old new dir planned.certificate halt
+HandsOver old new dir planned (Err error) = IsUnwritten old new dir planned.certificate error

@@ -7,7 +7,7 @@ ghost use Rattle.network_tables.specs.Rules.{after, before, key_of, key_field_of
 
 use super::place::{RulePlace, Scope};
 use super::value::{RuleValue, read_rule_value};
-use crate::areas::Areas;
+use area_tables::Areas;
 use csv::ByteRecord;
 use route_base::{Cause, is_name_field, read_table_number};
 use std::alloc::Global;
@@ -96,7 +96,8 @@ pub fn read_rule(
     row: &ByteRecord,
 ) -> Result<Option<(RulePlace, RuleValue)>, RowFault>
     requires { length (fields_of row.now) ≡ 3 }
-    ensures rule { IfOk result (λ rule. rule_of arcs (names_of areas.now) (fields_of row.now) ≡ Ok rule) }
+    ensures rule { IfOk result (λ rule. rule_of arcs (names_of areas.now) (fields_of row.now)
+        ≡ Ok rule) }
     ensures refused { IfErr result (λ e. IfBadCause e (λ cause.
         rule_of arcs (names_of areas.now) (fields_of row.now) ≡ Err cause)) }
 {

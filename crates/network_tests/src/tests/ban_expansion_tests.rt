@@ -2,8 +2,9 @@
 ghost use Rattle.std.specs.Prelude.{◌≤◌};
 
 mod networks;
+mod weekends;
 
-use ban_expansion::{Layer, closed_by, common, covered_minutes};
+use ban_expansion::{Layer, closed_by, common, covered_minutes, overlaid};
 use minute_sets::MinuteSet;
 use opening_hours::{Holidays, parse};
 use route_base::{OutOfMemory, Run};
@@ -88,6 +89,12 @@ fn closed_by_layers(alloc: Global) -> Result<MinuteSet, OutOfMemory> {
     closed_by(alloc, &layers)
 }
 
+// The closed minutes where one layer more frees the minutes from 40 to 60.
+fn freed_late(alloc: Global, closed: &MinuteSet) -> Result<MinuteSet, OutOfMemory> {
+    let late = MinuteSet::whole(alloc, Run { lo: 40, hi: 60 })?;
+    overlaid(alloc, closed, &late, false)
+}
+
 // The minutes from 10 to 25 that the set has too.
 fn common_with(alloc: Global, set: MinuteSet) -> Result<MinuteSet, OutOfMemory> {
     let sets = [set, MinuteSet::whole(alloc, Run { lo: 10, hi: 25 })?];
@@ -99,6 +106,8 @@ fn lays_layers_over_one_another(rt: HostRuntime) -> Result<(), Fail> {
     let alloc = rt.alloc();
     let closed = closed_by_layers(alloc)?;
     assert!(rt; closed.runs() == [Run { lo: 0, hi: 20 }, Run { lo: 30, hi: 60 }].as_slice());
+    let freed = freed_late(alloc, &closed)?;
+    assert!(rt; freed.runs() == [Run { lo: 0, hi: 20 }, Run { lo: 30, hi: 40 }].as_slice());
     let both = common_with(alloc, closed)?;
     assert!(rt; both.runs() == [Run { lo: 10, hi: 20 }].as_slice());
     Ok(())

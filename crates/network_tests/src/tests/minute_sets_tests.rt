@@ -1,6 +1,7 @@
 // Sets of a few runs, made and combined.
 use minute_sets::MinuteSet;
-use route_base::Run;
+use route_base::{OutOfMemory, Run};
+use std::alloc::Global;
 use std::test::Fail;
 
 #[test]
@@ -52,5 +53,21 @@ fn combines_sets(rt: HostRuntime) -> Result<(), Fail> {
     assert!(rt; joined.runs() == [Run { lo: 10, hi: 50 }].as_slice());
     assert!(rt; joined.intersection(alloc, &gaps)?.runs() == between.runs());
     assert!(rt; joined.minus(alloc, &between)?.runs() == set.runs());
+    Ok(())
+}
+
+// The minutes of three runs, of which the second touches the first and the third is empty.
+fn appended(alloc: Global) -> Result<MinuteSet, OutOfMemory> {
+    let mut set = MinuteSet::empty(alloc);
+    set.append(Run { lo: 10, hi: 20 })?;
+    set.append(Run { lo: 20, hi: 30 })?;
+    set.append(Run { lo: 40, hi: 40 })?;
+    Ok(set)
+}
+
+#[test]
+fn appends_runs(rt: HostRuntime) -> Result<(), OutOfMemory> {
+    let set = appended(rt.alloc())?;
+    assert!(rt; set.runs() == [Run { lo: 10, hi: 30 }].as_slice());
     Ok(())
 }

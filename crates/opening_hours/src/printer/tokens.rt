@@ -164,7 +164,8 @@ pub fn print(alloc: Global, hours: &Hours) -> Result<Vec<u8>, OutOfMemory>
     // It is read as the same rules.
     ensures read { IfOk result (λ v. IsHours v.items hours.now) }
     // It is read as no others.
-    ensures only { IfOk result (λ v. (rules : List Rule) → IsHours v.items rules → rules ≡ hours.now) }
+    ensures only { IfOk result (λ v. (rules : List Rule) → IsHours v.items rules → rules
+        ≡ hours.now) }
     // It is safe to embed in a longer text.
     ensures plain { IfOk result (λ v. IsPlain v.items) }
 {

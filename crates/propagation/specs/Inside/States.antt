@@ -1,4 +1,4 @@
--- The state of the search as its progress, and what its parts keep of each other (source: own; no law).
+-- The task and the progress that the code holds, and what its parts keep of each other (source: own; no law).
 use Rattle.std.specs.Prelude.{◌≡◌, ◌⊎◌, ℕ, ◌≤◌, Bool, true, false, ◌||◌, Option, Some, None, List, length, All, IfSome, IsNone}
 use Rattle.route_base.specs.Net.{IsGoodRequest, at_number, setting_of}
 use Rattle.route_base.specs.Legs.{CostsFit}
@@ -13,8 +13,8 @@ use Rattle.node_arcs.specs.Stars.{AreOutgoing}
 use Rattle.potentials.specs.Sums.{bound_at}
 use Rattle.propagation.specs.Found.{cost_at}
 use Rattle.propagation.specs.Inside.Invariants.{Task, Progress}
-use Rattle.propagation.specs.declared.plan.Plan.{Plan}
-use Rattle.propagation.specs.declared.state.State.{State}
+use Rattle.propagation.specs.declared.task.Task.{Task as TaskHeld}
+use Rattle.propagation.specs.declared.progress.Progress.{Progress as ProgressHeld}
 
 abbrev pub set_has : Option (List Run) → ℕ → Bool
 set_has None t = false
@@ -24,28 +24,28 @@ set_has (Some set) t = any_has set t
 abbrev pub is_pending : List (List Run) → ℕ → ℕ → Bool
 is_pending sets v t = set_has (at_number sets v) t
 
-abbrev pub progress_of : State → Progress
-progress_of state = record { cost = cost_at state.functions.items; pending = is_pending state.pending.items; pairs = state.pairs.items }
+abbrev pub progress_of : ProgressHeld → Progress
+progress_of progress = record { cost = cost_at progress.functions.items; pending = is_pending progress.pending.items; pairs = progress.pairs.items }
 
-abbrev pub task_of : Plan → Task
-task_of plan = record { setting = setting_of plan.net.now; request = plan.request; bounds = bound_at plan.bounds.now }
+abbrev pub task_of : TaskHeld → Task
+task_of task = record { setting = setting_of task.net.now; request = task.request; bounds = bound_at task.bounds.now }
 
 -- the request is one over the net, and the bounds and the arcs are those of the net
-pub record IsGoodPlan (plan : Plan) : Type 0 where
-  pub ends : IsGoodRequest plan.net.now plan.request
-  pub in_time : plan.request.depart ≤ plan.request.until
-  pub fit : CostsFit (setting_of plan.net.now) plan.request
-  pub bound : AreBounds (setting_of plan.net.now) plan.request.goal.0 (bound_at plan.bounds.now)
-  pub outgoing : AreOutgoing plan.net.now plan.outgoing.now
+pub record IsGoodTask (task : TaskHeld) : Type 0 where
+  pub ends : IsGoodRequest task.net.now task.request
+  pub in_time : task.request.depart ≤ task.request.until
+  pub fit : CostsFit (setting_of task.net.now) task.request
+  pub bound : AreBounds (setting_of task.net.now) task.request.goal.0 (bound_at task.bounds.now)
+  pub outgoing : AreOutgoing task.net.now task.outgoing.now
 
 -- a place for each node, and a key for each node with pending minutes but the one at work
-pub record IsShaped (nodes at_work : ℕ) (state : State) : Type 0 where
-  pub functions : length state.functions.items ≡ nodes
-  pub built : All AreBuilt state.functions.items
-  pub pending : length state.pending.items ≡ nodes
-  pub queue : length state.queue ≡ nodes
-  pub queued : (v t : ℕ) → is_pending state.pending.items v t ≡ true → (v ≡ at_work → ⊥) → (key : ℕ) × (key_at state.queue v ≡ Some key)
-  pub waiting : (v key : ℕ) → key_at state.queue v ≡ Some key → (t : ℕ) × (is_pending state.pending.items v t ≡ true)
+pub record IsShaped (nodes at_work : ℕ) (progress : ProgressHeld) : Type 0 where
+  pub functions : length progress.functions.items ≡ nodes
+  pub built : All AreBuilt progress.functions.items
+  pub pending : length progress.pending.items ≡ nodes
+  pub queue : length progress.queue ≡ nodes
+  pub queued : (v t : ℕ) → is_pending progress.pending.items v t ≡ true → (v ≡ at_work → ⊥) → (key : ℕ) × (key_at progress.queue v ≡ Some key)
+  pub waiting : (v key : ℕ) → key_at progress.queue v ≡ Some key → (t : ℕ) × (is_pending progress.pending.items v t ≡ true)
 
 -- node h takes the lesser of its costs and the offered ones, which are better at some minutes
 pub record IsLowered (h : ℕ) (offer : ℕ → Option ℕ) (better : ℕ → Bool) (old new : ℕ → ℕ → Option ℕ) : Type 0 where

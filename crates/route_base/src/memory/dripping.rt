@@ -42,7 +42,8 @@ impl Folder for DripFolder {
     fn read_part(&mut self, name: &str, at: u64, buf: &mut [u8]) -> Result<usize, PartError>
         ensures bound { IfOk result (λ k. k ≤ length buf.new) }
         ensures few { IfOk result (λ k. k ≤ self.old.most) }
-        ensures after { self.new ≡ record self.old { inner = after_sure_read self.old.inner result } }
+        ensures after { self.new
+            ≡ record self.old { inner = after_sure_read self.old.inner result } }
         ensures kept { KeepsFiles (dripping_state self.old) (dripping_state self.new) }
         ensures part { IfOk result (λ k.
             ReadsPart (dripping_state self.old) name.now at k buf.new) }

@@ -103,7 +103,8 @@ impl Sink for MemSink {
             → FailedToAppend (failing_sink_state self.old) (failing_sink_state self.new) }
         ensures fails { (result ≡ Err WriteError.Failed)
             ↔ Contains self.old.failing (next_ordinal self.old.calls) }
-        ensures after { self.new ≡ record (after_append self.old result) { bytes = self.new.bytes } }
+        ensures after { self.new
+            ≡ record (after_append self.old result) { bytes = self.new.bytes } }
     {
         self.calls = self.calls.saturating_add(1);
         if self.failing.as_slice().contains(&self.calls) {

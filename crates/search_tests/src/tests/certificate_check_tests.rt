@@ -47,7 +47,7 @@ fn bounds_of(alloc: Global, minutes: u64) -> Result<NodeBounds, OutOfMemory> {
     let mut bounds = NodeBounds::new(alloc);
     for (node, minutes, cost) in [(1, minutes, 120000), (2, 60, 60000), (3, 0, 0)] {
         if bounds.as_slice().iter().all(|entry| entry.0.0 < node) {
-            bounds.push(NodeId(node), Bound { minutes, cost })?;
+            bounds.push((NodeId(node), Bound { minutes, cost }))?;
         }
     }
     Ok(bounds)
@@ -76,7 +76,7 @@ fn add_function(
 ) -> Result<(), OutOfMemory> {
     if is_piece(piece) && functions.as_slice().iter().all(|entry| entry.0.0 < node) {
         let pieces = vec![in alloc; piece]?;
-        functions.push(NodeId(node), CostFn::from_pieces(pieces))?;
+        functions.push((NodeId(node), CostFn::from_pieces(pieces)))?;
     }
     Ok(())
 }

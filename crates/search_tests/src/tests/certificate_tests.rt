@@ -57,12 +57,12 @@ fn has_sample(certificate: &Certificate) -> bool {
         minutes: 60,
         cost: 60_000,
     };
-    let Some(function) = certificate.functions.get(NodeId(2)) else {
+    let Some(function) = certificate.functions.at(NodeId(2)) else {
         return false;
     };
     certificate.routes.len() == 2
-        && certificate.bounds.get(NodeId(2)).copied() == Some(bound)
-        && certificate.bounds.get(NodeId(4)).is_none()
+        && certificate.bounds.at(NodeId(2)).copied() == Some(bound)
+        && certificate.bounds.at(NodeId(4)).is_none()
         && function.at(26_563_742) == Some(64_000)
 }
 

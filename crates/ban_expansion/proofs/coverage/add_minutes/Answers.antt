@@ -15,5 +15,5 @@ returns c = λ t.
     (λ (inside : has_minute t c.args.minutes ≡ true).
     let low = inside_low t c.args.minutes inside in
     let high = inside_high t c.args.minutes inside in
-    let window = c.requires.window (omega (arith, low, high)) in
-    ap (local_covered rules holidays) (sym (c.ahead_of-ahead.ensures.local t (omega (arith, low, window.from))))))
+    let from = c.requires.window.from (omega (arith, low, high)) in
+    ap (local_covered rules holidays) (sym (c.ahead_of-ahead.ensures.local t (omega (arith, low, from))))))

@@ -19,5 +19,5 @@ returns c = λ t.
     let low = inside_low t s.minutes inside in
     let high = inside_high t s.minutes inside in
     days_enough rules holidays first n l
-    (omega (arith, low, high, c.requires.window.from, c.requires.ahead))
-    (omega (arith, low, high, c.requires.window.from, c.requires.ahead, c.days.invariant.upto, c.days.invariant.from, c.days-test.false))))
+    (omega (arith, low, high, c.requires.from, c.requires.ahead))
+    (omega (arith, low, high, c.requires.from, c.requires.ahead, c.days.invariant.upto, c.days.invariant.from, c.days-test.false))))

@@ -5,5 +5,5 @@ use Rattle.certificate_check.proofs.lookup.bound_of.Goals as goal
 
 pub returns-clause-range : goal.returns-clause-range
 returns-clause-range c =
-    let is : item_at c.args.bounds.now c.args.node.0 ≡ c.copied.result = sym (c.copied.ensures ∙ c.get.ensures) in
+    let is : item_at c.args.bounds.now c.args.node.0 ≡ c.copied.result = sym (c.copied.ensures ∙ c.at.ensures) in
     item_in_range c.args.bounds.now c.args.node.0 c.copied.result c.requires is

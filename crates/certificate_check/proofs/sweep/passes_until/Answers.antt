@@ -8,7 +8,8 @@ use Rattle.certificate_check.proofs.sweep.passes_until.Goals as goal
 pub returns-then-is_dominated_or_late-clause-passes : goal.returns-then-is_dominated_or_late-clause-passes
 returns-then-is_dominated_or_late-clause-passes c = λ s from before upto.
     let rise = line_rises c.args.piece c.args.t s c.requires.from from in
-    inl (dominated_later c.args.until c.args.pairs.now c.args.passage.from (goal_point c.args.t c.value-here.result) (goal_point s (line_at c.args.piece s)) from
+    inl (dominated_later c.args.until c.args.pairs.now c.args.passage.from (goal_point c.args.t c.value-here.result)
+    (goal_point s (line_at c.args.piece s)) from
     (omega (arith, rise, c.value-here.ensures)) (c.if-is_dominated_or_late.ensures.0 (search rules)))
 
 pub returns-then-is_dominated_or_late-2-clause-passes : goal.returns-then-is_dominated_or_late-2-clause-passes

@@ -1,42 +1,30 @@
-use Rattle.std.proofs.Common.{◌≡◌, ◌⊎◌, inr, List, ℕ, sym, subst, ◌∙◌}
-use Rattle.route_base.specs.SinkState.{AppendsPrefix}
+use Rattle.std.proofs.Common.{List, ℕ, subst}
 use Rattle.route_base.specs.declared.status.Status.{Status}
-use Rattle.route_base.specs.declared.status.Status.TheVariants.{WriteFault, NoMemory}
-use Rattle.plan_report.specs.Refusals.{refusal_text_of}
-use Rattle.front_desk.specs.CommandLine.{command_of}
-use Rattle.front_desk.specs.Inside.Halting.{status_of_report}
+use Rattle.front_desk.specs.Inside.Ending.{Writes, status_of_report}
 use Rattle.front_desk.specs.Run.{status_of}
-use Rattle.front_desk.proofs.Leaving.{never_fault, never_memory, still_left}
-use Rattle.front_desk.proofs.RefusalTexts.{refusal_due, no_write_fault}
+use Rattle.plan_report.specs.Refusals.{refusal_text_of}
+use Rattle.front_desk.proofs.RefusalTexts.{refusal_due}
+use Rattle.front_desk.proofs.Running.{runs_printed}
 use Rattle.front_desk.proofs.desk.run_gated.Goals as goal
 
-pub returns-in-Ok-clause-write_fault : goal.returns-in-Ok-clause-write_fault
-returns-in-Ok-clause-write_fault g c = λ failed. inr (record {
-  counted = c.put.ensures.fault failed (λ same. never_fault c.in-Ok.report (sym c.status.ensures ∙ same));
-  status = status_of_report c.in-Ok.report;
-  text = c.in-Ok.report.text.items;
-  is_due = c.in-Ok.ensures.due;
-  left = c.in-Ok.ensures.left;
-  gained = subst (λ (text : List ℕ). AppendsPrefix (g.S.Sink.state c.args.out.now) (g.S.Sink.state c.put.new.out) text)
-      c.as_slice.ensures.value (c.put.ensures.part failed (λ same. never_fault c.in-Ok.report (sym c.status.ensures ∙ same)));
-})
+pub returns-in-Ok : goal.returns-in-Ok
+returns-in-Ok g c =
+    let old = g.F.Folder.state c.args.folder.now in
+    let new = g.F.Folder.state c.answer.new.folder in
+    let from = g.S.Sink.state c.args.out.now in
+    let to = g.S.Sink.state c.put.new.out in
+    let e = c.in-Ok.ensures in
+    let text = c.in-Ok.report.text.items in
+    let put : Writes (status_of_report c.in-Ok.report) from to text c.put.result =
+    subst (λ (due : Status). Writes due from to text c.put.result) c.status.ensures
+    (subst (λ (bytes : List ℕ). Writes c.status.result from to bytes c.put.result) c.as_slice.ensures.value c.put.ensures) in
+    runs_printed c.args.words.now old new from to (status_of_report c.in-Ok.report) text e.concludes e.counts e.left c.put.result put
 
-pub returns-in-Err-Refused-clause-write_fault : goal.returns-in-Err-Refused-clause-write_fault
-returns-in-Err-Refused-clause-write_fault g c = λ failed.
-    let cause = rw c.in-Err-Refused.field-0-is at c.in-Err-Refused.ensures.halted in
-    let left = rw c.in-Err-Refused.field-0-is at c.in-Err-Refused.ensures.left_halted in
-    inr (record {
-      counted = c.refuse.ensures.fault failed (no_write_fault c.in-Err-Refused.refusal);
-      status = status_of c.in-Err-Refused.refusal;
-      text = refusal_text_of c.in-Err-Refused.refusal;
-      is_due = refusal_due _ _ _ c.in-Err-Refused.refusal cause;
-      left = left;
-      gained = c.refuse.ensures.part failed (no_write_fault c.in-Err-Refused.refusal);
-    })
-
-pub returns-in-Ok-clause-left : goal.returns-in-Ok-clause-left
-returns-in-Ok-clause-left g c =
-    still_left (g.F.Folder.state c.args.folder.now) (g.F.Folder.state c.answer.new.folder) (command_of c.args.words.now) _ _
-    (never_fault c.in-Ok.report) (never_memory c.in-Ok.report)
-    (subst (λ (due : Status). (c.put.result ≡ due) ⊎ ((c.put.result ≡ WriteFault) ⊎ (c.put.result ≡ NoMemory))) c.status.ensures c.put.ensures.others)
-    c.in-Ok.ensures.left
+pub returns-in-Err-Refused : goal.returns-in-Err-Refused
+returns-in-Err-Refused g c =
+    let old = g.F.Folder.state c.args.folder.now in
+    let new = g.F.Folder.state c.answer.new.folder in
+    let refusal = c.in-Err-Refused.refusal in
+    let e = rw c.in-Err-Refused.field-0-is at c.in-Err-Refused.ensures in
+    runs_printed c.args.words.now old new (g.S.Sink.state c.args.out.now) (g.S.Sink.state c.refuse.new.out) (status_of refusal) (refusal_text_of refusal)
+    (refusal_due c.args.words.now old new refusal e.concludes) e.counts e.left c.refuse.result c.refuse.ensures

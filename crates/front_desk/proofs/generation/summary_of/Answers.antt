@@ -3,7 +3,6 @@ use Rattle.route_base.specs.Front.{IsRight}
 use Rattle.dimacs_reader.specs.GraphModel.{GraphModel}
 use Rattle.network_tables.specs.NetworkModel.{NetworkModel}
 use Rattle.plan_report.specs.Summary.{summary_text_of}
-use Rattle.front_desk.specs.CommandLine.{gen_in}
 use Rattle.front_desk.specs.Gen.{stated_network}
 use Rattle.front_desk.specs.Plan.{trip_setting}
 use Rattle.front_desk.specs.Trips.{Trip, request_of, trip_in}
@@ -11,7 +10,7 @@ use Rattle.front_desk.proofs.generation.summary_of.Goals as goal
 
 pub returns : goal.returns
 returns g c =
-    let grid = gen_in c.args.grid in
+    let grid = c.args.grid.now in
     let network = stated_network grid in
     let trip = trip_in c.drawn_trip-trip.result in
     let routes = c.in_ok-routes.routes in

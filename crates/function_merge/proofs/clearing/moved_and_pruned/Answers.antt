@@ -25,7 +25,8 @@ sweep-init c =
       arrived = λ k d from lt. absurd (omega (arith, lt));
       pruned =
           subst (λ ps. IsPrunedUpTo c.args.until c.args.pairs.now c.args.bound wanted ps (start + m)) (sym c.again-built.ensures)
-          (pruned_skip c.args.until c.args.pairs.now c.args.bound wanted [] 0 (pruned_nothing c.args.until c.args.pairs.now c.args.bound wanted) (start + m) (omega arith)
+          (pruned_skip c.args.until c.args.pairs.now c.args.bound wanted [] 0 (pruned_nothing c.args.until c.args.pairs.now c.args.bound wanted) (start + m)
+          (omega arith)
           (λ u from before.
           ⊎_elim
           (λ (early : u < m). moved_early m c.args.cost kept u early)

@@ -28,7 +28,8 @@ returns-in_default-g-2-clause-some c =
     let some = c.in-len1-up.len_at_least in
     let filled = (first_is f some c.requires.first).filled in
     let reaches = c.requires.first_from 0 (first_of f) (omega (arith, some)) in
-    next_in_first f g c.args.from (Kept c.part-in_default-g-2.result) (omega (arith, e.lo, e.hi, c.max-p_lo.ensures, filled, reaches)) e.small some c.requires.first
+    next_in_first f g c.args.from (Kept c.part-in_default-g-2.result) (omega (arith, e.lo, e.hi, c.max-p_lo.ensures, filled, reaches)) e.small some
+    c.requires.first
     (e.lo ∙ c.max-p_lo.ensures) (omega (arith, e.hi)) (λ t late. e.line t (omega (arith, late, e.lo)))
     (λ t late upto. no_pieces g t (omega (arith, c.in_default-g-2.len_below))) refl
 

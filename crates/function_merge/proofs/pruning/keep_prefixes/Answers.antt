@@ -51,4 +51,5 @@ pass_arrived-arrived-requires-clause-before c =
     let inv = c.loop-i.invariant in
     let none : Piece = record { lo = 0; hi = 0; cost = 0; slope = 0 } in
     let same = inv.others c.loop-i.i none (omega arith) in
-    subst (λ (p : Piece). HaveArrived c.args.bound p.lo c.args.pairs.now c.loop-i.arrived) (sym same) (inv.arrived none (omega (arith, c.loop-i-test.true, inv.size)))
+    subst (λ (p : Piece). HaveArrived c.args.bound p.lo c.args.pairs.now c.loop-i.arrived) (sym same)
+    (inv.arrived none (omega (arith, c.loop-i-test.true, inv.size)))

@@ -11,14 +11,15 @@ use Rattle.table_reader.specs.NameIndex.{names_of}
 use Rattle.table_reader.specs.Records.{rows_of}
 use Rattle.table_reader.proofs.Lists.{map-map}
 use Rattle.table_reader.proofs.NumberedRows.{length-given_by_number}
-use Rattle.network_tables.specs.Areas.{AreaEntry, areas_in}
-use Rattle.network_tables.specs.Holidays.{holidays_named}
+use Rattle.area_tables.specs.Areas.{AreaEntry, areas_in}
+use Rattle.area_tables.specs.Holidays.{holidays_named}
 use Rattle.network_tables.specs.NetworkFiles.{arc_count_of, node_count_of, zones_of, areas_of, holidays_of, zone_for}
 use Rattle.network_tables.specs.NetworkFiles.{network_in_files}
 use Rattle.network_tables.specs.NetworkModel.{AreBelow, IsSmallWeight}
 use Rattle.network_tables.specs.NetworkParts.{zones_at, areas_with}
 use Rattle.network_tables.proofs.AreaLists.{areas_each, size_at}
-use Rattle.network_tables.proofs.AreaRows.{names_kept, zones_seen, places_within}
+use Rattle.area_tables.proofs.AreaRows.{names_kept}
+use Rattle.network_tables.proofs.AreaRows.{zones_seen, places_within}
 use Rattle.network_tables.proofs.ClosureRows.{length-runs_by_arc}
 use Rattle.network_tables.proofs.FirstFaults.{later, staged, refused_at, refused_so}
 use Rattle.network_tables.proofs.NetLists.{same_network}
@@ -42,32 +43,31 @@ pub read_access-requires-clause-areas : goal.read_access-requires-clause-areas
 read_access-requires-clause-areas c =
     names_kept c.in_ok-zones.zones (areas_of c.args.files.now) c.in_ok-zones.areas c.in_ok-zones.ensures.stated.placed
 
-pub returns-in_err-areas : goal.returns-in_err-areas
-returns-in_err-areas c =
-    let p = err_from_is_err_and c.from_residual-in_err-areas.result c.from_residual-in_err-areas.ensures.1 in
-    rw (p.1, p.2) (refused_at c.in_err-areas.field-0.0 _ _ _ _ _
+pub returns-in_err-vehicles : goal.returns-in_err-vehicles
+returns-in_err-vehicles c =
+    let p = err_from_is_err_and c.from_residual-in_err-vehicles.result c.from_residual-in_err-vehicles.ensures.1 in
+    rw (p.1, p.2) (refused_at c.in_err-vehicles.field-0.0 _ _ _ _ _
     (staged c.args.files.now ∙ later c.in_ok-graph.ensures.faultless ∙ later c.in_ok-zones.ensures.faultless)
-    c.in_err-areas.ensures)
+    c.in_err-vehicles.ensures)
 
 pub returns-in_err-closures : goal.returns-in_err-closures
 returns-in_err-closures c =
     let p = err_from_is_err_and c.from_residual-in_err-closures.result c.from_residual-in_err-closures.ensures.1 in
     rw (p.1, p.2) (refused_at c.in_err-closures.field-0.0 _ _ _ _ _
     (staged c.args.files.now ∙ later c.in_ok-graph.ensures.faultless ∙ later c.in_ok-zones.ensures.faultless
-    ∙ later c.in_ok-areas.ensures.faultless)
+    ∙ later c.in_ok-vehicles.ensures.faultless)
     c.in_err-closures.ensures)
 
 pub read_calendar-requires : goal.read_calendar-requires
 read_calendar-requires c =
-    ap (λ (areas : List (List ℕ × ℕ)). names_of areas) c.in_ok-areas.ensures.stated.0
-    ∙ names_kept c.in_ok-zones.zones (areas_of c.args.files.now) c.in_ok-zones.areas c.in_ok-zones.ensures.stated.placed
+    names_kept c.in_ok-zones.zones (areas_of c.args.files.now) c.in_ok-zones.areas c.in_ok-zones.ensures.stated.placed
 
 pub returns-in_err-zones-2 : goal.returns-in_err-zones-2
 returns-in_err-zones-2 c =
     let p = err_from_is_err_and c.from_residual-in_err-zones-2.result c.from_residual-in_err-zones-2.ensures.1 in
     rw (p.1, p.2) (refused_so c.in_err-zones-2.field-0.0 _ _ _ _
     (staged c.args.files.now ∙ later c.in_ok-graph.ensures.faultless ∙ later c.in_ok-zones.ensures.faultless
-    ∙ later c.in_ok-areas.ensures.faultless ∙ later c.in_ok-closures.ensures.faultless)
+    ∙ later c.in_ok-vehicles.ensures.faultless ∙ later c.in_ok-closures.ensures.faultless)
     c.in_err-zones-2.ensures)
 
 pub new-requires : goal.new-requires
@@ -79,23 +79,20 @@ new-requires c =
     let graph = c.in_ok-graph.ensures.stated in
     let names = names_of (areas_of files) in
     let rows = numbered_in (rows_of files.roads) in
-    let same = c.in_ok-areas.ensures.stated.0 in
     let on_roads = c.in_ok-zones.ensures.stated.on_roads in
     let calendar = c.in_ok-zones-2.ensures.stated in
-    let places = calendar.placed ∙ ap (λ (areas : List (List ℕ × ℕ)). map (λ (e : List ℕ × ℕ). e.1) areas) same in
     let kept = ap (λ (ns : List (List ℕ)). length ns) (names_kept zones (areas_of files) placed have) in
     let zone_count =
     ap (λ (list : List (List ZoneRow)). length list) calendar.zoned
     ∙ length-map {B = List ZoneRow} zones (λ z. z.1) in
     let area_count =
-    ap (λ (list : List ℕ). length list) places
+    ap (λ (list : List ℕ). length list) calendar.placed
     ∙ length-map placed (λ (e : List ℕ × ℕ). e.1)
     ∙ sym (length-map placed (λ (e : List ℕ × ℕ). e.0))
     ∙ kept in
     let dated =
     ap (λ (lists : List HolidayLists). length lists) calendar.dated
-    ∙ length-map (names_of c.in_ok-areas.areas) (holidays_named (holidays_of files))
-    ∙ ap (λ (areas : List (List ℕ × ℕ)). length (names_of areas)) same
+    ∙ length-map (names_of placed) (holidays_named (holidays_of files))
     ∙ kept
     ∙ sym area_count in
     let size = size_at c.in_ok-zones-2.zones.items c.in_ok-zones-2.zone_places.items c.in_ok-zones-2.holidays.items dated in
@@ -122,7 +119,7 @@ new-requires c =
             (weights_by_node-small (node_count_of files) (rows_of files.ratings) (numbered_in (rows_of files.parking)));
       };
       zoned =
-          subst (λ (list : List ℕ). AreBelow (length c.in_ok-zones-2.zones.items) list) (sym places)
+          subst (λ (list : List ℕ). AreBelow (length c.in_ok-zones-2.zones.items) list) (sym calendar.placed)
           (λ k d there. omega (arith, zone_count, places_within zones (areas_of files) placed have k d there));
       dated = dated;
     }
@@ -134,16 +131,13 @@ returns c =
     let placed = c.in_ok-zones.areas in
     let have = c.in_ok-zones.ensures.stated.placed in
     let entries = holidays_of files in
-    let same = c.in_ok-areas.ensures.stated.0 in
     let calendar = c.in_ok-zones-2.ensures.stated in
-    let places = calendar.placed ∙ ap (λ (areas : List (List ℕ × ℕ)). map (λ (e : List ℕ × ℕ). e.1) areas) same in
     let zones =
-    ap (λ (ps : List ℕ). zones_at c.in_ok-zones-2.zones.items ps) places
+    ap (λ (ps : List ℕ). zones_at c.in_ok-zones-2.zones.items ps) calendar.placed
     ∙ ap (λ (rows : List (List ZoneRow)). zones_at rows (map (λ (e : List ℕ × ℕ). e.1) placed)) calendar.zoned
     ∙ zones_seen c.in_ok-zones.zones (areas_of files) placed (zones_of files) have c.in_ok-zones.ensures.stated.zoned in
     let dates =
     calendar.dated
-    ∙ ap (λ (areas : List (List ℕ × ℕ)). map (holidays_named entries) (names_of areas)) same
     ∙ ap (λ (ns : List (List ℕ)). map (holidays_named entries) ns) (names_kept c.in_ok-zones.zones (areas_of files) placed have)
     ∙ map-map (holidays_named entries) (λ (a : AreaEntry). a.0) (areas_of files) in
     let areas =
@@ -153,13 +147,13 @@ returns c =
     record {
       faultless =
           staged files ∙ later c.in_ok-graph.ensures.faultless ∙ later c.in_ok-zones.ensures.faultless
-          ∙ later c.in_ok-areas.ensures.faultless
+          ∙ later c.in_ok-vehicles.ensures.faultless
           ∙ later c.in_ok-closures.ensures.faultless
           ∙ c.in_ok-zones-2.ensures.faultless;
       stated =
           c.new.ensures
-          ∙ same_network c.in_ok-graph.ensures.stated areas c.in_ok-zones.ensures.stated.on_roads c.in_ok-areas.ensures.stated.1.0
-          c.in_ok-areas.ensures.stated.1.1
+          ∙ same_network c.in_ok-graph.ensures.stated areas c.in_ok-zones.ensures.stated.on_roads c.in_ok-vehicles.ensures.stated.0
+          c.in_ok-vehicles.ensures.stated.1
           c.in_ok-closures.ensures.stated.0
           c.in_ok-closures.ensures.stated.1;
       refused = tt;

@@ -1,7 +1,7 @@
 // When arcs of a small network are closed to two vehicles.
 ghost use Rattle.std.specs.Prelude.{◌≡◌, ◌≤◌, ◌<◌, true, length};
 
-use crate::tests::networks::{found, read};
+use crate::tests::network_tables_tests::{found, read};
 use ban_expansion::{closed_at, closed_set, expand_plain, group_arcs};
 use network_tables::{Network, NetworkFault};
 use route_base::limits::{FIRST_INSTANT, LAST_INSTANT};

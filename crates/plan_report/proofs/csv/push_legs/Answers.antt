@@ -21,7 +21,8 @@ pub loop-i-preserved : goal.loop-i-preserved
 loop-i-preserved c =
     let d : Leg = Drive (record { 0 = 0 }) in
     record {
-      text = text_more (csv_leg_row (setting_of c.args.net.now) c.args.route_number) (setting_of c.args.net.now) c.args.legs.now c.loop-i.i d (position_at c.loop-i.at)
+      text = text_more (csv_leg_row (setting_of c.args.net.now) c.args.route_number) (setting_of c.args.net.now) c.args.legs.now c.loop-i.i d
+          (position_at c.loop-i.at)
           (position_at c.in_ok-at.at) c.loop-i.out.items c.push_leg.new.out.items _ (omega arith) c.in_ok-at.ensures.place
           c.in_ok-at.ensures.text c.loop-i.invariant.text;
       lead = lead_more (setting_of c.args.net.now) c.args.request.until c.args.legs.now c.loop-i.i d (position_at c.loop-i.at)

@@ -1,5 +1,5 @@
 use Rattle.std.proofs.Common.{◌≡◌, ◌++◌, flat_map, take}
-use Rattle.plan_report.specs.Plain.{plain_leg_text}
+use Rattle.line_texts.specs.Words.{plain_leg_text}
 use Rattle.plan_report.proofs.plain.push_legs.Given as goal
 
 abbrev pub invariant-loop-leg : goal.invariant-loop-leg

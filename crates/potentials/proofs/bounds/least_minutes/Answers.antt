@@ -11,5 +11,6 @@ pub returns-then-has_proportional_costs-clause-least : goal.returns-then-has_pro
 returns-then-has_proportional_costs-clause-least c = IfOk-weaker c.minutes_of.result
     (λ minutes. minutes.items ≡ map (option_map (λ x. x / COST_OF_MINUTE)) c.args.costs.now)
     (λ minutes. AreLeastSums c.args.net.now Minutes c.args.goal.0 minutes.items)
-    (λ minutes is. are_least_minutes c.args.net.now c.args.goal.0 c.args.costs.now minutes.items (c.if-has_proportional_costs.ensures.0 refl) c.requires.least is)
+    (λ minutes is. are_least_minutes c.args.net.now c.args.goal.0 c.args.costs.now minutes.items
+    (c.if-has_proportional_costs.ensures.0 refl) c.requires.least is)
     c.minutes_of.ensures

@@ -14,8 +14,8 @@ use Rattle.propagation.proofs.drives.driven.Goals as goal
 
 pub place_of-requires-clause-made : goal.place_of-requires-clause-made
 place_of-requires-clause-made c =
-    let net = c.args.plan.net.now in
-    let until = c.args.plan.request.until in
+    let net = c.args.task.net.now in
+    let until = c.args.task.request.until in
     let own_runs : unwrap_or (slice_get net.closed c.args.arc.closed) [] ≡ c.closed_runs-closed.result.now =
     sym (c.closed_runs-closed.ensures.value ∙ ap (runs_by net) c.requires.is) in
     sets_at net until c.make_room.new.sets c.args.arc.closed c.closed_runs-closed.result.now c.index_mut.result.now
@@ -24,8 +24,8 @@ place_of-requires-clause-made c =
 
 pub returns-clause-entries : goal.returns-clause-entries
 returns-clause-entries c =
-    let net = c.args.plan.net.now in
-    let until = c.args.plan.request.until in
+    let net = c.args.task.net.now in
+    let until = c.args.task.request.until in
     let own_runs : unwrap_or (slice_get net.closed c.args.arc.closed) [] ≡ c.closed_runs-closed.result.now =
     sym (c.closed_runs-closed.ensures.value ∙ ap (runs_by net) c.requires.is) in
     sets_kept net until c.make_room.new.sets _ c.args.arc.closed c.closed_runs-closed.result.now c.place_of.new.list
@@ -34,21 +34,21 @@ returns-clause-entries c =
 
 pub shift_and_prune-requires-clause-fit : goal.shift_and_prune-requires-clause-fit
 shift_and_prune-requires-clause-fit c =
-    let net = c.args.plan.net.now in
-    let until = c.args.plan.request.until in
+    let net = c.args.task.net.now in
+    let until = c.args.task.request.until in
     let same : c.index.result.now ≡ c.place_of.new.list = c.index.ensures
     ∙ get_or-set_same c.make_room.new.sets.lists.items c.args.arc.closed c.place_of.new.list c.index.result.now c.in_ok-make_room.ensures.within in
     let entries = set_at c.closed_runs-closed.result.now until c.in_ok-place.place c.args.arc.minutes c.place_of.new.list c.index.result.now
     c.index-2.result.now c.in_ok-place.ensures.made c.in_ok-place.ensures.within c.in_ok-place.ensures.minutes same c.index-2.ensures in
-    entries_fit net c.args.plan.request (bound_at c.args.plan.bounds.now) c.args.a.0 c.args.v.0 c.args.arc c.requires.is c.requires.begins
+    entries_fit net c.args.task.request (bound_at c.args.task.bounds.now) c.args.a.0 c.args.v.0 c.args.arc c.requires.is c.requires.begins
     c.index-2.result.now.set
     (subst (λ (w : List Run). AreEntries w until c.args.arc.minutes c.index-2.result.now.set) c.closed_runs-closed.ensures.value entries)
     c.requires.asked.fit c.requires.asked.ends.until (value_at c.args.part.now) c.requires.reached
 
 pub returns-clause-driven : goal.returns-clause-driven
 returns-clause-driven c =
-    let net = c.args.plan.net.now in
-    let until = c.args.plan.request.until in
+    let net = c.args.task.net.now in
+    let until = c.args.task.request.until in
     let same : c.index.result.now ≡ c.place_of.new.list = c.index.ensures
     ∙ get_or-set_same c.make_room.new.sets.lists.items c.args.arc.closed c.place_of.new.list c.index.result.now c.in_ok-make_room.ensures.within in
     let entries = set_at c.closed_runs-closed.result.now until c.in_ok-place.place c.args.arc.minutes c.place_of.new.list c.index.result.now
@@ -56,10 +56,10 @@ returns-clause-driven c =
     let ends = moved_at c.args.arc.minutes c.args.arc.cost (kept_at c.args.part.now c.index-2.result.now.set) in
     record {
       ends = ends;
-      driven = entries_drive net c.args.plan.request (bound_at c.args.plan.bounds.now) c.args.a.0 c.args.v.0 c.args.arc c.requires.is c.requires.begins
+      driven = entries_drive net c.args.task.request (bound_at c.args.task.bounds.now) c.args.a.0 c.args.v.0 c.args.arc c.requires.is c.requires.begins
           c.index-2.result.now.set
           (subst (λ (w : List Run). AreEntries w until c.args.arc.minutes c.index-2.result.now.set) c.closed_runs-closed.ensures.value entries)
           (value_at c.args.part.now) ends (λ t. refl);
-      cleared = cleared_of (task_of c.args.plan) c.args.pairs.now c.args.arc.head.0 c.args.bound ends (value_at c.in_ok-clear.clear)
+      cleared = cleared_of (task_of c.args.task) c.args.pairs.now c.args.arc.head.0 c.args.bound ends (value_at c.in_ok-clear.clear)
           c.requires.bound c.in_ok-clear.ensures.values;
     }

@@ -18,8 +18,8 @@ shut_runs-shut-requires c = subst IsSome (sym (ap (option_map (λ (park : Park).
 
 pub place_of-requires-clause-made : goal.place_of-requires-clause-made
 place_of-requires-clause-made c =
-    let net = c.args.plan.net.now in
-    let until = c.args.plan.request.until in
+    let net = c.args.task.net.now in
+    let until = c.args.task.request.until in
     let own_runs : unwrap_or (slice_get net.closed c.args.park.shut) [] ≡ c.shut_runs-shut.result.now =
     sym (c.shut_runs-shut.ensures.value ∙ ap (shut_by net) c.requires.is) in
     sets_at net until c.make_room.new.sets c.args.park.shut c.shut_runs-shut.result.now c.index_mut.result.now
@@ -28,8 +28,8 @@ place_of-requires-clause-made c =
 
 pub returns-clause-entries : goal.returns-clause-entries
 returns-clause-entries c =
-    let net = c.args.plan.net.now in
-    let until = c.args.plan.request.until in
+    let net = c.args.task.net.now in
+    let until = c.args.task.request.until in
     let own_runs : unwrap_or (slice_get net.closed c.args.park.shut) [] ≡ c.shut_runs-shut.result.now =
     sym (c.shut_runs-shut.ensures.value ∙ ap (shut_by net) c.requires.is) in
     sets_kept net until c.make_room.new.sets _ c.args.park.shut c.shut_runs-shut.result.now c.place_of.new.list
@@ -38,8 +38,8 @@ returns-clause-entries c =
 
 pub wait_with_spare-requires-clause-fit : goal.wait_with_spare-requires-clause-fit
 wait_with_spare-requires-clause-fit c t x early there =
-    let net = c.args.plan.net.now in
-    let until = c.args.plan.request.until in
+    let net = c.args.task.net.now in
+    let until = c.args.task.request.until in
     let set = c.index-2.result.now.set in
     let same : c.index.result.now ≡ c.place_of.new.list = c.index.ensures
     ∙ get_or-set_same c.make_room.new.sets.lists.items c.args.park.shut c.place_of.new.list c.index.result.now c.in_ok-make_room.ensures.within in
@@ -47,7 +47,7 @@ wait_with_spare-requires-clause-fit c t x early there =
     (set_at c.shut_runs-shut.result.now until c.in_ok-place.place 1 c.place_of.new.list c.index.result.now
     c.index-2.result.now c.in_ok-place.ensures.made c.in_ok-place.ensures.within c.in_ok-place.ensures.minutes same c.index-2.ensures) in
     let from = there.reached x refl in
-    let small = wait_fits net c.args.plan.request (bound_at c.args.plan.bounds.now) c.requires.asked.fit c.args.h.0 c.args.park.weight
+    let small = wait_fits net c.args.task.request (bound_at c.args.task.bounds.now) c.requires.asked.fit c.args.h.0 c.args.park.weight
     from.0 from.1 t (ap (option_map (λ (park : Park). park.weight)) c.requires.is)
     (λ u after before. open_only (shut_runs_at net c.args.h.0) until set entries u (from.3 u after (omega (arith, before, from.2))))
     (c.requires.reached from.0 from.1 from.4) from.2 (omega (arith, early, c.requires.last)) in
@@ -55,8 +55,8 @@ wait_with_spare-requires-clause-fit c t x early there =
 
 pub returns-clause-waited : goal.returns-clause-waited
 returns-clause-waited c =
-    let net = c.args.plan.net.now in
-    let until = c.args.plan.request.until in
+    let net = c.args.task.net.now in
+    let until = c.args.task.request.until in
     let set = c.index-2.result.now.set in
     let same : c.index.result.now ≡ c.place_of.new.list = c.index.ensures
     ∙ get_or-set_same c.make_room.new.sets.lists.items c.args.park.shut c.place_of.new.list c.index.result.now c.in_ok-make_room.ensures.within in

@@ -11,15 +11,15 @@ use Rattle.propagation.proofs.drives.with_waits.Goals as goal
 
 pub returns-in_default-clause-offer : goal.returns-in_default-clause-offer
 returns-in_default-clause-offer c =
-    let unrated : ◌≡◌ {A = Option ℕ} ((setting_of c.args.plan.net.now).weight c.args.h.0) None =
+    let unrated : ◌≡◌ {A = Option ℕ} ((setting_of c.args.task.net.now).weight c.args.h.0) None =
     ap (option_map (λ (park : Park). park.weight)) (sym c.park.ensures.value ∙ c.in_default.is) in
     let first = c.requires.clear.cleared in
-    offer_unrated (task_of c.args.plan) (progress_of c.args.state.now) c.args.h.0 c.requires.clear.costs
+    offer_unrated (task_of c.args.task) (progress_of c.args.progress.now) c.args.h.0 c.requires.clear.costs
     (value_at c.args.clear) unrated c.requires.clear.source first
 
 pub returns-in_default-clause-covers : goal.returns-in_default-clause-covers
 returns-in_default-clause-covers c = λ costs cleared.
-    covers_unrated (task_of c.args.plan) (progress_of c.args.state.now) c.args.h.0 costs (value_at c.args.clear) cleared
+    covers_unrated (task_of c.args.task) (progress_of c.args.progress.now) c.args.h.0 costs (value_at c.args.clear) cleared
 
 pub waited-requires-clause-reached : goal.waited-requires-clause-reached
 waited-requires-clause-reached c t x there =
@@ -28,25 +28,27 @@ waited-requires-clause-reached c t x there =
 
 pub returns-clause-offer : goal.returns-clause-offer
 returns-clause-offer c =
-    let rated : ◌≡◌ {A = Option ℕ} ((setting_of c.args.plan.net.now).weight c.args.h.0) (Some c.in-Some.park.weight) =
+    let rated : ◌≡◌ {A = Option ℕ} ((setting_of c.args.task.net.now).weight c.args.h.0) (Some c.in-Some.park.weight) =
     ap (option_map (λ (park : Park). park.weight)) (sym c.park.ensures.value ∙ c.in-Some.is) in
-    let last : c.saturating_sub-last.result ≡ c.args.plan.request.until - c.args.bound.minutes = omega (arith, c.saturating_sub-last.ensures) in
+    let last : c.saturating_sub-last.result ≡ c.args.task.request.until - c.args.bound.minutes = omega (arith, c.saturating_sub-last.ensures) in
     let first = c.requires.clear.cleared in
     let waited = subst (λ n. IsWaited (value_at c.args.clear) (value_at c.in_ok-with_waits.with_waits)
-    ((setting_of c.args.plan.net.now).wait_shut c.args.h.0) c.in-Some.park.weight n) last c.in_ok-with_waits.ensures.waited in
-    let second = subst (λ (w : List Pair). IsCleared (task_of c.args.plan) w c.args.h.0 (value_at c.in_ok-with_waits.with_waits) (value_at c.cleared-offer.result))
+    ((setting_of c.args.task.net.now).wait_shut c.args.h.0) c.in-Some.park.weight n) last c.in_ok-with_waits.ensures.waited in
+    let second = subst (λ (w : List Pair). IsCleared (task_of c.args.task) w c.args.h.0 (value_at c.in_ok-with_waits.with_waits)
+    (value_at c.cleared-offer.result))
     c.deref.ensures.value c.cleared-offer.ensures.cleared in
-    offer_waited (task_of c.args.plan) (progress_of c.args.state.now) c.args.h.0 c.requires.clear.costs
+    offer_waited (task_of c.args.task) (progress_of c.args.progress.now) c.args.h.0 c.requires.clear.costs
     (value_at c.args.clear) (value_at c.in_ok-with_waits.with_waits) (value_at c.cleared-offer.result) c.in-Some.park.weight c.args.bound
     c.requires.asked.bound rated c.requires.bound c.requires.clear.source first waited second
 
 pub returns-clause-covers : goal.returns-clause-covers
 returns-clause-covers c = λ costs first.
-    let last : c.saturating_sub-last.result ≡ c.args.plan.request.until - c.args.bound.minutes = omega (arith, c.saturating_sub-last.ensures) in
+    let last : c.saturating_sub-last.result ≡ c.args.task.request.until - c.args.bound.minutes = omega (arith, c.saturating_sub-last.ensures) in
     let waited = subst (λ n. IsWaited (value_at c.args.clear) (value_at c.in_ok-with_waits.with_waits)
-    ((setting_of c.args.plan.net.now).wait_shut c.args.h.0) c.in-Some.park.weight n) last c.in_ok-with_waits.ensures.waited in
-    let second = subst (λ (w : List Pair). IsCleared (task_of c.args.plan) w c.args.h.0 (value_at c.in_ok-with_waits.with_waits) (value_at c.cleared-offer.result))
+    ((setting_of c.args.task.net.now).wait_shut c.args.h.0) c.in-Some.park.weight n) last c.in_ok-with_waits.ensures.waited in
+    let second = subst (λ (w : List Pair). IsCleared (task_of c.args.task) w c.args.h.0 (value_at c.in_ok-with_waits.with_waits)
+    (value_at c.cleared-offer.result))
     c.deref.ensures.value c.cleared-offer.ensures.cleared in
-    covers_waited (task_of c.args.plan) (progress_of c.args.state.now) c.args.h.0 costs
+    covers_waited (task_of c.args.task) (progress_of c.args.progress.now) c.args.h.0 costs
     (value_at c.args.clear) (value_at c.in_ok-with_waits.with_waits) (value_at c.cleared-offer.result) c.in-Some.park.weight c.args.bound
     c.requires.bound first waited second

@@ -16,18 +16,18 @@ cut_with_spare-requires c = (subst AreBuilt (sym c.index-3.ensures)
 
 pub returns-clause-parts : goal.returns-clause-parts
 returns-clause-parts c =
-    let own = value_is c.args.state.now.functions.items c.args.v.0 c.index-3.result.now c.requires.low
+    let own = value_is c.args.progress.now.functions.items c.args.v.0 c.index-3.result.now c.requires.low
     (omega (arith, c.requires.high, c.requires.shape.functions)) c.index-3.ensures in
-    parts_are (task_of c.args.plan) c.args.v.0 c.args.bound (any_has c.in_ok-split.split.taken) c.in_ok-split.split.next (value_at c.in_ok-whole.whole)
+    parts_are (task_of c.args.task) c.args.v.0 c.args.bound (any_has c.in_ok-split.split.taken) c.in_ok-split.split.next (value_at c.in_ok-whole.whole)
     (value_at c.into_pruned-part.result)
-    (progress_of c.args.state.now) (progress_of
-    (record { functions = c.args.state.now.functions; pending = c.split_at.new.pending; pairs = c.args.state.now.pairs; queue = c.requeue.new.queue }))
+    (progress_of c.args.progress.now) (progress_of
+    (record { functions = c.args.progress.now.functions; pending = c.split_at.new.pending; pairs = c.args.progress.now.pairs; queue = c.requeue.new.queue }))
     c.requires.bound (λ u t. refl) refl c.in_ok-split.ensures.split
     (λ t. c.in_ok-whole.ensures.values t ∙ ap (λ o. if any_has c.in_ok-split.split.taken t then o else None) (sym (own t)))
-    (subst (λ (w : List Pair). IsPruned c.args.plan.request.until w c.args.bound (value_at c.in_ok-whole.whole) (value_at c.into_pruned-part.result))
+    (subst (λ (w : List Pair). IsPruned c.args.task.request.until w c.args.bound (value_at c.in_ok-whole.whole) (value_at c.into_pruned-part.result))
     c.deref.ensures.value c.into_pruned-part.ensures.values)
 
 pub returns-clause-shape : goal.returns-clause-shape
-returns-clause-shape c = shaped_again c.args.plan.net.now.nodes c.args.v.0 (any_has c.in_ok-split.split.taken) c.in_ok-split.split.next c.args.state.now
-    (record { functions = c.args.state.now.functions; pending = c.split_at.new.pending; pairs = c.args.state.now.pairs; queue = c.requeue.new.queue })
+returns-clause-shape c = shaped_again c.args.task.net.now.nodes c.args.v.0 (any_has c.in_ok-split.split.taken) c.in_ok-split.split.next c.args.progress.now
+    (record { functions = c.args.progress.now.functions; pending = c.split_at.new.pending; pairs = c.args.progress.now.pairs; queue = c.requeue.new.queue })
     c.requires.shape c.requires.absent c.in_ok-split.ensures.split c.requeue.ensures refl c.in_ok-split.ensures.nodes

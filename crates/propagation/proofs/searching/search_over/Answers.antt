@@ -10,14 +10,14 @@ use Rattle.propagation.proofs.searching.search_over.Goals as goal
 pub returns : goal.returns
 returns c =
     let k : Task = record { setting = setting_of c.args.net.now; request = c.args.request; bounds = bound_at c.in_ok-bounds.bounds } in
-    let now = progress_of c.in_ok-state.state in
-    let facts = c.in_ok-state.ensures.facts in
-    let done = c.in_ok-state.ensures.done in
+    let now = progress_of c.in_ok-progress.progress in
+    let facts = c.in_ok-progress.ensures.facts in
+    let done = c.in_ok-progress.ensures.done in
     subst (λ (found : Finding). IsFoundFor c.args.net.now c.args.request found) (sym c.new.ensures) (record {
       good = c.in_ok-bounds.ensures.good;
-      nodes = c.in_ok-state.ensures.nodes;
+      nodes = c.in_ok-progress.ensures.nodes;
       bounded = c.in_ok-bounds.ensures.nodes;
-      reduced = c.in_ok-state.ensures.built;
+      reduced = c.in_ok-progress.ensures.built;
       optimal = optimal_at_end k now facts done c.requires.in_time c.in_ok-bounds.ensures.bounds c.in_ok-bounds.ensures.least;
       justified = justified_at_end k now facts done;
     })

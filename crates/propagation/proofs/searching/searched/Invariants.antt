@@ -6,10 +6,10 @@ use Rattle.propagation.proofs.searching.searched.Given as goal
 
 abbrev pub invariant-turns : goal.invariant-turns
 invariant-turns l = record {
-  entries : AreEntrySets l.plan.net.now l.plan.request.until l.sets;
-  shape : IsShaped l.plan.net.now.nodes 0 l.state;
-  facts : IsResting (task_of l.plan) (progress_of l.state);
+  entries : AreEntrySets l.task.net.now l.task.request.until l.sets;
+  shape : IsShaped l.task.net.now.nodes 0 l.progress;
+  facts : IsResting (task_of l.task) (progress_of l.progress);
 }
 
 abbrev pub decreases-turns : goal.decreases-turns
-decreases-turns l = work l.plan.net.now.nodes l.plan.request.until (progress_of l.state)
+decreases-turns l = work l.task.net.now.nodes l.task.request.until (progress_of l.progress)

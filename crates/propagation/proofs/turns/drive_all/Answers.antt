@@ -18,51 +18,51 @@ use Rattle.propagation.specs.Inside.States.{progress_of, task_of}
 pub drive_one-requires-clause-begins : goal.drive_one-requires-clause-begins
 drive_one-requires-clause-begins c =
     let none : ArcId = record { 0 = 0 } in
-    place_begins c.args.plan.net.now c.args.plan.outgoing.now c.args.v.0 c.of-a-items.result.now c.loop-a.a-index _ c.requires.asked.outgoing
+    place_begins c.args.task.net.now c.args.task.outgoing.now c.args.v.0 c.of-a-items.result.now c.loop-a.a-index _ c.requires.asked.outgoing
     c.of-a-items.ensures
     (slice_get-get_or c.of-a-items.result.now c.loop-a.a-index none c.loop-a-test.true)
 
 pub drive_one-requires-clause-part : goal.drive_one-requires-clause-part
-drive_one-requires-clause-part c = part_kept (task_of c.args.plan) (progress_of c.args.state.now) (progress_of c.loop-a.state) c.args.v.0
+drive_one-requires-clause-part c = part_kept (task_of c.args.task) (progress_of c.args.progress.now) (progress_of c.loop-a.progress) c.args.v.0
     (value_at c.args.part.now) c.loop-a.invariant.better c.requires.part
 
 pub loop-a-preserved : goal.loop-a-preserved
 loop-a-preserved c =
-    let k = task_of c.args.plan in
+    let k = task_of c.args.task in
     let arcs = c.of-a-items.result.now in
     let none : ArcId = record { 0 = 0 } in
     record {
       entries = c.in_ok-drive_one.ensures.entries;
       shape = c.in_ok-drive_one.ensures.shape;
       facts = c.in_ok-drive_one.ensures.facts;
-      better = improves-append k (progress_of c.args.state.now) (progress_of c.loop-a.state)
-          (progress_of c.drive_one.new.state) c.loop-a.invariant.better c.in_ok-drive_one.ensures.better;
+      better = improves-append k (progress_of c.args.progress.now) (progress_of c.loop-a.progress)
+          (progress_of c.drive_one.new.progress) c.loop-a.invariant.better c.in_ok-drive_one.ensures.better;
       relaxed = λ i a below is t x q there step. ⊎_elim
-          (λ (before : i < c.loop-a.a-index). relaxed_kept k (progress_of c.loop-a.state)
-          (progress_of c.drive_one.new.state) q c.in_ok-drive_one.ensures.better (c.loop-a.invariant.relaxed i a before is t x q there step))
+          (λ (before : i < c.loop-a.a-index). relaxed_kept k (progress_of c.loop-a.progress)
+          (progress_of c.drive_one.new.progress) q c.in_ok-drive_one.ensures.better (c.loop-a.invariant.relaxed i a before is t x q there step))
           (λ (here : c.loop-a.a-index ≤ i).
           let same : i ≡ c.loop-a.a-index = omega (arith, here, below) in
           let at : Some a ≡ slice_get arcs c.loop-a.a-index = sym is ∙ ap (λ n. slice_get arcs n) same in
           let e = at ∙ slice_get-get_or arcs c.loop-a.a-index none c.loop-a-test.true in
           let arc : a ≡ get_or arcs c.loop-a.a-index none = cc in
           c.in_ok-drive_one.ensures.relaxed t x q there
-          (subst (λ (w : ArcId). Drives (setting_of c.args.plan.net.now) c.args.plan.request.until w.0 (point c.args.v.0 t x) q) arc step))
+          (subst (λ (w : ArcId). Drives (setting_of c.args.task.net.now) c.args.task.request.until w.0 (point c.args.v.0 t x) q) arc step))
           (cases_lt i c.loop-a.a-index);
     }
 
 pub returns-then-is_empty-clause-facts : goal.returns-then-is_empty-clause-facts
 returns-then-is_empty-clause-facts c =
     let none : length c.pieces.result.now ≡ 0 = search rules in
-    settle (task_of c.args.plan) (progress_of c.args.state.now) c.args.v.0 (value_at c.args.part.now) c.requires.facts
+    settle (task_of c.args.task) (progress_of c.args.progress.now) c.args.v.0 (value_at c.args.part.now) c.requires.facts
     (λ t x there a q step.
     let piece = piece_of c.pieces.result.now t x (subst (λ w. value_at w t ≡ Some x) (sym c.pieces.ensures.items) there) in
     absurd (omega (arith, piece.1, none)))
 
 pub returns-clause-facts : goal.returns-clause-facts
 returns-clause-facts c =
-    let k = task_of c.args.plan in
-    settle k (progress_of c.loop-a.state) c.args.v.0 (value_at c.args.part.now) c.loop-a.invariant.facts
+    let k = task_of c.args.task in
+    settle k (progress_of c.loop-a.progress) c.args.v.0 (value_at c.args.part.now) c.loop-a.invariant.facts
     (λ t x there a q step.
-    let place = begins_place c.args.plan.net.now c.args.plan.outgoing.now c.args.v.0 c.of-a-items.result.now a c.requires.asked.outgoing c.of-a-items.ensures
-    (drives_tail c.args.plan.net.now c.args.plan.request.until a (point c.args.v.0 t x) q step) in
+    let place = begins_place c.args.task.net.now c.args.task.outgoing.now c.args.v.0 c.of-a-items.result.now a c.requires.asked.outgoing c.of-a-items.ensures
+    (drives_tail c.args.task.net.now c.args.task.request.until a (point c.args.v.0 t x) q step) in
     c.loop-a.invariant.relaxed place.0 (record { 0 = a }) (omega (arith, place.1, c.loop-a-test.false)) place.2 t x q there step)

@@ -11,10 +11,10 @@ use Rattle.propagation.specs.Inside.States.{IsShaped, progress_of, task_of}
 
 abbrev pub invariant-loop-a : goal.invariant-loop-a
 invariant-loop-a l = record {
-  entries : AreEntrySets l.plan.net.now l.plan.request.until l.sets;
-  shape : IsShaped l.plan.net.now.nodes 0 l.state;
-  facts : IsSearching (task_of l.plan) (progress_of l.state) l.fn.v.0 (value_at l.part);
-  better : Improves (task_of l.plan) (progress_of l.fn.state) (progress_of l.state);
+  entries : AreEntrySets l.task.net.now l.task.request.until l.sets;
+  shape : IsShaped l.task.net.now.nodes 0 l.progress;
+  facts : IsSearching (task_of l.task) (progress_of l.progress) l.fn.v.0 (value_at l.part);
+  better : Improves (task_of l.task) (progress_of l.fn.progress) (progress_of l.progress);
   relaxed : (i : ℕ) (a : ArcId) → i < l.a-index → slice_get l.a-items i ≡ Some a → (t x : ℕ) (q : Position) → value_at l.part t ≡ Some x
-      → Drives (setting_of l.plan.net.now) l.plan.request.until a.0 (point l.fn.v.0 t x) q → IsRelaxedIn (task_of l.plan) (progress_of l.state) q;
+      → Drives (setting_of l.task.net.now) l.task.request.until a.0 (point l.fn.v.0 t x) q → IsRelaxedIn (task_of l.task) (progress_of l.progress) q;
 }

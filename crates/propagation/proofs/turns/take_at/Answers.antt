@@ -8,21 +8,21 @@ use Rattle.propagation.proofs.Taking.{takes_other}
 use Rattle.propagation.proofs.turns.take_at.Goals as goal
 
 pub returns-clause-takes : goal.returns-clause-takes
-returns-clause-takes c = takes_other (task_of c.args.plan) c.args.h.0 (value_at c.args.offer.now) (any_has c.in_ok-improved.improved)
-    (progress_of c.args.state.now)
+returns-clause-takes c = takes_other (task_of c.args.task) c.args.h.0 (value_at c.args.offer.now) (any_has c.in_ok-improved.improved)
+    (progress_of c.args.progress.now)
     (progress_of (record {
       functions = c.lower_at-2.new.functions;
       pending = c.await_at.new.pending;
-      pairs = c.args.state.now.pairs;
+      pairs = c.args.progress.now.pairs;
       queue =
           c.await_at.new.queue;
     }))
-    (λ e. c.if-h-plan.false e) c.in_ok-improved.ensures.lowered c.in_ok-await_at.ensures.awaits refl c.requires.trade
+    (λ e. c.if-h-task.false e) c.in_ok-improved.ensures.lowered c.in_ok-await_at.ensures.awaits refl c.requires.trade
 
 pub returns-clause-shape : goal.returns-clause-shape
 returns-clause-shape c =
     let some = subst (λ o. IfSome o (λ t. any_has c.in_ok-improved.improved t ≡ true)) c.in-Some.is c.first_of.ensures.some in
-    shaped_awaited c.args.plan.net.now.nodes c.args.h.0 (any_has c.in_ok-improved.improved) c.args.state.now
-    (record { functions = c.lower_at-2.new.functions; pending = c.await_at.new.pending; pairs = c.args.state.now.pairs; queue = c.await_at.new.queue })
+    shaped_awaited c.args.task.net.now.nodes c.args.h.0 (any_has c.in_ok-improved.improved) c.args.progress.now
+    (record { functions = c.lower_at-2.new.functions; pending = c.await_at.new.pending; pairs = c.args.progress.now.pairs; queue = c.await_at.new.queue })
     c.requires.shape c.in_ok-improved.ensures.nodes c.in_ok-improved.ensures.built c.in_ok-await_at.ensures.nodes c.in_ok-await_at.ensures.awaits
     c.in_ok-await_at.ensures.queue (c.in-Some.first, some)

@@ -10,53 +10,54 @@ use Rattle.propagation.specs.Inside.States.{progress_of, task_of}
 
 pub returns-in_default-clause-shape : goal.returns-in_default-clause-shape
 returns-in_default-clause-shape c =
-    let p = pending_bound (task_of c.args.plan) (progress_of c.args.state.now) c.args.v.0 c.requires.some.0 c.requires.facts c.requires.some.1 in
+    let p = pending_bound (task_of c.args.task) (progress_of c.args.progress.now) c.args.v.0 c.requires.some.0 c.requires.facts c.requires.some.1 in
     let bad : ◌≡◌ {A = Option Bound} None (Some p.0) = sym c.in_default.is ∙ (c.get.ensures ∙ p.1) in
     cc
 
 pub returns-in_default-clause-less : goal.returns-in_default-clause-less
 returns-in_default-clause-less c =
-    let p = pending_bound (task_of c.args.plan) (progress_of c.args.state.now) c.args.v.0 c.requires.some.0 c.requires.facts c.requires.some.1 in
+    let p = pending_bound (task_of c.args.task) (progress_of c.args.progress.now) c.args.v.0 c.requires.some.0 c.requires.facts c.requires.some.1 in
     let bad : ◌≡◌ {A = Option Bound} None (Some p.0) = sym c.in_default.is ∙ (c.get.ensures ∙ p.1) in
     cc
 
 pub returns-in_default-first_of-clause-shape : goal.returns-in_default-first_of-clause-shape
 returns-in_default-first_of-clause-shape c =
-    let own = pending_is c.args.state.now.pending.items c.args.v.0 c.index.result.now c.requires.low
+    let own = pending_is c.args.progress.now.pending.items c.args.v.0 c.index.result.now c.requires.low
     (omega (arith, c.requires.high, c.requires.shape.pending)) c.index.ensures c.requires.some.0 in
     let bad : true ≡ false = sym c.requires.some.1 ∙ (own ∙ c.in_default-first_of.ensures.none refl c.requires.some.0) in
     cc
 
 pub returns-in_default-first_of-clause-less : goal.returns-in_default-first_of-clause-less
 returns-in_default-first_of-clause-less c =
-    let own = pending_is c.args.state.now.pending.items c.args.v.0 c.index.result.now c.requires.low
+    let own = pending_is c.args.progress.now.pending.items c.args.v.0 c.index.result.now c.requires.low
     (omega (arith, c.requires.high, c.requires.shape.pending)) c.index.ensures c.requires.some.0 in
     let bad : true ≡ false = sym c.requires.some.1 ∙ (own ∙ c.in_default-first_of.ensures.none refl c.requires.some.0) in
     cc
 
 pub part_of-requires-clause-first : goal.part_of-requires-clause-first
 part_of-requires-clause-first c =
-    pending_is c.args.state.now.pending.items c.args.v.0 c.index.result.now c.requires.low
+    pending_is c.args.progress.now.pending.items c.args.v.0 c.index.result.now c.requires.low
     (omega (arith, c.requires.high, c.requires.shape.pending)) c.index.ensures c.in-Some-first_of.first ∙ c.in-Some-first_of.ensures.some
 
 pub part_of-requires-clause-early : goal.part_of-requires-clause-early
 part_of-requires-clause-early c =
-    let there = pending_is c.args.state.now.pending.items c.args.v.0 c.index.result.now c.requires.low
+    let there = pending_is c.args.progress.now.pending.items c.args.v.0 c.index.result.now c.requires.low
     (omega (arith, c.requires.high, c.requires.shape.pending)) c.index.ensures c.in-Some-first_of.first ∙ c.in-Some-first_of.ensures.some in
-    let p = pending_bound (task_of c.args.plan) (progress_of c.args.state.now) c.args.v.0 c.in-Some-first_of.first c.requires.facts there in
+    let p = pending_bound (task_of c.args.task) (progress_of c.args.progress.now) c.args.v.0 c.in-Some-first_of.first c.requires.facts there in
     omega (arith, p.2, c.requires.asked.ends.until)
 
 pub drive_all-requires-clause-facts : goal.drive_all-requires-clause-facts
-drive_all-requires-clause-facts c = parts_keep (task_of c.args.plan) c.args.v.0 (value_at c.in_ok-part.part) (progress_of c.args.state.now)
-    (progress_of c.part_of.new.state) c.requires.facts c.in_ok-part.ensures.parts
+drive_all-requires-clause-facts c = parts_keep (task_of c.args.task) c.args.v.0 (value_at c.in_ok-part.part) (progress_of c.args.progress.now)
+    (progress_of c.part_of.new.progress) c.requires.facts c.in_ok-part.ensures.parts
 
 pub returns-clause-less : goal.returns-clause-less
 returns-clause-less c =
-    let k = task_of c.args.plan in
-    let less = parts_fall k c.args.plan.net.now.nodes c.args.plan.request.until (progress_of c.args.state.now) (progress_of c.part_of.new.state) c.args.v.0
+    let k = task_of c.args.task in
+    let less = parts_fall k c.args.task.net.now.nodes c.args.task.request.until (progress_of c.args.progress.now)
+    (progress_of c.part_of.new.progress) c.args.v.0
     (value_at c.in_ok-part.part) c.in_ok-part.ensures.parts c.requires.high
-    (λ t is. (pending_bound k (progress_of c.args.state.now) c.args.v.0 t c.requires.facts is).2) in
-    let rest = improves_falls k c.args.plan.net.now.nodes c.args.plan.request.until (progress_of c.part_of.new.state)
-    (progress_of c.drive_all.new.state) c.in_ok-drive_all.ensures.better
-    (small_costs k (progress_of c.drive_all.new.state) c.requires.asked.fit c.in_ok-drive_all.ensures.facts.sound) in
+    (λ t is. (pending_bound k (progress_of c.args.progress.now) c.args.v.0 t c.requires.facts is).2) in
+    let rest = improves_falls k c.args.task.net.now.nodes c.args.task.request.until (progress_of c.part_of.new.progress)
+    (progress_of c.drive_all.new.progress) c.in_ok-drive_all.ensures.better
+    (small_costs k (progress_of c.drive_all.new.progress) c.requires.asked.fit c.in_ok-drive_all.ensures.facts.sound) in
     omega (arith, less, rest)

@@ -7,4 +7,11 @@ pub returns : goal.returns
 returns c =
     let n = c.self.inside.parts in
     let seen = ap (λ (t : NetworkModel). length t.areas) c.self.view_is in
-    omega (arith, seen, size_at n.zones.items n.zone_places.items n.holidays.items c.self.invariant.dated, c.self.invariant.dated, n.holidays.ok.0, c.len.ensures)
+    omega (
+      arith,
+      seen,
+      size_at n.zones.items n.zone_places.items n.holidays.items c.self.invariant.dated,
+      c.self.invariant.dated,
+      n.holidays.ok.0,
+      c.len.ensures,
+    )

@@ -1,0 +1,6 @@
+pub mod AreaRows
+pub mod DatedRows
+pub mod DayLists
+mod WorkedAreas
+mod WorkedZones
+pub mod ZoneRows

@@ -1,9 +1,0 @@
-use Rattle.std.proofs.Common.{◌≤◌, All, length}
-use Rattle.both_engines.specs.SmallNets.{IsSmallArc}
-use Rattle.both_engines.proofs.tests.nets.arcs_of.Given as goal
-
-abbrev pub invariant-loop-arc : goal.invariant-loop-arc
-invariant-loop-arc l = record {
-  small : All (IsSmallArc l.nodes l.lists) l.arcs.items;
-  few : length l.arcs.items ≤ 100;
-}

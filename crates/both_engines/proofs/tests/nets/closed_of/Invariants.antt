@@ -1,9 +1,0 @@
-use Rattle.std.proofs.Common.{◌≡◌, All, length}
-use Rattle.route_base.specs.Runs.{AreRuns}
-use Rattle.both_engines.proofs.tests.nets.closed_of.Given as goal
-
-abbrev pub invariant-loop-list : goal.invariant-loop-list
-invariant-loop-list l = record {
-  runs : All (λ v. AreRuns v.items) l.closed.items;
-  all : length l.closed.items ≡ l.list;
-}

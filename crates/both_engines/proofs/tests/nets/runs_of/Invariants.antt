@@ -1,9 +1,0 @@
-use Rattle.std.proofs.Common.{◌≤◌, All}
-use Rattle.route_base.specs.Runs.{AreRuns}
-use Rattle.both_engines.proofs.tests.nets.runs_of.Given as goal
-
-abbrev pub invariant-loop-place : goal.invariant-loop-place
-invariant-loop-place l = record {
-  runs : AreRuns l.runs.items;
-  behind : All (λ r. r.hi ≤ l.end) l.runs.items;
-}

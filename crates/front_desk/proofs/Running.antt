@@ -1,0 +1,327 @@
+-- What a run says by its status.
+use Rattle.std.proofs.Common.{◌≡◌, ◌≢◌, ◌⊎◌, inl, inr, ⊎_elim, ℕ, Some, None, Option, List, refl, sym, subst, ◌∙◌, arith}
+use Rattle.route_base.specs.Contents.{Contents}
+use Rattle.route_base.specs.FolderState.{FolderState, CountsRise, FailedToRead}
+use Rattle.route_base.specs.Setting.{Setting}
+use Rattle.route_base.specs.SinkState.{SinkState}
+use Rattle.route_base.specs.declared.faults.BadInput.{BadInput}
+use Rattle.route_base.specs.declared.faults.RequestFault.{RequestFault}
+use Rattle.route_base.specs.declared.status.Status.{Status}
+use Rattle.route_base.specs.declared.status.Status.TheVariants.{Done, Rejected, Usage, BadInput as BadInputStatus, ReadFault, WriteFault}
+use Rattle.route_base.specs.declared.status.Status.TheVariants.{NoMemory, BadRequest}
+use Rattle.route_base.specs.declared.types.Request.{Request}
+use Rattle.certificate.specs.declared.Certificate.{Certificate}
+use Rattle.certificate.proofs.Whole.{one_certificate}
+use Rattle.certificate_check.specs.Verdicts.{IsGood, FailsFirst, first_fails, second_fails, third_fails, fourth_fails, fifth_fails, sixth_fails}
+use Rattle.plan_report.specs.declared.outcomes.Refusal.{Refusal}
+use Rattle.plan_report.specs.declared.outcomes.Refusal.TheVariants as refusal
+use Rattle.front_desk.specs.Check.{no_certificate, condition_fails, FailsWith, HasGoodCertificate, IsGoodText, RejectsCertificate}
+use Rattle.front_words.specs.declared.commands.Check.{Check}
+use Rattle.front_words.specs.declared.commands.Invocation.{Invocation as Command}
+use Rattle.front_words.specs.declared.commands.Invocation.TheVariants.{Plan as to_plan, Check as to_check, Bans as to_bans, Batch as to_batch, Gen as to_gen}
+use Rattle.front_words.specs.Commands.{command_of}
+use Rattle.front_desk.specs.Commands.{first_fault_for, failed_check_for, IsFinished, IsUndisturbed, Judges, LeavesFiles, Rejects, ReadsNothing, WritesFiles}
+use Rattle.front_desk.specs.Inside.Ending.{Writes}
+use Rattle.front_desk.specs.Run.{IsCause, IsDue, IsRefused, Prints, Runs, HasFailed, StopsWriting, status_of}
+use Rattle.front_desk.proofs.Leaving.{still_left}
+
+-- statuses that differ
+fault_or_read : WriteFault ≡ ReadFault → ⊥
+fault_or_read same = cc
+
+memory_or_read : NoMemory ≡ ReadFault → ⊥
+memory_or_read same = cc
+
+fault_or_memory : WriteFault ≡ NoMemory → ⊥
+fault_or_memory same = cc
+
+read_or_done : ReadFault ≡ Done → ⊥
+read_or_done same = cc
+
+fault_or_done : WriteFault ≡ Done → ⊥
+fault_or_done same = cc
+
+memory_or_done : NoMemory ≡ Done → ⊥
+memory_or_done same = cc
+
+-- a command comes to its end with Done, and with Rejected where it judges
+done_finished : (command : Command) → IsFinished command Done
+done_finished (to_plan p) = refl
+done_finished (to_check c) = inl refl
+done_finished (to_bans b) = refl
+done_finished (to_batch b) = refl
+done_finished (to_gen g) = refl
+
+rejected_finished : (command : Command) → Judges command → IsFinished command Rejected
+rejected_finished (to_plan p) judges = absurd judges
+rejected_finished (to_check c) judges = inr refl
+rejected_finished (to_bans b) judges = absurd judges
+rejected_finished (to_batch b) judges = absurd judges
+rejected_finished (to_gen g) judges = absurd judges
+
+-- a good certificate fails no condition
+good_never_fails : (s : Setting) (r : Request) (c : Certificate) (k : ℕ) → IsGood s r c → FailsFirst s r c k → ⊥
+good_never_fails s r c _ good (first_fails not) = not good.pairs
+good_never_fails s r c _ good (second_fails a not) = not good.achieved
+good_never_fails s r c _ good (third_fails a b not) = not good.bounds
+good_never_fails s r c _ good (fourth_fails a b d not) = not good.start
+good_never_fails s r c _ good (fifth_fails a b d e not) = not good.goes_on
+good_never_fails s r c _ good (sixth_fails a b d e f not) = not good.end
+
+-- the text of a good certificate isn't rejected
+good_never_rejected : (s : Setting) (r : Request) (bytes : List ℕ) (k : ℕ) → IsGoodText s r bytes → FailsWith s r bytes k → ⊥
+good_never_rejected s r bytes _ good (no_certificate none) = none good.certificate good.read
+good_never_rejected s r bytes _ good (condition_fails c k read fails) =
+    good_never_fails s r c k (subst (λ (d : Certificate). IsGood s r d) (one_certificate bytes good.certificate c good.read read) good.good) fails
+
+module _ (words : List (List ℕ)) (old new : FolderState) where
+  no_command : (command : Command) → command_of words ≡ None → command_of words ≡ Some command → ⊥
+  no_command command none some = cc
+
+  -- words that are no command are refused as such
+  refusal_usage : command_of words ≡ None → (why : Refusal) → IsCause words old new why → status_of why ≡ Usage
+  refusal_usage none refusal.Usage cause = refl
+  refusal_usage none (refusal.Input fault) cause = absurd (no_command cause.command none cause.is_command)
+  refusal_usage none (refusal.Request fault) cause = absurd (no_command cause.command none cause.is_command)
+
+  due_usage : command_of words ≡ None → (status : Status) (text : List ℕ) → IsDue words old new status text → status ≡ Usage
+  due_usage none Done text d = absurd (no_command d.command none d.is_command)
+  due_usage none Rejected text d = absurd (no_command d.command none d.is_command)
+  due_usage none Usage text d = refl
+  due_usage none BadInputStatus text d = sym d.has_status ∙ refusal_usage none d.refusal d.cause
+  due_usage none BadRequest text d = sym d.has_status ∙ refusal_usage none d.refusal d.cause
+  due_usage none ReadFault text d = absurd d
+  due_usage none WriteFault text d = absurd d
+  due_usage none NoMemory text d = absurd d
+
+  module _ (held : Contents) (told : old.contents ≡ Some held) (command : Command) (is : command_of words ≡ Some command) where
+    same_command : (other : Command) → command_of words ≡ Some other → other ≡ command
+    same_command other other_is = cc
+
+    fault_of : (other : Command) (o : Option BadInput) → command_of words ≡ Some other → first_fault_for other held ≡ o
+        → first_fault_for command held ≡ o
+    fault_of other o other_is found = subst (λ (k : Command). first_fault_for k held ≡ o) (same_command other other_is) found
+
+    check_of : (other : Command) (o : Option RequestFault) → command_of words ≡ Some other → failed_check_for other held ≡ o
+        → failed_check_for command held ≡ o
+    check_of other o other_is found = subst (λ (k : Command). failed_check_for k held ≡ o) (same_command other other_is) found
+
+    -- the files have a fault
+    module _ (fault : BadInput) (bad : first_fault_for command held ≡ Some fault) where
+      no_fault : first_fault_for command held ≡ None → ⊥
+      no_fault none = cc
+
+      refusal_input : (why : Refusal) → IsCause words old new why → status_of why ≡ BadInputStatus
+      refusal_input refusal.Usage cause = absurd (no_command command cause is)
+      refusal_input (refusal.Input f) cause = refl
+      refusal_input (refusal.Request f) cause =
+          absurd (no_fault (fault_of cause.command None cause.is_command (cause.cause.faultless held told)))
+
+      due_input : (status : Status) (text : List ℕ) → IsDue words old new status text → status ≡ BadInputStatus
+      due_input Done text d = let a = d.answered held told in absurd (no_fault (fault_of d.command None d.is_command a.faultless))
+      due_input Rejected text d = let a = d.rejected held told in absurd (no_fault (fault_of d.command None d.is_command a.faultless))
+      due_input Usage text d = sym d.has_status ∙ refusal_input d.refusal d.cause
+      due_input BadInputStatus text d = refl
+      due_input BadRequest text d = sym d.has_status ∙ refusal_input d.refusal d.cause
+      due_input ReadFault text d = absurd d
+      due_input WriteFault text d = absurd d
+      due_input NoMemory text d = absurd d
+
+    module _ (faultless : first_fault_for command held ≡ None) where
+      no_input : (other : Command) (f : BadInput) → command_of words ≡ Some other → first_fault_for other held ≡ Some f → ⊥
+      no_input other f other_is bad = let here = fault_of other (Some f) other_is bad in clash here
+        where
+          clash : first_fault_for command held ≡ Some f → ⊥
+          clash here = cc
+
+      -- the request fails a check
+      module _ (fault : RequestFault) (bad : failed_check_for command held ≡ Some fault) where
+        no_check : failed_check_for command held ≡ None → ⊥
+        no_check none = cc
+
+        refusal_request : (why : Refusal) → IsCause words old new why → status_of why ≡ BadRequest
+        refusal_request refusal.Usage cause = absurd (no_command command cause is)
+        refusal_request (refusal.Input f) cause = absurd (no_input cause.command f cause.is_command (cause.cause.first held told))
+        refusal_request (refusal.Request f) cause = refl
+
+        due_request : (status : Status) (text : List ℕ) → IsDue words old new status text → status ≡ BadRequest
+        due_request Done text d = let a = d.answered held told in absurd (no_check (check_of d.command None d.is_command a.good))
+        due_request Rejected text d = let a = d.rejected held told in absurd (no_check (check_of d.command None d.is_command a.good))
+        due_request Usage text d = sym d.has_status ∙ refusal_request d.refusal d.cause
+        due_request BadInputStatus text d = sym d.has_status ∙ refusal_request d.refusal d.cause
+        due_request BadRequest text d = refl
+        due_request ReadFault text d = absurd d
+        due_request WriteFault text d = absurd d
+        due_request NoMemory text d = absurd d
+
+      -- the request passes all checks
+      module _ (passed : failed_check_for command held ≡ None) where
+        no_refusal : (why : Refusal) → IsCause words old new why → ⊥
+        no_refusal refusal.Usage cause = no_command command cause is
+        no_refusal (refusal.Input f) cause = no_input cause.command f cause.is_command (cause.cause.first held told)
+        no_refusal (refusal.Request f) cause = clash (check_of cause.command (Some f) cause.is_command (cause.cause.first held told))
+          where
+            clash : failed_check_for command held ≡ Some f → ⊥
+            clash here = cc
+
+        due_finished : (status : Status) (text : List ℕ) → IsDue words old new status text → IsFinished command status
+        due_finished Done text d = done_finished command
+        due_finished Rejected text d =
+            rejected_finished command (subst (λ (k : Command). Judges k) (same_command d.command d.is_command) d.judges)
+        due_finished Usage text d = absurd (no_refusal d.refusal d.cause)
+        due_finished BadInputStatus text d = absurd (no_refusal d.refusal d.cause)
+        due_finished BadRequest text d = absurd (no_refusal d.refusal d.cause)
+        due_finished ReadFault text d = absurd d
+        due_finished WriteFault text d = absurd d
+        due_finished NoMemory text d = absurd d
+
+  module _ (held : Contents) (told : old.contents ≡ Some held) (check : Check) (is : command_of words ≡ Some (to_check check))
+      (good : HasGoodCertificate check held) where
+    never_rejected : (other : Command) (text : List ℕ) → other ≡ to_check check → Rejects other held text → ⊥
+    never_rejected other text same rejects =
+        let r : RejectsCertificate check held text = subst (λ (k : Command). Rejects k held text) same rejects in
+        good_never_rejected _ _ _ r.number good.good r.fails
+
+    due_accepted : (status : Status) (text : List ℕ) → IsDue words old new status text → status ≡ Done
+    due_accepted Done text d = refl
+    due_accepted Rejected text d =
+        let a = d.rejected held told in
+        absurd (never_rejected d.command text (same_command held told (to_check check) is d.command d.is_command) a.rejects)
+    due_accepted Usage text d = absurd (no_refusal held told (to_check check) is good.faultless good.passed d.refusal d.cause)
+    due_accepted BadInputStatus text d = absurd (no_refusal held told (to_check check) is good.faultless good.passed d.refusal d.cause)
+    due_accepted BadRequest text d = absurd (no_refusal held told (to_check check) is good.faultless good.passed d.refusal d.cause)
+    due_accepted ReadFault text d = absurd d
+    due_accepted WriteFault text d = absurd d
+    due_accepted NoMemory text d = absurd d
+
+  -- a text that is due was handed to a sink
+  module _ (from to : SinkState) (due : Status) (text : List ℕ) (is_due : IsDue words old new due text) (counts : CountsRise old new)
+      (left : LeavesFiles (command_of words) old new due) (status : Status) (w : Writes due from to text status) where
+    -- no text is due with the statuses of failures
+    no_failure : (k : Status) → IsDue words old new k text → (k ≢ ReadFault) × ((k ≢ WriteFault) × (k ≢ NoMemory))
+    no_failure Done d = (λ same. cc, (λ same. cc, λ same. cc))
+    no_failure Rejected d = (λ same. cc, (λ same. cc, λ same. cc))
+    no_failure Usage d = (λ same. cc, (λ same. cc, λ same. cc))
+    no_failure BadInputStatus d = (λ same. cc, (λ same. cc, λ same. cc))
+    no_failure BadRequest d = (λ same. cc, (λ same. cc, λ same. cc))
+    no_failure ReadFault d = absurd d
+    no_failure WriteFault d = absurd d
+    no_failure NoMemory d = absurd d
+
+    not_read : due ≢ ReadFault
+    not_read = (no_failure due is_due).0
+
+    not_fault : due ≢ WriteFault
+    not_fault = (no_failure due is_due).1.0
+
+    not_memory : due ≢ NoMemory
+    not_memory = (no_failure due is_due).1.1
+
+    -- the status is the one that is due, or writing or memory failed
+    by_others : (P : Type 0) → (status ≡ due → P) → (status ≡ WriteFault → P) → (status ≡ NoMemory → P) → P
+    by_others P here fault memory =
+        ⊎_elim here (λ (failed : (status ≡ WriteFault) ⊎ (status ≡ NoMemory)). ⊎_elim fault memory failed) w.others
+
+    due_or_failed : (k : Status) → due ≡ k → (status ≡ k) ⊎ HasFailed status
+    due_or_failed k same =
+        by_others ((status ≡ k) ⊎ HasFailed status) (λ here. inl (here ∙ same)) (λ fault. inr (inr (inl fault))) (λ memory. inr (inr (inr memory)))
+
+    prints : (k : Status) → status ≡ k → k ≢ WriteFault → k ≢ NoMemory → Prints (IsDue words old new k) from to
+    prints k same no_fault no_memory = record {
+      text = text;
+      is_due = by_others (IsDue words old new k text)
+          (λ here. subst (λ (s : Status). IsDue words old new s text) (sym here ∙ same) is_due)
+          (λ fault. absurd (no_fault (sym same ∙ fault))) (λ memory. absurd (no_memory (sym same ∙ memory)));
+      gained = w.written (λ fault. no_fault (sym same ∙ fault)) (λ memory. no_memory (sym same ∙ memory));
+    }
+
+    never_read : status ≢ ReadFault
+    never_read same =
+        by_others ⊥ (λ here. not_read (sym here ∙ same)) (λ fault. fault_or_read (sym fault ∙ same)) (λ memory. memory_or_read (sym memory ∙ same))
+
+    pub runs_printed : Runs words old new from to status
+    runs_printed = record {
+      done = λ same. prints Done same (λ clash. cc) (λ clash. cc);
+      refused = λ is. prints status refl (λ fault. subst (λ (s : Status). IsRefused s) fault is) (λ memory. subst (λ (s : Status). IsRefused s) memory is);
+      write_fault = λ fault. inr (record {
+        counted = w.fault fault not_fault;
+        status = due;
+        text = text;
+        is_due = is_due;
+        left = left;
+        gained = w.part fault not_fault;
+      });
+      silent = λ failed. ⊎_elim (λ (read : status ≡ ReadFault). absurd (never_read read)) (λ (memory : status ≡ NoMemory). w.silent memory not_memory) failed;
+      read_fault = λ read. absurd (never_read read);
+      nothing_read = λ _. never_read;
+      usage_due = λ none. due_or_failed Usage (due_usage none due text is_due);
+      bad_input_due = λ held command fault told is bad. due_or_failed BadInputStatus (due_input held told command is fault bad due text is_due);
+      bad_request_due = λ held command fault told is faultless bad.
+          due_or_failed BadRequest (due_request held told command is faultless fault bad due text is_due);
+      complete = λ held command told is faultless passed undisturbed. by_others (IsFinished command status ⊎ (status ≡ NoMemory))
+          (λ here. inl (subst (λ (s : Status). IsFinished command s) (sym here) (due_finished held told command is faultless passed due text is_due)))
+          (λ fault. absurd (undisturbed.appends (w.fault fault not_fault))) (λ memory. inr memory);
+      accepted = λ held check told is good. due_or_failed Done (due_accepted held told check is good due text is_due);
+      left = still_left old new (command_of words) due status not_fault not_memory w.others left;
+      folder_counts = counts;
+      sink_count = w.count;
+    }
+
+  -- reading, writing a file or memory failed, and nothing was printed
+  module _ (sink : SinkState) (counts : CountsRise old new) where
+    pub runs_unread : FailedToRead old new → (ReadsNothing (command_of words) → ⊥) → LeavesFiles (command_of words) old new ReadFault
+        → Runs words old new sink sink ReadFault
+    runs_unread counted reads left = record {
+      done = λ same. absurd (read_or_done same);
+      refused = λ is. absurd is;
+      write_fault = λ same. absurd (fault_or_read (sym same));
+      silent = λ _. refl;
+      read_fault = λ _. counted;
+      nothing_read = λ nothing. absurd (reads nothing);
+      usage_due = λ none. inr (inl refl);
+      bad_input_due = λ held command fault told is bad. inr (inl refl);
+      bad_request_due = λ held command fault told is faultless bad. inr (inl refl);
+      complete = λ held command told is faultless passed undisturbed. absurd (undisturbed.reads counted);
+      accepted = λ held check told is good. inr (inl refl);
+      left = left;
+      folder_counts = counts;
+      sink_count = omega arith;
+    }
+
+    pub runs_unwritten : StopsWriting words old new → LeavesFiles (command_of words) old new WriteFault → Runs words old new sink sink WriteFault
+    runs_unwritten stops left = record {
+      done = λ same. absurd (fault_or_done same);
+      refused = λ is. absurd is;
+      write_fault = λ _. inl (record { stops = stops; silent = refl });
+      silent = λ _. refl;
+      read_fault = λ same. absurd (fault_or_read same);
+      nothing_read = λ nothing. fault_or_read;
+      usage_due = λ none. inr (inr (inl refl));
+      bad_input_due = λ held command fault told is bad. inr (inr (inl refl));
+      bad_request_due = λ held command fault told is faultless bad. inr (inr (inl refl));
+      complete = λ held command told is faultless passed undisturbed. absurd (undisturbed.writes
+          (subst (λ (k : Command). WritesFiles k) (same_command held told command is stops.command stops.is_command) stops.stops.writes)
+          stops.stops.counted);
+      accepted = λ held check told is good. inr (inr (inl refl));
+      left = left;
+      folder_counts = counts;
+      sink_count = omega arith;
+    }
+
+    pub runs_short : LeavesFiles (command_of words) old new NoMemory → Runs words old new sink sink NoMemory
+    runs_short left = record {
+      done = λ same. absurd (memory_or_done same);
+      refused = λ is. absurd is;
+      write_fault = λ same. absurd (fault_or_memory (sym same));
+      silent = λ _. refl;
+      read_fault = λ same. absurd (memory_or_read same);
+      nothing_read = λ nothing. memory_or_read;
+      usage_due = λ none. inr (inr (inr refl));
+      bad_input_due = λ held command fault told is bad. inr (inr (inr refl));
+      bad_request_due = λ held command fault told is faultless bad. inr (inr (inr refl));
+      complete = λ held command told is faultless passed undisturbed. inr refl;
+      accepted = λ held check told is good. inr (inr (inr refl));
+      left = left;
+      folder_counts = counts;
+      sink_count = omega arith;
+    }

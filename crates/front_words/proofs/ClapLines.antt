@@ -1,0 +1,112 @@
+-- The lines of the commands pass `clap`, which gives back their words.
+use Rattle.std.proofs.Common.{◌≡◌, refl, codes, false, List, Option, Some, None, [], ◌∷◌, ◌++◌, length, arith}
+use Rattle.std.specs.Prelude.{IfSome}
+use Rattle.clap.specs.Walk.{Held, Text, nothing_held}
+use Rattle.clap.specs.Simple.{App, built}
+use Rattle.clap.proofs.OnLiterals.{clap_on_literals}
+use Rattle.front_words.specs.ClapCommands.{app_with, bans_app, bans_places, batch_app, batch_choices, batch_places, check_app, check_places, gen_app}
+use Rattle.front_words.specs.ClapCommands.{gen_places, line_of_batch, line_of_plan, option_line, plan_app, plan_choices, plan_places, written_out}
+use Rattle.front_words.specs.Inside.{ArePlain}
+use Rattle.front_words.specs.Splitting.{is_dashed}
+use Rattle.front_words.proofs.ClapWalk.{Opens, Passes, WalksOn, passes_line, rule_by_id, then_reaches, walk_at, walks_nowhere, walks_option, with_option}
+
+-- the value of an option, where it is given, begins with no dash
+abbrev IsPlainIf : Option Text → Type 0
+IsPlainIf value = IfSome value (λ word. is_dashed word ≡ false)
+
+-- `bans DIR VEHICLE ARC DEPART UNTIL`
+pub bans_passes : (words : List Text) → length words ≡ 5 → ArePlain words
+    → Passes bans_app (codes "bans" ∷ words) bans_places words [] []
+unfolding app_with
+bans_passes (a ∷ b ∷ c ∷ d ∷ e ∷ []) n plain =
+    passes_line (written_out (codes "bans") bans_places []) _ _ _ _ _ _ nothing_held (record { simple = refl; named = refl; alone = refl })
+    walks_nowhere plain refl refl refl refl
+bans_passes words n plain = absurd (omega arith)
+
+-- `check DIR VEHICLE FROM TO DEPART UNTIL NAME`
+pub check_passes : (words : List Text) → length words ≡ 7 → ArePlain words
+    → Passes check_app (codes "check" ∷ words) check_places words [] []
+unfolding app_with
+check_passes (a ∷ b ∷ c ∷ d ∷ e ∷ f ∷ g ∷ []) n plain =
+    passes_line (written_out (codes "check") check_places []) _ _ _ _ _ _ nothing_held (record { simple = refl; named = refl; alone = refl })
+    walks_nowhere plain refl refl refl refl
+check_passes words n plain = absurd (omega arith)
+
+-- `gen DIR NUMBER ROWS COLUMNS`
+pub gen_passes : (words : List Text) → length words ≡ 4 → ArePlain words
+    → Passes gen_app (codes "gen" ∷ words) gen_places words [] []
+unfolding app_with
+gen_passes (a ∷ b ∷ c ∷ d ∷ []) n plain =
+    passes_line (written_out (codes "gen") gen_places []) _ _ _ _ _ _ nothing_held (record { simple = refl; named = refl; alone = refl })
+    walks_nowhere plain refl refl refl refl
+gen_passes words n plain = absurd (omega arith)
+
+-- `batch`, as `clap` builds it
+abbrev batch_written : App
+batch_written = written_out (codes "batch") batch_places batch_choices
+
+batch_opens : Opens (built batch_written).top (codes "--workers") (codes "workers") nothing_held
+unfolding clap_on_literals
+batch_opens = record { rule = rule_by_id (built batch_written).top (codes "workers"); found = refl; turns = refl; walks = refl; closes = λ word. refl }
+
+walks_workers : (workers : Option Text) (words : List Text) → IsPlainIf workers
+    → WalksOn (built batch_written).top (walk_at 1 nothing_held) (option_line (codes "--workers") workers ++ words)
+    (walk_at 1 (with_option (built batch_written).top (codes "workers") workers nothing_held)) words
+walks_workers workers words w =
+    walks_option (built batch_written).top (codes "--workers") (codes "workers") nothing_held workers words w batch_opens
+
+-- `batch DIR JOBS [--workers N]`
+pub batch_passes : (workers : Option Text) (words : List Text) → length words ≡ 2 → ArePlain words → IsPlainIf workers
+    → Passes batch_app (line_of_batch workers words) batch_places words batch_choices (workers ∷ [])
+unfolding app_with
+batch_passes None (a ∷ b ∷ []) n plain w =
+    passes_line batch_written _ _ _ _ _ _ _ (record { simple = refl; named = refl; alone = refl }) (walks_workers None _ w)
+    plain refl refl refl refl
+batch_passes (Some x) (a ∷ b ∷ []) n plain w =
+    passes_line batch_written _ _ _ _ _ _ _ (record { simple = refl; named = refl; alone = refl }) (walks_workers (Some x) _ w)
+    plain refl refl refl refl
+batch_passes workers words n plain w = absurd (omega arith)
+
+-- `plan`, as `clap` builds it
+abbrev plan_written : App
+plan_written = written_out (codes "plan") plan_places plan_choices
+
+abbrev behind_form : Option Text → Held
+behind_form form = with_option (built plan_written).top (codes "form") form nothing_held
+
+form_opens : Opens (built plan_written).top (codes "--form") (codes "form") nothing_held
+unfolding clap_on_literals
+form_opens = record { rule = rule_by_id (built plan_written).top (codes "form"); found = refl; turns = refl; walks = refl; closes = λ word. refl }
+
+certificate_opens : (form : Option Text) → Opens (built plan_written).top (codes "--certificate") (codes "certificate") (behind_form form)
+unfolding clap_on_literals
+certificate_opens None =
+    record { rule = rule_by_id (built plan_written).top (codes "certificate"); found = refl; turns = refl; walks = refl; closes = λ word. refl }
+certificate_opens (Some x) =
+    record { rule = rule_by_id (built plan_written).top (codes "certificate"); found = refl; turns = refl; walks = refl; closes = λ word. refl }
+
+walks_choices : (form name : Option Text) (words : List Text) → IsPlainIf form → IsPlainIf name
+    → WalksOn (built plan_written).top (walk_at 1 nothing_held)
+    (option_line (codes "--form") form ++ (option_line (codes "--certificate") name ++ words))
+    (walk_at 1 (with_option (built plan_written).top (codes "certificate") name (behind_form form))) words
+walks_choices form name words p q =
+    then_reaches (walks_option (built plan_written).top (codes "--form") (codes "form") nothing_held form _ p form_opens)
+    (walks_option (built plan_written).top (codes "--certificate") (codes "certificate") (behind_form form) name words q (certificate_opens form))
+
+-- `plan DIR VEHICLE FROM TO DEPART UNTIL [--form F] [--certificate NAME]`
+pub plan_passes : (form name : Option Text) (words : List Text) → length words ≡ 6 → ArePlain words → IsPlainIf form → IsPlainIf name
+    → Passes plan_app (line_of_plan form name words) plan_places words plan_choices (form ∷ name ∷ [])
+unfolding app_with
+plan_passes None None (a ∷ b ∷ c ∷ d ∷ e ∷ f ∷ []) n plain p q =
+    passes_line plan_written _ _ _ _ _ _ _ (record { simple = refl; named = refl; alone = refl }) (walks_choices None None _ p q)
+    plain refl refl refl refl
+plan_passes None (Some y) (a ∷ b ∷ c ∷ d ∷ e ∷ f ∷ []) n plain p q =
+    passes_line plan_written _ _ _ _ _ _ _ (record { simple = refl; named = refl; alone = refl }) (walks_choices None (Some y) _ p q)
+    plain refl refl refl refl
+plan_passes (Some x) None (a ∷ b ∷ c ∷ d ∷ e ∷ f ∷ []) n plain p q =
+    passes_line plan_written _ _ _ _ _ _ _ (record { simple = refl; named = refl; alone = refl }) (walks_choices (Some x) None _ p q)
+    plain refl refl refl refl
+plan_passes (Some x) (Some y) (a ∷ b ∷ c ∷ d ∷ e ∷ f ∷ []) n plain p q =
+    passes_line plan_written _ _ _ _ _ _ _ (record { simple = refl; named = refl; alone = refl }) (walks_choices (Some x) (Some y) _ p q)
+    plain refl refl refl refl
+plan_passes form name words n plain p q = absurd (omega arith)

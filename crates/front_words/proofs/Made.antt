@@ -1,0 +1,76 @@
+-- The matches make what the words make.
+use Rattle.std.proofs.Common.{◌≡◌, ◌≢◌, ℕ, Bor, Option, Some, None, List, [], ◌∷◌, length, ap, ap₂, refl, subst, sym, ◌∙◌}
+use Rattle.std.specs.Prelude.{Result, map, option_and_then, option_map}
+use Rattle.clap.specs.Words.{App}
+use Rattle.clap.specs.declared.parser.matches.ArgMatches.{ArgMatches}
+use Rattle.front_words.specs.ClapCommands.{made_at, options_at, text_at, text_found, values_at}
+use Rattle.front_words.specs.Forms.{Value, WordForm, value_of_word}
+use Rattle.front_words.specs.Inside.{AnswersWith, given_in, split_of_words}
+use Rattle.front_words.specs.declared.commands.WordsFault.{WordsFault}
+use Rattle.front_words.specs.declared.splitting.Given.{Given as GivenWords}
+use Rattle.front_words.specs.Splitting.{Given, Split, only_value, values_for}
+use Rattle.front_words.specs.Usages.{OptionUsage, Usage, made_of, options_read, places_read, value_if}
+use Rattle.front_words.proofs.ClapWalk.{Passes, first_same, others_same}
+use Rattle.front_words.proofs.Places.{miscounted}
+
+no_others : {A P : Type 0} {x : A} {xs : List A} → [] ≡ x ∷ xs → P
+no_others h = cc
+
+some_others : {A P : Type 0} {x : A} {xs : List A} → x ∷ xs ≡ [] → P
+some_others h = cc
+
+-- one value more, in front
+abbrev in_front : {A : Type 0} → Option A → Option (List A) → Option (List A)
+in_front first others = option_and_then (λ v. option_map (λ vs. v ∷ vs) others) first
+
+module _ (matches : ArgMatches) (app : App) (line : List (List ℕ)) (found : (id : List ℕ) → text_at matches id ≡ text_found app line id) where
+  same_values : (ids words : List (List ℕ)) (forms : List WordForm) → map (text_found app line) ids ≡ map (λ w. Some w) words
+      → values_at matches ids forms ≡ places_read forms words
+  same_values [] [] [] e = refl
+  same_values [] [] (form ∷ forms) e = refl
+  same_values [] (word ∷ words) forms e = no_others e
+  same_values (id ∷ ids) [] forms e = some_others e
+  same_values (id ∷ ids) (word ∷ words) [] e = refl
+  same_values (id ∷ ids) (word ∷ words) (form ∷ forms) e =
+      ap₂ (λ (v : Option Value) (vs : Option (List Value)). in_front v vs)
+      (ap (λ (o : Option (List ℕ)). option_and_then (value_of_word form) o) (found id ∙ first_same e)) (same_values ids words forms (others_same e))
+
+  same_options : (ids : List (List ℕ)) (options : List OptionUsage) (given : List Given) (values : List (Option (List ℕ)))
+      → map (text_found app line) ids ≡ values → map (λ o. only_value (values_for o.name given)) options ≡ map (λ v. Some v) values
+      → options_at matches ids options ≡ options_read options given
+  same_options [] [] given values e f = refl
+  same_options [] (o ∷ options) given [] e f = some_others f
+  same_options [] (o ∷ options) given (v ∷ values) e f = no_others e
+  same_options (id ∷ ids) options given [] e f = some_others e
+  same_options (id ∷ ids) [] given (v ∷ values) e f = no_others f
+  same_options (id ∷ ids) (o ∷ options) given (v ∷ values) e f =
+      ap₂ (λ (w : Option (Option Value)) (ws : Option (List (Option Value))). in_front w ws)
+      (ap (λ (t : Option (List ℕ)). value_if o.form t) (found id ∙ first_same e)
+      ∙ sym (ap (λ (t : Option (Option (List ℕ))). option_and_then (value_if o.form) t) (first_same f)))
+      (same_options ids options given values (others_same e) (others_same f))
+
+  -- the matches of a line that passes
+  pub same_made : {A : Type 0} (usage : Usage A) (ids choices : List (List ℕ)) (s : Split) (values : List (Option (List ℕ)))
+      → Passes app line ids s.places choices values
+      → map (λ o. only_value (values_for o.name s.given)) usage.options ≡ map (λ v. Some v) values
+      → made_at matches usage ids choices ≡ made_of usage s
+  same_made usage ids choices s values p f =
+      ap₂ (λ (vs : Option (List Value)) (os : Option (List (Option Value))). option_and_then (λ v. option_and_then (usage.make v) os) vs)
+      (same_values ids s.places usage.places p.places) (same_options choices usage.options s.given values p.options f)
+
+-- too many words, or too few, make nothing
+pub miscounted_made : {A : Type 0} (usage : Usage A) (places : List (Bor (List ℕ))) (given : List GivenWords) → length places ≢ length usage.places
+    → made_of usage (split_of_words places given) ≡ None
+miscounted_made usage places given h =
+    ap (λ (vs : Option (List Value)). option_and_then (λ v. option_and_then (usage.make v) (options_read usage.options (map given_in given))) vs)
+    (sym (miscounted usage.places places h))
+
+-- the answer to the matches of a line that passes is the answer to the words
+pub answers_line : {A B : Type 0} (value_in : B → A) (result : Result B WordsFault) (usage : Usage A) (matches : ArgMatches) (app : App)
+    (held line ids choices : List (List ℕ)) (s : Split) (values : List (Option (List ℕ))) → held ≡ line
+    → ((id : List ℕ) → text_at matches id ≡ text_found app held id) → Passes app line ids s.places choices values
+    → map (λ o. only_value (values_for o.name s.given)) usage.options ≡ map (λ v. Some v) values
+    → AnswersWith value_in (made_at matches usage ids choices) result → AnswersWith value_in (made_of usage s) result
+answers_line {A} value_in result usage matches app held line ids choices s values e found p f h =
+    subst (λ (due : Option A). AnswersWith value_in due result)
+    (same_made matches app line (λ id. found id ∙ ap (λ (ws : List (List ℕ)). text_found app ws id) e) usage ids choices s values p f) h

@@ -1,0 +1,151 @@
+// The commands, with the values of all their words side by side.
+ghost use Rattle.std.specs.Prelude.{◌≡◌};
+ghost use Rattle.front_words.specs.Commands.{command_in, to_check, to_plan};
+
+use crate::{Bans, Batch, Check, Gen, Invocation, Plan, Trip};
+use route_base::{Form, Minute, Text};
+
+/// A command, with the values of its words. Nodes and arcs are numbered from 1; minutes are Unix minutes.
+#[derive(Drop)]
+pub enum Command {
+    /// Plans a trip over the files of the folder `dir`, reports it in a form, and writes a certificate into the folder where a name is
+    /// given for it.
+    Plan {
+        dir: Text,
+        vehicle: Text,
+        from: u32,
+        to: u32,
+        depart: Minute,
+        until: Minute,
+        form: Form,
+        certificate: Option<Text>,
+    },
+    /// Judges the certificate `name` for a trip over the files of the folder `dir`.
+    Check {
+        dir: Text,
+        vehicle: Text,
+        from: u32,
+        to: u32,
+        depart: Minute,
+        until: Minute,
+        name: Text,
+    },
+    /// Prints the minutes from `depart` up to, but not including, `until` at which an arc is closed to a vehicle, over the files of the folder
+    /// `dir`.
+    Bans {
+        dir: Text,
+        vehicle: Text,
+        arc: u32,
+        depart: Minute,
+        until: Minute,
+    },
+    /// Plans each job of the file `jobs` over the files of the folder `dir`, on this many workers.
+    Batch {
+        dir: Text,
+        jobs: Text,
+        workers: u32,
+    },
+    /// Draws a network of these rows and columns from a number, and writes its files into the folder `dir`.
+    Gen {
+        dir: Text,
+        number: u64,
+        rows: u32,
+        columns: u32,
+    },
+}
+
+// The same command, its words side by side.
+pub fn side_by_side(invocation: Invocation) -> Command
+    ensures { command_in result ≡ invocation }
+{
+    match invocation {
+        Invocation::Plan(plan) => plan_of(plan),
+        Invocation::Check(check) => check_of(check),
+        Invocation::Bans(bans) => {
+            let Bans {
+                dir,
+                vehicle,
+                arc,
+                depart,
+                until,
+            } = bans;
+            Command::Bans {
+                dir,
+                vehicle,
+                arc,
+                depart,
+                until,
+            }
+        }
+        Invocation::Batch(batch) => {
+            let Batch { dir, jobs, workers } = batch;
+            Command::Batch { dir, jobs, workers }
+        }
+        Invocation::Gen(network) => {
+            let Gen {
+                dir,
+                number,
+                rows,
+                columns,
+            } = network;
+            Command::Gen {
+                dir,
+                number,
+                rows,
+                columns,
+            }
+        }
+    }
+}
+
+// The words of a plan.
+fn plan_of(plan: Plan) -> Command
+    ensures { command_in result ≡ to_plan plan }
+{
+    let Plan {
+        dir,
+        trip,
+        form,
+        certificate,
+    } = plan;
+    let Trip {
+        vehicle,
+        origin,
+        goal,
+        depart,
+        until,
+    } = trip;
+    Command::Plan {
+        dir,
+        vehicle,
+        from: origin,
+        to: goal,
+        depart,
+        until,
+        form,
+        certificate,
+    }
+}
+
+// The words of a check.
+fn check_of(check: Check) -> Command
+    ensures { command_in result ≡ to_check check }
+{
+    let Check { dir, trip, name } = check;
+    let Trip {
+        vehicle,
+        origin,
+        goal,
+        depart,
+        until,
+    } = trip;
+    Command::Check {
+        dir,
+        vehicle,
+        from: origin,
+        to: goal,
+        depart,
+        until,
+        name,
+    }
+}

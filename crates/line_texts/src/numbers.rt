@@ -1,0 +1,29 @@
+// Appends texts, and numbers in decimal digits.
+ghost use Rattle.std.specs.Prelude.{◌≡◌, ◌++◌, OnOk, decimal};
+
+use itoa::Buffer;
+use route_base::OutOfMemory;
+
+/// Appends a text. Linear in its bytes.
+pub fn push_text(out: &mut Vec<u8>, text: &str) -> Result<(), OutOfMemory>
+    ensures { OnOk result (out.new.items ≡ out.old.items ++ text.now) }
+{
+    out.extend_from_slice(text.as_bytes())?;
+    Ok(())
+}
+
+/// Appends a number in decimal digits, without leading zeros. Linear in the digits, of which there are 20 at most.
+pub fn push_number(out: &mut Vec<u8>, number: u64) -> Result<(), OutOfMemory>
+    ensures { OnOk result (out.new.items ≡ out.old.items ++ decimal number) }
+{
+    let mut buffer = Buffer::new();
+    push_text(out, buffer.format(number))
+}
+
+/// Appends a word or a mark, such as a comma, and then a number in decimal digits. Linear in the bytes.
+pub fn push_field(out: &mut Vec<u8>, before: &str, number: u64) -> Result<(), OutOfMemory>
+    ensures { OnOk result (out.new.items ≡ out.old.items ++ (before.now ++ decimal number)) }
+{
+    push_text(out, before)?;
+    push_number(out, number)
+}

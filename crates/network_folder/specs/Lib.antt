@@ -1,0 +1,5 @@
+pub mod Faults
+pub mod Files
+pub mod ReadingOrder
+pub mod Words
+pub mod Writing

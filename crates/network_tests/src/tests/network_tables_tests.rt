@@ -1,0 +1,103 @@
+// Networks over a triangle of three nodes, as `read_network` gives them. The refusals of the tables that have no file here are tested in
+// `lorry_plan`.
+mod faults;
+mod jobs;
+mod limits;
+mod rules;
+mod vehicles;
+
+use network_tables::{Files, Network, NetworkFault, read_network};
+use route_base::{FileBytes, FileKind, OutOfMemory, read_number};
+use std::alloc::Global;
+
+const TRIANGLE: &str = "p sp 3 3\na 1 2 60\na 2 3 60\na 1 3 300\n";
+
+pub const AREAS: &str = "area,zone\nport,UTC\ntown,UTC\n";
+
+pub const VEHICLE_HEADER: &str =
+    "name,class,weight_kg,axleload_kg,height_cm,width_cm,length_cm,axles,purpose,flags\n";
+
+// The bytes of a text.
+fn file_of(alloc: Global, text: &str) -> Result<FileBytes, OutOfMemory> {
+    Ok(FileBytes::from_vec(Vec::from_slice(alloc, text.as_bytes())?))
+}
+
+// Puts the triangle and these texts among the files.
+fn put_texts(
+    alloc: Global,
+    files: &mut Files,
+    texts: &[(FileKind, &str)],
+) -> Result<(), OutOfMemory> {
+    files.put(FileKind::Graph, file_of(alloc, TRIANGLE)?);
+    for (file, text) in texts {
+        files.put(*file, file_of(alloc, text)?);
+    }
+    Ok(())
+}
+
+// The network of these tables over the triangle, or over the graph that is among them.
+pub fn read(alloc: Global, texts: &[(FileKind, &str)]) -> Result<Network, NetworkFault> {
+    let mut files = Files::new(alloc);
+    put_texts(alloc, &mut files, texts)?;
+    read_network(alloc, &files)
+}
+
+// The answer of this function to the network, where one is read.
+pub fn found<T, F: FnOnce(&Network) -> T>(
+    network: Result<Network, NetworkFault>,
+    find: F,
+) -> Result<T, NetworkFault>
+    requires { F.IsAlwaysCallable find }
+{
+    match network {
+        Ok(network) => Ok(find(&network)),
+        Err(fault) => Err(fault),
+    }
+}
+
+// The network of these vehicles and rules over the triangle, with arc 2 in the second area.
+pub fn ruled<'a>(
+    alloc: Global,
+    vehicles: &'a str,
+    rules: &'a str,
+) -> Result<Network, NetworkFault> {
+    let texts = [
+        (FileKind::Areas, AREAS),
+        (FileKind::Roads, "arc,area\n2,town\n"),
+        (FileKind::Vehicles, vehicles),
+        (FileKind::Rules, rules),
+    ];
+    read(alloc, &texts)
+}
+
+// Whether a file is refused at this record for the cause of this name.
+pub fn is_refused(
+    network: Result<Network, NetworkFault>,
+    file: FileKind,
+    row: u64,
+    cause: &str,
+) -> bool {
+    match network.err() {
+        Some(NetworkFault::Bad(fault)) => {
+            fault.file == file && fault.row == row && fault.cause.name() == cause
+        }
+        _ => false,
+    }
+}
+
+// The header and the data rows of a table, which stand with `|` between them.
+pub fn table(alloc: Global, header: &str, rows: &str) -> Result<String, OutOfMemory> {
+    let mut text = format!(in alloc; "{header}")?;
+    for row in rows.split('|') {
+        text.push_str(row)?;
+        text.push('\n')?;
+    }
+    Ok(text)
+}
+
+// The record, the cause and the data rows.
+pub fn refusal_of(case: &str) -> Option<(u64, &str, &str)> {
+    let (row, case) = case.split_once(' ')?;
+    let (cause, rows) = case.split_once(' ')?;
+    Some((read_number(row.as_bytes())?, cause, rows))
+}

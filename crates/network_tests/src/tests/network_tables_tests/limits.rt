@@ -1,0 +1,51 @@
+// When arcs are closed and where one may wait: closures, ratings and parking.
+use crate::tests::network_tables_tests::{found, read};
+use network_tables::{Network, NetworkFault};
+use route_base::{ArcId, FileKind, NodeId, Run};
+
+// Whether one may wait at the second node and not at the first one.
+fn parks_at_the_second_node(network: &Network) -> bool {
+    network.graph().node_count() == 3
+        && network.weight(NodeId(1)).is_none()
+        && network.weight(NodeId(2)) == Some(2000)
+}
+
+// Whether the second arc is closed in its two runs, and the first one never.
+fn closes_the_second_arc(network: &Network) -> bool {
+    let first = Run {
+        lo: 26_563_680,
+        hi: 26_563_860,
+    };
+    let second = Run {
+        lo: 26_563_600,
+        hi: 26_563_700,
+    };
+    network.graph().arc_count() == 3
+        && network.closure_count(ArcId(1)) == 0
+        && network.closure_count(ArcId(2)) == 2
+        && network.closure(ArcId(2), 0) == first
+        && network.closure(ArcId(2), 1) == second
+}
+
+#[test]
+fn reads_closures_ratings_and_parking(rt: HostRuntime) -> Result<(), NetworkFault> {
+    let closures =
+        "\u{FEFF}arc,from,to\r\n\"2\",2020-07-04T00:00Z,26563860\r\n\r\n02,26563600,26563700";
+    let network = read(
+        rt.alloc(),
+        &[
+            (FileKind::Closures, closures),
+            (FileKind::Ratings, "rating,weight\nr,2.000\n"),
+            (FileKind::Parking, "node,rating\n2,r\n"),
+        ],
+    );
+    let (parks, closes) = found(network, |network| {
+        (
+            parks_at_the_second_node(network),
+            closes_the_second_arc(network),
+        )
+    })?;
+    assert!(rt; parks);
+    assert!(rt; closes);
+    Ok(())
+}

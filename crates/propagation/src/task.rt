@@ -1,0 +1,12 @@
+// The net and the request that are searched, with the lists of arcs and the bounds that are made once for a search.
+use node_arcs::NodeArcs;
+use route_base::{Bounds, Request, TimedNet};
+
+/// A net with the arcs that leave each node, a request, and bounds to its goal.
+#[derive(Clone, Copy)]
+pub struct Task<'a> {
+    pub net: &'a TimedNet,
+    pub outgoing: &'a NodeArcs,
+    pub bounds: &'a Bounds,
+    pub request: Request,
+}
