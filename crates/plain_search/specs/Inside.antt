@@ -4,4 +4,3 @@ pub mod Costs
 pub mod Predecessors
 pub mod Routes
 pub mod Soundness
-pub mod Tidiness

@@ -9,4 +9,4 @@ pub use Rattle.plain_search.specs.Inside.Costs.{none, at, IsKnownCost, ChangesLa
 pub use Rattle.plain_search.specs.Inside.Predecessors.{LeadsTo, IsSingle}
 pub use Rattle.plain_search.specs.Inside.Routes.{IsRouteAt}
 pub use Rattle.plain_search.specs.Inside.Soundness.{IsAsked, IsSoundTable, IsFinalTable, HasSoundLabel, IsNode, IsMinute}
-pub use Rattle.plain_search.specs.Inside.Tidiness.{IsTidy, HasRoom}
+pub use Rattle.front_transport.specs.Inside.Tidiness.{IsTidy}

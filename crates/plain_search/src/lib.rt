@@ -8,12 +8,13 @@
 //! Each step of an itinerary takes time, so the minutes are taken in order, and a minute's labels are final when it is
 //! processed. `search` holds a request over a net with its forward and backward star (`node_arcs`); `forward` relaxes all
 //! steps from all minutes; `engine` reads the front from the goal's column of the table (`cost_table`); `reconstruct` finds
-//! the path of each pair backwards, and `legs` puts its steps together; `node_points` reads all columns.
+//! the path of each pair backwards, and `legs` puts its steps together (`push_leg` of `front_transport`); `node_points` reads all
+//! columns.
 //!
 //! `specs/Inside` is no law. It has the three facts that the proof keeps (`Costs`): each label but the first comes by a lawful
 //! step, at exactly its cost, from an earlier minute (`ComesBySteps`); the steps of a minute change later minutes alone
 //! (`ChangesLater`); and every step from an earlier minute is relaxed (`IsRelaxedBefore`). `Soundness`, `CostTable`,
-//! `Predecessors`, `Routes` and `Tidiness` name the rest; `Words` passes on the words of the clauses.
+//! `Predecessors` and `Routes` name the rest; `Words` passes on the words of the clauses.
 #![tactic(auto)]
 
 mod cost_table;

@@ -2,10 +2,10 @@ use Rattle.std.proofs.Common.{◌≡◌, ◌++◌, ◌∷◌, [], sym, ◌∙◌
 use Rattle.route_base.specs.Legs.{steps_of, steps_of_leg}
 use Rattle.route_base.specs.declared.types.Leg.{Leg}
 use Rattle.route_base.specs.declared.types.Leg.TheVariants.{Drive}
-use Rattle.plain_search.specs.Inside.Tidiness.{IsTidy}
+use Rattle.front_transport.specs.Inside.Tidiness.{IsTidy}
 use Rattle.route_base.proofs.LegLists.{steps_of-push}
-use Rattle.plain_search.proofs.Tidying.{tidy-drive}
-use Rattle.plain_search.proofs.legs.push_leg.Goals as goal
+use Rattle.front_transport.proofs.Tidying.{tidy-drive}
+use Rattle.front_transport.proofs.legs.push_leg.Goals as goal
 
 pub returns-in_ok-push-in-Drive-clause-tidy : goal.returns-in_ok-push-in-Drive-clause-tidy
 returns-in_ok-push-in-Drive-clause-tidy c =

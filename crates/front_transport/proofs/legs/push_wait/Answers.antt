@@ -2,10 +2,10 @@ use Rattle.std.proofs.Common.{◌≡◌, ◌+◌, ◌++◌, ◌∷◌, [], List,
 use Rattle.route_base.specs.Legs.{steps_of, steps_of_leg}
 use Rattle.route_base.specs.declared.types.Leg.{Leg}
 use Rattle.route_base.specs.declared.types.Leg.TheVariants.{Drive, Wait}
-use Rattle.plain_search.specs.Inside.Tidiness.{IsTidy}
+use Rattle.front_transport.specs.Inside.Tidiness.{IsTidy}
 use Rattle.route_base.proofs.LegLists.{steps_of-push}
-use Rattle.plain_search.proofs.Tidying.{tidy-wait, tidy-after, steps-join, length-join}
-use Rattle.plain_search.proofs.legs.push_wait.Goals as goal
+use Rattle.front_transport.proofs.Tidying.{tidy-wait, tidy-after, steps-join, length-join}
+use Rattle.front_transport.proofs.legs.push_wait.Goals as goal
 
 pub overflow_add-minutes : goal.overflow_add-minutes
 overflow_add-minutes c =

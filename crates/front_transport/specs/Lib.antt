@@ -1,0 +1,4 @@
+pub mod CheapArcs
+pub mod Inside
+pub mod ParetoFronts
+pub mod Words

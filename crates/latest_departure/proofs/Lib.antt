@@ -1,0 +1,7 @@
+pub mod AfterGate
+pub mod Gate
+pub mod LateFronts
+pub mod MirroredNet
+pub mod MirroredRuns
+pub mod TurnedLegs
+pub mod TurnedWalks

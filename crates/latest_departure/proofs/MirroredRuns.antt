@@ -1,0 +1,120 @@
+-- Mirrored runs are rising runs again, and have the mirrored minutes.
+use Rattle.std.proofs.Common.{◌≡◌, ⊎_elim, ℕ, suc, ◌+◌, ◌-◌, ◌≤◌, ◌<◌, ◌&&◌, ◌||◌, Bool, true, false, if◌then◌else◌, nat_lt, List, [], ◌∷◌, length, All}
+use Rattle.std.proofs.Common.{AllPairs, refl, sym, ◌∙◌, ap, arith}
+use Rattle.std.proofs.lemmas.Bool.{cases_lt, lt-ltb, le-ltb, le-leb, leb-true, ltb-true, and_from}
+use Rattle.std.proofs.lemmas.List.Elements.{All-append, All-cons, All-nil, All-tail}
+use Rattle.std.proofs.lemmas.List.Folds.{list_any-append}
+use Rattle.route_base.specs.Runs.{has_minute, any_has, AreRuns}
+use Rattle.route_base.specs.declared.types.Run.{Run}
+use Rattle.route_base.proofs.Lists.{pairs_append}
+use Rattle.latest_departure.specs.Inside.Mirror.{mirrored_run, mirrored_runs}
+
+same_bool : (a b : Bool) → (a ≡ true → b ≡ true) → (b ≡ true → a ≡ true) → a ≡ b
+same_bool true b there back = sym (there refl)
+same_bool false true there back = back refl
+same_bool false false there back = refl
+
+both_true : (a b : Bool) → (a && b) ≡ true → (a ≡ true) × (b ≡ true)
+both_true true true is = (refl, refl)
+both_true true false is = absurd (cc)
+both_true false b is = absurd (cc)
+
+or_none : (a : Bool) → (a || false) ≡ a
+or_none true = refl
+or_none false = refl
+
+or_turned : (a b : Bool) → (a || b) ≡ (b || a)
+or_turned true true = refl
+or_turned true false = refl
+or_turned false true = refl
+or_turned false false = refl
+
+-- the run, where it begins before the sum
+kept : ℕ → Run → List Run
+kept sum r = if nat_lt r.lo sum then mirrored_run sum r ∷ [] else []
+
+kept_early : (sum : ℕ) (r : Run) → r.lo < sum → kept sum r ≡ mirrored_run sum r ∷ []
+unfolding kept
+kept_early sum r early = rw (lt-ltb r.lo sum early) refl
+
+kept_late : (sum : ℕ) (r : Run) → sum ≤ r.lo → kept sum r ≡ []
+unfolding kept
+kept_late sum r late = rw (le-ltb r.lo sum late) refl
+
+has_both : (t : ℕ) (r : Run) → has_minute t r ≡ true → (r.lo ≤ t) × (t < r.hi)
+has_both t r has = let h = both_true _ _ has in (leb-true _ _ h.0, ltb-true _ _ h.1)
+
+has_from : (t : ℕ) (r : Run) → r.lo ≤ t → t < r.hi → has_minute t r ≡ true
+has_from t r low high = and_from _ _ (le-leb _ _ low) (lt-ltb _ _ high)
+
+module _ (sum t u : ℕ) (mirror : t + u + 1 ≡ sum) where
+  minute_mirrors : (r : Run) → r.lo < sum → has_minute t (mirrored_run sum r) ≡ has_minute u r
+  minute_mirrors r early = same_bool _ _
+      (λ has. let h = has_both t (mirrored_run sum r) has in has_from u r (omega (arith, h.1, mirror)) (omega (arith, h.0, h.1, mirror)))
+      (λ has. let h = has_both u r has in has_from t (mirrored_run sum r) (omega (arith, h.1, mirror)) (omega (arith, h.0, mirror)))
+
+  late_has_none : (r : Run) → sum ≤ r.lo → has_minute u r ≡ false
+  late_has_none r late = same_bool _ _ (λ has. let h = has_both u r has in absurd (omega (arith, h.0, late, mirror))) (λ no. absurd (cc))
+
+  kept_mirrors : (r : Run) → any_has (kept sum r) t ≡ has_minute u r
+  kept_mirrors r = ⊎_elim
+      (λ (early : r.lo < sum). ap (λ (w : List Run). any_has w t) (kept_early sum r early) ∙ or_none (has_minute t (mirrored_run sum r)) ∙ minute_mirrors r early)
+      (λ (late : sum ≤ r.lo). ap (λ (w : List Run). any_has w t) (kept_late sum r late) ∙ sym (late_has_none r late))
+      (cases_lt r.lo sum)
+
+  -- the mirrored runs have the mirrored minutes
+  pub runs_mirror : (runs : List Run) → any_has (mirrored_runs sum runs) t ≡ any_has runs u
+  unfolding kept
+  runs_mirror [] = refl
+  runs_mirror (r ∷ rs) =
+      list_any-append (has_minute t) (mirrored_runs sum rs) (kept sum r)
+      ∙ ap (λ (b : Bool). b || any_has (kept sum r) t) (runs_mirror rs)
+      ∙ ap (λ (b : Bool). any_has rs u || b) (kept_mirrors r)
+      ∙ or_turned (any_has rs u) (has_minute u r)
+
+runs_tail : (r : Run) (rs : List Run) → AreRuns (r ∷ rs) → AreRuns rs
+runs_tail r rs are = record {
+  filled = All-tail (λ q. q.lo < q.hi) r rs are.filled;
+  apart = λ i j d lt within. are.apart (suc i) (suc j) d (omega (arith, lt)) (omega (arith, within));
+}
+
+behind : (r : Run) (rs : List Run) → AreRuns (r ∷ rs) → All (λ q. r.hi < q.lo) rs
+behind r rs are k d within = are.apart 0 (suc k) d (omega arith) (omega (arith, within))
+
+kept_all : (P : Run → Type 0) (sum : ℕ) (r : Run) → (r.lo < sum → P (mirrored_run sum r)) → All P (kept sum r)
+kept_all P sum r holds = ⊎_elim
+    (λ (early : r.lo < sum). rw (kept_early sum r early) (All-cons P (mirrored_run sum r) [] (holds early) (All-nil P)))
+    (λ (late : sum ≤ r.lo). rw (kept_late sum r late) (All-nil P))
+    (cases_lt r.lo sum)
+
+mirrored_all : (P : Run → Type 0) (sum : ℕ) (runs : List Run) → All (λ r. r.lo < sum → P (mirrored_run sum r)) runs → All P (mirrored_runs sum runs)
+unfolding kept
+mirrored_all P sum [] each = All-nil P
+mirrored_all P sum (r ∷ rs) each = All-append P (mirrored_runs sum rs) (kept sum r)
+    (mirrored_all P sum rs (All-tail (λ q. q.lo < sum → P (mirrored_run sum q)) r rs each))
+    (kept_all P sum r (each 0 r (omega arith)))
+
+one_apart : (sum : ℕ) (r : Run) → AllPairs (λ p q. p.hi < q.lo) (kept sum r)
+one_apart sum r i j d lt within = absurd (omega (arith, lt, within, short))
+  where
+    short : length (kept sum r) ≤ 1
+    short = ⊎_elim
+        (λ (early : r.lo < sum). rw (kept_early sum r early) (omega arith))
+        (λ (late : sum ≤ r.lo). rw (kept_late sum r late) (omega arith))
+        (cases_lt r.lo sum)
+
+runs_apart : (sum : ℕ) (runs : List Run) → AreRuns runs → AllPairs (λ p q. p.hi < q.lo) (mirrored_runs sum runs)
+unfolding kept
+runs_apart sum [] are = λ i j d lt within. absurd (omega (arith, lt, within))
+runs_apart sum (r ∷ rs) are = pairs_append (λ p q. p.hi < q.lo) (mirrored_runs sum rs) (kept sum r)
+    (runs_apart sum rs (runs_tail r rs are))
+    (one_apart sum r)
+    (kept_all (λ y. All (λ x. x.hi < y.lo) (mirrored_runs sum rs)) sum r (λ early.
+    mirrored_all (λ x. x.hi < sum - r.hi) sum rs (λ k d within before. (let far = behind r rs are k d within in omega (arith, before, far)))))
+
+-- the mirrored runs are rising and apart
+pub runs_rise : (sum : ℕ) (runs : List Run) → AreRuns runs → AreRuns (mirrored_runs sum runs)
+runs_rise sum runs are = record {
+  filled = mirrored_all (λ r. r.lo < r.hi) sum runs (λ k d within early. omega (arith, early, are.filled k d within));
+  apart = runs_apart sum runs are;
+}

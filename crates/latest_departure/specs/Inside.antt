@@ -1,0 +1,2 @@
+-- The mirrored net, which is no law (source: own).
+pub mod Mirror

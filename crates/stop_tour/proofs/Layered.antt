@@ -1,0 +1,492 @@
+-- Walks of the layered net are tours, step by step.
+use Rattle.std.proofs.Common.{◌≡◌, ◌⊎◌, inl, inr, ⊎_elim, ℕ, zero, suc, ◌+◌, ◌-◌, ◌*◌, ◌%◌, ◌≤◌, ◌<◌, Option, Some, None, List, [], ◌∷◌, ◌++◌, length, map, get_or, All, refl, sym, ◌∙◌, ap, subst, arith}
+use Rattle.std.specs.Prelude.{slice_get, unwrap_or}
+use Rattle.std.specs.Option.{option_map, option_flatten}
+use Rattle.route_base.specs.Setting.{Setting, Road}
+use Rattle.route_base.specs.Itinerary.{Position, Step, drive, wait, Moves, Walks}
+use Rattle.route_base.specs.Legs.{start_of, end_of, steps_of, Achieves, HasNoNeighbouringWaits}
+use Rattle.route_base.specs.Front.{IsFront, IsAchieved, IsNoWorse, IsRight, pairs_of}
+use Rattle.route_base.specs.Runs.{any_has}
+use Rattle.route_base.specs.Net.{Net, at_number, park_at, road_of, runs_by, shut_by, setting_of, IsGoodArc, IsGoodNet, IsGoodRequest}
+use Rattle.route_base.specs.declared.types.Pair.{Pair}
+use Rattle.route_base.specs.declared.types.Park.{Park}
+use Rattle.route_base.specs.declared.types.Request.{Request}
+use Rattle.route_base.specs.declared.types.Run.{Run}
+use Rattle.route_base.specs.declared.types.TimedArc.{TimedArc}
+use Rattle.route_base.proofs.Numbered.{at_number-all, at_number-next, number_within}
+use Rattle.route_base.proofs.Arcs.{good_arc}
+use Rattle.route_base.proofs.Parks.{rated_park}
+use Rattle.route_base.proofs.Waiting.{same_position}
+use Rattle.std.proofs.lemmas.List.{map-id}
+use Rattle.front_transport.specs.ParetoFronts.{ArrivesBefore}
+use Rattle.front_transport.proofs.PairOrder.{no_worse_order}
+use Rattle.route_base.proofs.Logic.{map_some}
+use Rattle.front_transport.proofs.ListPlaces.{list_kept, list_behind}
+use Rattle.front_transport.proofs.NetParts.{road_arc}
+use Rattle.front_transport.proofs.Places.{at_left, at_right, at_both}
+use Rattle.front_transport.proofs.Transport.{carried}
+use Rattle.stop_tour.specs.Inside.Layers.{lifted, layered, copies, service, services, outside, tour_net, tour_request}
+use Rattle.stop_tour.specs.Tours.{IsGoodStop, TourPosition, TourStep, go, serve, TourMoves, TourWalks, tour_start, tour_end, IsTourAchieved, IsTourFront, AchievesTour, AreRightTours}
+use Rattle.stop_tour.specs.Inside.Unlayering.{step_over, route_over}
+use Rattle.std.proofs.lemmas.Nat.{mul-le, mod-mul-add}
+use Rattle.std.proofs.lemmas.Bool.{le-leb, lt-leb}
+use Rattle.std.proofs.lemmas.List.Elements.{All-map}
+use Rattle.route_base.specs.declared.types.Route.{Route}
+use Rattle.stop_tour.specs.declared.stops.Stop.{Stop}
+use Rattle.stop_tour.proofs.LayerPlaces.{length_layered, IsInLayer, in_layer, layer_at, copy_at, one_place, service_of, service_at}
+use Rattle.stop_tour.proofs.Unlayered.{steps_over, no_empty_over, apart_over}
+use Rattle.stop_tour.proofs.Windows.{within_window, open_within}
+
+list_of : (until : ℕ) (stops : List Stop) (i : ℕ) (stop : Stop) → at_number stops i ≡ Some stop → unwrap_or (slice_get (map (outside until) stops) (i - 1)) [] ≡ outside until stop
+list_of until [] zero stop is = absurd (none stop is)
+  where
+    none : (w : Stop) → None ≡ Some w → ⊥
+    none w same = cc
+list_of until [] (suc k) stop is = absurd (none stop is)
+  where
+    none : (w : Stop) → None ≡ Some w → ⊥
+    none w same = cc
+list_of until (x ∷ xs) zero stop is = absurd (none stop is)
+  where
+    none : (w : Stop) → None ≡ Some w → ⊥
+    none w same = cc
+list_of until (x ∷ xs) (suc zero) stop is =
+    let place : suc zero - 1 ≡ 0 = omega arith in
+    ap (λ (n : ℕ). unwrap_or (slice_get (map (outside until) (x ∷ xs)) n) []) place ∙ ap (outside until) (some_stop x stop is)
+  where
+    some_stop : (u w : Stop) → Some u ≡ Some w → u ≡ w
+    some_stop u w same = cc
+list_of until (x ∷ xs) (suc (suc k)) stop is =
+    let place : suc (suc k) - 1 ≡ suc (suc k - 1) = omega arith in
+    ap (λ (n : ℕ). unwrap_or (slice_get (map (outside until) (x ∷ xs)) n) []) place ∙ list_of until xs (suc k) stop is
+
+module _ (net : Net) (good : IsGoodNet net) (stops : List Stop) (each_stop : All (IsGoodStop net) stops) (until : ℕ) where
+  unfoldable pub s : Setting
+  s = setting_of net
+
+  unfoldable pub z : Setting
+  z = setting_of (tour_net net stops until)
+
+  -- the position in its layer
+  pub record IsInTour (big : Position) (p : TourPosition) : Type 0 where
+    pub node : big.node ≡ p.served * net.nodes + p.at.node
+    pub minute : big.minute ≡ p.at.minute
+    pub cost : big.cost ≡ p.at.cost
+    pub low : 1 ≤ p.at.node
+    pub high : p.at.node ≤ net.nodes
+    pub served : p.served ≤ length stops
+
+  lists : ℕ → List Run
+  lists k = unwrap_or (slice_get (net.closed ++ map (outside until) stops) k) []
+
+  shut_is : (x t : ℕ) (arc : TimedArc) → at_number (tour_net net stops until).arcs x ≡ Some arc → z.shut x t ≡ any_has (lists arc.closed) t
+  unfolding z lists
+  shut_is x t arc is = ap (λ (o : Option TimedArc). any_has (runs_by (tour_net net stops until) o) t) is
+
+  shut_base : (a t : ℕ) (base : TimedArc) → at_number net.arcs a ≡ Some base → any_has (lists base.closed) t ≡ s.shut a t
+  unfolding s lists
+  shut_base a t base is =
+      let fine : IsGoodArc net base = good_arc net good a base is in
+      ap (λ (w : List Run). any_has w t) (list_kept net.closed (map (outside until) stops) base.closed fine.closed)
+      ∙ ap (λ (o : Option TimedArc). any_has (runs_by net o) t) (sym is)
+
+  -- an arc of the layered net is one of a layer or a service
+  pub arc_kinds : (x : ℕ) (arc : TimedArc) → at_number (tour_net net stops until).arcs x ≡ Some arc
+      → IsInLayer net.nodes net.arcs (suc (length stops)) x arc
+      ⊎ ((i : ℕ) × (stop : Stop) × (at_number stops i ≡ Some stop) × (service net.nodes (length net.closed) (0 + (i - 1)) stop ≡ arc)
+      × (x ≡ suc (length stops) * length net.arcs + i))
+  arc_kinds x arc is = ⊎_elim
+      (λ (layer : at_number (layered net.nodes net.arcs (suc (length stops))) x ≡ Some arc). inl (in_layer net.nodes net.arcs (suc (length stops)) x arc layer))
+      (λ (behind : (i : ℕ) × (x ≡ length (layered net.nodes net.arcs (suc (length stops))) + i) × (at_number (services net.nodes (length net.closed) 0 stops) i ≡ Some arc)).
+      (let one = service_of net.nodes (length net.closed) 0 stops behind.0 arc behind.2 in
+      inr (behind.0, one.0, one.1, one.2, omega (arith, behind.1, length_layered net.nodes net.arcs (suc (length stops))))))
+      (at_both (layered net.nodes net.arcs (suc (length stops))) (services net.nodes (length net.closed) 0 stops) x arc is)
+
+  -- a step of a tour for a step over layers
+  record Toured (over : Step) (big : Position) (p : TourPosition) : Type 0 where
+    pub step : TourStep
+    pub is_step : step_over (length net.arcs) (suc (length stops)) over ≡ step
+    pub q : TourPosition
+    pub move : TourMoves s stops until step p q
+    pub in_tour : IsInTour big q
+
+  -- a number up to that of the last layer is of an arc, and one behind is of a service
+  drive_over : (x j a : ℕ) → j < suc (length stops) → (1 ≤ a) × (a ≤ length net.arcs) → x ≡ j * length net.arcs + a
+      → step_over (length net.arcs) (suc (length stops)) (drive x) ≡ go (drive a)
+  drive_over x j a below inside number =
+      let low : x ≤ suc (length stops) * length net.arcs = omega (
+        arith,
+        number,
+        inside.1,
+        mul-le (suc j) (length net.arcs) (suc (length stops)) (length net.arcs)
+            (omega (arith, below)) (omega arith),
+      ) in
+      let place : x - 1 ≡ j * length net.arcs + (a - 1) = omega (arith, number, inside.0) in
+      let rest : (x - 1) % length net.arcs + 1 ≡ a = omega (
+        arith,
+        ap (λ (k : ℕ). k % length net.arcs) place,
+        mod-mul-add j (length net.arcs) (a - 1) (omega (arith, inside.0, inside.1)),
+        inside.0,
+      ) in
+      rw (le-leb x (suc (length stops) * length net.arcs) low) (ap (λ (k : ℕ). go (drive k)) rest)
+
+  serve_over : (x i : ℕ) → 1 ≤ i → x ≡ suc (length stops) * length net.arcs + i → step_over (length net.arcs) (suc (length stops)) (drive x) ≡ serve i
+  serve_over x i some number =
+      rw (lt-leb x (suc (length stops) * length net.arcs) (omega (arith, number, some))) (ap serve (omega (arith, number)))
+
+  by_layer : (x : ℕ) (arc : TimedArc) (big next : Position) (p : TourPosition) → IsInTour big p → (move : Moves z until (drive x) big next)
+      → at_number (tour_net net stops until).arcs x ≡ Some arc → road_of arc ≡ move.road → IsInLayer net.nodes net.arcs (suc (length stops)) x arc → Toured (drive x) next p
+  unfolding s
+  by_layer x arc big next p at move is road_is layer =
+      let base : TimedArc = layer.base in
+      let fine : IsGoodArc net base = good_arc net good layer.a base layer.is in
+      let tail : layer.j * net.nodes + base.tail.0 ≡ p.served * net.nodes + p.at.node =
+      ap (λ (w : TimedArc). w.tail.0) layer.same ∙ ap (λ (w : Road). w.tail) road_is ∙ move.tail ∙ at.node in
+      let here = one_place net.nodes layer.j p.served base.tail.0 p.at.node fine.tail.0 fine.tail.1 at.low at.high tail in
+      let minutes : base.minutes ≡ move.road.minutes = ap (λ (w : TimedArc). w.minutes) layer.same ∙ ap (λ (w : Road). w.minutes) road_is in
+      let cost : base.cost ≡ move.road.cost = ap (λ (w : TimedArc). w.cost) layer.same ∙ ap (λ (w : Road). w.cost) road_is in
+      record {
+        step = go (drive layer.a);
+        is_step = drive_over x layer.j layer.a layer.below (number_within net.arcs layer.a base layer.is) layer.number;
+        q = record { at = record { node = base.head.0; minute = next.minute; cost = next.cost }; served = p.served };
+        move = (
+          record {
+            road = road_of base;
+            is = ap (option_map road_of) layer.is;
+            tail = here.1;
+            is_open = λ t early late. sym (shut_base layer.a t base layer.is)
+                ∙ ap (λ (k : ℕ). any_has (lists k) t) (ap (λ (w : TimedArc). w.closed) layer.same) ∙ sym (shut_is x t arc is)
+                ∙ move.is_open t (omega (arith, early, at.minute)) (omega (arith, late, at.minute, minutes));
+            in_time = omega (arith, move.in_time, at.minute, minutes);
+            node = refl;
+            minute = omega (arith, move.minute, at.minute, minutes);
+            cost = omega (arith, move.cost, at.cost, cost);
+          },
+          refl,
+        );
+        in_tour = record {
+          node = move.node ∙ ap (λ (w : Road). w.head) (sym road_is) ∙ ap (λ (w : TimedArc). w.head.0) (sym layer.same) ∙ ap (λ (k : ℕ). k * net.nodes + base.head.0) here.0;
+          minute = refl;
+          cost = refl;
+          low = fine.head.0;
+          high = fine.head.1;
+          served = at.served;
+        };
+      }
+
+  runs_of_stop : (i : ℕ) (stop : Stop) → at_number stops i ≡ Some stop → lists (length net.closed + (0 + (i - 1))) ≡ outside until stop
+  unfolding lists
+  runs_of_stop i stop is =
+      let same : length net.closed + (0 + (i - 1)) ≡ length net.closed + (i - 1) = omega arith in
+      ap (λ (k : ℕ). unwrap_or (slice_get (net.closed ++ map (outside until) stops) k) []) same
+      ∙ list_behind net.closed (map (outside until) stops) (i - 1) ∙ list_of until stops i stop is
+
+  by_service : (x : ℕ) (arc : TimedArc) (big next : Position) (p : TourPosition) → IsInTour big p → (move : Moves z until (drive x) big next)
+      → at_number (tour_net net stops until).arcs x ≡ Some arc → road_of arc ≡ move.road → (i : ℕ) → (stop : Stop) → at_number stops i ≡ Some stop
+      → service net.nodes (length net.closed) (0 + (i - 1)) stop ≡ arc → x ≡ suc (length stops) * length net.arcs + i → Toured (drive x) next p
+  by_service x arc big next p at move is road_is i stop stop_is same at_x =
+      let fine : IsGoodStop net stop = at_number-all (IsGoodStop net) stops i stop each_stop stop_is in
+      let inside = number_within stops i stop stop_is in
+      let tail : (0 + (i - 1)) * net.nodes + stop.node.0 ≡ p.served * net.nodes + p.at.node =
+      ap (λ (w : TimedArc). w.tail.0) same ∙ ap (λ (w : Road). w.tail) road_is ∙ move.tail ∙ at.node in
+      let here = one_place net.nodes (0 + (i - 1)) p.served stop.node.0 p.at.node fine.node.0 fine.node.1 at.low at.high tail in
+      let minutes : stop.service ≡ move.road.minutes = ap (λ (w : TimedArc). w.minutes) same ∙ ap (λ (w : Road). w.minutes) road_is in
+      let cost : 0 ≡ move.road.cost = ap (λ (w : TimedArc). w.cost) same ∙ ap (λ (w : Road). w.cost) road_is in
+      let number : i ≡ p.served + 1 = omega (arith, here.0, inside.0) in
+      let window = within_window until stop p.at.minute stop.service fine.service.0 (omega (arith, move.in_time, at.minute, minutes))
+      (λ u early late. ap (λ (w : List Run). any_has w u) (sym (runs_of_stop i stop stop_is))
+      ∙ ap (λ (k : ℕ). any_has (lists k) u) (ap (λ (w : TimedArc). w.closed) same) ∙ sym (shut_is x u arc is)
+      ∙ move.is_open u (omega (arith, early, at.minute)) (omega (arith, late, at.minute, minutes))) in
+      record {
+        step = serve i;
+        is_step = serve_over x i inside.0 at_x;
+        q = record { at = record { node = p.at.node; minute = next.minute; cost = next.cost }; served = i };
+        move = record {
+          next = number;
+          stop = stop;
+          is = stop_is;
+          here = here.1;
+          from = window.0;
+          to = window.1;
+          in_time = omega (arith, move.in_time, at.minute, minutes);
+          node = refl;
+          minute = omega (arith, move.minute, at.minute, minutes);
+          cost = omega (arith, move.cost, at.cost, cost);
+          served = refl;
+        };
+        in_tour = record {
+          node = move.node ∙ ap (λ (w : Road). w.head) (sym road_is) ∙ ap (λ (w : TimedArc). w.head.0) (sym same)
+              ∙ ap (λ (k : ℕ). k * net.nodes + stop.node.0) (omega (arith, number, here.0)) ∙ ap (λ (v : ℕ). i * net.nodes + v) here.1;
+          minute = refl;
+          cost = refl;
+          low = at.low;
+          high = at.high;
+          served = inside.1;
+        };
+      }
+
+  -- the park of a place is that of its node
+  park_here : (big : Position) (p : TourPosition) → IsInTour big p → park_at (tour_net net stops until) big.node ≡ park_at net p.at.node
+  park_here big p at =
+      let place : p.at.node - 1 + 1 ≡ p.at.node = omega (arith, at.low) in
+      let o : Option Park = get_or net.parks (p.at.node - 1) None in
+      let is : at_number net.parks p.at.node ≡ Some o = ap (at_number net.parks) (sym place)
+      ∙ at_number-next net.parks (p.at.node - 1) None (omega (arith, at.low, at.high, good.parks)) in
+      let there : at_number (copies net.parks (suc (length stops))) big.node ≡ Some o =
+      ap (at_number (copies net.parks (suc (length stops)))) (at.node ∙ ap (λ (k : ℕ). p.served * k + p.at.node) (sym good.parks))
+      ∙ copy_at net.parks (suc (length stops)) p.served p.at.node o (omega (arith, at.served)) is in
+      ap option_flatten (there ∙ sym is)
+
+  weight_here : (big : Position) (p : TourPosition) → IsInTour big p → z.weight big.node ≡ s.weight p.at.node
+  unfolding z s
+  weight_here big p at = ap (option_map (λ park. park.weight)) (park_here big p at)
+
+  -- a place is shut as its node is
+  shut_here : (big : Position) (p : TourPosition) → IsInTour big p → (w t : ℕ) → s.weight p.at.node ≡ Some w → z.wait_shut big.node t ≡ s.wait_shut p.at.node t
+  unfolding z s
+  shut_here big p at w t rated =
+      let found = rated_park net good p.at.node w rated in
+      ap (λ (o : Option Park). any_has (shut_by (tour_net net stops until) o) t) (park_here big p at ∙ found.1)
+      ∙ ap (λ (l : List Run). any_has l t) (list_kept net.closed (map (outside until) stops) found.0.shut found.3.shut)
+      ∙ ap (λ (o : Option Park). any_has (shut_by net o) t) (sym found.1)
+
+  road_at : (y : ℕ) (road : Road) → z.road y ≡ Some road → option_map road_of (at_number (tour_net net stops until).arcs y) ≡ Some road
+  unfolding z
+  road_at y road is = is
+
+  toured : (x : Step) (big next : Position) (p : TourPosition) → IsInTour big p → Moves z until x big next → Toured x next p
+  toured (drive x) big next p at move =
+      let found = map_some (at_number (tour_net net stops until).arcs x) road_of move.road (road_at x move.road move.is) in
+      ⊎_elim
+      (λ (layer : IsInLayer net.nodes net.arcs (suc (length stops)) x found.0). by_layer x found.0 big next p at move found.1 found.2 layer)
+      (λ (one : (i : ℕ) × (stop : Stop) × (at_number stops i ≡ Some stop) × (service net.nodes (length net.closed) (0 + (i - 1)) stop ≡ found.0)
+      × (x ≡ suc (length stops) * length net.arcs + i)).
+      by_service x found.0 big next p at move found.1 found.2 one.0 one.1 one.2 one.3 one.4)
+      (arc_kinds x found.0 found.1)
+  toured wait big next p at move = record {
+    step = go wait;
+    is_step = refl;
+    q = record { at = record { node = p.at.node; minute = next.minute; cost = next.cost }; served = p.served };
+    move = (
+      record {
+        weight = move.weight;
+        rated = sym (weight_here big p at) ∙ move.rated;
+        is_open = sym (shut_here big p at move.weight p.at.minute (sym (weight_here big p at) ∙ move.rated))
+            ∙ ap (z.wait_shut big.node) (sym at.minute) ∙ move.is_open;
+        in_time = omega (arith, move.in_time, at.minute);
+        node = refl;
+        minute = omega (arith, move.minute, at.minute);
+        cost = omega (arith, move.cost, at.cost);
+      },
+      refl,
+    );
+    in_tour = record { node = move.node ∙ at.node; minute = refl; cost = refl; low = at.low; high = at.high; served = at.served };
+  }
+
+  -- a walk over layers is a tour
+  pub record IsTourWalk (xs : List Step) (big : Position) (p : TourPosition) : Type 0 where
+    pub q : TourPosition
+    pub walk : TourWalks s stops until (map (step_over (length net.arcs) (suc (length stops))) xs) p q
+    pub in_tour : IsInTour big q
+
+  pub tour_walk : (xs : List Step) (big last : Position) (p : TourPosition) → IsInTour big p → Walks z until xs big last → IsTourWalk xs last p
+  tour_walk [] big last p at walk = record { q = p; walk = refl; in_tour = subst (λ (w : Position). IsInTour w p) walk at }
+  tour_walk (x ∷ xs) big last p at walk =
+      let one = toured x big walk.0 p at walk.1 in
+      let more = tour_walk xs walk.0 last one.q one.in_tour walk.2 in
+      record { q = more.q; walk = (one.q, subst (λ (w : TourStep). TourMoves s stops until w p one.q) (sym one.is_step) one.move, more.walk); in_tour = more.in_tour }
+
+  -- a step over layers for a step of a tour
+  record Placed (big : Position) (q : TourPosition) : Type 0 where
+    pub x : Step
+    pub next : Position
+    pub move : Moves z until x big next
+    pub in_tour : IsInTour next q
+
+  road_from : (y : ℕ) (arc : TimedArc) → at_number (tour_net net stops until).arcs y ≡ Some arc → z.road y ≡ Some (road_of arc)
+  unfolding z
+  road_from y arc is = ap (option_map road_of) is
+
+  placed : (step : TourStep) (big : Position) (p q : TourPosition) → IsInTour big p → TourMoves s stops until step p q → Placed big q
+  unfolding s
+  placed (go (drive a)) big p q at moves =
+      let move = moves.0 in
+      let base = road_arc net good a move.road move.is in
+      let x : ℕ = p.served * length net.arcs + a in
+      let arc : TimedArc = lifted (p.served * net.nodes) base.0 in
+      let is : at_number (tour_net net stops until).arcs x ≡ Some arc =
+      at_left (layered net.nodes net.arcs (suc (length stops))) (services net.nodes (length net.closed) 0 stops) x arc
+      (layer_at net.nodes net.arcs (suc (length stops)) p.served a base.0 (omega (arith, at.served)) base.1) in
+      let minutes : base.0.minutes ≡ move.road.minutes = ap (λ (w : Road). w.minutes) base.2 in
+      record {
+        x = drive x;
+        next = record { node = p.served * net.nodes + base.0.head.0; minute = q.at.minute; cost = q.at.cost };
+        move = record {
+          road = road_of arc;
+          is = road_from x arc is;
+          tail = ap (λ (v : ℕ). p.served * net.nodes + v) (ap (λ (w : Road). w.tail) base.2 ∙ move.tail) ∙ sym at.node;
+          is_open = λ t early late. shut_is x t arc is ∙ shut_base a t base.0 base.1
+              ∙ move.is_open t (omega (arith, early, at.minute)) (omega (arith, late, at.minute, minutes));
+          in_time = omega (arith, move.in_time, at.minute, minutes);
+          node = refl;
+          minute = omega (arith, move.minute, at.minute, minutes);
+          cost = omega (arith, move.cost, at.cost, ap (λ (w : Road). w.cost) base.2);
+        };
+        in_tour = record {
+          node = ap (λ (v : ℕ). p.served * net.nodes + v) (ap (λ (w : Road). w.head) base.2 ∙ sym move.node) ∙ ap (λ (k : ℕ). k * net.nodes + q.at.node) (sym moves.1);
+          minute = refl;
+          cost = refl;
+          low = omega (arith, base.3.head.0, ap (λ (w : Road). w.head) base.2, move.node);
+          high = omega (arith, base.3.head.1, ap (λ (w : Road). w.head) base.2, move.node);
+          served = omega (arith, at.served, moves.1);
+        };
+      }
+  placed (go wait) big p q at moves =
+      let move = moves.0 in
+      record {
+        x = wait;
+        next = record { node = big.node; minute = q.at.minute; cost = q.at.cost };
+        move = record {
+          weight = move.weight;
+          rated = weight_here big p at ∙ move.rated;
+          is_open = shut_here big p at move.weight big.minute move.rated ∙ ap (s.wait_shut p.at.node) at.minute ∙ move.is_open;
+          in_time = omega (arith, move.in_time, at.minute);
+          node = refl;
+          minute = omega (arith, move.minute, at.minute);
+          cost = omega (arith, move.cost, at.cost);
+        };
+        in_tour = record {
+          node = at.node ∙ ap (λ (v : ℕ). p.served * net.nodes + v) (sym move.node) ∙ ap (λ (k : ℕ). k * net.nodes + q.at.node) (sym moves.1);
+          minute = refl;
+          cost = refl;
+          low = omega (arith, at.low, move.node);
+          high = omega (arith, at.high, move.node);
+          served = omega (arith, at.served, moves.1);
+        };
+      }
+  placed (serve i) big p q at move =
+      let stop : Stop = move.stop in
+      let fine : IsGoodStop net stop = at_number-all (IsGoodStop net) stops i stop each_stop move.is in
+      let inside = number_within stops i stop move.is in
+      let x : ℕ = length (layered net.nodes net.arcs (suc (length stops))) + i in
+      let arc : TimedArc = service net.nodes (length net.closed) (0 + (i - 1)) stop in
+      let is : at_number (tour_net net stops until).arcs x ≡ Some arc =
+      at_right (layered net.nodes net.arcs (suc (length stops))) (services net.nodes (length net.closed) 0 stops) i arc
+      (service_at net.nodes (length net.closed) 0 stops i stop move.is) in
+      let layer : 0 + (i - 1) ≡ p.served = omega (arith, move.next) in
+      let after : 0 + (i - 1) + 1 ≡ q.served = omega (arith, move.next, move.served) in
+      record {
+        x = drive x;
+        next = record { node = (0 + (i - 1) + 1) * net.nodes + stop.node.0; minute = q.at.minute; cost = q.at.cost };
+        move = record {
+          road = road_of arc;
+          is = road_from x arc is;
+          tail = ap (λ (k : ℕ). k * net.nodes + stop.node.0) layer ∙ ap (λ (v : ℕ). p.served * net.nodes + v) move.here ∙ sym at.node;
+          is_open = λ t early late. shut_is x t arc is ∙ ap (λ (w : List Run). any_has w t) (runs_of_stop i stop move.is)
+              ∙ open_within until stop t (omega (arith, early, at.minute, move.from)) (omega (arith, late, at.minute, move.to));
+          in_time = omega (arith, move.in_time, at.minute);
+          node = refl;
+          minute = omega (arith, move.minute, at.minute);
+          cost = omega (arith, move.cost, at.cost);
+        };
+        in_tour = record {
+          node = ap (λ (k : ℕ). k * net.nodes + stop.node.0) after ∙ ap (λ (v : ℕ). q.served * net.nodes + v) (move.here ∙ sym move.node);
+          minute = refl;
+          cost = refl;
+          low = omega (arith, at.low, move.node);
+          high = omega (arith, at.high, move.node);
+          served = omega (arith, inside.1, move.served);
+        };
+      }
+
+  -- a tour is a walk over layers
+  pub record IsPlacedWalk (big : Position) (q : TourPosition) : Type 0 where
+    pub steps : List Step
+    pub last : Position
+    pub walk : Walks z until steps big last
+    pub in_tour : IsInTour last q
+
+  pub placed_walk : (steps : List TourStep) (big : Position) (p q : TourPosition) → IsInTour big p → TourWalks s stops until steps p q → IsPlacedWalk big q
+  placed_walk [] big p q at walk = record { steps = []; last = big; walk = refl; in_tour = subst (λ (w : TourPosition). IsInTour big w) walk at }
+  placed_walk (step ∷ steps) big p q at walk =
+      let one = placed step big p walk.0 at walk.1 in
+      let more = placed_walk steps one.next walk.0 q one.in_tour walk.2 in
+      record { steps = one.x ∷ more.steps; last = more.last; walk = (one.next, one.move, more.walk); in_tour = more.in_tour }
+
+tour_position : ℕ → ℕ → ℕ → ℕ → TourPosition
+tour_position v t x j = record { at = record { node = v; minute = t; cost = x }; served = j }
+
+same_tour : (p q : TourPosition) → p.at.node ≡ q.at.node → p.at.minute ≡ q.at.minute → p.at.cost ≡ q.at.cost → p.served ≡ q.served → p ≡ q
+unfolding tour_position
+same_tour p q v t x j = ap (λ (w : ℕ). tour_position w p.at.minute p.at.cost p.served) v ∙ ap (λ (w : ℕ). tour_position q.at.node w p.at.cost p.served) t
+    ∙ ap (λ (w : ℕ). tour_position q.at.node q.at.minute w p.served) x ∙ ap (λ (w : ℕ). tour_position q.at.node q.at.minute q.at.cost w) j
+
+module _ (net : Net) (good : IsGoodNet net) (stops : List Stop) (each_stop : All (IsGoodStop net) stops) (r : Request) (asked : IsGoodRequest net r) where
+  zt : Setting
+  zt = setting_of (tour_net net stops r.until)
+
+  begins : IsInTour net good stops each_stop r.until (start_of (tour_request net stops r)) (tour_start r)
+  begins = record { node = omega arith; minute = refl; cost = refl; low = asked.origin.0; high = asked.origin.1; served = omega arith }
+
+  over : List Step → List TourStep
+  over xs = map (step_over (length net.arcs) (suc (length stops))) xs
+
+  ends : (steps : List Step) (p : Pair) → Walks zt r.until steps (start_of (tour_request net stops r)) (end_of (tour_request net stops r) p)
+      → TourWalks (setting_of net) stops r.until (over steps) (tour_start r) (tour_end r (length stops) p)
+  unfolding zt z s over
+  ends steps p walk =
+      let one = tour_walk net good stops each_stop r.until steps (start_of (tour_request net stops r)) (end_of (tour_request net stops r) p) (tour_start r) begins walk in
+      let here = one_place net.nodes one.q.served (length stops) one.q.at.node r.goal.0 one.in_tour.low one.in_tour.high asked.goal.0 asked.goal.1 (sym one.in_tour.node) in
+      subst (λ (w : TourPosition). TourWalks (setting_of net) stops r.until (over steps) (tour_start r) w)
+      (same_tour one.q (tour_end r (length stops) p) here.1 (sym one.in_tour.minute) (sym one.in_tour.cost) here.0) one.walk
+
+  sound : (p : Pair) → IsAchieved zt (tour_request net stops r) p → IsTourAchieved (setting_of net) r stops p
+  sound p can = record { in_time = can.in_time; steps = over can.steps; walk = ends can.steps p can.walk }
+
+  covers : (p : Pair) → IsTourAchieved (setting_of net) r stops p → (q : Pair) × IsAchieved zt (tour_request net stops r) q × IsNoWorse q p
+  unfolding zt z s
+  covers p can =
+      let one = placed_walk net good stops each_stop r.until can.steps (start_of (tour_request net stops r)) (tour_start r) (tour_end r (length stops) p) begins can.walk in (
+        p,
+        record {
+          in_time = can.in_time;
+          steps = one.steps;
+          walk = subst (λ (w : Position). Walks (setting_of (tour_net net stops r.until)) r.until one.steps (start_of (tour_request net stops r)) w)
+              (same_position one.last _ one.in_tour.node one.in_tour.minute one.in_tour.cost) one.walk;
+        },
+        (omega arith, omega arith),
+      )
+
+  -- the front of the layered net is the tour front
+  pub tour_front : (pairs : List Pair) → IsFront (setting_of (tour_net net stops r.until)) (tour_request net stops r) pairs → IsTourFront (setting_of net) r stops pairs
+  unfolding zt
+  tour_front pairs front =
+      subst (IsTourFront (setting_of net) r stops) (map-id pairs)
+      (carried IsNoWorse ArrivesBefore (IsAchieved zt (tour_request net stops r)) IsNoWorse ArrivesBefore (IsTourAchieved (setting_of net) r stops) (λ p. p)
+      no_worse_order no_worse_order
+      (record { sound = sound; covers = covers; keeps = λ a c can_a can_c le. le; tells = λ a c can_a can_c le. le; before = λ a c can_a can_c lt. lt })
+      pairs (record { ordered = front.rising; each = front.each }))
+
+  tour_route : (route : Route) → Achieves (setting_of (tour_net net stops r.until)) (tour_request net stops r) route.legs route.pair × HasNoNeighbouringWaits route.legs
+      → AchievesTour (setting_of net) r stops (route_over (length net.arcs) (suc (length stops)) route)
+  unfolding zt over
+  tour_route route fine = record {
+    in_time = fine.0.in_time;
+    no_empty_wait = no_empty_over (length net.arcs) (suc (length stops)) route.legs fine.0.no_empty_wait;
+    walk = subst (λ (w : List TourStep). TourWalks (setting_of net) stops r.until w (tour_start r) (tour_end r (length stops) route.pair))
+        (sym (steps_over (length net.arcs) (suc (length stops)) route.legs)) (ends (steps_of route.legs) route.pair fine.0.walk);
+    apart = apart_over (length net.arcs) (suc (length stops)) route.legs fine.1;
+  }
+
+  same_pairs : (routes : List Route) → pairs_of routes ≡ map (λ x. x.pair) (map (route_over (length net.arcs) (suc (length stops))) routes)
+  same_pairs [] = refl
+  same_pairs (route ∷ routes) = ap (λ (w : List Pair). route.pair ∷ w) (same_pairs routes)
+
+  -- the routes over layers are those of the tour front
+  pub right_tours : (routes : List Route) → IsRight (setting_of (tour_net net stops r.until)) (tour_request net stops r) routes
+      → AreRightTours (setting_of net) r stops (map (route_over (length net.arcs) (suc (length stops))) routes)
+  right_tours routes right = record {
+    front = subst (IsTourFront (setting_of net) r stops) (same_pairs routes) (tour_front (pairs_of routes) right.front);
+    legs = All-map (AchievesTour (setting_of net) r stops) (route_over (length net.arcs) (suc (length stops))) routes
+        (λ k d within. tour_route _ (right.legs k d within));
+  }

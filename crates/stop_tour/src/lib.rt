@@ -1,0 +1,22 @@
+//! Trips with stops in a given order, each served within its window: the Pareto front of arrival and cost.
+//!
+//! The law is `AreRightTours` of `specs/Tours`, a clause of `tour`: the pairs are the Pareto front of all lawful tours, which drive
+//! and wait as an itinerary of `route_base` does and serve the stops one after another, and each pair has the legs of such a tour.
+//! There are too many states exactly where the number of stops plus one, times the number of nodes and arcs, is above
+//! `MOST_STATES` of `front_transport`.
+//!
+//! `layers` builds a net with one layer for each number of served stops. A service is an arc from a layer to the next, closed outside
+//! the stop's window. So an engine's front over the layers is that of the tours (`tours`), and an arc's number tells which arc is
+//! driven or which stop is served.
+//!
+//! `specs/Inside` is no law: it says what the layered net is (`Layers`) and how its steps are read (`Unlayering`). In `proofs/`,
+//! `LayerPlaces` is about numbers in layers, `Windows` about services, `GoodLayers` and `MadeTour` about the net, `Layered` about
+//! walks over it, and `Unlayered` about legs.
+#![tactic(auto)]
+
+mod layers;
+mod stops;
+mod tours;
+
+pub use stops::{Stop, TourFault, TourLeg, TourLegs, TourRoute, TourRoutes};
+pub use tours::tour;
