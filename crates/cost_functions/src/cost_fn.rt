@@ -5,9 +5,10 @@ ghost use Rattle.cost_functions.specs.Building.{AreBuilt};
 ghost use Rattle.route_base.specs.declared.limits.TheConstants.{LAST_INSTANT, HIGHEST_COST};
 ghost use Rattle.cost_functions.specs.declared.pieces.Piece.{Piece};
 
+use crate::builder::Builder;
 use crate::lookup::value_of;
 use crate::pieces::Piece;
-use crate::points::{of_one, through};
+use crate::points::{at_one, of_one};
 use crate::reduction::{are_reduced, reduced};
 use route_base::{Cost, Minute, OutOfMemory};
 use std::alloc::Global;
@@ -88,7 +89,11 @@ impl CostFn {
         ensures values { IfOk result (λ made. (t : ℕ) → value_at made t ≡ point_at points.now t) }
         ensures built { IfOk result AreBuilt }
     {
-        through(alloc, points)
+        let mut built = Builder::new(alloc);
+        for point in points {
+            built.push(at_one(*point))?;
+        }
+        Ok(built.finish())
     }
 
     /// The pieces, at no cost.

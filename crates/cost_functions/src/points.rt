@@ -1,6 +1,6 @@
-// Functions of points: minutes, each with its cost.
-ghost use Rattle.std.specs.Prelude.{◌≡◌, ◌≢◌, ◌<◌, ◌≤◌, ℕ, Some, None, All, AllPairs, IfOk};
-ghost use Rattle.cost_functions.specs.Pieces.{value_at, point_at};
+// Points: minutes, each with its cost.
+ghost use Rattle.std.specs.Prelude.{◌≡◌, ◌≢◌, ◌≤◌, ℕ, Some, None, IfOk};
+ghost use Rattle.cost_functions.specs.Pieces.{value_at};
 ghost use Rattle.cost_functions.specs.Building.{AreBuilt};
 ghost use Rattle.route_base.specs.declared.limits.TheConstants.{LAST_INSTANT, HIGHEST_COST};
 
@@ -9,21 +9,6 @@ use crate::cost_fn::CostFn;
 use crate::pieces::Piece;
 use route_base::{Cost, Minute, OutOfMemory};
 use std::alloc::Global;
-
-// The reduced function through the points. Linear in their number.
-pub fn through(alloc: Global, points: &[(Minute, Cost)]) -> Result<CostFn, OutOfMemory>
-    requires rising { AllPairs (λ p q. p.0 < q.0) points.now }
-    requires minutes { All (λ p. p.0 ≤ LAST_INSTANT) points.now }
-    requires costs { All (λ p. p.1 ≤ HIGHEST_COST) points.now }
-    ensures values { IfOk result (λ made. (t : ℕ) → value_at made t ≡ point_at points.now t) }
-    ensures built { IfOk result AreBuilt }
-{
-    let mut built = Builder::new(alloc);
-    for point in points {
-        built.push(at_one(*point))?;
-    }
-    Ok(built.finish())
-}
 
 // The function through one point.
 pub fn of_one(alloc: Global, point: (Minute, Cost)) -> Result<CostFn, OutOfMemory>
@@ -39,7 +24,7 @@ pub fn of_one(alloc: Global, point: (Minute, Cost)) -> Result<CostFn, OutOfMemor
 }
 
 // The piece of one minute.
-fn at_one(point: (Minute, Cost)) -> Piece
+pub fn at_one(point: (Minute, Cost)) -> Piece
     ensures { result ≡ record { lo = point.0; hi = point.0; cost = point.1; slope = 0 } }
 {
     Piece {

@@ -15,25 +15,21 @@ use Rattle.function_merge.specs.Inside.Prefixes.{stays_cheaper, HaveArrived, IsU
 
 module _ (pairs : List Pair) (trade : RiseAndFall pairs) where
   -- later pairs arrive no earlier and are no dearer
-  arrivals : (i j : ℕ) (d : Pair) → i ≤ j → j < length pairs → (get_or pairs i d).arrival ≤ (get_or pairs j d).arrival
-  arrivals i j d le within =
+  later : (i j : ℕ) (d : Pair) → i ≤ j → j < length pairs
+      → ((get_or pairs i d).arrival ≤ (get_or pairs j d).arrival) × ((get_or pairs j d).cost ≤ (get_or pairs i d).cost)
+  later i j d le within =
       ⊎_elim
-      (λ (same : i ≡ j). omega (arith, ap (λ n. (get_or pairs n d).arrival) same))
-      (λ (other : i ≡ j → ⊥). (let far = trade i j d (omega (arith, le, other)) within in omega (arith, far.0)))
-      (cases_eq i j)
-
-  costs : (i j : ℕ) (d : Pair) → i ≤ j → j < length pairs → (get_or pairs j d).cost ≤ (get_or pairs i d).cost
-  costs i j d le within =
-      ⊎_elim
-      (λ (same : i ≡ j). omega (arith, ap (λ n. (get_or pairs n d).cost) same))
-      (λ (other : i ≡ j → ⊥). (let far = trade i j d (omega (arith, le, other)) within in omega (arith, far.1)))
+      (λ (same : i ≡ j).
+      (omega (arith, ap (λ n. (get_or pairs n d).arrival) same), omega (arith, ap (λ n. (get_or pairs n d).cost) same)))
+      (λ (other : i ≡ j → ⊥).
+      (let far = trade i j d (omega (arith, le, other)) within in (omega (arith, far.0), omega (arith, far.1))))
       (cases_eq i j)
 
   module _ (piece : Piece) (bound : Bound) where
     pub cheaper_first : IsPartitionedBy (stays_cheaper piece bound) pairs
     cheaper_first i j d le within cheaper =
-        let earlier = arrivals i j d le within in
-        let dearer = costs i j d le within in
+        let earlier = (later i j d le within).0 in
+        let dearer = (later i j d le within).1 in
         let rise = line_rises piece (min ((get_or pairs i d).arrival - bound.minutes) piece.hi) (min ((get_or pairs j d).arrival - bound.minutes) piece.hi)
         (omega (arith, earlier)) in
         let below = ltb-true _ _ cheaper in
@@ -64,7 +60,7 @@ module _ (pairs : List Pair) (trade : RiseAndFall pairs) where
           → AllWithin (λ p. stays_cheaper piece bound p ≡ true) pairs 0 count
       arrived_cheaper d cheap k e from lt =
           let arrival = early k e from lt in
-          let less = costs k (count - 1) e (omega (arith, lt)) (omega (arith, lt, inside)) in
+          let less = (later k (count - 1) e (omega (arith, lt)) (omega (arith, lt, inside))).1 in
           let same = ap (λ (p : Pair). p.cost) (get_or_default pairs (count - 1) e d (omega (arith, lt, inside))) in
           let rise = line_rises piece (min ((get_or pairs k e).arrival - bound.minutes) piece.hi) piece.lo (omega (arith, arrival)) in
           lt-ltb _ _ (omega (arith, cheap (omega (arith, lt)), less, same, rise, first_cost))
@@ -78,7 +74,7 @@ module _ (pairs : List Pair) (trade : RiseAndFall pairs) where
           let within = h.is_one.1 in
           let cost = ap (λ (p : Pair). p.cost) h.is_one.2 in
           let no_dearer = h.cost in
-          let less = costs k (length pairs - 1) h.pair (omega (arith, within)) (omega (arith, within)) in
+          let less = (later k (length pairs - 1) h.pair (omega (arith, within)) (omega (arith, within))).1 in
           let same = ap (λ (p : Pair). p.cost) (get_or_default pairs (length pairs - 1) h.pair d (omega (arith, within))) in
           let rise = line_rises piece t piece.hi upto in
           omega (arith, cheap (omega (arith, within)), less, same, cost, no_dearer, rise));
@@ -116,10 +112,10 @@ module _ (pairs : List Pair) (trade : RiseAndFall pairs) where
           let in_time = h.arrival in
           let no_dearer = h.cost in
           ⊎_elim
-          (λ (low : k < i). (let less = costs k (i - 1) pair (omega (arith, low)) (omega (arith, low, inside)) in
+          (λ (low : k < i). (let less = (later k (i - 1) pair (omega (arith, low)) (omega (arith, low, inside))).1 in
           let below = before pair (omega (arith, low)) t from cheaper upto in
           omega (arith, less, below, cost, no_dearer)))
-          (λ (high : i ≤ k). (let more = arrivals i k pair high h.is_one.1 in
+          (λ (high : i ≤ k). (let more = (later i k pair high h.is_one.1).0 in
           let is = some pair (omega (arith, high, h.is_one.1)) in
           omega (arith, more, is, arrival, in_time, early)))
           (cases_lt k i)

@@ -41,49 +41,17 @@ module _ (f g : List Piece) (from : ℕ) (s : Segment) (starts : from ≤ (piece
     (minutes : (piece_of s).hi ≤ LAST_INSTANT)
     (small : IsSmallPiece (piece_of s))
     (gap_f : (t : ℕ) → from ≤ t → t < (piece_of s).lo → value_at f t ≡ None) (gap_g : (t : ℕ) → from ≤ t → t < (piece_of s).lo → value_at g t ≡ None) where
-  pub next_first : (p : Piece) → ((t : ℕ) → (piece_of s).lo ≤ t → line_at (piece_of s) t ≡ line_at p t)
-      → ((t : ℕ) → (piece_of s).lo ≤ t → t ≤ (piece_of s).hi → value_at f t ≡ Some (line_at p t)) →
-      ((t : ℕ) → (piece_of s).lo ≤ t → t ≤ (piece_of s).hi → value_at g t ≡ None)
-      → improves s ≡ false → IsNextSegment f g from s
-  next_first p line first second improves = record {
+  next_with : ((t : ℕ) → (piece_of s).lo ≤ t → t ≤ (piece_of s).hi → least_at f g t ≡ Some (line_at (piece_of s) t))
+      → ((t : ℕ) → (piece_of s).lo ≤ t → t ≤ (piece_of s).hi → better_at f g t ≡ improves s) → IsNextSegment f g from s
+  next_with least better = record {
     starts = starts;
     filled = filled;
     minutes = minutes;
     small = small;
     gap_least = λ t late early. least_none f g t (gap_f t late early) (gap_g t late early);
     gap_better = λ t late early. better_none f g t (gap_g t late early);
-    least = λ t late upto. least_first f g t (line_at p t) (first t late upto) (second t late upto) ∙ ap Some (sym (line t late));
-    better = λ t late upto. better_none f g t (second t late upto) ∙ sym improves;
-  }
-
-  pub next_second : (q : Piece) → ((t : ℕ) → (piece_of s).lo ≤ t → line_at (piece_of s) t ≡ line_at q t)
-      → ((t : ℕ) → (piece_of s).lo ≤ t → t ≤ (piece_of s).hi → value_at f t ≡ None) →
-      ((t : ℕ) → (piece_of s).lo ≤ t → t ≤ (piece_of s).hi → value_at g t ≡ Some (line_at q t))
-      → improves s ≡ true → IsNextSegment f g from s
-  next_second q line first second improves = record {
-    starts = starts;
-    filled = filled;
-    minutes = minutes;
-    small = small;
-    gap_least = λ t late early. least_none f g t (gap_f t late early) (gap_g t late early);
-    gap_better = λ t late early. better_none f g t (gap_g t late early);
-    least = λ t late upto. least_second f g t (line_at q t) (first t late upto) (second t late upto) ∙ ap Some (sym (line t late));
-    better = λ t late upto. better_second f g t (line_at q t) (first t late upto) (second t late upto) ∙ sym improves;
-  }
-
-  pub next_both : (p q : Piece) → ((t : ℕ) → (piece_of s).lo ≤ t → t ≤ (piece_of s).hi → line_at (piece_of s) t ≡ min (line_at p t) (line_at q t))
-      → ((t : ℕ) → (piece_of s).lo ≤ t → t ≤ (piece_of s).hi → ltb (line_at q t) (line_at p t) ≡ improves s)
-      → ((t : ℕ) → (piece_of s).lo ≤ t → t ≤ (piece_of s).hi → value_at f t ≡ Some (line_at p t)) → ((t : ℕ) → (piece_of s).lo ≤ t → t ≤ (piece_of s).hi
-      → value_at g t ≡ Some (line_at q t)) → IsNextSegment f g from s
-  next_both p q line lower first second = record {
-    starts = starts;
-    filled = filled;
-    minutes = minutes;
-    small = small;
-    gap_least = λ t late early. least_none f g t (gap_f t late early) (gap_g t late early);
-    gap_better = λ t late early. better_none f g t (gap_g t late early);
-    least = λ t late upto. least_both f g t (line_at p t) (line_at q t) (first t late upto) (second t late upto) ∙ ap Some (sym (line t late upto));
-    better = λ t late upto. better_both f g t (line_at p t) (line_at q t) (first t late upto) (second t late upto) ∙ lower t late upto;
+    least = least;
+    better = better;
   }
 
 module _ (f g : List Piece) (from : ℕ) (s : Segment) (filled : (piece_of s).lo ≤ (piece_of s).hi) (small : IsSmallPiece (piece_of s)) where
@@ -92,30 +60,28 @@ module _ (f g : List Piece) (from : ℕ) (s : Segment) (filled : (piece_of s).lo
       → ((t : ℕ) → (piece_of s).lo ≤ t → line_at (piece_of s) t ≡ line_at (first_of f) t) → ((t : ℕ) → from ≤ t → t ≤ (piece_of s).hi → value_at g t ≡ None)
       → improves s ≡ false → IsNextSegment f g from s
   next_in_first some are lo hi line none improves =
-      let is = first_is f some are in
-      let last = is.minutes in
-      next_first f g from s (omega (arith, lo)) filled (omega (arith, hi, last)) small
+      let last = (first_is f some are).minutes in
+      next_with f g from s (omega (arith, lo)) filled (omega (arith, hi, last)) small
       (λ t late early. first_none f some are t (omega (arith, late, early, lo)))
       (λ t late early. none t late (omega (arith, early, filled)))
-      (first_of f) line
-      (λ t late upto. first_value f some are t (omega (arith, late, lo)) (omega (arith, upto, hi)))
-      (λ t late upto. none t (omega (arith, late, lo)) upto)
-      improves
+      (λ t late upto.
+      least_first f g t (line_at (first_of f) t) (first_value f some are t (omega (arith, late, lo)) (omega (arith, upto, hi)))
+      (none t (omega (arith, late, lo)) upto) ∙ ap Some (sym (line t late)))
+      (λ t late upto. better_none f g t (none t (omega (arith, late, lo)) upto) ∙ sym improves)
 
   -- a part of the first piece of g, where f has nothing
   pub next_in_second : (some : 1 ≤ length g) → ArePieces g → (piece_of s).lo ≡ max from (first_of g).lo → (piece_of s).hi ≤ (first_of g).hi
       → ((t : ℕ) → (piece_of s).lo ≤ t → line_at (piece_of s) t ≡ line_at (first_of g) t) → ((t : ℕ) → from ≤ t → t ≤ (piece_of s).hi → value_at f t ≡ None)
       → improves s ≡ true → IsNextSegment f g from s
   next_in_second some are lo hi line none improves =
-      let is = first_is g some are in
-      let last = is.minutes in
-      next_second f g from s (omega (arith, lo)) filled (omega (arith, hi, last)) small
+      let last = (first_is g some are).minutes in
+      let value = λ (t : ℕ) (late : (piece_of s).lo ≤ t) (upto : t ≤ (piece_of s).hi). first_value g some are t (omega (arith, late, lo))
+      (omega (arith, upto, hi)) in
+      next_with f g from s (omega (arith, lo)) filled (omega (arith, hi, last)) small
       (λ t late early. none t late (omega (arith, early, filled)))
       (λ t late early. first_none g some are t (omega (arith, late, early, lo)))
-      (first_of g) line
-      (λ t late upto. none t (omega (arith, late, lo)) upto)
-      (λ t late upto. first_value g some are t (omega (arith, late, lo)) (omega (arith, upto, hi)))
-      improves
+      (λ t late upto. least_second f g t (line_at (first_of g) t) (none t (omega (arith, late, lo)) upto) (value t late upto) ∙ ap Some (sym (line t late)))
+      (λ t late upto. better_second f g t (line_at (first_of g) t) (none t (omega (arith, late, lo)) upto) (value t late upto) ∙ sym improves)
 
   -- a part of the first pieces of both
   pub next_in_both : (some : 1 ≤ length f) → (one : 1 ≤ length g) → ArePieces f → ArePieces g → (piece_of s).lo ≡ max from (first_of f).lo
@@ -123,14 +89,18 @@ module _ (f g : List Piece) (from : ℕ) (s : Segment) (filled : (piece_of s).lo
       → ((t : ℕ) → (piece_of s).lo ≤ t → t ≤ (piece_of s).hi → line_at (piece_of s) t ≡ min (line_at (first_of f) t) (line_at (first_of g) t))
       → ((t : ℕ) → (piece_of s).lo ≤ t → t ≤ (piece_of s).hi → ltb (line_at (first_of g) t) (line_at (first_of f) t) ≡ improves s) → IsNextSegment f g from s
   next_in_both some one are also lo low hi high line lower =
-      let is = first_is f some are in
-      let last = is.minutes in
-      next_both f g from s (omega (arith, lo)) filled (omega (arith, hi, last)) small
+      let last = (first_is f some are).minutes in
+      let a = λ (t : ℕ). line_at (first_of f) t in
+      let b = λ (t : ℕ). line_at (first_of g) t in
+      let first = λ (t : ℕ) (late : (piece_of s).lo ≤ t) (upto : t ≤ (piece_of s).hi). first_value f some are t (omega (arith, late, lo))
+      (omega (arith, upto, hi)) in
+      let second = λ (t : ℕ) (late : (piece_of s).lo ≤ t) (upto : t ≤ (piece_of s).hi). first_value g one also t (omega (arith, late, low))
+      (omega (arith, upto, high)) in
+      next_with f g from s (omega (arith, lo)) filled (omega (arith, hi, last)) small
       (λ t late early. first_none f some are t (omega (arith, late, early, lo)))
       (λ t late early. first_none g one also t (omega (arith, late, early, low)))
-      (first_of f) (first_of g) line lower
-      (λ t late upto. first_value f some are t (omega (arith, late, lo)) (omega (arith, upto, hi)))
-      (λ t late upto. first_value g one also t (omega (arith, late, low)) (omega (arith, upto, high)))
+      (λ t late upto. least_both f g t (a t) (b t) (first t late upto) (second t late upto) ∙ ap Some (sym (line t late upto)))
+      (λ t late upto. better_both f g t (a t) (b t) (first t late upto) (second t late upto) ∙ lower t late upto)
 
 -- the same values of both give the same
 pub least_same : (f g h k : List Piece) (t : ℕ) → value_at f t ≡ value_at h t → value_at g t ≡ value_at k t → least_at f g t ≡ least_at h k t

@@ -4,7 +4,8 @@ use Rattle.std.proofs.Common.{refl, ◌∙◌, ap, sym, subst, arith}
 use Rattle.std.proofs.lemmas.Bool.{cases_lt}
 use Rattle.std.proofs.lemmas.List.{take_more, get_or_default, get_or-take, length-take-le}
 use Rattle.route_base.specs.Itinerary.{Position}
-use Rattle.route_base.specs.Relaxing.{IsDominatedOrLate}
+use Rattle.route_base.specs.Relaxing.{HasPair, IsDominatedOrLate}
+use Rattle.route_base.specs.declared.limits.TheConstants.{LAST_INSTANT}
 use Rattle.route_base.specs.declared.types.Bound.{Bound}
 use Rattle.route_base.specs.declared.types.Pair.{Pair}
 use Rattle.cost_functions.specs.Lines.{line_at}
@@ -240,3 +241,25 @@ pruned_nothing until pairs bound wanted = record {
 pub arrived_later : (bound : Bound) (pairs : List Pair) (count early late : ℕ) → early ≤ late → HaveArrived bound early pairs count
     → HaveArrived bound late pairs count
 arrived_later bound pairs count early late le before k d from lt = let at = before k d from lt in omega (arith, at, le)
+
+-- what has each value of another, and no other, is the same
+same_option : (a b : Option ℕ) → ((x : ℕ) → a ≡ Some x → b ≡ Some x) → ((x : ℕ) → b ≡ Some x → a ≡ Some x) → a ≡ b
+same_option None None there back = refl
+same_option None (Some x) there back = back x refl
+same_option (Some x) b there back = sym (there x refl)
+
+-- for a goal that is here, with no pair and no time that is late, all stays
+pub pruned_by_nothing : (f g : ℕ → Option ℕ) → ((t x : ℕ) → f t ≡ Some x → t ≤ LAST_INSTANT)
+    → IsPruned LAST_INSTANT [] (record { minutes = 0; cost = 0 }) f g → (t : ℕ) → g t ≡ f t
+pruned_by_nothing f g fits pruned t =
+    same_option (g t) (f t) (pruned.kept t)
+    (λ x is.
+    let p : Position = record { node = 0; minute = t; cost = x } in
+    ⊎_elim
+    (λ (stays : g t ≡ Some x). stays)
+    (λ (goes : IsDominatedOrLate LAST_INSTANT [] (Some (record { minutes = 0; cost = 0 })) p).
+    ⊎_elim
+    (λ (late : LAST_INSTANT < t + 0). absurd (let fit = fits t x is in omega (arith, late, fit)))
+    (λ (one : HasPair [] (t + 0) (x + 0)). absurd (let found = one.is_one in omega (arith, found.1)))
+    goes)
+    (pruned.left p is))

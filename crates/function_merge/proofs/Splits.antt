@@ -1,5 +1,5 @@
 -- Pieces cut into those before a place and those from it on.
-use Rattle.std.proofs.Common.{◌≡◌, ⊎_elim, ◌++◌, ℕ, ◌+◌, ◌≤◌, ◌<◌, cond, zero, suc, Some, None, List, [], ◌∷◌, length, get_or, take, drop, All, AllPairs}
+use Rattle.std.proofs.Common.{◌≡◌, ⊎_elim, ◌++◌, ℕ, ◌+◌, ◌≤◌, ◌<◌, false, zero, suc, Some, None, List, [], ◌∷◌, length, get_or, take, drop, All, AllPairs}
 use Rattle.std.proofs.Common.{refl, ◌∙◌, ap, sym, subst, arith}
 use Rattle.std.specs.List.{AllWithin}
 use Rattle.std.proofs.lemmas.List.{get_or-take, get_or-drop, length-take-le, length-drop, get_or_default, take-append-drop}
@@ -7,8 +7,11 @@ use Rattle.std.proofs.lemmas.Bool.{cases_lt, cases_eq}
 use Rattle.std.specs.List.Sorted.{IsNonDecreasingBy}
 use Rattle.cost_functions.proofs.Places.{ends_rise, value_onto, value_at_place, value_before_tail}
 use Rattle.function_merge.specs.Least.{least_at, better_at}
-use Rattle.function_merge.proofs.Nexts.{least_none, least_same, least_alone, better_none, better_same}
-use Rattle.cost_functions.specs.Lines.{is_on_piece, line_at, IsPiece}
+use Rattle.function_merge.proofs.Nexts.{least_none, least_same, least_alone, least_kept, better_none, better_same}
+use Rattle.cost_functions.specs.Lines.{line_at, IsPiece, IsSmallPiece, AreOneLine}
+use Rattle.cost_functions.specs.Building.{AreBuilt, IsSettled}
+use Rattle.function_merge.specs.Inside.Suffixes.{AreParts}
+use Rattle.std.proofs.lemmas.List.Elements.{All-nil}
 use Rattle.cost_functions.specs.Pieces.{value_at, ArePieces}
 use Rattle.cost_functions.specs.declared.pieces.Piece.{Piece}
 use Rattle.cost_functions.proofs.Values.{value_after, none_before, none_after}
@@ -19,12 +22,6 @@ value_drop [] (suc k) t le before = absurd (omega (arith, le))
 value_drop (p ∷ ps) (suc k) t le before =
     value_drop ps k t (omega (arith, le)) (λ j d from upto. before (suc j) d (omega arith) (omega (arith, upto)))
     ∙ sym (value_after p ps t (before 0 p (omega arith) (omega arith)))
-
-pub value_take : (ps : List Piece) (k t : ℕ) → All (λ p. t < p.lo) (drop k ps) → value_at (take k ps) t ≡ value_at ps t
-unfolding value_at
-value_take ps zero t after = sym (none_before ps t after)
-value_take [] (suc k) t after = refl
-value_take (p ∷ ps) (suc k) t after = ap (λ v. cond (is_on_piece t p) (Some (line_at p t)) v) (value_take ps k t after)
 
 module _ {X : Type 0} (xs : List X) (k : ℕ) (le : k ≤ length xs) where
   pub all_take : (P : X → Type 0) → AllWithin P xs 0 k → All P (take k xs)
@@ -92,40 +89,77 @@ last_ends ps i d are long k e within =
     let same = ap (λ (p : Piece). p.hi) (get_or_default ps i e d (omega (arith, long))) in
     omega (arith, rise, same)
 
--- a function whose front is merged and whose tail begins behind the other function
-module _ (f g : List Piece) (k end : ℕ) (le : k ≤ length f) (after : All (λ p. end < p.lo) (drop k f)) (ends : All (λ p. p.hi ≤ end) g) where
+-- built pieces before a place and from it on
+pub parts_at : (ps : List Piece) (k : ℕ) → k ≤ length ps → AreBuilt ps → AreParts ps (take k ps) (drop k ps)
+parts_at ps k le built = record {
+  both = sym (take-append-drop k ps);
+  front = record {
+    pieces = pieces_take ps k le built.pieces;
+    reduced = pairs_take ps k le (λ p q. (slope : ℕ) → AreOneLine p q slope → ⊥) built.reduced;
+    small = every_take ps k le IsSmallPiece built.small;
+  };
+  back = record {
+    pieces = pieces_drop ps k le built.pieces;
+    reduced = pairs_drop ps k le (λ p q. (slope : ℕ) → AreOneLine p q slope → ⊥) built.reduced;
+    small = every_drop ps k le IsSmallPiece built.small;
+  };
+  apart = λ j d within i e short.
+      (let before : i < k = omega (arith, short, length-take-le k ps le) in
+      let far = apart_at ps k le built.pieces i e before j d within in
+      let same = ap (λ (p : Piece). p.hi) (get_or-take k ps i e before) in
+      omega (arith, far, same));
+}
+
+-- behind the front the values are those of the back
+pub value_past : (front back : List Piece) (from t : ℕ) → All (λ p. p.hi < from) front → from ≤ t → value_at (front ++ back) t ≡ value_at back t
+value_past front back from t ended late =
+    value_onto front [] back t (none_after front t (λ k d within. (let end = ended k d within in omega (arith, end, late)))
+    ∙ sym (none_after [] t (All-nil (λ p. p.hi < t))))
+
+-- before a sweep starts the front is settled, where the second function isn't better there
+pub front_settled : (front back g : List Piece) (start : ℕ) → All (λ p. p.hi < start) front → All (λ p. start ≤ p.lo) back
+    → ((t : ℕ) → t < start → better_at (front ++ back) g t ≡ false) → IsSettled (least_at (front ++ back) g) front start
+front_settled front back g start ended after worse = record {
+  values = λ t early.
+      sym (least_kept (front ++ back) g t (worse t early)
+      ∙ value_before_tail front back t (none_before back t (λ k d within. (let begin = after k d within in omega (arith, begin, early)))));
+  ended = ended;
+}
+
+-- a function whose front is merged and whose back begins behind the other function
+module _ (f front back g : List Piece) (end : ℕ) (parts : AreParts f front back) (after : All (λ p. end < p.lo) back) (ends : All (λ p. p.hi ≤ end) g) where
   g_none : (t : ℕ) → end < t → value_at g t ≡ None
   g_none t late = none_after g t (λ j d within. (let done = ends j d within in omega (arith, done, late)))
 
-  tail_none : (t : ℕ) → t ≤ end → value_at (drop k f) t ≡ None
-  tail_none t early = none_before (drop k f) t (λ j d within. (let begin = after j d within in omega (arith, begin, early)))
+  back_none : (t : ℕ) → t ≤ end → value_at back t ≡ None
+  back_none t early = none_before back t (λ j d within. (let begin = after j d within in omega (arith, begin, early)))
 
-  front_value : (t : ℕ) → t ≤ end → value_at (take k f) t ≡ value_at f t
-  front_value t early = value_take f k t (λ j d within. (let begin = after j d within in omega (arith, begin, early)))
+  front_value : (t : ℕ) → t ≤ end → value_at front t ≡ value_at f t
+  front_value t early = sym (ap (λ ps. value_at ps t) parts.both ∙ value_before_tail front back t (back_none t early))
 
-  pub better_whole : (t : ℕ) → better_at (take k f) g t ≡ better_at f g t
+  pub better_whole : (t : ℕ) → better_at front g t ≡ better_at f g t
   better_whole t =
       ⊎_elim
-      (λ (late : end < t). better_none (take k f) g t (g_none t late) ∙ sym (better_none f g t (g_none t late)))
-      (λ (early : t ≤ end). better_same (take k f) g f g t (front_value t early) refl)
+      (λ (late : end < t). better_none front g t (g_none t late) ∙ sym (better_none f g t (g_none t late)))
+      (λ (early : t ≤ end). better_same front g f g t (front_value t early) refl)
       (cases_lt end t)
 
-  module _ (made : List Piece) (values : (t : ℕ) → value_at made t ≡ least_at (take k f) g t) where
-    pub least_whole : (t : ℕ) → value_at (made ++ drop k f) t ≡ least_at f g t
+  module _ (made : List Piece) (values : (t : ℕ) → value_at made t ≡ least_at front g t) where
+    pub least_whole : (t : ℕ) → value_at (made ++ back) t ≡ least_at f g t
     least_whole t =
         ⊎_elim
         (λ (late : end < t).
-        value_onto made (take k f) (drop k f) t (values t ∙ least_alone (take k f) g t (g_none t late))
-        ∙ ap (λ ps. value_at ps t) (take-append-drop k f)
+        value_onto made front back t (values t ∙ least_alone front g t (g_none t late))
+        ∙ ap (λ ps. value_at ps t) (sym parts.both)
         ∙ sym (least_alone f g t (g_none t late)))
         (λ (early : t ≤ end).
-        value_before_tail made (drop k f) t (tail_none t early) ∙ values t ∙ least_same (take k f) g f g t (front_value t early) refl)
+        value_before_tail made back t (back_none t early) ∙ values t ∙ least_same front g f g t (front_value t early) refl)
         (cases_lt end t)
 
-    -- what is made ends before the tail begins
-    pub made_before : ArePieces made → ArePieces f → All (λ p. All (λ q. q.hi < p.lo) made) (drop k f)
-    made_before are whole j d within i e short =
-        let p = get_or (drop k f) j d in
+    -- what is made ends before the back begins
+    pub made_before : ArePieces made → All (λ p. All (λ q. q.hi < p.lo) made) back
+    made_before are j d within i e short =
+        let p = get_or back j d in
         let q = get_or made i e in
         let filled = (are.each i e short).filled in
         let value = value_at_place made i e q.hi are short filled (omega arith) in
@@ -133,12 +167,9 @@ module _ (f g : List Piece) (k end : ℕ) (le : k ≤ length f) (after : All (λ
         (λ (fine : q.hi < p.lo). fine)
         (λ (over : p.lo ≤ q.hi).
         let begin = after j d within in
-        let front : value_at (take k f) q.hi ≡ None = none_after (take k f) q.hi (λ m z inside.
-        (let lt : m < k = omega (arith, inside, length-take-le k f le) in
-        let far = apart_at f k le whole m z lt j d within in
-        let same = ap (λ (x : Piece). x.hi) (get_or-take k f m z lt) in
-        omega (arith, far, same, over))) in
-        let none = values q.hi ∙ least_none (take k f) g q.hi front (g_none q.hi (omega (arith, begin, over))) in
+        let ended : value_at front q.hi ≡ None = none_after front q.hi (λ m z inside.
+        (let far = parts.apart j d within m z inside in omega (arith, far, over))) in
+        let none = values q.hi ∙ least_none front g q.hi ended (g_none q.hi (omega (arith, begin, over))) in
         let clash : None ≡ Some (line_at q q.hi) = sym none ∙ value in
         absurd cc)
         (cases_lt q.hi p.lo)

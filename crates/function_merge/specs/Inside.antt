@@ -4,3 +4,4 @@ pub mod EndRanges
 pub mod NextWaits
 pub mod Prefixes
 pub mod Segments
+pub mod Suffixes

@@ -1,6 +1,9 @@
 -- The lesser of two functions, minute by minute (source: SEA 2020, merging cost profiles).
-use Rattle.std.specs.Prelude.{ℕ, min, Bool, true, false, nat_lt, Option, Some, None, List}
+use Rattle.std.specs.Prelude.{◌≡◌, ℕ, min, Bool, true, false, nat_lt, Option, Some, None, List}
+use Rattle.cost_functions.specs.Building.{AreBuilt}
 use Rattle.cost_functions.specs.Pieces.{value_at}
+use Rattle.route_base.specs.Runs.{any_has}
+use Rattle.route_base.specs.declared.types.Run.{Run}
 use Rattle.cost_functions.specs.declared.pieces.Piece.{Piece}
 
 -- the lesser of the values that are there
@@ -22,3 +25,9 @@ least_at f g t = least_of (value_at f t) (value_at g t)
 -- whether g is better than f at a minute
 abbrev pub better_at : List Piece → List Piece → ℕ → Bool
 better_at f g t = is_better (value_at f t) (value_at g t)
+
+-- a built function has the lesser values of f and g, and a set the minutes at which g is better
+pub record IsLeast (f g function : List Piece) (improved : List Run) : Type 0 where
+  pub values : (t : ℕ) → value_at function t ≡ least_at f g t
+  pub better : (t : ℕ) → any_has improved t ≡ better_at f g t
+  pub built : AreBuilt function

@@ -1,5 +1,5 @@
 // Functions shifted and pruned in one sweep.
-ghost use Rattle.std.specs.Prelude.{◌≡◌, ◌+◌, ◌-◌, ◌<◌, ◌≤◌, ℕ, max, Option, Some, All, IfOk, OnOk, length};
+ghost use Rattle.std.specs.Prelude.{◌≡◌, ◌+◌, ◌-◌, ◌<◌, ◌≤◌, ℕ, max, Option, Some, None, All, IfOk, OnOk, length};
 ghost use Rattle.route_base.specs.Front.{RiseAndFall};
 ghost use Rattle.route_base.specs.declared.limits.TheConstants.{LAST_INSTANT, HIGHEST_COST};
 ghost use Rattle.cost_functions.specs.Lines.{line_at, IsPiece, IsSmallPiece};
@@ -10,7 +10,6 @@ ghost use Rattle.function_merge.specs.Moves.{kept_at, moved_at, CanMove};
 ghost use Rattle.function_merge.specs.Pruning.{IsPruned};
 ghost use Rattle.function_merge.specs.Inside.Prefixes.{HaveArrived, IsPrunedUpTo};
 
-use crate::moving::first_common;
 use crate::pruning::{add_before, clear_until, pass_arrived};
 use crate::suffixes::{find_pieces, find_runs, pieces_from, runs_from};
 use cost_functions::{Builder, CostFn, Piece};
@@ -39,28 +38,28 @@ pub fn shift_and_prune(
         spare,
         f.pieces(),
         entries.runs(),
-        minutes,
-        cost,
         until,
         pairs,
         bound,
+        minutes,
+        cost,
     )
 }
 
 // The same for pieces and runs.
-fn moved_and_pruned(
+pub fn moved_and_pruned(
     spare: CostFn,
     pieces: &[Piece],
     runs: &[Run],
-    minutes: u64,
-    cost: Cost,
     until: Minute,
     pairs: &[Pair],
     bound: Bound,
+    minutes: u64,
+    cost: Cost,
 ) -> Result<CostFn, OutOfMemory>
+    requires fit { CanMove minutes cost (kept_at pieces.now runs.now) }
     requires pieces { ArePieces pieces.now }
     requires runs { AreRuns runs.now }
-    requires fit { CanMove minutes cost (kept_at pieces.now runs.now) }
     requires trade { RiseAndFall pairs.now }
     ensures values { IfOk result (λ g. IsPruned until pairs.now bound
         (moved_at minutes cost (kept_at pieces.now runs.now)) (value_at g)) }
@@ -87,6 +86,21 @@ fn moved_and_pruned(
     Ok(built.finish())
 }
 
+// A minute before which no minute of the runs has a value.
+fn first_common(pieces: &[Piece], runs: &[Run]) -> Minute
+    requires pieces { ArePieces pieces.now }
+    requires runs { AreRuns runs.now }
+    ensures { (t : ℕ) → t < result → kept_at pieces.now runs.now t ≡ None }
+{
+    match pieces {
+        [piece, ..] => match runs {
+            [run, ..] => piece.lo.max(run.lo),
+            [] => 0,
+        },
+        [] => 0,
+    }
+}
+
 // Adds what stays of a piece from `lo` on and before `end`, `minutes` later and at a cost, and returns the number of pairs that have
 // arrived.
 fn add_moved(
@@ -101,8 +115,8 @@ fn add_moved(
     arrived: usize,
     bound: Bound,
 ) -> Result<usize, OutOfMemory>
-    requires trade { RiseAndFall pairs.now }
     requires piece { IsPiece piece }
+    requires trade { RiseAndFall pairs.now }
     requires from { piece.lo ≤ lo }
     requires upto { end ≤ piece.hi + 1 }
     requires minutes { lo < end → end + minutes ≤ LAST_INSTANT + 1 }
@@ -121,7 +135,9 @@ fn add_moved(
         return Ok(arrived);
     }
     let part = moved_part(piece, lo, end, minutes, cost);
-    let count = add_clear(built, part, until, pairs, arrived, bound)?;
+    let count = pass_arrived(pairs, arrived, part.lo, bound);
+    let stop = clear_until(part, until, pairs, count, bound);
+    add_before(built, part, stop)?;
     Ok(count)
 }
 
@@ -147,32 +163,4 @@ fn moved_part(piece: Piece, lo: Minute, end: Minute, minutes: u64, cost: Cost) -
         cost: piece.value(lo) + cost,
         slope,
     }
-}
-
-// Adds what stays of a piece, and returns the number of pairs that have arrived when it begins.
-fn add_clear(
-    built: &mut Builder,
-    piece: Piece,
-    until: Minute,
-    pairs: &[Pair],
-    arrived: usize,
-    bound: Bound,
-) -> Result<usize, OutOfMemory>
-    requires trade { RiseAndFall pairs.now }
-    requires piece { IsPiece piece }
-    requires small { IsSmallPiece piece }
-    requires within { arrived ≤ length pairs.now }
-    requires arrived { HaveArrived bound piece.lo pairs.now arrived }
-    requires later { All (λ q. q.hi < piece.lo) built.old }
-    ensures within { IfOk result (λ n. n ≤ length pairs.now) }
-    ensures arrived { IfOk result (HaveArrived bound piece.lo pairs.now) }
-    ensures pruned { OnOk result ((wanted : ℕ → Option ℕ)
-        → IsPrunedUpTo until pairs.now bound wanted built.old piece.lo
-        → ((t : ℕ) → piece.lo ≤ t → t ≤ piece.hi → wanted t ≡ Some (line_at piece t))
-        → IsPrunedUpTo until pairs.now bound wanted built.new (piece.hi + 1)) }
-{
-    let count = pass_arrived(pairs, arrived, piece.lo, bound);
-    let stop = clear_until(piece, until, pairs, count, bound);
-    add_before(built, piece, stop)?;
-    Ok(count)
 }

@@ -1,12 +1,12 @@
 // The lower envelope of two functions, segment by segment.
-ghost use Rattle.std.specs.Prelude.{◌≡◌, ◌+◌, ◌*◌, ◌-◌, ◌<◌, ◌≤◌, ℕ, min, false, nat_lt, None, All, IfSome};
+ghost use Rattle.std.specs.Prelude.{◌≡◌, ◌+◌, ◌≤◌, ℕ, min, max, false, nat_lt, None, IfSome};
 ghost use Rattle.cost_functions.specs.Lines.{line_at, IsPiece, IsSmallPiece};
-ghost use Rattle.cost_functions.specs.Pieces.{ArePieces, AreSmallPieces};
 ghost use Rattle.function_merge.specs.Least.{least_at, better_at};
 ghost use Rattle.function_merge.specs.Inside.Segments.{piece_of, improves, IsNextSegment};
+ghost use Rattle.function_merge.specs.Inside.Suffixes.{AreLeftFrom};
 
 use cost_functions::{Piece, held_for};
-use route_base::Minute;
+use route_base::{Cost, Minute};
 
 // The values of the lesser function at some minutes: those of the first function, or better ones of the second. It is an enum,
 // since a record of a piece and a `bool` is slow to hand back.
@@ -28,12 +28,8 @@ impl Segment {
 
 // The next segment from a minute on, where no piece ends before the minute; `None` where no value is left.
 pub fn next_segment(f: &[Piece], g: &[Piece], from: Minute) -> Option<Segment>
-    requires first { ArePieces f.now }
-    requires second { ArePieces g.now }
-    requires first_small { AreSmallPieces f.now }
-    requires second_small { AreSmallPieces g.now }
-    requires first_from { All (λ p. from ≤ p.hi) f.now }
-    requires second_from { All (λ p. from ≤ p.hi) g.now }
+    requires first { AreLeftFrom from f.now }
+    requires second { AreLeftFrom from g.now }
     ensures some { IfSome result (IsNextSegment f.now g.now from) }
     ensures none_least { result ≡ None → (t : ℕ) → from ≤ t → least_at f.now g.now t ≡ None }
     ensures none_better { result ≡ None → (t : ℕ) → from ≤ t → better_at f.now g.now t ≡ false }
@@ -97,14 +93,30 @@ fn lesser(p: Piece, q: Piece, lo: Minute) -> Segment
         → nat_lt (line_at q t) (line_at p t) ≡ improves result }
     ensures small { IsSmallPiece (piece_of result) }
 {
-    let most = p.hi.min(q.hi) - lo;
-    let first = p.value(lo);
-    let second = q.value(lo);
-    if second < first {
-        let held = held_for(first - second - 1, q.slope, p.slope, most);
-        Segment::Improved(part(q, lo, lo + held))
+    if q.value(lo) < p.value(lo) {
+        Segment::Improved(part_below(q, p, lo, 1))
     } else {
-        let held = held_for(second - first, p.slope, q.slope, most);
-        Segment::Kept(part(p, lo, lo + held))
+        Segment::Kept(part_below(p, q, lo, 0))
     }
+}
+
+// The part of a piece from a minute on, as long as the other piece costs at least this much more.
+fn part_below(piece: Piece, other: Piece, lo: Minute, more: Cost) -> Piece
+    requires piece { IsPiece piece }
+    requires other { IsPiece other }
+    requires small { IsSmallPiece piece }
+    requires from { max piece.lo other.lo ≤ lo }
+    requires upto { lo ≤ min piece.hi other.hi }
+    requires below { line_at piece lo + more ≤ line_at other lo }
+    ensures lo { result.lo ≡ lo }
+    ensures filled { lo ≤ result.hi }
+    ensures upto { result.hi ≤ min piece.hi other.hi }
+    ensures line { (t : ℕ) → lo ≤ t → line_at result t ≡ line_at piece t }
+    ensures below { (t : ℕ) → lo ≤ t → t ≤ result.hi → line_at piece t + more ≤ line_at other t }
+    ensures small { IsSmallPiece result }
+{
+    let most = piece.hi.min(other.hi) - lo;
+    let slack = other.value(lo) - piece.value(lo) - more;
+    let held = held_for(slack, piece.slope, other.slope, most);
+    part(piece, lo, lo + held)
 }

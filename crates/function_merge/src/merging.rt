@@ -1,11 +1,12 @@
 // The least of two functions, as a function of its own or in place of the first.
-ghost use Rattle.std.specs.Prelude.{◌≡◌, ◌+◌, ◌<◌, ◌≤◌, ◌↔◌, ◌&&◌, nat_le, ℕ, Bool, true, false, Option, All, None, IsTrue, IfOk, IfSome, OnOk, OnErr, [], length, take, drop};
+ghost use Rattle.std.specs.Prelude.{◌≡◌, ◌+◌, ◌<◌, ◌≤◌, ◌↔◌, ◌&&◌, nat_le, ℕ, Bool, true, false, Option, All, None, IsTrue, IfOk, IfSome, OnOk, OnErr, [], ◌++◌, length, take, drop};
 ghost use Rattle.route_base.specs.Runs.{any_has, AreRuns};
 ghost use Rattle.cost_functions.specs.Pieces.{value_at, ArePieces, AreSmallPieces};
 ghost use Rattle.cost_functions.specs.Building.{AreBuilt, IsSettled};
 ghost use Rattle.route_base.specs.declared.limits.TheConstants.{LAST_INSTANT};
-ghost use Rattle.function_merge.specs.Least.{least_at, better_at};
+ghost use Rattle.function_merge.specs.Least.{least_at, better_at, IsLeast};
 ghost use Rattle.function_merge.specs.Inside.Segments.{piece_of, improves};
+ghost use Rattle.function_merge.specs.Inside.Suffixes.{AreLeftFrom, AreParts};
 ghost use Rattle.minute_sets.specs.Combination.{IsSwept};
 
 use crate::lower_envelope::{Segment, next_segment};
@@ -62,11 +63,7 @@ fn improve_by(
 ) -> Result<Merged, OutOfMemory>
     requires first { AreBuilt f }
     requires second { AreSmallPieces g.now }
-    ensures values { IfOk result (λ merged. (t : ℕ) →
-        value_at merged.function t ≡ least_at f g.now t) }
-    ensures improved { IfOk result (λ merged. (t : ℕ) →
-        any_has merged.improved t ≡ better_at f g.now t) }
-    ensures built { IfOk result (λ merged. AreBuilt merged.function) }
+    ensures { IfOk result (λ merged. IsLeast f g.now merged.function merged.improved) }
 {
     let other = g.pieces();
     match first_better(f.pieces(), other) {
@@ -143,19 +140,53 @@ fn improve_within(
     requires some { 1 ≤ length g.now }
     requires small { AreSmallPieces g.now }
     requires worse { (t : ℕ) → t < first → better_at f.items g.now t ≡ false }
-    ensures values { IfOk result (λ merged. (t : ℕ) →
-        value_at merged.function t ≡ least_at f.items g.now t) }
-    ensures improved { IfOk result (λ merged. (t : ℕ) →
-        any_has merged.improved t ≡ better_at f.items g.now t) }
-    ensures built { IfOk result (λ merged. AreBuilt merged.function) }
+    ensures { IfOk result (λ merged. IsLeast f.items g.now merged.function merged.improved) }
 {
-    let mut front = f;
-    let keep = beginning_by(&front, last_minute(g));
-    let tail = front.split_off(keep)?;
-    let merged = improve_from(alloc, front, g, first, spare)?;
+    let mut before = f;
+    let tail = split_behind(&mut before, last_minute(g))?;
+    move_from(&mut before, first, spare)?;
+    let merged = merged_behind(alloc, before, spare.as_slice(), g, first)?;
+    put_back(merged, &tail)
+}
+
+// Takes off the pieces that begin behind the minute.
+fn split_behind(pieces: &mut Vec<Piece>, minute: Minute) -> Result<Vec<Piece>, OutOfMemory>
+    requires { AreBuilt pieces.old.items }
+    ensures parts { IfOk result (λ tail. AreParts pieces.old.items pieces.new.items tail.items) }
+    ensures behind { IfOk result (λ tail. All (λ p. minute < p.lo) tail.items) }
+{
+    let keep = beginning_by(pieces, minute);
+    let tail = pieces.split_off(keep)?;
+    Ok(tail)
+}
+
+// Moves the pieces that do not end before the minute to another list, whatever that holds.
+fn move_from(
+    pieces: &mut Vec<Piece>,
+    minute: Minute,
+    rest: &mut Vec<Piece>,
+) -> Result<(), OutOfMemory>
+    requires { AreBuilt pieces.old.items }
+    ensures parts { OnOk result (AreParts pieces.old.items pieces.new.items rest.new.items) }
+    ensures before { OnOk result (All (λ p. p.hi < minute) pieces.new.items) }
+{
+    let keep = ending_before(pieces, minute);
+    cut_off(pieces, keep, rest)
+}
+
+// The same function with built pieces behind it.
+fn put_back(merged: Merged, tail: &[Piece]) -> Result<Merged, OutOfMemory>
+    requires front { AreBuilt merged.function }
+    requires tail { AreBuilt tail.now }
+    requires apart { All (λ p. All (λ q. q.hi < p.lo) merged.function) tail.now }
+    ensures values { IfOk result (λ whole. (t : ℕ) →
+        value_at whole.function t ≡ value_at (merged.function ++ tail.now) t) }
+    ensures improved { IfOk result (λ whole. whole.improved ≡ merged.improved) }
+    ensures built { IfOk result (λ whole. AreBuilt whole.function) }
+{
     let Merged { function, improved } = merged;
     let mut built = Builder::behind(function.into_pieces());
-    built.extend(&tail)?;
+    built.extend(tail)?;
     Ok(Merged {
         function: built.finish(),
         improved,
@@ -171,28 +202,22 @@ fn last_minute(pieces: &[Piece]) -> Minute
     pieces[pieces.len() - 1].hi
 }
 
-// The same, where all pieces of f begin before g ends.
-fn improve_from(
+// The same, where the pieces of f before `first` and those from there on are apart.
+fn merged_behind(
     alloc: Global,
-    f: Vec<Piece>,
+    before: Vec<Piece>,
+    rest: &[Piece],
     g: &[Piece],
     first: Minute,
-    spare: &mut Vec<Piece>,
 ) -> Result<Merged, OutOfMemory>
-    requires first { AreBuilt f.items }
+    requires parts { AreParts (before.items ++ rest.now) before.items rest.now }
+    requires ended { All (λ p. p.hi < first) before.items }
     requires second { ArePieces g.now }
     requires small { AreSmallPieces g.now }
-    requires worse { (t : ℕ) → t < first → better_at f.items g.now t ≡ false }
-    ensures values { IfOk result (λ merged. (t : ℕ) →
-        value_at merged.function t ≡ least_at f.items g.now t) }
-    ensures improved { IfOk result (λ merged. (t : ℕ) →
-        any_has merged.improved t ≡ better_at f.items g.now t) }
-    ensures built { IfOk result (λ merged. AreBuilt merged.function) }
+    requires worse { (t : ℕ) → t < first → better_at (before.items ++ rest.now) g.now t ≡ false }
+    ensures { IfOk result (λ merged.
+        IsLeast (before.items ++ rest.now) g.now merged.function merged.improved) }
 {
-    let mut before = f;
-    let keep = ending_before(&before, first);
-    cut_off(&mut before, keep, spare)?;
-    let rest = spare.as_slice();
     let start = first_minute(rest, first);
     let other = find_pieces(g, start);
     merged_from(alloc, Builder::behind(before), rest, other, start)
@@ -251,12 +276,8 @@ fn first_better(f: &[Piece], g: &[Piece]) -> Option<Minute>
 
 // The first minute from `start` on at which g is better.
 fn better_from(f: &[Piece], g: &[Piece], start: Minute) -> Option<Minute>
-    requires first { ArePieces f.now }
-    requires second { ArePieces g.now }
-    requires first_small { AreSmallPieces f.now }
-    requires second_small { AreSmallPieces g.now }
-    requires first_from { All (λ p. start ≤ p.hi) f.now }
-    requires second_from { All (λ p. start ≤ p.hi) g.now }
+    requires first { AreLeftFrom start f.now }
+    requires second { AreLeftFrom start g.now }
     ensures from { IfSome result (λ first. start ≤ first) }
     ensures found { IfSome result (λ first. better_at f.now g.now first ≡ true) }
     ensures worse { IfSome result (λ first. (t : ℕ) →
@@ -287,12 +308,8 @@ fn merged_from(
     g: &[Piece],
     start: Minute,
 ) -> Result<Merged, OutOfMemory>
-    requires first { ArePieces f.now }
-    requires second { ArePieces g.now }
-    requires first_small { AreSmallPieces f.now }
-    requires second_small { AreSmallPieces g.now }
-    requires first_from { All (λ p. start ≤ p.hi) f.now }
-    requires second_from { All (λ p. start ≤ p.hi) g.now }
+    requires first { AreLeftFrom start f.now }
+    requires second { AreLeftFrom start g.now }
     requires ended { All (λ p. p.hi < start) before }
     ensures values { IfOk result (λ merged. (wanted : ℕ → Option ℕ) → IsSettled wanted before start
         → ((t : ℕ) → start ≤ t → wanted t ≡ least_at f.now g.now t)

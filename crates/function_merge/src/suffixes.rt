@@ -5,6 +5,7 @@ ghost use Rattle.route_base.specs.declared.types.Run.{Run};
 ghost use Rattle.cost_functions.specs.declared.pieces.Piece.{Piece};
 ghost use Rattle.route_base.specs.Runs.{any_has, AreRuns};
 ghost use Rattle.cost_functions.specs.Pieces.{value_at, ArePieces, AreSmallPieces};
+ghost use Rattle.function_merge.specs.Inside.Suffixes.{AreLeftFrom};
 
 use cost_functions::Piece;
 use route_base::{Minute, Run};
@@ -46,10 +47,8 @@ pub fn runs_from(runs: &[Run], from: Minute) -> &[Run]
 pub fn skip_pieces(pieces: &[Piece], from: Minute) -> &[Piece]
     requires pieces { ArePieces pieces.now }
     requires small { AreSmallPieces pieces.now }
-    ensures pieces { ArePieces result.now }
-    ensures small { AreSmallPieces result.now }
+    ensures left { AreLeftFrom from result.now }
     ensures values { (t : ℕ) → from ≤ t → value_at result.now t ≡ value_at pieces.now t }
-    ensures reach { All (λ p. from ≤ p.hi) result.now }
 {
     let mut left = pieces;
     'skip: while let [first, rest @ ..] = left {

@@ -1,13 +1,14 @@
 // Functions with waits.
-ghost use Rattle.std.specs.Prelude.{◌≡◌, ◌+◌, ◌*◌, ◌<◌, ◌≤◌, ℕ, Option, Some, None, min, All, IfOk, IfSome};
+ghost use Rattle.std.specs.Prelude.{◌≡◌, ◌+◌, ◌*◌, ◌<◌, ◌≤◌, ℕ, Option, Some, None, min, IfOk, IfSome};
 ghost use Rattle.cost_functions.specs.Lines.{line_at, IsPiece, IsSmallPiece};
-ghost use Rattle.cost_functions.specs.Pieces.{value_at, ArePieces, AreSmallPieces};
+ghost use Rattle.cost_functions.specs.Pieces.{value_at, AreSmallPieces};
 ghost use Rattle.cost_functions.specs.Building.{AreBuilt};
 ghost use Rattle.route_base.specs.Runs.{any_has, AreRuns};
 ghost use Rattle.route_base.specs.declared.limits.TheConstants.{LAST_INSTANT, HIGHEST_COST};
 ghost use Rattle.function_merge.specs.Waits.{IsAllowed, IsLeastWait, CanWait};
 ghost use Rattle.function_merge.specs.Inside.CarriedWaits.{waited_at, carried_to};
-ghost use Rattle.function_merge.specs.Inside.NextWaits.{IsNextWait};
+ghost use Rattle.function_merge.specs.Inside.NextWaits.{IsNextWait, IsNextFor, IsNoneLeft};
+ghost use Rattle.function_merge.specs.Inside.Suffixes.{AreLeftFrom};
 
 use crate::suffixes::{find_runs, skip_pieces};
 use cost_functions::{Builder, CostFn, Piece, held_for};
@@ -127,67 +128,49 @@ fn next_wait(
     weight: Cost,
     until: Minute,
 ) -> Option<Piece>
-    requires pieces { ArePieces left.now }
-    requires small { AreSmallPieces left.now }
-    requires reach { All (λ p. from ≤ p.hi) left.now }
+    requires left { AreLeftFrom from left.now }
     requires runs { AreRuns runs.now }
-    ensures some { IfSome result (λ piece. (values : ℕ → Option ℕ)
-        → ((t : ℕ) → from ≤ t → values t ≡ value_at left.now t)
-        → carried_to values (any_has runs.now) weight from ≡ carried
-        → IsNextWait values (any_has runs.now) weight from until piece) }
-    ensures none { result ≡ None → (values : ℕ → Option ℕ)
-        → ((t : ℕ) → from ≤ t → values t ≡ value_at left.now t)
-        → carried_to values (any_has runs.now) weight from ≡ carried
-        → (t : ℕ) → from ≤ t → t ≤ until → waited_at values (any_has runs.now) weight t ≡ None }
+    ensures some { IfSome result (IsNextFor left.now (any_has runs.now) from carried weight until) }
+    ensures none { result ≡ None
+        → IsNoneLeft left.now (any_has runs.now) from carried weight until }
 {
     if until < from {
         return None;
     }
-    match carried {
-        None => first_wait(left, runs, from, weight, until),
-        Some(cost) => {
-            let last = last_to_wait(runs, from, until);
-            Some(wait_on(left, runs, from, cost, weight, last))
-        }
+    if let Some(cost) = carried {
+        let last = last_to_wait(runs, from, until);
+        return Some(wait_on(left, runs, from, cost, weight, last));
     }
-}
-
-// The same where there is no cost of waiting.
-fn first_wait(
-    left: &[Piece],
-    runs: &[Run],
-    from: Minute,
-    weight: Cost,
-    until: Minute,
-) -> Option<Piece>
-    requires pieces { ArePieces left.now }
-    requires small { AreSmallPieces left.now }
-    requires reach { All (λ p. from ≤ p.hi) left.now }
-    requires runs { AreRuns runs.now }
-    ensures some { IfSome result (λ piece. (values : ℕ → Option ℕ)
-        → ((t : ℕ) → from ≤ t → values t ≡ value_at left.now t)
-        → carried_to values (any_has runs.now) weight from ≡ None
-        → IsNextWait values (any_has runs.now) weight from until piece) }
-    ensures none { result ≡ None → (values : ℕ → Option ℕ)
-        → ((t : ℕ) → from ≤ t → values t ≡ value_at left.now t)
-        → carried_to values (any_has runs.now) weight from ≡ None
-        → (t : ℕ) → from ≤ t → t ≤ until → waited_at values (any_has runs.now) weight t ≡ None }
-{
     let [piece, ..] = left else { return None };
     let lo = from.max(piece.lo);
     if until < lo {
         return None;
     }
+    Some(first_wait(*piece, runs, lo, weight, until))
+}
+
+// The next piece from a minute of a piece on, where there is no cost of waiting.
+fn first_wait(piece: Piece, runs: &[Run], lo: Minute, weight: Cost, until: Minute) -> Piece
+    requires piece { IsPiece piece }
+    requires runs { AreRuns runs.now }
+    requires from { piece.lo ≤ lo }
+    requires upto { lo ≤ piece.hi }
+    requires until { lo ≤ until }
+    ensures { (values : ℕ → Option ℕ)
+        → ((t : ℕ) → lo ≤ t → t ≤ piece.hi → values t ≡ Some (line_at piece t))
+        → carried_to values (any_has runs.now) weight lo ≡ None
+        → IsNextWait values (any_has runs.now) weight lo until result }
+{
     let stretch = stretch_from(runs, lo);
     let last = until.min(stretch.until);
     if stretch.inside {
-        Some(own_line(*piece, lo, weight, last))
+        own_line(piece, lo, weight, last)
     } else {
-        Some(own_line(*piece, lo, piece.slope, last))
+        own_line(piece, lo, piece.slope, last)
     }
 }
 
-// The same where there is a cost of waiting, and waiting is allowed up to a minute.
+// The next piece where there is a cost of waiting, and waiting is allowed up to a minute.
 fn wait_on(
     left: &[Piece],
     runs: &[Run],
@@ -196,14 +179,10 @@ fn wait_on(
     weight: Cost,
     until: Minute,
 ) -> Piece
-    requires pieces { ArePieces left.now }
-    requires small { AreSmallPieces left.now }
-    requires reach { All (λ p. from ≤ p.hi) left.now }
+    requires left { AreLeftFrom from left.now }
     requires until { from ≤ until }
     requires allowed { IsAllowed (any_has runs.now) from until }
-    ensures { (values : ℕ → Option ℕ) → ((t : ℕ) → from ≤ t → values t ≡ value_at left.now t)
-        → carried_to values (any_has runs.now) weight from ≡ Some cost
-        → IsNextWait values (any_has runs.now) weight from until result }
+    ensures { IsNextFor left.now (any_has runs.now) from (Some cost) weight until result }
 {
     let [piece, ..] = left else {
         return Piece {

@@ -60,15 +60,15 @@ module _ (held other both : List Run) (k minute : ℕ) (le : k ≤ length held) 
       absurd (both_ways (any_has both y.lo) (minutes y.lo ∙ or_from (any_has (drop k held) y.lo) (any_has other y.lo) first second) has))
       (cases_lt x.hi y.lo)
 
-  pub added_runs : AreRuns (take k held ++ both)
-  added_runs = runs_append (take k held) both front_runs made across
-
-  pub added_minutes : (t : ℕ) → any_has (take k held ++ both) t ≡ (any_has held t || any_has other t)
-  added_minutes t =
-      list_any-append (has_minute t) (take k held) both
-      ∙ ap (λ b. any_has (take k held) t || b) (minutes t)
-      ∙ or_assoc (any_has (take k held) t) (any_has (drop k held) t) (any_has other t)
-      ∙ ap (λ b. b || any_has other t) (sym (list_any-append (has_minute t) (take k held) (drop k held)) ∙ ap (λ rs. any_has rs t) (take-append-drop k held))
+  pub added : AreRuns (take k held ++ both) × ((t : ℕ) → any_has (take k held ++ both) t ≡ (any_has held t || any_has other t))
+  added = (
+    runs_append (take k held) both front_runs made across,
+    λ t.
+        list_any-append (has_minute t) (take k held) both
+        ∙ ap (λ b. any_has (take k held) t || b) (minutes t)
+        ∙ or_assoc (any_has (take k held) t) (any_has (drop k held) t) (any_has other t)
+        ∙ ap (λ b. b || any_has other t) (sym (list_any-append (has_minute t) (take k held) (drop k held)) ∙ ap (λ rs. any_has rs t) (take-append-drop k held)),
+  )
 
 -- no run begins before the first
 pub begin_late : (rs : List Run) (d : Run) → AreRuns rs → All (λ r. (get_or rs 0 d).lo ≤ r.lo) rs

@@ -1,4 +1,4 @@
-use Rattle.std.proofs.Common.{⊎_elim, ◌<◌, ◌≤◌, ◌-◌, ◌+◌, ℕ, [], refl, ◌∙◌, ap, sym, subst, arith}
+use Rattle.std.proofs.Common.{⊎_elim, ◌<◌, ◌≤◌, ◌-◌, ◌+◌, ◌≡◌, Some, ℕ, [], get_or, refl, ◌∙◌, ap, sym, subst, arith}
 use Rattle.std.specs.Option.{option_map}
 use Rattle.std.proofs.lemmas.Bool.{cases_lt}
 use Rattle.std.proofs.lemmas.List.{nil_from_length}
@@ -8,8 +8,10 @@ use Rattle.function_merge.specs.Pruning.{IsPruned}
 use Rattle.function_merge.specs.Inside.Prefixes.{IsPrunedUpTo}
 use Rattle.function_merge.proofs.PrunedPieces.{pruned_skip, pruned_whole, pruned_nothing, arrived_later}
 use Rattle.function_merge.specs.Moves.{kept_at, moved_at}
-use Rattle.function_merge.proofs.KeptParts.{moved_early, moved_late, kept_nowhere, kept_nothing, first_gap, first_part}
-use Rattle.function_merge.proofs.clearing.moved_and_pruned.Goals.{in_default, in-len1-up+in_default-open}
+use Rattle.function_merge.proofs.KeptParts.{moved_early, moved_late, kept_nowhere, kept_nothing, IsNextPart, first_part}
+use Rattle.function_merge.proofs.FirstPieces.{first_of}
+use Rattle.cost_functions.specs.Lines.{line_at}
+use Rattle.function_merge.proofs.clearing.moved_and_pruned.Goals.{After-min-end, in_default, in-len1-up+in_default-open}
 use Rattle.function_merge.proofs.clearing.moved_and_pruned.Goals as goal
 use Rattle.cost_functions.proofs.Values.{none_after}
 use Rattle.std.proofs.lemmas.List.Elements.{All-nil}
@@ -39,24 +41,24 @@ sweep-init c =
       minutes = c.find_runs-open.ensures.minutes;
     }
 
-pub add_moved-requires-clause-minutes : goal.add_moved-requires-clause-minutes
-add_moved-requires-clause-minutes c = λ some.
+-- the minutes at which the first piece and the first run are next
+next : (c : After-min-end) → IsNextPart (kept_at c.args.pieces.now c.args.runs.now) c.sweep.from (first_of c.sweep.left.now)
+    (get_or c.sweep.open.now 0 (record { lo = 0; hi = 0 }))
+next c =
     let inv = c.sweep.invariant in
-    let last = c.min-end.result - 1 in
-    let part = first_part c.args.pieces.now c.args.runs.now c.sweep.from c.sweep.left.now c.sweep.open.now c.in-len1-up.len_at_least
-    c.in-len1-up-open.len_at_least inv.pieces inv.runs inv.values inv.minutes last (omega (arith, c.max.ensures, c.max-lo.ensures, some))
-    (omega (arith, c.min-end.ensures, some)) in
-    let fit = c.requires.fit.minutes_fit last _ part in
-    omega (arith, fit)
+    first_part c.args.pieces.now c.args.runs.now c.sweep.from c.sweep.left.now c.sweep.open.now c.in-len1-up.len_at_least
+    c.in-len1-up-open.len_at_least inv.pieces inv.runs inv.values inv.minutes
+
+-- the last of them has a value
+last : (c : After-min-end) → c.max-lo.result < c.min-end.result
+    → kept_at c.args.pieces.now c.args.runs.now (c.min-end.result - 1) ≡ Some (line_at (first_of c.sweep.left.now) (c.min-end.result - 1))
+last c some = (next c).part (c.min-end.result - 1) (omega (arith, c.max.ensures, c.max-lo.ensures, some)) (omega (arith, c.min-end.ensures, some))
+
+pub add_moved-requires-clause-minutes : goal.add_moved-requires-clause-minutes
+add_moved-requires-clause-minutes c = λ some. (let fit = c.requires.fit.minutes_fit _ _ (last (goal.at.add_moved-requires-clause-minutes c).After-min-end some) in omega (arith, fit, some))
 
 pub add_moved-requires-clause-small : goal.add_moved-requires-clause-small
-add_moved-requires-clause-small c = λ some.
-    let inv = c.sweep.invariant in
-    let last = c.min-end.result - 1 in
-    let part = first_part c.args.pieces.now c.args.runs.now c.sweep.from c.sweep.left.now c.sweep.open.now c.in-len1-up.len_at_least
-    c.in-len1-up-open.len_at_least inv.pieces inv.runs inv.values inv.minutes last (omega (arith, c.max.ensures, c.max-lo.ensures, some))
-    (omega (arith, c.min-end.ensures, some)) in
-    c.requires.fit.values_fit last _ part
+add_moved-requires-clause-small c = λ some. c.requires.fit.values_fit _ _ (last (goal.at.add_moved-requires-clause-small c).After-min-end some)
 
 pub sweep-preserved : goal.sweep-preserved
 sweep-preserved c =
@@ -64,26 +66,24 @@ sweep-preserved c =
     let m = c.args.minutes in
     let kept = kept_at c.args.pieces.now c.args.runs.now in
     let wanted = moved_at m c.args.cost kept in
-    let gap = first_gap c.args.pieces.now c.args.runs.now c.sweep.from c.sweep.left.now c.sweep.open.now c.in-len1-up.len_at_least
-    c.in-len1-up-open.len_at_least inv.pieces inv.runs inv.values inv.minutes in
-    let part = first_part c.args.pieces.now c.args.runs.now c.sweep.from c.sweep.left.now c.sweep.open.now c.in-len1-up.len_at_least
-    c.in-len1-up-open.len_at_least inv.pieces inv.runs inv.values inv.minutes in
+    let parts = next (goal.at.sweep-preserved c).After-min-end in
+    let late : c.sweep.from ≤ c.max-lo.result = omega (arith, c.max.ensures, c.max-lo.ensures) in
     let skipped = pruned_skip c.args.until c.args.pairs.now c.args.bound wanted c.sweep.built (c.sweep.from + m) inv.pruned (c.max-lo.result + m)
-    (omega (arith, c.max.ensures, c.max-lo.ensures))
+    (omega (arith, late))
     (λ u from before.
     (moved_late m c.args.cost kept u (u - m) (omega arith) ∙ ap (option_map (λ v. v + c.args.cost))
-    (gap (u - m) (omega arith) (omega (arith, c.max.ensures, c.max-lo.ensures))))) in
+    (parts.gap (u - m) (omega arith) (omega (arith, before, c.max.ensures, c.max-lo.ensures))))) in
     record {
       count = c.in_ok-arrived.ensures.within;
       arrived = arrived_later c.args.bound c.args.pairs.now c.in_ok-arrived.arrived (c.max-lo.result + m) (c.max-from.result + m)
           (omega (arith, c.max-from.ensures)) c.in_ok-arrived.ensures.arrived;
       pruned = subst (λ (n : ℕ). IsPrunedUpTo c.args.until c.args.pairs.now c.args.bound wanted c.add_moved.new.built (n + m)) (sym c.max-from.ensures)
           (c.in_ok-arrived.ensures.pruned wanted skipped (λ t from before. (moved_late m c.args.cost kept (t + m) t refl
-          ∙ ap (option_map (λ v. v + c.args.cost)) (part t (omega (arith, c.max.ensures, c.max-lo.ensures)) (omega (arith, c.min-end.ensures))))));
+          ∙ ap (option_map (λ v. v + c.args.cost)) (parts.part t (omega (arith, c.max.ensures, c.max-lo.ensures, from)) (omega (arith, c.min-end.ensures, before))))));
       pieces = c.pieces_from-left.ensures.pieces;
       runs = c.runs_from-open.ensures.runs;
-      values = λ t from. c.pieces_from-left.ensures.values t from ∙ inv.values t (omega (arith, c.max.ensures, c.max-lo.ensures, c.max-from.ensures, from));
-      minutes = λ t from. c.runs_from-open.ensures.minutes t from ∙ inv.minutes t (omega (arith, c.max.ensures, c.max-lo.ensures, c.max-from.ensures, from));
+      values = λ t from. c.pieces_from-left.ensures.values t from ∙ inv.values t (omega (arith, late, c.max-from.ensures, from));
+      minutes = λ t from. c.runs_from-open.ensures.minutes t from ∙ inv.minutes t (omega (arith, late, c.max-from.ensures, from));
     }
 
 pub returns-clause-values : goal.returns-clause-values

@@ -5,11 +5,20 @@ use Rattle.function_merge.proofs.FirstPieces.{first_of, begin_all, no_pieces}
 use Rattle.function_merge.proofs.Nexts.{better_none, better_same, none_until}
 use Rattle.function_merge.proofs.merging.first_better.Goals as goal
 
-pub better_from-requires-clause-second_from : goal.better_from-requires-clause-second_from
-better_from-requires-clause-second_from c = λ k d within.
-    let begin = begin_all c.args.g.now c.in-len1-up.len_at_least c.requires.second k d within in
-    let filled = (c.requires.second.each k d within).filled in
-    omega (arith, begin, filled)
+pub better_from-requires-clause-first : goal.better_from-requires-clause-first
+better_from-requires-clause-first c =
+    let left = c.find_pieces.ensures in
+    record { pieces = left.pieces; small = left.small c.requires.first_small; reach = left.reach }
+
+pub better_from-requires-clause-second : goal.better_from-requires-clause-second
+better_from-requires-clause-second c = record {
+  pieces = c.requires.second;
+  small = c.requires.second_small;
+  reach = λ k d within.
+      (let begin = begin_all c.args.g.now c.in-len1-up.len_at_least c.requires.second k d within in
+      let filled = (c.requires.second.each k d within).filled in
+      omega (arith, begin, filled));
+}
 
 pub returns-in-empty-clause-none : goal.returns-in-empty-clause-none
 returns-in-empty-clause-none c = λ same t. better_none c.args.f.now c.args.g.now t (no_pieces c.args.g.now t (omega (arith, c.in-empty.len_below)))

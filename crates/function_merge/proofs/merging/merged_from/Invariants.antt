@@ -1,9 +1,10 @@
 use Rattle.std.proofs.Common.{◌≡◌, ◌≤◌, ◌<◌, ◌+◌, ◌-◌, ◌&&◌, leb, Option, ℕ, All}
 use Rattle.route_base.specs.Runs.{AreRuns}
-use Rattle.cost_functions.specs.Pieces.{value_at, ArePieces, AreSmallPieces}
+use Rattle.cost_functions.specs.Pieces.{value_at}
 use Rattle.cost_functions.specs.Building.{IsSettled}
 use Rattle.route_base.specs.declared.limits.TheConstants.{LAST_INSTANT}
 use Rattle.function_merge.specs.Least.{least_at, better_at}
+use Rattle.function_merge.specs.Inside.Suffixes.{AreLeftFrom}
 use Rattle.minute_sets.specs.Combination.{IsSwept}
 use Rattle.function_merge.proofs.merging.merged_from.Given as goal
 
@@ -15,12 +16,8 @@ invariant-sweep l = record {
   ended : All (λ p. p.hi < l.from) l.built;
   marked : IsSwept (λ t. leb l.start t && better_at l.f l.g t) l.improved l.from;
   runs : AreRuns l.improved;
-  first : ArePieces l.left;
-  second : ArePieces l.other;
-  first_small : AreSmallPieces l.left;
-  second_small : AreSmallPieces l.other;
-  first_from : All (λ p. l.from ≤ p.hi) l.left;
-  second_from : All (λ p. l.from ≤ p.hi) l.other;
+  first : AreLeftFrom l.from l.left;
+  second : AreLeftFrom l.from l.other;
   first_values : (t : ℕ) → l.from ≤ t → value_at l.left t ≡ value_at l.f t;
   second_values : (t : ℕ) → l.from ≤ t → value_at l.other t ≡ value_at l.g t;
 }

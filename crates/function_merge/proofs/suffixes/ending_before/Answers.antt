@@ -1,10 +1,12 @@
-use Rattle.std.proofs.Common.{◌-◌, ◌≤◌, ◌<◌, ltb, take, ap, arith, rules}
+use Rattle.std.proofs.Common.{◌≡◌, ◌-◌, ◌≤◌, ◌<◌, true, false, length, ltb, take, ap, arith, rules}
+use Rattle.std.specs.List.{AllWithin}
 use Rattle.cost_functions.specs.declared.pieces.Piece.{Piece}
 use Rattle.std.proofs.lemmas.Bool.{ltb-true, ltb-false}
 use Rattle.std.proofs.lemmas.List.{get_or_default, length-take-le}
 use Rattle.std.proofs.lemmas.List.Sorted.{IsPartitionedBy-ltb, IsPartitionPoint-from_clause}
 use Rattle.cost_functions.proofs.Places.{ends_rise}
 use Rattle.function_merge.proofs.Splits.{pieces_take, within_part, within_both}
+use Rattle.function_merge.proofs.suffixes.ending_before.Goals.{After-partition_point}
 use Rattle.function_merge.proofs.suffixes.ending_before.Goals as goal
 
 pub returns-then-pieces-count-clause-before : goal.returns-then-pieces-count-clause-before
@@ -15,23 +17,23 @@ returns-then-pieces-count-clause-before c = λ k d from upto.
     let same = ap (λ (p : Piece). p.hi) (get_or_default c.args.pieces.now (n - 1) none d (omega (arith, upto, c.back.invariant.within))) in
     omega (arith, rise, same, c.if-pieces-count.true)
 
+-- of the pieces that are searched, those before the place end before the minute, and the others don't
+parted : (c : After-partition_point) → AllWithin (λ p. ltb p.hi c.args.minute ≡ true) (take c.back.count c.args.pieces.now) 0 c.partition_point.result
+    × AllWithin (λ p. ltb p.hi c.args.minute ≡ false) (take c.back.count c.args.pieces.now) c.partition_point.result
+    (length (take c.back.count c.args.pieces.now))
+parted c =
+    let ps = take c.back.count c.args.pieces.now in
+    IsPartitionPoint-from_clause (λ p. ltb p.hi c.args.minute) ps c.partition_point.result c.partition_point.ensures.partitioned
+    (IsPartitionedBy-ltb (λ p. p.hi) ps c.args.minute (ends_rise ps (pieces_take c.args.pieces.now c.back.count c.back.invariant.within c.requires)))
+    (λ a r f called. search rules)
+
 pub returns-clause-before : goal.returns-clause-before
 returns-clause-before c =
     let n = c.back.count in
-    let inv = c.back.invariant in
-    let ps = take n c.args.pieces.now in
-    let parts = IsPartitionPoint-from_clause (λ p. ltb p.hi c.args.minute) ps c.partition_point.result c.partition_point.ensures.partitioned
-    (IsPartitionedBy-ltb (λ p. p.hi) ps c.args.minute (ends_rise ps (pieces_take c.args.pieces.now n inv.within c.requires))) (λ a r f called. search rules) in
-    within_part c.args.pieces.now n inv.within (λ p. p.hi < c.args.minute) c.partition_point.result
-    (omega (arith, c.partition_point.ensures.bound, length-take-le n c.args.pieces.now inv.within))
-    (λ k d from upto. ltb-true _ _ (parts.0 k d from upto))
+    within_part c.args.pieces.now n c.back.invariant.within (λ p. p.hi < c.args.minute) c.partition_point.result
+    (omega (arith, c.partition_point.ensures.bound, length-take-le n c.args.pieces.now c.back.invariant.within))
+    (λ k d from upto. ltb-true _ _ ((parted c).0 k d from upto))
 
 pub returns-clause-after : goal.returns-clause-after
-returns-clause-after c =
-    let n = c.back.count in
-    let inv = c.back.invariant in
-    let ps = take n c.args.pieces.now in
-    let parts = IsPartitionPoint-from_clause (λ p. ltb p.hi c.args.minute) ps c.partition_point.result c.partition_point.ensures.partitioned
-    (IsPartitionedBy-ltb (λ p. p.hi) ps c.args.minute (ends_rise ps (pieces_take c.args.pieces.now n inv.within c.requires))) (λ a r f called. search rules) in
-    within_both c.args.pieces.now n inv.within (λ p. c.args.minute ≤ p.hi) c.partition_point.result
-    (λ k d from upto. ltb-false _ _ (parts.1 k d from upto)) inv.after
+returns-clause-after c = within_both c.args.pieces.now c.back.count c.back.invariant.within (λ p. c.args.minute ≤ p.hi) c.partition_point.result
+    (λ k d from upto. ltb-false _ _ ((parted c).1 k d from upto)) c.back.invariant.after

@@ -15,5 +15,16 @@ skip-preserved c =
       values = λ t late. rest_values left some inv.pieces t (omega (arith, late, c.if-from-first.false)) ∙ inv.values t late;
     }
 
-pub returns-then-from-first-clause-reach : goal.returns-then-from-first-clause-reach
-returns-then-from-first-clause-reach c = reach_all c.skip.left.now c.in-len1-up.len_at_least c.skip.invariant.pieces c.args.from c.if-from-first.true
+pub returns-then-from-first-clause-left : goal.returns-then-from-first-clause-left
+returns-then-from-first-clause-left c =
+    let inv = c.skip.invariant in
+    record {
+      pieces = inv.pieces;
+      small = inv.small;
+      reach = reach_all c.skip.left.now c.in-len1-up.len_at_least inv.pieces c.args.from c.if-from-first.true;
+    }
+
+pub returns-in_default-clause-left : goal.returns-in_default-clause-left
+returns-in_default-clause-left c =
+    let inv = c.skip.invariant in
+    record { pieces = inv.pieces; small = inv.small; reach = λ k d within. absurd (omega (arith, within, c.in_default.len_below)) }

@@ -4,7 +4,8 @@ use Rattle.std.proofs.lemmas.List.{take_rest}
 use Rattle.std.proofs.lemmas.Result.{on_ok_weaker}
 use Rattle.route_base.specs.Runs.{any_has, AreRuns}
 use Rattle.route_base.specs.declared.types.Run.{Run}
-use Rattle.minute_sets.proofs.AddedRuns.{added_runs, added_minutes, begin_late}
+use Rattle.minute_sets.proofs.AddedRuns.{added, begin_late}
+use Rattle.minute_sets.proofs.addition.add_all.Goals.{After-runs}
 use Rattle.minute_sets.proofs.addition.add_all.Goals as goal
 
 -- what both have, told of the runs that are there and not of the slice
@@ -12,8 +13,10 @@ told : (held xs both : List Run) (k : ℕ) (other : ℕ → Bool) → xs ≡ hel
     → (t : ℕ) → any_has both t ≡ (any_has (drop k held) t || other t)
 told held xs both k other same have t = have t ∙ ap (λ rs. any_has rs t || other t) (take_rest xs k ∙ ap (drop k) same)
 
-pub append_all-requires-clause-whole : goal.append_all-requires-clause-whole
-append_all-requires-clause-whole c =
+-- the runs that stay, with those of both behind them
+whole : (c : After-runs) → AreRuns (c.truncate.new.self.items ++ c.runs.result.now)
+    × ((t : ℕ) → any_has (c.truncate.new.self.items ++ c.runs.result.now) t ≡ (any_has c.args.held.now.items t || any_has c.args.other.now t))
+whole c =
     let held = c.args.held.now.items in
     let other = c.args.other.now in
     let k = c.ending_before-keep.result in
@@ -23,23 +26,14 @@ append_all-requires-clause-whole c =
     let early = subst (λ rs. AllWithin (λ r. r.hi < (get_or other 0 first).lo) rs 0 k) c.deref.ensures.value kept.before in
     let both = c.in_ok-both.both in
     let minutes = told held c.deref-2.result.now both k (any_has other) c.deref-2.ensures.value c.in_ok-both.ensures.minutes in
-    subst AreRuns (ap (λ rs. rs ++ both) (sym c.truncate.ensures.items) ∙ ap (λ rs. c.truncate.new.self.items ++ rs) (sym c.runs.ensures.items))
-    (added_runs held other both k (get_or other 0 first).lo le c.requires.held c.in_ok-both.ensures.runs early
+    let same = ap (λ rs. rs ++ both) (sym c.truncate.ensures.items) ∙ ap (λ rs. c.truncate.new.self.items ++ rs) (sym c.runs.ensures.items) in
+    subst (λ rs. AreRuns rs × ((t : ℕ) → any_has rs t ≡ (any_has held t || any_has other t))) same
+    (added held other both k (get_or other 0 first).lo le c.requires.held c.in_ok-both.ensures.runs early
     (begin_late other first c.requires.other) minutes)
 
+pub append_all-requires-clause-whole : goal.append_all-requires-clause-whole
+append_all-requires-clause-whole c = (whole c).0
+
 pub returns-clause-minutes : goal.returns-clause-minutes
-returns-clause-minutes c =
-    let held = c.args.held.now.items in
-    let other = c.args.other.now in
-    let k = c.ending_before-keep.result in
-    let kept = c.ending_before-keep.ensures in
-    let le : k ≤ length held = omega (arith, kept.within, ap length c.deref.ensures.value) in
-    let first : Run = record { lo = 0; hi = 0 } in
-    let early = subst (λ rs. AllWithin (λ r. r.hi < (get_or other 0 first).lo) rs 0 k) c.deref.ensures.value kept.before in
-    let both = c.in_ok-both.both in
-    let minutes = told held c.deref-2.result.now both k (any_has other) c.deref-2.ensures.value c.in_ok-both.ensures.minutes in
-    let whole = ap (λ rs. rs ++ c.runs.result.now) c.truncate.ensures.items ∙ ap (λ rs. take k held ++ rs) c.runs.ensures.items in
-    on_ok_weaker c.append_all.result (λ items t.
-    (ap (λ rs. any_has rs t) (items ∙ whole)
-    ∙ added_minutes held other both k (get_or other 0 first).lo le c.requires.held c.in_ok-both.ensures.runs early
-    (begin_late other first c.requires.other) minutes t)) c.append_all.ensures.items
+returns-clause-minutes c = on_ok_weaker c.append_all.result (λ items t.
+    (ap (λ rs. any_has rs t) items ∙ (whole (goal.at.returns-clause-minutes c).After-runs).1 t)) c.append_all.ensures.items

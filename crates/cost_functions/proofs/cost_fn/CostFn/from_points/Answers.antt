@@ -3,7 +3,7 @@ use Rattle.std.proofs.lemmas.List.{take_more, get_or_default}
 use Rattle.cost_functions.specs.Pieces.{value_at, point_at}
 use Rattle.cost_functions.specs.declared.pieces.Piece.{Piece}
 use Rattle.cost_functions.proofs.Places.{point_onto, nothing_yet}
-use Rattle.cost_functions.proofs.points.through.Goals as goal
+use Rattle.cost_functions.proofs.cost_fn.CostFn.from_points.Goals as goal
 
 pub loop-point-init : goal.loop-point-init
 loop-point-init c = record {

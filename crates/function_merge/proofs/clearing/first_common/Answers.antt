@@ -3,7 +3,7 @@ use Rattle.std.proofs.lemmas.Bool.{cases_lt}
 use Rattle.minute_sets.proofs.HeadRuns.{head_before}
 use Rattle.function_merge.proofs.FirstPieces.{first_of, first_none}
 use Rattle.function_merge.proofs.KeptParts.{kept_nowhere, kept_nothing}
-use Rattle.function_merge.proofs.moving.first_common.Goals as goal
+use Rattle.function_merge.proofs.clearing.first_common.Goals as goal
 
 pub returns-in-len1-up-runs : goal.returns-in-len1-up-runs
 returns-in-len1-up-runs c = λ t early.

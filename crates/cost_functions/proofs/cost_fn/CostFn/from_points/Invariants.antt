@@ -1,6 +1,6 @@
 use Rattle.std.proofs.Common.{◌≡◌, ◌<◌, ℕ, length, take, get_or, All}
 use Rattle.cost_functions.specs.Pieces.{value_at, point_at}
-use Rattle.cost_functions.proofs.points.through.Given as goal
+use Rattle.cost_functions.proofs.cost_fn.CostFn.from_points.Given as goal
 
 abbrev pub invariant-loop-point : goal.invariant-loop-point
 invariant-loop-point l = record {
