@@ -6,8 +6,8 @@ use Rattle.route_base.specs.declared.types.Request.{Request}
 use Rattle.propagation.specs.Found.{Finding, IsFoundFor}
 
 -- the request is one over the net whose costs fit, and the finding answers it
-pub record IsAnswered (net : Net) (r : Request) (found : Finding) : Type 0 where
+pub record IsAnswered (net : Net) (r : Request) (finding : Finding) : Type 0 where
   pub good : IsGoodRequest net r
   pub in_time : r.depart ≤ r.until
   pub fit : CostsFit (setting_of net) r
-  pub found : IsFoundFor net r found
+  pub found : IsFoundFor net r finding

@@ -15,13 +15,16 @@ parted c = IsPartitionPoint-from_clause (λ p. ltb p.hi c.args.t) c.args.pieces.
     (IsPartitionedBy-ltb (λ p. p.hi) c.args.pieces.now c.args.t (ends_rise c.args.pieces.now c.requires)) (λ a r f called. search rules)
 
 pub returns-in_err-piece-clause-none : goal.returns-in_err-piece-clause-none
-returns-in_err-piece-clause-none c = λ _. found_none c.args.pieces.now c.args.t c.partition_point-later.result c.requires (parted c).0 (parted c).1
+returns-in_err-piece-clause-none c = λ _.
+    let p = parted (goal.at.returns-in_err-piece-clause-none c).After-partition_point-later in
+    found_none c.args.pieces.now c.args.t c.partition_point-later.result c.requires p.0 p.1
     (λ d within. absurd (omega (arith, within, c.in_err-piece.ensures.lookup.3)))
 
 pub returns-then-piece-t-clause-upto : goal.returns-then-piece-t-clause-upto
 returns-then-piece-t-clause-upto c =
+    let p = parted (goal.at.returns-then-piece-t-clause-upto c).After-partition_point-later in
     let lookup = c.in_ok-piece.ensures.lookup in
-    found_end c.args.pieces.now c.args.t c.partition_point-later.result c.requires (parted c).0 (parted c).1 c.in_ok-piece.field-0.now lookup.3.0 lookup.1
+    found_end c.args.pieces.now c.args.t c.partition_point-later.result c.requires p.0 p.1 c.in_ok-piece.field-0.now lookup.3.0 lookup.1
 
 pub returns-then-piece-t-clause-values : goal.returns-then-piece-t-clause-values
 returns-then-piece-t-clause-values c = λ s from upto.
@@ -35,8 +38,9 @@ returns-then-piece-t-clause-values c = λ s from upto.
 
 pub returns-else-piece-t-clause-none : goal.returns-else-piece-t-clause-none
 returns-else-piece-t-clause-none c = λ _.
+    let p = parted (goal.at.returns-else-piece-t-clause-none c).After-partition_point-later in
     let ps = c.args.pieces.now in
     let i = c.partition_point-later.result in
-    found_none ps c.args.t i c.requires (parted c).0 (parted c).1 (λ d within.
+    found_none ps c.args.t i c.requires p.0 p.1 (λ d within.
     (let here = ap (λ (p : Piece). p.lo) (c.in_ok-piece.ensures.lookup.1 ∙ get_or_default ps i c.in_ok-piece.field-0.now d within) in
     omega (arith, here, c.if-piece-t.false)))
