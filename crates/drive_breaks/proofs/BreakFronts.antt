@@ -41,17 +41,25 @@ module _ (s z : Setting) (rule : BreakRule) (r : Request) (states : List State) 
   sound : (p : Pair) → IsAchieved z (over_states r (length states)) p → IsRestedAchieved s r rule p
   sound p can =
       let on = unpacks can.steps p can.walk in
-      record { in_time = can.in_time; steps = unpacked sources can.steps; walk = on.walk; rested = rested_from s.road rule some (unpacked sources can.steps) [] on.rested }
+      record {
+        in_time = can.in_time;
+        steps = unpacked sources can.steps;
+        walk = on.walk;
+        rested = rested_from s.road rule some
+            (unpacked sources can.steps) [] on.rested;
+      }
 
   covers : (r.origin.0 ≡ r.goal.0 → ⊥) → (p : Pair) → IsRestedAchieved s r rule p → (q : Pair) × IsAchieved z (over_states r (length states)) q × IsNoWorse q p
   covers away p can =
-      let way = arrives s z rule r.origin.0 r.goal.0 states sources made some r.until (start_of (over_states r (length states))) can.steps (start_of r) (end_of r p)
+      let way = arrives s z rule r.origin.0 r.goal.0 states sources made some r.until (start_of (over_states r (length states))) can.steps (start_of r)
+      (end_of r p)
       refl refl refl refl can.in_time away can.walk (within_from s.road rule some can.steps [] can.rested) refl in (
         record { arrival = way.end.minute; cost = way.end.cost },
         record {
           in_time = can.in_time;
           steps = way.steps;
-          walk = subst (λ (w : Position). Walks z r.until way.steps (start_of (over_states r (length states))) w) (same_position way.end _ way.at refl refl) way.walk;
+          walk = subst (λ (w : Position). Walks z r.until way.steps (start_of (over_states r (length states))) w)
+              (same_position way.end _ way.at refl refl) way.walk;
         },
         (way.minute, way.cost),
       )
@@ -69,7 +77,8 @@ only_one x p (zero, within, is) = is
 only_one x p (suc i, within, is) = absurd (omega (arith, within))
 
 -- where the origin is the goal, the one pair is to stay
-pub stays : (s : Setting) (r : Request) (rule : BreakRule) → r.depart ≤ r.until → r.origin.0 ≡ r.goal.0 → IsRestedFront s r rule (record { arrival = r.depart; cost = 0 } ∷ [])
+pub stays : (s : Setting) (r : Request) (rule : BreakRule) → r.depart ≤ r.until → r.origin.0 ≡ r.goal.0
+    → IsRestedFront s r rule (record { arrival = r.depart; cost = 0 } ∷ [])
 stays s r rule in_order same = record {
   ordered = λ i j d before within. absurd (omega (arith, before, within));
   each = λ p. (
@@ -95,9 +104,10 @@ pub right_stay : (s : Setting) (r : Request) (rule : BreakRule) (routes : List R
     → routes ≡ record { pair = record { arrival = r.depart; cost = 0 }; legs = [] } ∷ [] → AreRightRested s r rule routes
 right_stay s r rule routes in_order same is = subst (AreRightRested s r rule) (sym is) (record {
   front = stays s r rule in_order same;
-  legs = All-push (AchievesRested s r rule) [] (record { pair = record { arrival = r.depart; cost = 0 }; legs = [] }) (All-nil (AchievesRested s r rule)) (record {
-    achieves = record { in_time = in_order; no_empty_wait = tt; walk = same_position _ _ same refl refl };
-    rested = tt;
-    apart = tt;
-  });
+  legs = All-push (AchievesRested s r rule) [] (record { pair = record { arrival = r.depart; cost = 0 }; legs = [] }) (All-nil (AchievesRested s r rule))
+      (record {
+        achieves = record { in_time = in_order; no_empty_wait = tt; walk = same_position _ _ same refl refl };
+        rested = tt;
+        apart = tt;
+      });
 })

@@ -52,7 +52,8 @@ module _ (net : Net) (states : List State) (goal : ℕ) where
         },
       )
 
-  one_more : (ways : List Way) (arcs : List TimedArc) (sources : List Leg) (arc : TimedArc) (leg : Leg) → length sources ≡ length arcs → IsEach ways arcs sources
+  one_more : (ways : List Way) (arcs : List TimedArc) (sources : List Leg) (arc : TimedArc) (leg : Leg) → length sources ≡ length arcs
+      → IsEach ways arcs sources
       → IsBuiltArc net states goal ways arc leg → IsEach ways (arcs ++ arc ∷ []) (sources ++ leg ∷ [])
   unfolding IsEach
   one_more ways arcs sources arc leg same each built x other is = ⊎_elim
@@ -86,7 +87,8 @@ module _ (net : Net) (states : List State) (goal : ℕ) where
         each = first;
         all = λ w one. ⊎_elim
             (λ (old : Contains ways w). (let was = built.all w old in (was.0, was.1, at_left arcs (arc ∷ []) was.0 was.1 was.2, was.3)))
-            (λ (new : way ≡ w). subst (λ (v : Way). (x : ℕ) × (b : TimedArc) × (at_number (arcs ++ arc ∷ []) x ≡ Some b) × IsArcFor net states v.from v.to v.leg b)
+            (λ (new : way ≡ w). subst (λ (v : Way). (x : ℕ) × (b : TimedArc) × (at_number (arcs ++ arc ∷ []) x ≡ Some b)
+            × IsArcFor net states v.from v.to v.leg b)
             new (length arcs + 1, arc, at_last arcs arc, adds.1))
             (Contains-push_cases ways way w one);
         copies = λ w one arrives. ⊎_elim
@@ -106,7 +108,8 @@ module _ (net : Net) (states : List State) (goal : ℕ) where
         all = λ w one. ⊎_elim
             (λ (old : Contains ways w). (let was = built.all w old in
             (was.0, was.1, at_left (arcs ++ arc ∷ []) (copy ∷ []) was.0 was.1 (at_left arcs (arc ∷ []) was.0 was.1 was.2), was.3)))
-            (λ (new : way ≡ w). subst (λ (v : Way). (x : ℕ) × (b : TimedArc) × (at_number ((arcs ++ arc ∷ []) ++ copy ∷ []) x ≡ Some b) × IsArcFor net states v.from v.to v.leg b)
+            (λ (new : way ≡ w). subst (λ (v : Way). (x : ℕ) × (b : TimedArc) × (at_number ((arcs ++ arc ∷ []) ++ copy ∷ []) x ≡ Some b)
+            × IsArcFor net states v.from v.to v.leg b)
             new (length arcs + 1, arc, at_left (arcs ++ arc ∷ []) (copy ∷ []) (length arcs + 1) arc (at_last arcs arc), adds.1))
             (Contains-push_cases ways way w one);
         copies = λ w one arrives. ⊎_elim

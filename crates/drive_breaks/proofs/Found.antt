@@ -1,5 +1,6 @@
 -- What the search for all states keeps.
-use Rattle.std.proofs.Common.{length-append, ◌≡◌, ◌≢◌, ◌⊎◌, inl, inr, ⊎_elim, ℕ, zero, suc, ◌+◌, ◌-◌, ◌≤◌, ◌<◌, Some, List, [], ◌∷◌, ◌++◌, length, map, get_or, take, All, AllPairs, refl, sym, ◌∙◌, ap, subst, arith}
+use Rattle.std.proofs.Common.{length-append, ◌≡◌, ◌≢◌, ◌⊎◌, inl, inr, ⊎_elim, ℕ, zero, suc, ◌+◌, ◌-◌, ◌≤◌, ◌<◌, Some, List, [], ◌∷◌, ◌++◌, length, map, get_or}
+use Rattle.std.proofs.Common.{take, All, AllPairs, refl, sym, ◌∙◌, ap, subst, arith}
 use Rattle.std.specs.Prelude.{Contains}
 use Rattle.std.proofs.lemmas.Bool.{cases_eq}
 use Rattle.std.proofs.lemmas.List.{get_or-map, length-map, get_or_default, get_or-take, length-take-le}
@@ -20,7 +21,8 @@ use Rattle.front_transport.proofs.Places.{at_left, at_either}
 use Rattle.front_transport.proofs.Mapped.{mapped}
 use Rattle.front_transport.specs.declared.limits.TheConstants.{MOST_STATES}
 use Rattle.drive_breaks.specs.StateSize.{IsState, first, by_drive, by_break, IsDeparture, Departure, HasTooManyStates}
-use Rattle.drive_breaks.specs.Inside.StateSearch.{Grows, IsLegBefore, ComesBefore, HasWay, IsSoundWay, IsExploring, Reaches, TakesLeg, OverflowsAt, IsStart, drives_over}
+use Rattle.drive_breaks.specs.Inside.StateSearch.{Grows, IsLegBefore, ComesBefore, HasWay, IsSoundWay, IsExploring, Reaches, TakesLeg, OverflowsAt, IsStart}
+use Rattle.drive_breaks.specs.Inside.StateSearch.{drives_over}
 use Rattle.drive_breaks.specs.declared.rule.BreakRule.{BreakRule}
 use Rattle.drive_breaks.specs.declared.rule.State.{State}
 use Rattle.drive_breaks.specs.declared.rule.Way.{Way}
@@ -62,7 +64,8 @@ grows_length old new st grows = ⊎_elim
     grows
 
 -- a leg leads to one state
-departs_once : (s : Setting) (rule : BreakRule) (from : State) (leg : Leg) (to other : State) → IsDeparture s rule from leg to → IsDeparture s rule from leg other → to ≡ other
+departs_once : (s : Setting) (rule : BreakRule) (from : State) (leg : Leg) (to other : State) → IsDeparture s rule from leg to
+    → IsDeparture s rule from leg other → to ≡ other
 departs_once s rule from (Drive a) to other one two =
     let same : one.0 ≡ two.0 = some_road one.0 two.0 (sym one.1 ∙ two.1) in
     same_state to other (one.4 ∙ ap (λ (w : Road). w.head) same ∙ sym two.4)
@@ -82,7 +85,8 @@ pub drives_first : (arcs : List ArcId) (k : ℕ) → All (λ l. IsLegBefore l (W
 drives_first arcs k = All-map (λ l. IsLegBefore l (Wait k)) (λ a. Drive a) arcs (λ i d within. tt)
 
 -- an arc at the state is a leg within the rule, where its minutes are
-pub departs_by : (net : Net) (rule : BreakRule) (from : State) (a : ArcId) (arc : TimedArc) → at_number net.arcs a.0 ≡ Some arc → EndsAt net Tail from.node.0 a.0
+pub departs_by : (net : Net) (rule : BreakRule) (from : State) (a : ArcId) (arc : TimedArc) → at_number net.arcs a.0 ≡ Some arc
+    → EndsAt net Tail from.node.0 a.0
     → from.driven + arc.minutes ≤ rule.drive
     → IsDeparture (setting_of net) rule from (Drive a) (record { node = arc.head; driven = from.driven + arc.minutes })
 departs_by net rule from a arc is tail within =
@@ -99,7 +103,8 @@ not_itself (Drive a) before = omega (arith, before)
 not_itself (Wait k) before = before
 
 -- each leg that leaves the state is over one of its arcs, or a break
-leaves_by : (net : Net) (star : Star) (rule : BreakRule) (from : State) (leg : Leg) (to : State) → AreArcs (EndsAt net Tail from.node.0) (arcs_of star from.node.0)
+leaves_by : (net : Net) (star : Star) (rule : BreakRule) (from : State) (leg : Leg) (to : State)
+    → AreArcs (EndsAt net Tail from.node.0) (arcs_of star from.node.0)
     → IsDeparture (setting_of net) rule from leg to → Contains (drives_over (arcs_of star from.node.0) ++ Wait rule.rest ∷ []) leg
 leaves_by net star rule from (Drive a) to are departs =
     let found = map_some (at_number net.arcs a.0) road_of departs.0 departs.1 in
@@ -182,7 +187,8 @@ module _ (s : Setting) (origin : ℕ) (rule : BreakRule) where
               (λ (was : Contains seen l). has_still n l target reaches
               (facts.now from l target was at (subst (λ (w : State). IsDeparture s rule w l target) (sym is_from) departs')))
               (λ (new_leg : leg ≡ l). (let same : to ≡ target = departs_once s rule from leg to target departs
-              (subst (λ (w : Leg). IsDeparture s rule from w target) (sym new_leg) (subst (λ (w : State). IsDeparture s rule w l target) (sym is_from) departs')) in
+              (subst (λ (w : Leg). IsDeparture s rule from w target) (sym new_leg)
+              (subst (λ (w : State). IsDeparture s rule w l target) (sym is_from) departs')) in
               record {
                 way = way;
                 is_one = subst (λ (w : List Way). Contains w way) (sym reaches.ways) (Contains-push before way);
@@ -278,9 +284,11 @@ module _ (s : Setting) (origin : ℕ) (rule : BreakRule) where
       apart = λ i j d before within same.
           (let inside : j < length ways = omega (arith, within, length-map ways departure) in
           let e : Way = get_or ways i (record { from = 0; to = 0; leg = Wait 0 }) in
-          apart_ways (get_or ways i e) (get_or ways j e) (facts.each_way i e (omega (arith, before, inside))) (facts.each_way j e inside) (facts.order i j e before inside)
+          apart_ways (get_or ways i e) (get_or ways j e) (facts.each_way i e (omega (arith, before, inside))) (facts.each_way j e inside)
+          (facts.order i j e before inside)
           (sym (get_or-map departure ways i e d (omega (arith, before, inside))) ∙ same ∙ get_or-map departure ways j e d inside));
-      each_departure = All-map (λ d. IsState s origin rule.drive d.from.node.0 d.from.driven × ((to : State) × IsDeparture s rule d.from d.leg to)) departure ways
+      each_departure = All-map (λ d. IsState s origin rule.drive d.from.node.0 d.from.driven × ((to : State) × IsDeparture s rule d.from d.leg to)) departure
+          ways
           (λ k e within. (let sound = facts.each_way k e within in
           let is = at_departure (get_or ways k e) sound.from sound.at_from in (
             subst IsHere (sym is) (at_number-all IsHere states _ sound.from facts.each_state sound.at_from),
@@ -375,10 +383,12 @@ module _ (s : Setting) (origin : ℕ) (rule : BreakRule) where
 
     pub not_too_large : length states + length ways ≤ MOST_STATES → HasTooManyStates s origin rule → ⊥
     not_too_large small large =
-        let less = fits_in large.states states large.distinct (λ st one. in_states st (subst (λ (w : State). IsState s origin rule.drive w.node.0 w.driven) one.2
+        let less = fits_in large.states states large.distinct (λ st one. in_states st
+        (subst (λ (w : State). IsState s origin rule.drive w.node.0 w.driven) one.2
         (large.each one.0 st one.1))) in
         let fewer = fits_in large.departures (map made ways) large.apart (λ d one.
-        (let each = subst (λ (w : Departure). IsState s origin rule.drive w.from.node.0 w.from.driven × ((to : State) × IsDeparture s rule w.from w.leg to)) one.2
+        (let each = subst (λ (w : Departure). IsState s origin rule.drive w.from.node.0 w.from.driven × ((to : State) × IsDeparture s rule w.from w.leg to))
+        one.2
         (large.each_departure one.0 d one.1) in
         in_departures d each.0 each.1.0 each.1.1)) in
         omega (arith, less, fewer, large.many, small, length-map ways made)
@@ -432,7 +442,8 @@ started s origin rule new start =
       first_driven = start.none;
       few = omega arith;
       each_state = All-push (λ x. IsState s origin rule.drive x.node.0 x.driven) [] st (λ k d within. absurd (omega (arith, within)))
-          (subst (λ (w : ℕ). IsState s origin rule.drive st.node.0 w) (sym start.none) (subst (λ (w : ℕ). IsState s origin rule.drive w 0) (sym start.node) first));
+          (subst (λ (w : ℕ). IsState s origin rule.drive st.node.0 w) (sym start.none)
+          (subst (λ (w : ℕ). IsState s origin rule.drive w 0) (sym start.node) first));
       each_way = λ k d within. absurd (omega (arith, within));
       order = λ k j d lt within. absurd (omega (arith, within));
       upto = λ k d within. absurd (omega (arith, within));

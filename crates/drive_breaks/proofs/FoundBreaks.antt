@@ -1,5 +1,6 @@
 -- A lawful itinerary that keeps the rule has a walk over states that is no worse.
-use Rattle.std.proofs.Common.{◌≡◌, ◌⊎◌, inl, inr, ⊎_elim, ℕ, ◌+◌, ◌*◌, ◌≤◌, ◌<◌, Option, Some, List, [], ◌∷◌, ◌++◌, length, replicate, refl, sym, ◌∙◌, ap, subst, arith}
+use Rattle.std.proofs.Common.{◌≡◌, ◌⊎◌, inl, inr, ⊎_elim, ℕ, ◌+◌, ◌*◌, ◌≤◌, ◌<◌, Option, Some, List, [], ◌∷◌, ◌++◌, length, replicate, refl, sym, ◌∙◌, ap}
+use Rattle.std.proofs.Common.{subst, arith}
 use Rattle.std.proofs.lemmas.Bool.{cases_eq, cases_lt}
 use Rattle.route_base.specs.Setting.{Setting, Road}
 use Rattle.route_base.specs.Itinerary.{Position, Step, drive, wait, Moves, Walks}
@@ -60,14 +61,16 @@ module _ (s z : Setting) (rule : BreakRule) (origin goal : ℕ) (states : List S
         walk-append z until t.xs (replicate t.k wait) start t.big (at_place t.i p) t.walk
             (subst (λ (w : Position). Walks z until (replicate t.k wait) t.big w) (same_position _ (at_place t.i p) t.at t.minute t.cost)
             (waits z until t.k t.big.node t.big.minute t.big.cost t.weight (ap z.weight t.at ∙ made.weights t.i t.state t.is ∙ rated)
-            (λ u early late. ap (λ (v : ℕ). z.wait_shut v u) t.at ∙ made.wait_shut t.i t.state t.is u ∙ t.is_open u early late) (omega (arith, t.minute, t.in_time)))),
+            (λ u early late. ap (λ (v : ℕ). z.wait_shut v u) t.at ∙ made.wait_shut t.i t.state t.is u ∙ t.is_open u early late)
+            (omega (arith, t.minute, t.in_time)))),
       ))
       t.rated
 
   minutes_is : (o : Option Road) (road : Road) → o ≡ Some road → minutes_of o ≡ road.minutes
   minutes_is o road is = ap minutes_of is
 
-  can : (back : List Step) (p q : Position) (a : ℕ) (t : IsTracked back p) (move : Moves s until (drive a) p q) → IsWithinRule s.road rule back (minutes_of (s.road a))
+  can : (back : List Step) (p q : Position) (a : ℕ) (t : IsTracked back p) (move : Moves s until (drive a) p q)
+      → IsWithinRule s.road rule back (minutes_of (s.road a))
       → CanDrive s rule states t.i a t.state move.road
   can back p q a t move within = record {
     at = t.is;
@@ -77,7 +80,8 @@ module _ (s z : Setting) (rule : BreakRule) (origin goal : ℕ) (states : List S
   }
 
   -- one drive more over states
-  driven_on : (back : List Step) (p q : Position) (a j : ℕ) (t : IsTracked back p) (move : Moves s until (drive a) p q) (road : HasRoad z t.i j move.road.minutes move.road.cost)
+  driven_on : (back : List Step) (p q : Position) (a j : ℕ) (t : IsTracked back p) (move : Moves s until (drive a) p q)
+      (road : HasRoad z t.i j move.road.minutes move.road.cost)
       → ((m : ℕ) → z.shut road.x m ≡ s.shut a m) → (ys : List Step) × Walks z until ys start (at_place j q)
   driven_on back p q a j t move road same =
       let before = waited back p t in (
@@ -94,7 +98,8 @@ module _ (s z : Setting) (rule : BreakRule) (origin goal : ℕ) (states : List S
         }),
       )
 
-  tracks_drive : (back : List Step) (p q : Position) (a : ℕ) → IsTracked back p → Moves s until (drive a) p q → IsWithinRule s.road rule back (minutes_of (s.road a))
+  tracks_drive : (back : List Step) (p q : Position) (a : ℕ) → IsTracked back p → Moves s until (drive a) p q
+      → IsWithinRule s.road rule back (minutes_of (s.road a))
       → IsTracked (drive a ∷ back) q
   tracks_drive back p q a t move within =
       let next = made.drives t.i a t.state move.road (can back p q a t move within) in

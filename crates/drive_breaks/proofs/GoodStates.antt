@@ -1,5 +1,6 @@
 -- The net over states is well-formed, and no minute of it is dear.
-use Rattle.std.proofs.Common.{◌≡◌, ⊎_elim, ℕ, ◌+◌, ◌*◌, ◌≤◌, Option, Some, None, List, [], ◌∷◌, ◌++◌, length, map, get_or, All, refl, sym, ◌∙◌, ap, arith, length-append}
+use Rattle.std.proofs.Common.{◌≡◌, ⊎_elim, ℕ, ◌+◌, ◌*◌, ◌≤◌, Option, Some, None, List, [], ◌∷◌, ◌++◌, length, map, get_or, All, refl, sym, ◌∙◌, ap, arith}
+use Rattle.std.proofs.Common.{length-append}
 use Rattle.std.specs.Option.{ForSome}
 use Rattle.std.proofs.lemmas.List.{length-map}
 use Rattle.std.proofs.lemmas.List.Elements.{All-push, All-map}
@@ -30,7 +31,8 @@ use Rattle.drive_breaks.proofs.OverStates.{all_in}
 none_some : (park : Park) → None ≡ Some park → ⊥
 none_some park same = cc
 
-module _ (net : Net) (good : IsGoodNet net) (rule : BreakRule) (origin goal : ℕ) (states : List State) (ways : List Way) (arcs : List TimedArc) (sources : List Leg)
+module _ (net : Net) (good : IsGoodNet net) (rule : BreakRule) (origin goal : ℕ) (states : List State) (ways : List Way) (arcs : List TimedArc)
+    (sources : List Leg)
     (explored : IsExplored (setting_of net) origin rule states ways)
     (built : AreBuilt net states goal ways arcs sources) (low : 1 ≤ rule.rest) (high : rule.rest ≤ DAY_MINUTES) where
   fine : (leg : Leg) (from to : State) (i j : ℕ) (arc : TimedArc) → IsDeparture (setting_of net) rule from leg to → IsArcFor net states i j leg arc
@@ -40,7 +42,10 @@ module _ (net : Net) (good : IsGoodNet net) (rule : BreakRule) (origin goal : �
       record {
         tail = (omega (arith, is_i.0, ap (λ (w : TimedArc). w.tail.0) made.2), omega (arith, is_i.1, ap (λ (w : TimedArc). w.tail.0) made.2));
         head = (omega (arith, is_j.0, ap (λ (w : TimedArc). w.head.0) made.2), omega (arith, is_j.1, ap (λ (w : TimedArc). w.head.0) made.2));
-        minutes = (omega (arith, base.minutes.0, ap (λ (w : TimedArc). w.minutes) made.2), omega (arith, base.minutes.1, ap (λ (w : TimedArc). w.minutes) made.2));
+        minutes = (
+          omega (arith, base.minutes.0, ap (λ (w : TimedArc). w.minutes) made.2),
+          omega (arith, base.minutes.1, ap (λ (w : TimedArc). w.minutes) made.2),
+        );
         cost = omega (arith, base.cost, ap (λ (w : TimedArc). w.cost) made.2);
         closed = omega (arith, base.closed, ap (λ (w : TimedArc). w.closed) made.2);
       }
@@ -49,7 +54,10 @@ module _ (net : Net) (good : IsGoodNet net) (rule : BreakRule) (origin goal : �
       record {
         tail = (omega (arith, is_i.0, ap (λ (w : TimedArc). w.tail.0) made.5), omega (arith, is_i.1, ap (λ (w : TimedArc). w.tail.0) made.5));
         head = (omega (arith, is_j.0, ap (λ (w : TimedArc). w.head.0) made.5), omega (arith, is_j.1, ap (λ (w : TimedArc). w.head.0) made.5));
-        minutes = (omega (arith, departs.0, low, ap (λ (w : TimedArc). w.minutes) made.5), omega (arith, departs.0, high, ap (λ (w : TimedArc). w.minutes) made.5));
+        minutes = (
+          omega (arith, departs.0, low, ap (λ (w : TimedArc). w.minutes) made.5),
+          omega (arith, departs.0, high, ap (λ (w : TimedArc). w.minutes) made.5),
+        );
         cost = omega (arith, small, ap (λ (w : TimedArc). w.cost) made.5);
         closed = omega (arith, made.4.shut, ap (λ (w : TimedArc). w.closed) made.5);
       }

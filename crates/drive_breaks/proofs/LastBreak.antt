@@ -25,11 +25,13 @@ starts (suc n) [] = inr (λ early is. not_nil wait (replicate n wait ++ early) i
 starts (suc n) (drive a ∷ xs) = inr (λ early is. not_drive a (head_same (drive a) wait xs (replicate n wait ++ early) is))
 starts (suc n) (wait ∷ xs) = ⊎_elim
     (λ (yes_starts : (early : List Step) × (xs ≡ replicate n wait ++ early)). inl (yes_starts.0, ap (λ (w : List Step). wait ∷ w) yes_starts.1))
-    (λ (other : (early : List Step) → xs ≡ replicate n wait ++ early → ⊥). inr (λ early is. other early (tail_same wait wait xs (replicate n wait ++ early) is)))
+    (λ (other : (early : List Step) → xs ≡ replicate n wait ++ early → ⊥). inr
+    (λ early is. other early (tail_same wait wait xs (replicate n wait ++ early) is)))
     (starts n xs)
 
 -- there is a last break, or none
-last_break : (rest : ℕ) (back : List Step) → 1 ≤ rest → ((late : List Step) × IsSinceLastBreak rest back late) ⊎ ((late : List Step) → IsSinceBreak rest back late → ⊥)
+last_break : (rest : ℕ) (back : List Step) → 1 ≤ rest → ((late : List Step) × IsSinceLastBreak rest back late)
+    ⊎ ((late : List Step) → IsSinceBreak rest back late → ⊥)
 last_break zero back some = absurd (omega (arith, some))
 last_break (suc n) [] some = inr none
   where

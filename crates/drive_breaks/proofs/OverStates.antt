@@ -48,7 +48,8 @@ not_wait a k is = cc
 pub all_in : {A : Type 0} (P : A → Type 0) (xs : List A) (x : A) → All P xs → Contains xs x → P x
 all_in P xs x all one = subst P one.2 (all one.0 x one.1)
 
-module _ (net : Net) (good : IsGoodNet net) (rule : BreakRule) (origin goal : ℕ) (states : List State) (ways : List Way) (arcs : List TimedArc) (sources : List Leg)
+module _ (net : Net) (good : IsGoodNet net) (rule : BreakRule) (origin goal : ℕ) (states : List State) (ways : List Way) (arcs : List TimedArc)
+    (sources : List Leg)
     (explored : IsExplored (setting_of net) origin rule states ways)
     (built : AreBuilt net states goal ways arcs sources) where
   big : Net
@@ -163,7 +164,8 @@ module _ (net : Net) (good : IsGoodNet net) (rule : BreakRule) (origin goal : �
   can_way : (i a : ℕ) (from : State) (over : Road) → CanDrive (setting_of net) rule states i a from over
       → HasWay states ways i (Drive (record { 0 = a })) (drive_to over from)
   unfolding drive_to
-  can_way i a from over can = way_of (setting_of net) origin rule states ways explored.facts explored.distinct i from (Drive (record { 0 = a })) (drive_to over from) can.at
+  can_way i a from over can = way_of (setting_of net) origin rule states ways explored.facts explored.distinct i from (Drive (record { 0 = a }))
+      (drive_to over from) can.at
       (over, can.is, can.tail, can.within, refl, refl)
 
   drive_road : (i j a x : ℕ) (from : State) (over : Road) (arc : TimedArc) → CanDrive (setting_of net) rule states i a from over → at_number arcs x ≡ Some arc
@@ -205,15 +207,18 @@ module _ (net : Net) (good : IsGoodNet net) (rule : BreakRule) (origin goal : �
   arrivals i a from over can at_goal =
       let has = can_way i a from over can in
       let arc = built.copies has.way has.is_one ((record { 0 = a }, has.by), (drive_to over from, has.at, at_goal)) in
-      drive_road i (length states + 1) a arc.0 from over arc.1 can arc.2 (arc_by i (length states + 1) (Drive (record { 0 = a })) has.way arc.1 has.from has.by arc.3)
+      drive_road i (length states + 1) a arc.0 from over arc.1 can arc.2
+      (arc_by i (length states + 1) (Drive (record { 0 = a })) has.way arc.1 has.from has.by arc.3)
 
   breaks : (i weight : ℕ) (from : State) → at_number states i ≡ Some from → (setting_of net).weight from.node.0 ≡ Some weight → (from.driven ≡ 0 → ⊥)
       → (j : ℕ) × (to : State) × (at_number states j ≡ Some to) × (to.node.0 ≡ from.node.0) × (to.driven ≡ 0)
-      × (road : HasRoad (setting_of big) i j rule.rest (rule.rest * weight)) × ((t : ℕ) → (setting_of big).shut road.x t ≡ (setting_of net).wait_shut from.node.0 t)
+      × (road : HasRoad (setting_of big) i j rule.rest (rule.rest * weight))
+      × ((t : ℕ) → (setting_of big).shut road.x t ≡ (setting_of net).wait_shut from.node.0 t)
   unfolding big
   breaks i weight from at rated loaded =
       let to : State = record { node = from.node; driven = 0 } in
-      let has = way_of (setting_of net) origin rule states ways explored.facts explored.distinct i from (Wait rule.rest) to at (refl, (weight, rated), loaded, refl, refl) in
+      let has = way_of (setting_of net) origin rule states ways explored.facts explored.distinct i from (Wait rule.rest) to at
+      (refl, (weight, rated), loaded, refl, refl) in
       let arc = built.all has.way has.is_one in
       let made = arc_by i has.way.to (Wait rule.rest) has.way arc.1 has.from has.by arc.3 in
       let state_is : made.0 ≡ from = some_state made.0 from (sym made.1 ∙ at) in

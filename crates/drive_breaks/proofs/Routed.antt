@@ -37,7 +37,8 @@ module _ (net : Net) (good : IsGoodNet net) where
       unfolding z
       made = is_state_net net good rule r.origin.0 r.goal.0 states ways arcs sources explored built
 
-      pub fits_over : HasCheapArcs net → r.depart ≤ r.until → r.until - r.depart ≤ LONGEST_HORIZON → CostsFit (setting_of (net_over net states arcs)) (over_states r (length states))
+      pub fits_over : HasCheapArcs net → r.depart ≤ r.until → r.until - r.depart ≤ LONGEST_HORIZON
+          → CostsFit (setting_of (net_over net states arcs)) (over_states r (length states))
       fits_over cheap in_order short = fits (setting_of (net_over net states arcs)) (over_states r (length states))
           (cheap_over net good rule r.origin.0 r.goal.0 states ways arcs sources explored built low high cheap) in_order (omega (arith, in_order, short))
 
@@ -48,7 +49,8 @@ module _ (net : Net) (good : IsGoodNet net) where
           let route : Route = get_or routes k d in
           let legs = (right.legs k d within).0 in
           let on = unpacks (setting_of net) z rule r states sources made low (steps_of route.legs) route.pair legs.walk in
-          let long = long_walk (setting_of net) r.until (takes_time net good) (unpacked sources (steps_of route.legs)) (start_of r) (end_of r route.pair) on.walk in
+          let long = long_walk (setting_of net) r.until (takes_time net good) (unpacked sources (steps_of route.legs)) (start_of r)
+          (end_of r route.pair) on.walk in
           let late = walk_in_time (setting_of net) r.until (unpacked sources (steps_of route.legs)) (start_of r) (end_of r route.pair) legs.in_time on.walk in
           record {
             sourced = sourced (setting_of net) z rule r.origin.0 r.goal.0 states sources made low r.until route.legs
@@ -59,7 +61,8 @@ module _ (net : Net) (good : IsGoodNet net) where
             rested = rested_from (setting_of net).road rule low (unpacked sources (steps_of route.legs)) [] on.rested;
           }
 
-      pub right_breaks : (r.origin.0 ≡ r.goal.0 → ⊥) → (routes out : List Route) → IsRight (setting_of (net_over net states arcs)) (over_states r (length states)) routes
+      pub right_breaks : (r.origin.0 ≡ r.goal.0 → ⊥) → (routes out : List Route)
+          → IsRight (setting_of (net_over net states arcs)) (over_states r (length states)) routes
           → pairs_of out ≡ pairs_of routes → All (AchievesRested (setting_of net) r rule) out → AreRightRested (setting_of net) r rule out
       unfolding z
       right_breaks away routes out right same rested = record {

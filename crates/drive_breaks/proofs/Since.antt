@@ -28,7 +28,8 @@ since_drive (suc k) a back (x ∷ late) some since = (
 
 -- behind a wait the breaks are those before it, or it ends one
 pub since_wait : (rest : ℕ) (back late : List Step) → 1 ≤ rest → IsSinceBreak rest (wait ∷ back) late
-    → ((more : List Step) × IsSinceBreak rest back more × (late ≡ wait ∷ more)) ⊎ ((early : List Step) × (wait ∷ back ≡ replicate rest wait ++ early) × (late ≡ []))
+    → ((more : List Step) × IsSinceBreak rest back more × (late ≡ wait ∷ more))
+    ⊎ ((early : List Step) × (wait ∷ back ≡ replicate rest wait ++ early) × (late ≡ []))
 since_wait zero back late some since = absurd (omega (arith, some))
 since_wait (suc k) back [] some since = inr (since.0, since.1, refl)
 since_wait (suc k) back (x ∷ late) some since = inl (
@@ -74,7 +75,8 @@ waits_over zero back = refl
 waits_over (suc k) back = ap (λ (w : List Step). wait ∷ w) (waits_over k back)
 
 module _ (roads : ℕ → Option Road) (rule : BreakRule) where
-  pub rested_waits : (k : ℕ) (back ys : List Step) → IsWithinRuleFrom roads rule (replicate k wait ++ back) ys → IsWithinRuleFrom roads rule back (replicate k wait ++ ys)
+  pub rested_waits : (k : ℕ) (back ys : List Step) → IsWithinRuleFrom roads rule (replicate k wait ++ back) ys
+      → IsWithinRuleFrom roads rule back (replicate k wait ++ ys)
   rested_waits zero back ys rested = rested
   rested_waits (suc k) back ys rested = rested_waits k (wait ∷ back) ys
       (subst (λ (w : List Step). IsWithinRuleFrom roads rule w ys) (sym (waits_over k back)) rested)

@@ -83,7 +83,8 @@ module _ (s z : Setting) (rule : BreakRule) (origin goal : ℕ) (states : List S
     pub rested : (zs : List Step) → IsWithinRuleFrom s.road rule behind zs → IsWithinRuleFrom s.road rule back (ys ++ zs)
     pub to : IsAt next q behind ⊎ ((next.node ≡ length states + 1) × (q.node ≡ goal))
 
-  same_state : (big p : Position) (back : List Step) (at : IsAt big p back) (i : ℕ) (from : State) → i ≡ big.node → at_number states i ≡ Some from → from ≡ at.state
+  same_state : (big p : Position) (back : List Step) (at : IsAt big p back) (i : ℕ) (from : State) → i ≡ big.node → at_number states i ≡ Some from
+      → from ≡ at.state
   same_state big p back at i from same is = some_same from at.state (sym is ∙ ap (at_number states) same ∙ at.is)
 
   by_drive : (x : ℕ) (big next p : Position) (back : List Step) (at : IsAt big p back) (move : Moves z until (drive x) big next) (from : State) (leg : Leg)
@@ -114,9 +115,13 @@ module _ (s z : Setting) (rule : BreakRule) (origin goal : ℕ) (states : List S
         minute = refl;
         cost = refl;
         behind = drive a ∷ back;
-        rested = λ zs rest. (within_since s.road rule back at.state.driven (minutes_of (s.road a)) at.since (omega (arith, way.within, driven_is, minutes)), rest);
+        rested = λ zs rest. (
+          within_since s.road rule back at.state.driven (minutes_of (s.road a)) at.since (omega (arith, way.within, driven_is, minutes)),
+          rest,
+        );
         to = ⊎_elim
-            (λ (inner : (to : State) × (at_number states move.road.head ≡ Some to) × (to.node.0 ≡ way.over.head) × (to.driven ≡ from.driven + way.over.minutes)).
+            (λ (inner : (to : State) × (at_number states move.road.head ≡ Some to) × (to.node.0 ≡ way.over.head)
+            × (to.driven ≡ from.driven + way.over.minutes)).
             inl (record {
               state = inner.0;
               is = ap (at_number states) move.node ∙ inner.1;
@@ -223,7 +228,8 @@ module _ (s z : Setting) (rule : BreakRule) (origin goal : ℕ) (states : List S
         (λ (end : (walk.0.node ≡ length states + 1) × (one.q.node ≡ goal)).
         (let done = ended xs walk.0 last end.0 walk.2 in
         joined x xs walk.0 p back one (record {
-          walk = subst (λ (w : List Step). Walks s until (unpacked sources w) one.q (record { node = goal; minute = last.minute; cost = last.cost })) (sym done.0)
+          walk = subst (λ (w : List Step). Walks s until (unpacked sources w) one.q (record { node = goal; minute = last.minute; cost = last.cost }))
+              (sym done.0)
               (same_position one.q (record { node = goal; minute = last.minute; cost = last.cost }) end.1
               (one.minute ∙ ap (λ (w : Position). w.minute) done.1) (one.cost ∙ ap (λ (w : Position). w.cost) done.1));
           rested = subst (λ (w : List Step). IsWithinRuleFrom s.road rule one.behind (unpacked sources w)) (sym done.0) tt;

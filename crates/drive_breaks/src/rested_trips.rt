@@ -53,7 +53,8 @@ fn routes_over<E: FrontSearch>(
     requires away { request.origin.0 ≢ request.goal.0 }
     requires explored { IsExplored (setting_of net.now) request.origin.0 rule
         explored.now.states explored.now.ways.items }
-    ensures { IfOk result (λ routes. AreRightRested (setting_of net.now) request rule routes.items) }
+    ensures { IfOk result (λ routes.
+        AreRightRested (setting_of net.now) request rule routes.items) }
 {
     let _nodes = net.node_count();
     let states = explored.states.as_slice();
@@ -97,7 +98,8 @@ fn routes_of<E: FrontSearch>(
     requires cheap { HasCheapArcs net.now }
     requires explored { IsExplored (setting_of net.now) request.origin.0 rule
         explored.now.states explored.now.ways.items }
-    ensures { IfOk result (λ routes. AreRightRested (setting_of net.now) request rule routes.items) }
+    ensures { IfOk result (λ routes.
+        AreRightRested (setting_of net.now) request rule routes.items) }
 {
     if request.origin.0 == request.goal.0 {
         return stay(alloc, net, request, rule);

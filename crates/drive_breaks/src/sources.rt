@@ -26,7 +26,8 @@ fn unpacked_legs(alloc: Global, sources: &[Leg], legs: &[Leg]) -> Result<Vec<Leg
     requires sourced { All (IsSourced sources.now) legs.now }
     requires short { length (unpacked sources.now (steps_of legs.now)) < 2 ^ 62 }
     ensures tidy { IfOk result (λ out. IsTidy out.items) }
-    ensures steps { IfOk result (λ out. steps_of out.items ≡ unpacked sources.now (steps_of legs.now)) }
+    ensures steps { IfOk result (λ out.
+        steps_of out.items ≡ unpacked sources.now (steps_of legs.now)) }
 {
     let mut out = Vec::new(alloc);
     for leg in legs {

@@ -58,7 +58,8 @@ unpacked_routes-requires g c =
     (subst (λ (w : List Route). All (IsUnpackable (setting_of net) c.args.request c.args.rule c.in_ok-built.built.sources.items) w) (sym c.as_slice-3.ensures)
     (unpackable net good c.args.request c.requires.good c.args.rule states ways explored c.in_ok-built.built.arcs.items c.in_ok-built.built.sources.items built
     c.requires.rule.rest.0 c.requires.rule.rest.1 c.in_ok-routes.routes
-    (subst (λ (w : Net). IsRight (setting_of w) (over_states c.args.request (length states)) c.in_ok-routes.routes) c.in_ok-over.ensures c.in_ok-routes.ensures)))
+    (subst (λ (w : Net). IsRight (setting_of w) (over_states c.args.request (length states)) c.in_ok-routes.routes) c.in_ok-over.ensures
+    c.in_ok-routes.ensures)))
 
 pub returns : goal.returns
 returns g c =
