@@ -1,5 +1,6 @@
 -- The front of the mirrored net is the late front.
-use Rattle.std.proofs.Common.{◌≡◌, ◌⊎◌, inl, inr, ⊎_elim, ℕ, ◌+◌, ◌-◌, ◌≤◌, ◌<◌, List, [], ◌∷◌, ◌++◌, length, map, reverse, replicate, get_or, All, refl, sym, ◌∙◌, ap, subst, arith}
+use Rattle.std.proofs.Common.{◌≡◌, ◌⊎◌, inl, inr, ⊎_elim, ℕ, ◌+◌, ◌-◌, ◌≤◌, ◌<◌, List, [], ◌∷◌, ◌++◌, length, map, reverse, replicate, get_or, All, refl, sym}
+use Rattle.std.proofs.Common.{◌∙◌, ap, subst, arith}
 use Rattle.std.specs.Prelude.{⊤, ◌≢◌}
 use Rattle.std.proofs.lemmas.Bool.{cases_eq}
 use Rattle.std.proofs.lemmas.List.Elements.{All-map}
@@ -23,7 +24,8 @@ use Rattle.front_transport.proofs.Growing.{walk_grows}
 use Rattle.front_transport.proofs.PairOrder.{no_worse_order}
 use Rattle.front_transport.proofs.Transport.{carried}
 use Rattle.latest_departure.proofs.TurnedLegs.{steps_reversed, no_empty_reversed, apart_reversed}
-use Rattle.latest_departure.specs.LateFront.{LatePair, request_from, pair_at, IsLateAchieved, IsLateNoWorse, DepartsAfter, IsLateFront, late_pair_of, AchievesLate, AreRightLate}
+use Rattle.latest_departure.specs.LateFront.{LatePair, request_from, pair_at, IsLateAchieved, IsLateNoWorse, DepartsAfter, IsLateFront, late_pair_of}
+use Rattle.latest_departure.specs.LateFront.{AchievesLate, AreRightLate}
 use Rattle.latest_departure.specs.Inside.Mirror.{mirrored, mirrored_request, after_gate, late_of}
 use Rattle.latest_departure.proofs.AfterGate.{steps_after, no_empty_after, apart_after}
 use Rattle.latest_departure.proofs.Gate.{beyond, at_place, through, entered}
@@ -92,7 +94,8 @@ module _ (net : Net) (good : IsGoodNet net) (r : Request) (asked : IsGoodRequest
       let last : Position = end_of (mirrored_request net r) p in
       let behind = through net good r.goal.0 (r.until + 1) (r.until + 1 - r.depart) steps 0 last asked.origin.1 walk in
       let first : Position = at_place r.goal.0 behind.minute in
-      let late : p.arrival ≤ r.until + 1 - r.depart = walk_in_time zs (r.until + 1 - r.depart) steps (start_of (mirrored_request net r)) last (omega arith) walk in
+      let late : p.arrival ≤ r.until + 1 - r.depart = walk_in_time zs (r.until + 1 - r.depart) steps (start_of (mirrored_request net r)) last
+      (omega arith) walk in
       let grows = walk_grows zs (r.until + 1 - r.depart) (beyond steps) first last behind.walk in
       record {
         from = omega (arith, late, in_order);
@@ -146,7 +149,8 @@ module _ (net : Net) (good : IsGoodNet net) (r : Request) (asked : IsGoodRequest
   in_time : (p : Pair) → IsAchieved zs (mirrored_request net r) p → p.arrival ≤ r.until + 1
   in_time p can = (turned can.steps p can.walk).late
 
-  carries : Carries IsNoWorse ArrivesBefore (IsAchieved zs (mirrored_request net r)) IsLateNoWorse DepartsAfter (IsLateAchieved (setting_of net) r) (late_pair_at (r.until + 1))
+  carries : Carries IsNoWorse ArrivesBefore (IsAchieved zs (mirrored_request net r)) IsLateNoWorse DepartsAfter (IsLateAchieved (setting_of net) r)
+      (late_pair_at (r.until + 1))
   carries = record {
     sound = sound;
     covers = covers;

@@ -1,5 +1,6 @@
 -- The mirrored net is well-formed, and its setting mirrors that of the net, both ways.
-use Rattle.std.proofs.Common.{◌≡◌, ◌⊎◌, inl, inr, ⊎_elim, ℕ, ◌+◌, ◌*◌, ◌≤◌, ◌<◌, ◌^◌, false, Option, Some, List, [], ◌∷◌, ◌++◌, length, map, refl, sym, ◌∙◌, ap, subst, arith, length-append}
+use Rattle.std.proofs.Common.{◌≡◌, ◌⊎◌, inl, inr, ⊎_elim, ℕ, ◌+◌, ◌*◌, ◌≤◌, ◌<◌, ◌^◌, false, Option, Some, List, [], ◌∷◌, ◌++◌, length, map, refl, sym, ◌∙◌, ap}
+use Rattle.std.proofs.Common.{subst, arith, length-append}
 use Rattle.std.specs.Prelude.{⊤, Vec}
 use Rattle.std.specs.declared.alloc.Global.{Global}
 use Rattle.std.specs.Option.{option_map, option_flatten, ForSome}
@@ -7,7 +8,8 @@ use Rattle.std.proofs.lemmas.List.{length-map}
 use Rattle.std.proofs.lemmas.List.Elements.{All-push, All-map}
 use Rattle.route_base.specs.Setting.{Road}
 use Rattle.route_base.specs.Runs.{any_has, AreRuns}
-use Rattle.route_base.specs.Net.{Net, net_from, at_number, park_at, road_of, runs_by, runs_at, setting_of, shut_by, shut_runs_at, IsGoodArc, IsGoodNet, IsGoodPark}
+use Rattle.route_base.specs.Net.{Net, net_from, at_number, park_at, road_of, runs_by, runs_at, setting_of, shut_by, shut_runs_at, IsGoodArc, IsGoodNet}
+use Rattle.route_base.specs.Net.{IsGoodPark}
 use Rattle.route_base.specs.declared.limits.TheConstants.{DEAREST_MINUTE, MOST_NET_NODES}
 use Rattle.route_base.specs.declared.types.Park.{Park}
 use Rattle.route_base.specs.declared.types.TimedArc.{TimedArc}
@@ -107,7 +109,8 @@ module _ (net : Net) (good : IsGoodNet net) (goal sum : ℕ) where
   -- parks are kept, with their lists by place
   kept_park : (v : ℕ) (park : Park) → park_at net v ≡ Some park → park_at z v ≡ Some park
   unfolding z
-  kept_park v park is = ap option_flatten (at_left net.parks (Some (free_park (length net.closed)) ∷ []) v (Some park) (flat_some (at_number net.parks v) park is))
+  kept_park v park is = ap option_flatten (at_left net.parks (Some (free_park (length net.closed)) ∷ []) v (Some park)
+      (flat_some (at_number net.parks v) park is))
 
   shut_turned : (v : ℕ) (park : Park) → park_at net v ≡ Some park → IsGoodPark net park → shut_runs_at z v ≡ mirrored_runs sum (shut_runs_at net v)
   unfolding z

@@ -7,6 +7,7 @@ use Rattle.std.proofs.lemmas.List.Folds.{list_any-append}
 use Rattle.route_base.specs.Runs.{has_minute, any_has, AreRuns}
 use Rattle.route_base.specs.declared.types.Run.{Run}
 use Rattle.route_base.proofs.Lists.{pairs_append}
+use Rattle.route_base.proofs.Logic.{or-false}
 use Rattle.latest_departure.specs.Inside.Mirror.{mirrored_run, mirrored_runs}
 
 same_bool : (a b : Bool) → (a ≡ true → b ≡ true) → (b ≡ true → a ≡ true) → a ≡ b
@@ -18,10 +19,6 @@ both_true : (a b : Bool) → (a && b) ≡ true → (a ≡ true) × (b ≡ true)
 both_true true true is = (refl, refl)
 both_true true false is = absurd (cc)
 both_true false b is = absurd (cc)
-
-or_none : (a : Bool) → (a || false) ≡ a
-or_none true = refl
-or_none false = refl
 
 or_turned : (a b : Bool) → (a || b) ≡ (b || a)
 or_turned true true = refl
@@ -58,7 +55,8 @@ module _ (sum t u : ℕ) (mirror : t + u + 1 ≡ sum) where
 
   kept_mirrors : (r : Run) → any_has (kept sum r) t ≡ has_minute u r
   kept_mirrors r = ⊎_elim
-      (λ (early : r.lo < sum). ap (λ (w : List Run). any_has w t) (kept_early sum r early) ∙ or_none (has_minute t (mirrored_run sum r)) ∙ minute_mirrors r early)
+      (λ (early : r.lo < sum). ap (λ (w : List Run). any_has w t) (kept_early sum r early) ∙ or-false (has_minute t (mirrored_run sum r))
+      ∙ minute_mirrors r early)
       (λ (late : sum ≤ r.lo). ap (λ (w : List Run). any_has w t) (kept_late sum r late) ∙ sym (late_has_none r late))
       (cases_lt r.lo sum)
 

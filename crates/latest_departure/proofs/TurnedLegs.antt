@@ -33,7 +33,8 @@ steps_reversed (leg ∷ legs) =
 
 pub no_empty_reversed : (legs : List Leg) → HasNoEmptyWait legs → HasNoEmptyWait (reverse legs)
 no_empty_reversed [] none = tt
-no_empty_reversed (leg ∷ legs) none = subst HasNoEmptyWait (sym (reverse-cons leg legs)) (no_empty-push (reverse legs) leg none.0 (no_empty_reversed legs none.1))
+no_empty_reversed (leg ∷ legs) none = subst HasNoEmptyWait (sym (reverse-cons leg legs))
+    (no_empty-push (reverse legs) leg none.0 (no_empty_reversed legs none.1))
 
 -- two lists of legs that share one
 drives_first-longer : (xs : List Leg) (y : Leg) (ys : List Leg) → DrivesFirst (xs ++ y ∷ []) → DrivesFirst (xs ++ y ∷ ys)

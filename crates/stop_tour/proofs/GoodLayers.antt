@@ -1,5 +1,6 @@
 -- The layered net is well-formed, and no minute of it is dear.
-use Rattle.std.proofs.Common.{◌≡◌, ⊎_elim, ℕ, zero, suc, ◌+◌, ◌-◌, ◌*◌, ◌≤◌, ◌<◌, ◌^◌, if◌then◌else◌, nat_lt, Option, Some, List, [], ◌∷◌, length, map, get_or, All, AllPairs, refl, ◌∙◌, ap, subst, arith, length-append}
+use Rattle.std.proofs.Common.{◌≡◌, ⊎_elim, ℕ, zero, suc, ◌+◌, ◌-◌, ◌*◌, ◌≤◌, ◌<◌, ◌^◌, if◌then◌else◌, nat_lt, Option, Some, List, [], ◌∷◌, length, map, get_or}
+use Rattle.std.proofs.Common.{All, AllPairs, refl, ◌∙◌, ap, subst, arith, length-append}
 use Rattle.std.specs.Option.{ForSome}
 use Rattle.std.proofs.lemmas.Bool.{cases_lt, lt-ltb, le-ltb}
 use Rattle.std.proofs.lemmas.List.{length-map}

@@ -1,5 +1,6 @@
 -- Numbers of arcs and nodes in layers.
-use Rattle.std.proofs.Common.{◌≡◌, ◌⊎◌, inl, inr, ⊎_elim, ℕ, zero, suc, ◌+◌, ◌-◌, ◌*◌, ◌/◌, ◌%◌, ◌≤◌, ◌<◌, Option, Some, None, List, [], ◌∷◌, ◌++◌, length, map, refl, sym, ◌∙◌, ap, arith, length-append}
+use Rattle.std.proofs.Common.{◌≡◌, ◌⊎◌, inl, inr, ⊎_elim, ℕ, zero, suc, ◌+◌, ◌-◌, ◌*◌, ◌/◌, ◌%◌, ◌≤◌, ◌<◌, Option, Some, None, List, [], ◌∷◌, ◌++◌, length, map}
+use Rattle.std.proofs.Common.{refl, sym, ◌∙◌, ap, arith, length-append}
 use Rattle.std.specs.Option.{option_map}
 use Rattle.std.proofs.lemmas.Bool.{cases_eq}
 use Rattle.std.proofs.lemmas.List.{length-map}
@@ -16,7 +17,12 @@ use Rattle.stop_tour.specs.declared.stops.Stop.{Stop}
 module _ (nodes : ℕ) (arcs : List TimedArc) where
   pub length_layered : (k : ℕ) → length (layered nodes arcs k) ≡ k * length arcs
   length_layered zero = omega arith
-  length_layered (suc k) = omega (arith, length-append (layered nodes arcs k) (map (lifted (k * nodes)) arcs), length-map arcs (lifted (k * nodes)), length_layered k)
+  length_layered (suc k) = omega (
+    arith,
+    length-append (layered nodes arcs k) (map (lifted (k * nodes)) arcs),
+    length-map arcs (lifted (k * nodes)),
+    length_layered k,
+  )
 
   -- an arc of a layer
   pub record IsInLayer (k x : ℕ) (arc : TimedArc) : Type 0 where
@@ -29,14 +35,8 @@ module _ (nodes : ℕ) (arcs : List TimedArc) where
     pub same : lifted (j * nodes) base ≡ arc
 
   pub in_layer : (k x : ℕ) (arc : TimedArc) → at_number (layered nodes arcs k) x ≡ Some arc → IsInLayer k x arc
-  in_layer zero zero arc is = absurd (none arc is)
-    where
-      none : (w : TimedArc) → None ≡ Some w → ⊥
-      none w same = cc
-  in_layer zero (suc x) arc is = absurd (none arc is)
-    where
-      none : (w : TimedArc) → None ≡ Some w → ⊥
-      none w same = cc
+  in_layer zero zero arc is = absurd (cc)
+  in_layer zero (suc x) arc is = absurd (cc)
   in_layer (suc k) x arc is = ⊎_elim
       (λ (early : at_number (layered nodes arcs k) x ≡ Some arc).
       (let one = in_layer k x arc early in
@@ -46,13 +46,15 @@ module _ (nodes : ℕ) (arcs : List TimedArc) where
       record { j = k; below = omega arith; a = last.0; number = omega (arith, last.1, length_layered k); base = found.0; is = found.1; same = found.2 }))
       (at_both (layered nodes arcs k) (map (lifted (k * nodes)) arcs) x arc is)
 
-  pub layer_at : (k j a : ℕ) (base : TimedArc) → j < k → at_number arcs a ≡ Some base → at_number (layered nodes arcs k) (j * length arcs + a) ≡ Some (lifted (j * nodes) base)
+  pub layer_at : (k j a : ℕ) (base : TimedArc) → j < k → at_number arcs a ≡ Some base
+      → at_number (layered nodes arcs k) (j * length arcs + a) ≡ Some (lifted (j * nodes) base)
   layer_at zero j a base below is = absurd (omega (arith, below))
   layer_at (suc k) j a base below is = ⊎_elim
       (λ (last : j ≡ k).
       (let number : j * length arcs + a ≡ length (layered nodes arcs k) + a = omega (arith, ap (λ (w : ℕ). w * length arcs) last, length_layered k) in
       ap (at_number (layered nodes arcs (suc k))) number
-      ∙ at_right (layered nodes arcs k) (map (lifted (k * nodes)) arcs) a (lifted (k * nodes) base) (at_number-map (lifted (k * nodes)) arcs a ∙ ap (option_map (lifted (k * nodes))) is)
+      ∙ at_right (layered nodes arcs k) (map (lifted (k * nodes)) arcs) a (lifted (k * nodes) base)
+      (at_number-map (lifted (k * nodes)) arcs a ∙ ap (option_map (lifted (k * nodes))) is)
       ∙ ap (λ (w : ℕ). Some (lifted (w * nodes) base)) (sym last)))
       (λ (other : j ≡ k → ⊥). at_left (layered nodes arcs k) (map (lifted (k * nodes)) arcs) (j * length arcs + a) (lifted (j * nodes) base)
       (layer_at k j a base (omega (arith, below, other)) is))
@@ -63,7 +65,8 @@ length_copies parks zero = omega arith
 length_copies parks (suc k) = omega (arith, length-append (copies parks k) parks, length_copies parks k)
 
 -- a park of a layer
-pub copy_at : (parks : List (Option Park)) (k j v : ℕ) (w : Option Park) → j < k → at_number parks v ≡ Some w → at_number (copies parks k) (j * length parks + v) ≡ Some w
+pub copy_at : (parks : List (Option Park)) (k j v : ℕ) (w : Option Park) → j < k → at_number parks v ≡ Some w
+    → at_number (copies parks k) (j * length parks + v) ≡ Some w
 copy_at parks zero j v w below is = absurd (omega (arith, below))
 copy_at parks (suc k) j v w below is = ⊎_elim
     (λ (last : j ≡ k).
@@ -85,18 +88,9 @@ one_place nodes i j v w low_v high_v low_w high_w same =
 -- a service is that of a stop
 pub service_of : (nodes place j : ℕ) (stops : List Stop) (i : ℕ) (arc : TimedArc) → at_number (services nodes place j stops) i ≡ Some arc
     → (stop : Stop) × (at_number stops i ≡ Some stop) × (service nodes place (j + (i - 1)) stop ≡ arc)
-service_of nodes place j [] zero arc is = absurd (none arc is)
-  where
-    none : (w : TimedArc) → None ≡ Some w → ⊥
-    none w same = cc
-service_of nodes place j [] (suc i) arc is = absurd (none arc is)
-  where
-    none : (w : TimedArc) → None ≡ Some w → ⊥
-    none w same = cc
-service_of nodes place j (stop ∷ stops) zero arc is = absurd (none arc is)
-  where
-    none : (w : TimedArc) → None ≡ Some w → ⊥
-    none w same = cc
+service_of nodes place j [] zero arc is = absurd (cc)
+service_of nodes place j [] (suc i) arc is = absurd (cc)
+service_of nodes place j (stop ∷ stops) zero arc is = absurd (cc)
 service_of nodes place j (stop ∷ stops) (suc zero) arc is =
     let number : j + (suc zero - 1) ≡ j = omega arith in
     (stop, refl, ap (λ (n : ℕ). service nodes place n stop) number ∙ some_arc _ _ is)
@@ -110,18 +104,9 @@ service_of nodes place j (stop ∷ stops) (suc (suc i)) arc is =
 
 pub service_at : (nodes place j : ℕ) (stops : List Stop) (i : ℕ) (stop : Stop) → at_number stops i ≡ Some stop
     → at_number (services nodes place j stops) i ≡ Some (service nodes place (j + (i - 1)) stop)
-service_at nodes place j [] zero stop is = absurd (none stop is)
-  where
-    none : (w : Stop) → None ≡ Some w → ⊥
-    none w same = cc
-service_at nodes place j [] (suc i) stop is = absurd (none stop is)
-  where
-    none : (w : Stop) → None ≡ Some w → ⊥
-    none w same = cc
-service_at nodes place j (other ∷ stops) zero stop is = absurd (none stop is)
-  where
-    none : (w : Stop) → None ≡ Some w → ⊥
-    none w same = cc
+service_at nodes place j [] zero stop is = absurd (cc)
+service_at nodes place j [] (suc i) stop is = absurd (cc)
+service_at nodes place j (other ∷ stops) zero stop is = absurd (cc)
 service_at nodes place j (other ∷ stops) (suc zero) stop is =
     let number : j ≡ j + (suc zero - 1) = omega arith in
     ap (λ (n : ℕ). Some (service nodes place n other)) number ∙ ap (λ (w : Stop). Some (service nodes place (j + (suc zero - 1)) w)) (some_stop _ _ is)

@@ -1,5 +1,6 @@
 -- Walks of the layered net are tours, step by step.
-use Rattle.std.proofs.Common.{◌≡◌, ◌⊎◌, inl, inr, ⊎_elim, ℕ, zero, suc, ◌+◌, ◌-◌, ◌*◌, ◌%◌, ◌≤◌, ◌<◌, Option, Some, None, List, [], ◌∷◌, ◌++◌, length, map, get_or, All, refl, sym, ◌∙◌, ap, subst, arith}
+use Rattle.std.proofs.Common.{◌≡◌, ◌⊎◌, inl, inr, ⊎_elim, ℕ, zero, suc, ◌+◌, ◌-◌, ◌*◌, ◌%◌, ◌≤◌, ◌<◌, Option, Some, None, List, [], ◌∷◌, ◌++◌, length, map}
+use Rattle.std.proofs.Common.{get_or, All, refl, sym, ◌∙◌, ap, subst, arith}
 use Rattle.std.specs.Prelude.{slice_get, unwrap_or}
 use Rattle.std.specs.Option.{option_map, option_flatten}
 use Rattle.route_base.specs.Setting.{Setting, Road}
@@ -26,7 +27,8 @@ use Rattle.front_transport.proofs.NetParts.{road_arc}
 use Rattle.front_transport.proofs.Places.{at_left, at_right, at_both}
 use Rattle.front_transport.proofs.Transport.{carried}
 use Rattle.stop_tour.specs.Inside.Layers.{lifted, layered, copies, service, services, outside, tour_net, tour_request}
-use Rattle.stop_tour.specs.Tours.{IsGoodStop, TourPosition, TourStep, go, serve, TourMoves, TourWalks, tour_start, tour_end, IsTourAchieved, IsTourFront, AchievesTour, AreRightTours}
+use Rattle.stop_tour.specs.Tours.{IsGoodStop, TourPosition, TourStep, go, serve, TourMoves, TourWalks, tour_start, tour_end, IsTourAchieved, IsTourFront}
+use Rattle.stop_tour.specs.Tours.{AchievesTour, AreRightTours}
 use Rattle.stop_tour.specs.Inside.Unlayering.{step_over, route_over}
 use Rattle.std.proofs.lemmas.Nat.{mul-le, mod-mul-add}
 use Rattle.std.proofs.lemmas.Bool.{le-leb, lt-leb}
@@ -37,19 +39,11 @@ use Rattle.stop_tour.proofs.LayerPlaces.{length_layered, IsInLayer, in_layer, la
 use Rattle.stop_tour.proofs.Unlayered.{steps_over, no_empty_over, apart_over}
 use Rattle.stop_tour.proofs.Windows.{within_window, open_within}
 
-list_of : (until : ℕ) (stops : List Stop) (i : ℕ) (stop : Stop) → at_number stops i ≡ Some stop → unwrap_or (slice_get (map (outside until) stops) (i - 1)) [] ≡ outside until stop
-list_of until [] zero stop is = absurd (none stop is)
-  where
-    none : (w : Stop) → None ≡ Some w → ⊥
-    none w same = cc
-list_of until [] (suc k) stop is = absurd (none stop is)
-  where
-    none : (w : Stop) → None ≡ Some w → ⊥
-    none w same = cc
-list_of until (x ∷ xs) zero stop is = absurd (none stop is)
-  where
-    none : (w : Stop) → None ≡ Some w → ⊥
-    none w same = cc
+list_of : (until : ℕ) (stops : List Stop) (i : ℕ) (stop : Stop) → at_number stops i ≡ Some stop
+    → unwrap_or (slice_get (map (outside until) stops) (i - 1)) [] ≡ outside until stop
+list_of until [] zero stop is = absurd (cc)
+list_of until [] (suc k) stop is = absurd (cc)
+list_of until (x ∷ xs) zero stop is = absurd (cc)
 list_of until (x ∷ xs) (suc zero) stop is =
     let place : suc zero - 1 ≡ 0 = omega arith in
     ap (λ (n : ℕ). unwrap_or (slice_get (map (outside until) (x ∷ xs)) n) []) place ∙ ap (outside until) (some_stop x stop is)
@@ -97,7 +91,8 @@ module _ (net : Net) (good : IsGoodNet net) (stops : List Stop) (each_stop : All
       × (x ≡ suc (length stops) * length net.arcs + i))
   arc_kinds x arc is = ⊎_elim
       (λ (layer : at_number (layered net.nodes net.arcs (suc (length stops))) x ≡ Some arc). inl (in_layer net.nodes net.arcs (suc (length stops)) x arc layer))
-      (λ (behind : (i : ℕ) × (x ≡ length (layered net.nodes net.arcs (suc (length stops))) + i) × (at_number (services net.nodes (length net.closed) 0 stops) i ≡ Some arc)).
+      (λ (behind : (i : ℕ) × (x ≡ length (layered net.nodes net.arcs (suc (length stops))) + i)
+      × (at_number (services net.nodes (length net.closed) 0 stops) i ≡ Some arc)).
       (let one = service_of net.nodes (length net.closed) 0 stops behind.0 arc behind.2 in
       inr (behind.0, one.0, one.1, one.2, omega (arith, behind.1, length_layered net.nodes net.arcs (suc (length stops))))))
       (at_both (layered net.nodes net.arcs (suc (length stops))) (services net.nodes (length net.closed) 0 stops) x arc is)
@@ -135,7 +130,8 @@ module _ (net : Net) (good : IsGoodNet net) (stops : List Stop) (each_stop : All
       rw (lt-leb x (suc (length stops) * length net.arcs) (omega (arith, number, some))) (ap serve (omega (arith, number)))
 
   by_layer : (x : ℕ) (arc : TimedArc) (big next : Position) (p : TourPosition) → IsInTour big p → (move : Moves z until (drive x) big next)
-      → at_number (tour_net net stops until).arcs x ≡ Some arc → road_of arc ≡ move.road → IsInLayer net.nodes net.arcs (suc (length stops)) x arc → Toured (drive x) next p
+      → at_number (tour_net net stops until).arcs x ≡ Some arc → road_of arc ≡ move.road → IsInLayer net.nodes net.arcs (suc (length stops)) x arc
+      → Toured (drive x) next p
   unfolding s
   by_layer x arc big next p at move is road_is layer =
       let base : TimedArc = layer.base in
@@ -165,7 +161,8 @@ module _ (net : Net) (good : IsGoodNet net) (stops : List Stop) (each_stop : All
           refl,
         );
         in_tour = record {
-          node = move.node ∙ ap (λ (w : Road). w.head) (sym road_is) ∙ ap (λ (w : TimedArc). w.head.0) (sym layer.same) ∙ ap (λ (k : ℕ). k * net.nodes + base.head.0) here.0;
+          node = move.node ∙ ap (λ (w : Road). w.head) (sym road_is) ∙ ap (λ (w : TimedArc). w.head.0) (sym layer.same)
+              ∙ ap (λ (k : ℕ). k * net.nodes + base.head.0) here.0;
           minute = refl;
           cost = refl;
           low = fine.head.0;
@@ -294,7 +291,11 @@ module _ (net : Net) (good : IsGoodNet net) (stops : List Stop) (each_stop : All
   tour_walk (x ∷ xs) big last p at walk =
       let one = toured x big walk.0 p at walk.1 in
       let more = tour_walk xs walk.0 last one.q one.in_tour walk.2 in
-      record { q = more.q; walk = (one.q, subst (λ (w : TourStep). TourMoves s stops until w p one.q) (sym one.is_step) one.move, more.walk); in_tour = more.in_tour }
+      record {
+        q = more.q;
+        walk = (one.q, subst (λ (w : TourStep). TourMoves s stops until w p one.q) (sym one.is_step) one.move, more.walk);
+        in_tour = more.in_tour;
+      }
 
   -- a step over layers for a step of a tour
   record Placed (big : Position) (q : TourPosition) : Type 0 where
@@ -333,7 +334,8 @@ module _ (net : Net) (good : IsGoodNet net) (stops : List Stop) (each_stop : All
           cost = omega (arith, move.cost, at.cost, ap (λ (w : Road). w.cost) base.2);
         };
         in_tour = record {
-          node = ap (λ (v : ℕ). p.served * net.nodes + v) (ap (λ (w : Road). w.head) base.2 ∙ sym move.node) ∙ ap (λ (k : ℕ). k * net.nodes + q.at.node) (sym moves.1);
+          node = ap (λ (v : ℕ). p.served * net.nodes + v) (ap (λ (w : Road). w.head) base.2 ∙ sym move.node)
+              ∙ ap (λ (k : ℕ). k * net.nodes + q.at.node) (sym moves.1);
           minute = refl;
           cost = refl;
           low = omega (arith, base.3.head.0, ap (λ (w : Road). w.head) base.2, move.node);
@@ -435,8 +437,10 @@ module _ (net : Net) (good : IsGoodNet net) (stops : List Stop) (each_stop : All
       → TourWalks (setting_of net) stops r.until (over steps) (tour_start r) (tour_end r (length stops) p)
   unfolding zt z s over
   ends steps p walk =
-      let one = tour_walk net good stops each_stop r.until steps (start_of (tour_request net stops r)) (end_of (tour_request net stops r) p) (tour_start r) begins walk in
-      let here = one_place net.nodes one.q.served (length stops) one.q.at.node r.goal.0 one.in_tour.low one.in_tour.high asked.goal.0 asked.goal.1 (sym one.in_tour.node) in
+      let one = tour_walk net good stops each_stop r.until steps (start_of (tour_request net stops r)) (end_of (tour_request net stops r) p)
+      (tour_start r) begins walk in
+      let here = one_place net.nodes one.q.served (length stops) one.q.at.node r.goal.0 one.in_tour.low one.in_tour.high asked.goal.0 asked.goal.1
+      (sym one.in_tour.node) in
       subst (λ (w : TourPosition). TourWalks (setting_of net) stops r.until (over steps) (tour_start r) w)
       (same_tour one.q (tour_end r (length stops) p) here.1 (sym one.in_tour.minute) (sym one.in_tour.cost) here.0) one.walk
 
@@ -446,7 +450,8 @@ module _ (net : Net) (good : IsGoodNet net) (stops : List Stop) (each_stop : All
   covers : (p : Pair) → IsTourAchieved (setting_of net) r stops p → (q : Pair) × IsAchieved zt (tour_request net stops r) q × IsNoWorse q p
   unfolding zt z s
   covers p can =
-      let one = placed_walk net good stops each_stop r.until can.steps (start_of (tour_request net stops r)) (tour_start r) (tour_end r (length stops) p) begins can.walk in (
+      let one = placed_walk net good stops each_stop r.until can.steps (start_of (tour_request net stops r)) (tour_start r)
+      (tour_end r (length stops) p) begins can.walk in (
         p,
         record {
           in_time = can.in_time;
@@ -458,7 +463,8 @@ module _ (net : Net) (good : IsGoodNet net) (stops : List Stop) (each_stop : All
       )
 
   -- the front of the layered net is the tour front
-  pub tour_front : (pairs : List Pair) → IsFront (setting_of (tour_net net stops r.until)) (tour_request net stops r) pairs → IsTourFront (setting_of net) r stops pairs
+  pub tour_front : (pairs : List Pair) → IsFront (setting_of (tour_net net stops r.until)) (tour_request net stops r) pairs
+      → IsTourFront (setting_of net) r stops pairs
   unfolding zt
   tour_front pairs front =
       subst (IsTourFront (setting_of net) r stops) (map-id pairs)
@@ -467,7 +473,8 @@ module _ (net : Net) (good : IsGoodNet net) (stops : List Stop) (each_stop : All
       (record { sound = sound; covers = covers; keeps = λ a c can_a can_c le. le; tells = λ a c can_a can_c le. le; before = λ a c can_a can_c lt. lt })
       pairs (record { ordered = front.rising; each = front.each }))
 
-  tour_route : (route : Route) → Achieves (setting_of (tour_net net stops r.until)) (tour_request net stops r) route.legs route.pair × HasNoNeighbouringWaits route.legs
+  tour_route : (route : Route) → Achieves (setting_of (tour_net net stops r.until)) (tour_request net stops r) route.legs route.pair
+      × HasNoNeighbouringWaits route.legs
       → AchievesTour (setting_of net) r stops (route_over (length net.arcs) (suc (length stops)) route)
   unfolding zt over
   tour_route route fine = record {

@@ -28,7 +28,8 @@ use Rattle.stop_tour.specs.Inside.Unlayering.{IsNumbered}
 use Rattle.stop_tour.specs.declared.stops.Stop.{Stop}
 use Rattle.stop_tour.proofs.GoodLayers.{cheap_tour}
 
-pub made_tour : (net : Net) (stops : List Stop) (until seen place : ℕ) (arcs made : List TimedArc) (closed lists old : List (Vec Run Global)) (parks rated : List (Option Park))
+pub made_tour : (net : Net) (stops : List Stop) (until seen place : ℕ) (arcs made : List TimedArc) (closed lists old : List (Vec Run Global))
+    (parks rated : List (Option Park))
     → seen ≡ net.nodes → place ≡ length net.closed → arcs ≡ layered net.nodes net.arcs (length stops + 1) → made ≡ arcs ++ services seen place 0 stops
     → map (λ v. v.items) lists ≡ map (λ v. v.items) old → map (λ v. v.items) old ≡ net.closed
     → map (λ v. v.items) closed ≡ map (λ v. v.items) lists ++ map (outside until) stops → rated ≡ net.parks → parks ≡ copies rated (length stops + 1)
@@ -42,9 +43,11 @@ made_tour net stops until seen place arcs made closed lists old rows rated seen_
     ∙ ap (λ (k : ℕ). layered net.nodes net.arcs (suc (length stops)) ++ services net.nodes k 0 stops) place_is in
     ap (λ (k : ℕ). net_of k made (map (λ v. v.items) closed) rows) (ap (λ (k : ℕ). k * seen) next ∙ ap (λ (k : ℕ). suc (length stops) * k) seen_is)
     ∙ ap (λ (w : List TimedArc). net_of (suc (length stops) * net.nodes) w (map (λ v. v.items) closed) rows) all
-    ∙ ap (λ (w : List (List Run)). net_of (suc (length stops) * net.nodes) (layered net.nodes net.arcs (suc (length stops)) ++ services net.nodes (length net.closed) 0 stops) w rows)
+    ∙ ap (λ (w : List (List Run)). net_of (suc (length stops) * net.nodes)
+    (layered net.nodes net.arcs (suc (length stops)) ++ services net.nodes (length net.closed) 0 stops) w rows)
     (closed_is ∙ ap (λ (w : List (List Run)). w ++ map (outside until) stops) (lists_is ∙ old_is))
-    ∙ ap (λ (w : List (Option Park)). net_of (suc (length stops) * net.nodes) (layered net.nodes net.arcs (suc (length stops)) ++ services net.nodes (length net.closed) 0 stops)
+    ∙ ap (λ (w : List (Option Park)). net_of (suc (length stops) * net.nodes)
+    (layered net.nodes net.arcs (suc (length stops)) ++ services net.nodes (length net.closed) 0 stops)
     (net.closed ++ map (outside until) stops) w) (rows_is ∙ ap (λ (w : List (Option Park)). copies w (length stops + 1)) rated_is ∙ ap (copies net.parks) next)
 
 -- each drive of a walk has a number from 1 on
@@ -64,4 +67,5 @@ pub tour_fits : (net : Net) (good : IsGoodNet net) (stops : List Stop) (each_sto
     → size_of net stops ≤ MOST_STATES → HasCheapArcs net → r.depart ≤ r.until → r.until - r.depart ≤ LONGEST_HORIZON
     → CostsFit (setting_of (tour_net net stops r.until)) (tour_request net stops r)
 tour_fits net good stops each_stop r some size cheap in_order short =
-    fits (setting_of (tour_net net stops r.until)) (tour_request net stops r) (cheap_tour net good stops each_stop r.until some size cheap) in_order (omega (arith, in_order, short))
+    fits (setting_of (tour_net net stops r.until)) (tour_request net stops r) (cheap_tour net good stops each_stop r.until some size cheap) in_order
+    (omega (arith, in_order, short))

@@ -31,7 +31,8 @@ module _ (until : ℕ) (stop : Stop) (t : ℕ) where
 
   in_front : t < stop.from → any_has (front stop) t ≡ true
   unfolding front
-  in_front early = rw (lt-ltb 0 stop.from (omega (arith, early))) (ap (λ (b : Bool). b || false) (and_from _ _ (le-leb 0 t (omega arith)) (lt-ltb t stop.from early)))
+  in_front early = rw (lt-ltb 0 stop.from (omega (arith, early))) (ap (λ (b : Bool). b || false)
+      (and_from _ _ (le-leb 0 t (omega arith)) (lt-ltb t stop.from early)))
 
   not_front : stop.from ≤ t → any_has (front stop) t ≡ false
   unfolding front
@@ -42,7 +43,8 @@ module _ (until : ℕ) (stop : Stop) (t : ℕ) where
 
   is_behind : stop.to ≤ t → t < until → any_has (behind until stop) t ≡ true
   unfolding behind
-  is_behind late early = rw (lt-ltb stop.to until (omega (arith, late, early))) (ap (λ (b : Bool). b || false) (and_from _ _ (le-leb stop.to t late) (lt-ltb t until early)))
+  is_behind late early = rw (lt-ltb stop.to until (omega (arith, late, early)))
+      (ap (λ (b : Bool). b || false) (and_from _ _ (le-leb stop.to t late) (lt-ltb t until early)))
 
   not_behind : t < stop.to → any_has (behind until stop) t ≡ false
   unfolding behind

@@ -21,7 +21,8 @@ front-requires-clause-fit g c =
     let net : Net = c.args.net.now in
     subst (λ (n : ℕ). CostsFit (setting_of c.in_ok-layered.layered) (trip n c.args.stops.now c.args.request)) (sym c.node_count.ensures.value)
     (subst (λ (w : Net). CostsFit (setting_of w) (trip net.nodes c.args.stops.now c.args.request)) (sym c.in_ok-layered.ensures)
-    (tour_fits net c.node_count.ensures.good c.args.stops.now c.requires.stops c.args.request (omega (arith, c.requires.good.origin.0, c.requires.good.origin.1))
+    (tour_fits net c.node_count.ensures.good c.args.stops.now c.requires.stops c.args.request
+    (omega (arith, c.requires.good.origin.0, c.requires.good.origin.1))
     c.requires.size c.requires.cheap c.requires.in_time c.requires.horizon))
 
 pub tour_routes-requires-clause-numbered : goal.tour_routes-requires-clause-numbered

@@ -1,0 +1,40 @@
+use Rattle.std.proofs.Common.{◌+◌, ◌++◌, List, length, get_or, take, sym, ◌∙◌, ap, arith, length-append}
+use Rattle.route_base.specs.Itinerary.{Step}
+use Rattle.route_base.specs.Legs.{steps_of, steps_of_leg}
+use Rattle.route_base.specs.declared.types.Leg.{Leg}
+use Rattle.route_base.specs.declared.types.Leg.TheVariants.{Drive}
+use Rattle.drive_breaks.specs.Inside.StateNet.{unpacked}
+use Rattle.drive_breaks.proofs.Unpacked.{steps_next, steps_within}
+use Rattle.drive_breaks.proofs.sources.unpacked_legs.Goals as goal
+
+pub push_leg-requires-clause-room : goal.push_leg-requires-clause-room
+push_leg-requires-clause-room c =
+    let sources : List Leg = c.args.sources.now in
+    let legs : List Leg = c.args.legs.now in
+    let i = c.loop-leg.leg-index in
+    let d : Leg = Drive (record { 0 = 0 }) in
+    record {
+      tidy = c.loop-leg.invariant.tidy;
+      short = omega (
+        arith,
+        c.requires.short,
+        steps_within sources legs (i + 1),
+        ap (λ (w : List Step). length w) (steps_next sources legs i d c.loop-leg-test.true),
+        length-append (unpacked sources (steps_of (take i legs))) (unpacked sources (steps_of_leg (get_or legs i d))),
+        ap (λ (w : List Step). length w) c.loop-leg.invariant.steps,
+        ap (λ (w : List Step). length w) c.source_of.ensures.steps,
+      );
+    }
+
+pub loop-leg-preserved : goal.loop-leg-preserved
+loop-leg-preserved c =
+    let sources : List Leg = c.args.sources.now in
+    let legs : List Leg = c.args.legs.now in
+    let i = c.loop-leg.leg-index in
+    let d : Leg = Drive (record { 0 = 0 }) in
+    record {
+      tidy = c.in_ok-push_leg.ensures.tidy;
+      steps = c.in_ok-push_leg.ensures.steps ∙ ap (λ (w : List Step). w ++ steps_of_leg c.source_of.result) c.loop-leg.invariant.steps
+          ∙ ap (λ (w : List Step). unpacked sources (steps_of (take i legs)) ++ w) c.source_of.ensures.steps
+          ∙ sym (steps_next sources legs i d c.loop-leg-test.true);
+    }

@@ -1,0 +1,4 @@
+-- What the search for states and the net over them keep, which is no law (source: own).
+pub mod StateNet
+pub mod StateSearch
+pub mod WithinRule

@@ -1,0 +1,4 @@
+pub mod Inside
+pub mod Rested
+pub mod StateSize
+pub mod Words

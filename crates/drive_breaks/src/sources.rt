@@ -1,0 +1,78 @@
+// The legs over states as legs of the net.
+ghost use Rattle.std.specs.Prelude.{◌≡◌, ◌≢◌, ◌<◌, ◌^◌, length, All, IfOk};
+ghost use Rattle.drive_breaks.specs.Words.{AchievesRested, unpacked, IsSourced, IsUnpackable, IsTidy};
+ghost use Rattle.drive_breaks.specs.Words.{pairs_of, setting_of, steps_of, steps_of_leg};
+ghost use Rattle.route_base.specs.declared.types.Leg.TheVariants.{Wait};
+
+use crate::BreakRule;
+use front_transport::push_leg;
+use route_base::{Leg, Legs, OutOfMemory, Request, Route, TimedNet};
+use std::alloc::Global;
+
+// The leg of the net for a leg over states.
+fn source_of(sources: &[Leg], leg: Leg) -> Leg
+    requires { IsSourced sources.now leg }
+    ensures steps { steps_of_leg result ≡ unpacked sources.now (steps_of_leg leg) }
+    ensures some { result ≢ Leg.Wait 0 }
+{
+    match leg {
+        Leg::Drive(x) => sources[x.0 as usize - 1],
+        Leg::Wait(minutes) => Leg::Wait(minutes),
+    }
+}
+
+// The legs of the net, with neighbouring waits joined.
+fn unpacked_legs(alloc: Global, sources: &[Leg], legs: &[Leg]) -> Result<Vec<Leg>, OutOfMemory>
+    requires sourced { All (IsSourced sources.now) legs.now }
+    requires short { length (unpacked sources.now (steps_of legs.now)) < 2 ^ 62 }
+    ensures tidy { IfOk result (λ out. IsTidy out.items) }
+    ensures steps { IfOk result (λ out.
+        steps_of out.items ≡ unpacked sources.now (steps_of legs.now)) }
+{
+    let mut out = Vec::new(alloc);
+    for leg in legs {
+        push_leg(&mut out, source_of(sources, *leg))?;
+    }
+    Ok(out)
+}
+
+// A route over states as a route of the net.
+fn unpacked_route(
+    alloc: Global,
+    net: &TimedNet,
+    request: Request,
+    rule: BreakRule,
+    sources: &[Leg],
+    route: &Route,
+) -> Result<Route, OutOfMemory>
+    requires { IsUnpackable (setting_of net.now) request rule sources.now route.now }
+    ensures pair { IfOk result (λ out. out.pair ≡ route.now.pair) }
+    ensures rested { IfOk result (AchievesRested (setting_of net.now) request rule) }
+{
+    let _net = net;
+    let legs = unpacked_legs(alloc, sources, route.legs.as_slice())?;
+    Ok(Route {
+        pair: route.pair,
+        legs: Legs::from_vec(legs),
+    })
+}
+
+/// The routes over states as routes of the net, where `sources` has the leg of each arc over states. Linear in the legs.
+pub fn unpacked_routes(
+    alloc: Global,
+    net: &TimedNet,
+    request: Request,
+    rule: BreakRule,
+    sources: &[Leg],
+    routes: &[Route],
+) -> Result<Vec<Route>, OutOfMemory>
+    requires { All (IsUnpackable (setting_of net.now) request rule sources.now) routes.now }
+    ensures { IfOk result (λ out. (pairs_of out.items ≡ pairs_of routes.now)
+        × All (AchievesRested (setting_of net.now) request rule) out.items) }
+{
+    let mut out = Vec::new(alloc);
+    for route in routes {
+        out.push(unpacked_route(alloc, net, request, rule, sources, route)?)?;
+    }
+    Ok(out)
+}
