@@ -1,45 +1,54 @@
 -- The lines of the commands pass `clap`, which gives back their words.
-use Rattle.std.proofs.Common.{◌≡◌, refl, codes, false, List, Option, Some, None, [], ◌∷◌, ◌++◌, length, arith}
+use Rattle.std.proofs.Common.{◌≡◌, refl, codes, false, true, map, List, Option, Some, None, [], ◌∷◌, ◌++◌, length, arith}
 use Rattle.std.specs.Prelude.{IfSome}
 use Rattle.clap.specs.Walk.{Held, Text, nothing_held}
 use Rattle.clap.specs.Simple.{App, built}
 use Rattle.clap.proofs.OnLiterals.{clap_on_literals}
-use Rattle.front_words.specs.ClapCommands.{app_with, bans_app, bans_places, batch_app, batch_choices, batch_places, check_app, check_places, gen_app}
-use Rattle.front_words.specs.ClapCommands.{gen_places, line_of_batch, line_of_plan, option_line, plan_app, plan_choices, plan_places, written_out}
-use Rattle.front_words.specs.Inside.{ArePlain}
+use Rattle.front_words.specs.ClapCommands.{Passes, app_with, bans_app, bans_places, batch_app, batch_choices, batch_places, check_app, check_places}
+use Rattle.front_words.specs.ClapCommands.{gen_app, gen_places, line_of_batch, line_of_plan, option_line, plan_app, plan_choices, plan_places, written_out}
+use Rattle.front_words.specs.Commands.{bans_usage, check_usage, gen_usage}
+use Rattle.front_words.specs.Inside.{ArePlain, TakesPlaces}
 use Rattle.front_words.specs.Splitting.{is_dashed}
-use Rattle.front_words.proofs.ClapWalk.{Opens, Passes, WalksOn, passes_line, rule_by_id, then_reaches, walk_at, walks_nowhere, walks_option, with_option}
+use Rattle.front_words.proofs.ClapWalk.{IsLeaf, Opens, WalksOn, due_from, held_behind, met_from, passes_at, passes_line, rule_by_id, texts_in}
+use Rattle.front_words.proofs.ClapWalk.{then_reaches, walk_at, walks_nowhere, walks_option, with_option}
 
 -- the value of an option, where it is given, begins with no dash
 abbrev IsPlainIf : Option Text → Type 0
 IsPlainIf value = IfSome value (λ word. is_dashed word ≡ false)
 
--- `bans DIR VEHICLE ARC DEPART UNTIL`
-pub bans_passes : (words : List Text) → length words ≡ 5 → ArePlain words
-    → Passes bans_app (codes "bans" ∷ words) bans_places words [] []
+-- the line of a command without options, by where the walk over its words ends
+passes_alone : (name : Text) (ids words : List Text) → IsLeaf (written_out name ids []) → ArePlain words
+    → met_from (built (written_out name ids [])).top 1 nothing_held words ≡ due_from (built (written_out name ids [])).top 1 nothing_held words
+    → passes_at (built (written_out name ids [])).top (held_behind (built (written_out name ids [])).top 1 nothing_held words) ≡ true
+    → texts_in (written_out name ids []) (held_behind (built (written_out name ids [])).top 1 nothing_held words) ids ≡ map (λ w. Some w) words
+    → Passes (app_with name ids []) (name ∷ words) ids words [] []
 unfolding app_with
-bans_passes (a ∷ b ∷ c ∷ d ∷ e ∷ []) n plain =
-    passes_line (written_out (codes "bans") bans_places []) _ _ _ _ _ _ nothing_held (record { simple = refl; named = refl; alone = refl })
-    walks_nowhere plain refl refl refl refl
-bans_passes words n plain = absurd (omega arith)
+passes_alone name ids words leaf plain fills passes places =
+    passes_line (written_out name ids []) _ _ _ _ _ _ nothing_held leaf walks_nowhere plain fills passes places refl
+
+-- `bans DIR VEHICLE ARC DEPART UNTIL`
+pub bans_takes : TakesPlaces bans_usage bans_places
+bans_takes = record { counted = refl; alone = refl; passes = passes }
+  where
+    passes : (words : List Text) → length words ≡ 5 → ArePlain words → Passes bans_app (codes "bans" ∷ words) bans_places words [] []
+    passes (a ∷ b ∷ c ∷ d ∷ e ∷ []) n plain = passes_alone _ _ _ (record { simple = refl; named = refl; alone = refl }) plain refl refl refl
+    passes words n plain = absurd (omega arith)
 
 -- `check DIR VEHICLE FROM TO DEPART UNTIL NAME`
-pub check_passes : (words : List Text) → length words ≡ 7 → ArePlain words
-    → Passes check_app (codes "check" ∷ words) check_places words [] []
-unfolding app_with
-check_passes (a ∷ b ∷ c ∷ d ∷ e ∷ f ∷ g ∷ []) n plain =
-    passes_line (written_out (codes "check") check_places []) _ _ _ _ _ _ nothing_held (record { simple = refl; named = refl; alone = refl })
-    walks_nowhere plain refl refl refl refl
-check_passes words n plain = absurd (omega arith)
+pub check_takes : TakesPlaces check_usage check_places
+check_takes = record { counted = refl; alone = refl; passes = passes }
+  where
+    passes : (words : List Text) → length words ≡ 7 → ArePlain words → Passes check_app (codes "check" ∷ words) check_places words [] []
+    passes (a ∷ b ∷ c ∷ d ∷ e ∷ f ∷ g ∷ []) n plain = passes_alone _ _ _ (record { simple = refl; named = refl; alone = refl }) plain refl refl refl
+    passes words n plain = absurd (omega arith)
 
 -- `gen DIR NUMBER ROWS COLUMNS`
-pub gen_passes : (words : List Text) → length words ≡ 4 → ArePlain words
-    → Passes gen_app (codes "gen" ∷ words) gen_places words [] []
-unfolding app_with
-gen_passes (a ∷ b ∷ c ∷ d ∷ []) n plain =
-    passes_line (written_out (codes "gen") gen_places []) _ _ _ _ _ _ nothing_held (record { simple = refl; named = refl; alone = refl })
-    walks_nowhere plain refl refl refl refl
-gen_passes words n plain = absurd (omega arith)
+pub gen_takes : TakesPlaces gen_usage gen_places
+gen_takes = record { counted = refl; alone = refl; passes = passes }
+  where
+    passes : (words : List Text) → length words ≡ 4 → ArePlain words → Passes gen_app (codes "gen" ∷ words) gen_places words [] []
+    passes (a ∷ b ∷ c ∷ d ∷ []) n plain = passes_alone _ _ _ (record { simple = refl; named = refl; alone = refl }) plain refl refl refl
+    passes words n plain = absurd (omega arith)
 
 -- `batch`, as `clap` builds it
 abbrev batch_written : App

@@ -13,7 +13,7 @@ use Rattle.clap.proofs.TakesLemmas.{leaf_takes}
 use Rattle.clap.specs.Words.{HasMatchesOf, first_of, first_value, found_of}
 use Rattle.clap.specs.declared.parser.matches.ArgMatches.{ArgMatches}
 use Rattle.clap.proofs.WalkLemmas.{first_value-rows}
-use Rattle.front_words.specs.ClapCommands.{IsTaken, option_line, text_found, with_rules}
+use Rattle.front_words.specs.ClapCommands.{IsTaken, Passes, option_line, text_found, with_rules}
 use Rattle.front_words.specs.Inside.{ArePlain}
 use Rattle.front_words.specs.Splitting.{is_dashed}
 use Rattle.clap.specs.Walk.{finished, nothing_held, rows_after, Held, Names, Rule, Text, Walk, idle}
@@ -225,12 +225,6 @@ walks_places s p h (word ∷ words) a f =
     (subst (λ (w : Walk). WalksOn s w words (walk_at (place_behind p (word ∷ words)) (held_behind s p h (word ∷ words))) [])
     (sym (ap (λ (t : Option Rule × (Bool × Walk)). t.1.1) met))
     (walks_places s (p + 1) (positional_held s.rules (rule_at s p) word h) words a.1 (others_same f)))
-
--- `clap` takes the line, and gives back the positional words and the values of the options
-pub record Passes (app : App) (line ids words choices : List Text) (given : List (Option Text)) : Type 0 where
-  pub taken : IsTaken app line
-  pub places : map (text_found app line) ids ≡ map (λ w. Some w) words
-  pub options : map (text_found app line) choices ≡ given
 
 -- the texts of arguments in the rows at the end of a walk
 abbrev pub texts_in : App → Held → List Text → List (Option Text)

@@ -3,14 +3,14 @@ use Rattle.std.proofs.Common.{◌≡◌, ◌≢◌, ℕ, Bor, Option, Some, None
 use Rattle.std.specs.Prelude.{Result, map, option_and_then, option_map}
 use Rattle.clap.specs.Words.{App}
 use Rattle.clap.specs.declared.parser.matches.ArgMatches.{ArgMatches}
-use Rattle.front_words.specs.ClapCommands.{made_at, options_at, text_at, text_found, values_at}
+use Rattle.front_words.specs.ClapCommands.{Passes, app_with, made_at, options_at, text_at, text_found, values_at}
 use Rattle.front_words.specs.Forms.{Value, WordForm, value_of_word}
-use Rattle.front_words.specs.Inside.{AnswersWith, given_in, split_of_words}
+use Rattle.front_words.specs.Inside.{AnswersWith, ArePlain, TakesPlaces, given_in, split_of_words}
 use Rattle.front_words.specs.declared.commands.WordsFault.{WordsFault}
 use Rattle.front_words.specs.declared.splitting.Given.{Given as GivenWords}
 use Rattle.front_words.specs.Splitting.{Given, Split, only_value, values_for}
 use Rattle.front_words.specs.Usages.{OptionUsage, Usage, made_of, options_read, places_read, value_if}
-use Rattle.front_words.proofs.ClapWalk.{Passes, first_same, others_same}
+use Rattle.front_words.proofs.ClapWalk.{first_same, others_same}
 use Rattle.front_words.proofs.Places.{miscounted}
 
 no_others : {A P : Type 0} {x : A} {xs : List A} → [] ≡ x ∷ xs → P
@@ -74,3 +74,12 @@ pub answers_line : {A B : Type 0} (value_in : B → A) (result : Result B WordsF
 answers_line {A} value_in result usage matches app held line ids choices s values e found p f h =
     subst (λ (due : Option A). AnswersWith value_in due result)
     (same_made matches app line (λ id. found id ∙ ap (λ (ws : List (List ℕ)). text_found app ws id) e) usage ids choices s values p f) h
+
+-- the line of a command without options passes where the command's name and places are equal to these
+pub passes_places : {A : Type 0} (usage : Usage A) (ids words : List (List ℕ)) (name : List ℕ) (places : List (List ℕ)) → TakesPlaces usage ids
+    → name ≡ usage.name → places ≡ ids → length words ≡ length places → ArePlain words
+    → Passes (app_with name places []) (name ∷ words) ids words [] []
+passes_places usage ids words name places t e f n plain =
+    let passed = t.passes words (n ∙ ap (λ (l : List (List ℕ)). length l) f) plain in
+    subst (λ (p : List (List ℕ)). Passes (app_with name p []) (name ∷ words) ids words [] []) (sym f)
+    (subst (λ (m : List ℕ). Passes (app_with m ids []) (m ∷ words) ids words [] []) (sym e) passed)

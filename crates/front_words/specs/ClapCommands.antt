@@ -130,3 +130,9 @@ options_at matches ids os = None
 abbrev pub made_at : {A : Type 0} → ArgMatches → Usage A → List (List ℕ) → List (List ℕ) → Option A
 made_at matches usage places choices =
     option_and_then (λ vs. option_and_then (usage.make vs) (options_at matches choices usage.options)) (values_at matches places usage.places)
+
+-- `clap` takes the line, and gives back the positional words and the values of the options
+pub record Passes (app : App) (line ids words choices : List (List ℕ)) (given : List (Option (List ℕ))) : Type 0 where
+  pub taken : IsTaken app line
+  pub places : map (text_found app line) ids ≡ map (λ w. Some w) words
+  pub options : map (text_found app line) choices ≡ given

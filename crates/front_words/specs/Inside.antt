@@ -1,10 +1,15 @@
 -- The facts that the calls hand to one another; no law.
-use Rattle.std.specs.Prelude.{ℕ, ◌≡◌, ◌≤◌, ⊤, false, Option, Some, None, List, [], ◌∷◌, ◌++◌, map, option_map, Result, Ok, Err}
+use Rattle.std.specs.Prelude.{ℕ, ◌≡◌, ◌≤◌, ⊤, false, Option, Some, None, List, [], ◌∷◌, ◌++◌, length, map, option_map, Result, Ok, Err}
 use Rattle.std.specs.Borrow.{Bor}
+use Rattle.clap.specs.Words.{Rule}
+use Rattle.front_words.specs.ClapCommands.{Passes, app_with, choice, place}
 use Rattle.front_words.specs.Commands.{Gen, Trip}
 use Rattle.front_words.specs.Forms.{Value, of_text, of_number}
 use Rattle.front_words.specs.Splitting.{Given, Split, is_dashed, split_of, Piece, plain, named, assigned, stray}
+use Rattle.front_words.specs.Usages.{Usage}
 use Rattle.net_generator.specs.declared.limits.TheConstants.{LAST_NUMBER, MOST_LINES}
+use Rattle.front_words.specs.declared.clap_words.ArgKind.{ArgKind}
+use Rattle.front_words.specs.declared.clap_words.ArgKind.TheVariants.{Place, Choice}
 use Rattle.front_words.specs.declared.commands.WordsFault.{WordsFault}
 use Rattle.front_words.specs.declared.commands.WordsFault.TheVariants.{NotACommand, OutOfMemory}
 use Rattle.front_words.specs.declared.splitting.Given.{Given as GivenWords}
@@ -40,6 +45,18 @@ piece_of_word Stray = stray
 abbrev pub ArePlain : List (List ℕ) → Type 0
 ArePlain [] = ⊤
 ArePlain (word ∷ words) = (is_dashed word ≡ false) × ArePlain words
+
+-- the rule of an argument of a kind
+abbrev pub rule_in : ArgKind → List ℕ → Rule
+rule_in Place id = place id
+rule_in Choice id = choice id
+
+-- a command has no option, and `clap` takes each line of its name and of as many words without a dash as it has places
+pub record TakesPlaces {A : Type 0} (usage : Usage A) (ids : List (List ℕ)) : Type 0 where
+  pub counted : length ids ≡ length usage.places
+  pub alone : usage.options ≡ []
+  pub passes : (words : List (List ℕ)) → length words ≡ length ids → ArePlain words
+      → Passes (app_with usage.name ids []) (usage.name ∷ words) ids words [] []
 
 -- no positional word and no value of an option begins with `-`
 pub record IsPlainSplit (s : Split) : Type 0 where

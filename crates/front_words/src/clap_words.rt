@@ -1,63 +1,55 @@
 // The line of words that goes to `clap`, and the matches that it gives back.
 ghost use Rattle.std.specs.Prelude.{◌≡◌, ◌∷◌, ◌++◌, ℕ, List, IfErr, IfOk, map, option_map};
 ghost use Rattle.clap.specs.Words.{app_of, kind_of, with_rule};
-ghost use Rattle.front_words.specs.ClapCommands.{IsTaken, app_in, choice, option_line, place, text_at, text_found, with_rules};
+ghost use Rattle.front_words.specs.ClapCommands.{IsTaken, app_in, option_line, text_at, text_found, with_rules};
+ghost use Rattle.front_words.specs.Inside.{rule_in};
 
 use clap::error::ErrorKind;
 use clap::{Arg, ArgMatches, Command, Error};
 use route_base::OutOfMemory;
 use std::alloc::{AllocError, Global};
 
-// The command with a positional word more, which must be there.
-fn with_place<'a>(
-    alloc: Global,
-    command: Command<'a>,
-    id: &'a str,
-) -> Result<Command<'a>, AllocError>
-    ensures { IfOk result (λ c. app_of c ≡ with_rule (app_of command.entry) (place id.entry.now)) }
-{
-    let arg = Arg::new(alloc, id).required(true);
-    command.arg(arg)
+// The kinds of arguments: positional words, which must be there, and options, which have a value.
+#[derive(Clone, Copy)]
+enum ArgKind {
+    Place,
+    Choice,
 }
 
-// The command with positional words more, in their order.
-fn with_places<'a>(
+// The command with an argument more.
+fn with_argument<'a>(
     alloc: Global,
-    mut command: Command<'a>,
-    ids: &[&'a str],
+    command: Command<'a>,
+    kind: ArgKind,
+    id: &'a str,
 ) -> Result<Command<'a>, AllocError>
     ensures { IfOk result (λ c. app_of c
-        ≡ with_rules (app_of command.entry) (map (λ id. place id.now) ids.now)) }
+        ≡ with_rule (app_of command.entry) (rule_in kind id.entry.now)) }
 {
-    for id in ids {
-        command = with_place(alloc, command, *id)?;
+    match kind {
+        ArgKind::Place => {
+            let arg = Arg::new(alloc, id).required(true);
+            command.arg(arg)
+        }
+        ArgKind::Choice => {
+            let arg = Arg::new(alloc, id).long(id);
+            command.arg(arg)
+        }
     }
-    Ok(command)
 }
 
-// The command with an option more, which has a value.
-fn with_choice<'a>(
-    alloc: Global,
-    command: Command<'a>,
-    id: &'a str,
-) -> Result<Command<'a>, AllocError>
-    ensures { IfOk result (λ c. app_of c ≡ with_rule (app_of command.entry) (choice id.entry.now)) }
-{
-    let arg = Arg::new(alloc, id).long(id);
-    command.arg(arg)
-}
-
-// The command with options more, in their order.
-fn with_choices<'a>(
+// The command with arguments more, in their order.
+fn with_arguments<'a>(
     alloc: Global,
     mut command: Command<'a>,
+    kind: ArgKind,
     ids: &[&'a str],
 ) -> Result<Command<'a>, AllocError>
     ensures { IfOk result (λ c. app_of c
-        ≡ with_rules (app_of command.entry) (map (λ id. choice id.now) ids.now)) }
+        ≡ with_rules (app_of command.entry) (map (λ id. rule_in kind id.now) ids.now)) }
 {
     for id in ids {
-        command = with_choice(alloc, command, *id)?;
+        command = with_argument(alloc, command, kind, *id)?;
     }
     Ok(command)
 }
@@ -72,8 +64,8 @@ fn command_for<'a>(
     ensures { IfOk result (λ c. app_of c
         ≡ app_in name.entry.now places.entry.now choices.entry.now) }
 {
-    let command = with_places(alloc, Command::new(alloc, name), places)?;
-    with_choices(alloc, command, choices)
+    let command = with_arguments(alloc, Command::new(alloc, name), ArgKind::Place, places)?;
+    with_arguments(alloc, command, ArgKind::Choice, choices)
 }
 
 // The matches of a line of a command, which `clap` refuses only when it is out of memory.

@@ -1,20 +1,16 @@
 // The words of `gen DIR NUMBER ROWS COLUMNS`.
-ghost use Rattle.std.specs.Prelude.{◌≡◌, ◌*◌, [], IfOk, map, nat_le};
-ghost use Rattle.front_words.specs.ClapCommands.{gen_places, made_at, values_at};
-ghost use Rattle.front_words.specs.Commands.{AsksSupported, gen_usage};
-ghost use Rattle.front_words.specs.Inside.{Answers, AnswersWith, AreCounted, ArePlain, gen_values, split_of_words};
-ghost use Rattle.front_words.specs.Usages.{made_of};
+ghost use Rattle.std.specs.Prelude.{◌≡◌, ◌*◌, IfOk, nat_le};
+ghost use Rattle.front_words.specs.ClapCommands.{gen_places, values_at};
+ghost use Rattle.front_words.specs.Commands.{gen_usage};
+ghost use Rattle.front_words.specs.Inside.{AnswersWith, AreCounted, gen_values};
 ghost use Rattle.net_generator.specs.declared.limits.TheConstants.{MOST_GENERATED_NODES};
 
-use crate::clap_words::{line_of, matches_for};
 use crate::found::{count_at, folder_at, small_count_at};
+use crate::positional::PositionalCommand;
 use crate::{Gen, Invocation, WordsFault};
 use clap::ArgMatches;
 use net_generator::{LAST_NUMBER, MOST_GENERATED_NODES, MOST_LINES};
 use std::alloc::Global;
-
-// The positional words, by the names that `clap` has for them.
-const PLACES: &[&str] = &["dir", "number", "rows", "columns"];
 
 // The network that the words say, whose nodes may be too many.
 fn counts_found(alloc: Global, matches: &ArgMatches) -> Result<Gen, WordsFault>
@@ -38,29 +34,29 @@ fn has_few_nodes(network: &Gen) -> bool
     network.rows * network.columns <= MOST_GENERATED_NODES
 }
 
-// The network that the words say.
-fn gen_found(alloc: Global, matches: &ArgMatches) -> Result<Invocation, WordsFault>
-    ensures made { Answers (made_at matches.now gen_usage gen_places []) result }
-    ensures supported { IfOk result AsksSupported }
-{
-    let network = counts_found(alloc, matches)?;
-    if has_few_nodes(&network) {
-        Ok(Invocation::Gen(network))
-    } else {
-        Err(WordsFault::NotACommand)
-    }
-}
+/// The words of `gen`.
+#[derive(Clone, Copy)]
+pub struct GenWords;
 
-// The network of positional words, by `clap`.
-pub fn read_gen(alloc: Global, places: &[&str]) -> Result<Invocation, WordsFault>
-    requires plain { ArePlain (map (λ w. w.now) places.now) }
-    ensures made { Answers (made_of gen_usage (split_of_words places.now [])) result }
-    ensures supported { IfOk result AsksSupported }
-{
-    if places.len() != PLACES.len() {
-        return Err(WordsFault::NotACommand);
+impl PositionalCommand for GenWords {
+    ghost usage = { gen_usage };
+
+    ghost ids = { gen_places };
+
+    fn name(&self) -> &'static str {
+        "gen"
     }
-    let line = line_of(alloc, "gen", &[], places)?;
-    let matches = matches_for(alloc, "gen", PLACES, &[], line.as_slice())?;
-    gen_found(alloc, &matches)
+
+    fn places(&self) -> &'static [&'static str] {
+        &["dir", "number", "rows", "columns"]
+    }
+
+    fn found(&self, alloc: Global, matches: &ArgMatches) -> Result<Invocation, WordsFault> {
+        let network = counts_found(alloc, matches)?;
+        if has_few_nodes(&network) {
+            Ok(Invocation::Gen(network))
+        } else {
+            Err(WordsFault::NotACommand)
+        }
+    }
 }

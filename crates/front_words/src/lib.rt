@@ -29,6 +29,7 @@ mod generate;
 mod limits;
 mod options;
 mod plan;
+mod positional;
 mod reading;
 mod splitting;
 mod trip_words;

@@ -3,12 +3,13 @@ ghost use Rattle.std.specs.Prelude.{◌≡◌, None, Some, IfErr, IfOk, map};
 ghost use Rattle.front_words.specs.Commands.{AsksSupported, command_in, command_of, usages};
 ghost use Rattle.front_words.specs.Usages.{options_named};
 
-use crate::bans::read_bans;
+use crate::bans::BansWords;
 use crate::batch::read_batch;
-use crate::check::read_check;
+use crate::check::CheckWords;
 use crate::flat::side_by_side;
-use crate::generate::read_gen;
+use crate::generate::GenWords;
 use crate::plan::read_plan;
+use crate::positional::read_places;
 use crate::splitting::split_words;
 use crate::{Command, Invocation, WordsFault};
 use route_base::Text;
@@ -49,10 +50,10 @@ pub fn read_invocation(alloc: Global, words: &[Text]) -> Result<Invocation, Word
     let places = split.places.as_slice();
     match name.as_str() {
         "plan" => read_plan(alloc, places, split.given.as_slice()),
-        "check" => read_check(alloc, places),
-        "bans" => read_bans(alloc, places),
+        "check" => read_places(alloc, &CheckWords, places),
+        "bans" => read_places(alloc, &BansWords, places),
         "batch" => read_batch(alloc, places, split.given.as_slice()),
-        "gen" => read_gen(alloc, places),
+        "gen" => read_places(alloc, &GenWords, places),
         _ => Err(WordsFault::NotACommand),
     }
 }

@@ -12,10 +12,11 @@ use Rattle.route_base.specs.declared.types.Leg.TheVariants.{Drive, Wait}
 use Rattle.route_base.specs.declared.types.Request.{Request}
 use Rattle.route_base.specs.declared.types.Route.{Route}
 use Rattle.route_base.specs.declared.types.Run.{Run}
-use Rattle.plan_report.specs.Csv.{csv_kind, csv_row, csv_leg_row, csv_arrive_row, csv_route_text}
+use Rattle.plan_report.specs.Csv.{csv_kind, csv_row, csv_leg_row, csv_texts}
 use Rattle.plan_report.specs.Reports.{report_text}
+use Rattle.plan_report.specs.Routes.{RouteTexts, route_text, routes_text}
 use Rattle.plan_report.specs.Stages.{Stage, no_road, road_at, weight_at, minutes_of_leg, position_after, stages_from, stages_of, numbered_text}
-use Rattle.plan_report.specs.Table.{table_move_text, table_leg_text, table_head_text, table_route_text}
+use Rattle.plan_report.specs.Table.{table_move_text, table_leg_text, table_texts}
 
 same_road : (s z : Setting) (window : Run) (a : ℕ) → StandsFor s z window → road_at s a ≡ road_at z a
 same_road s z window a same = ap (λ (o : Option Road). unwrap_or o no_road) (same.road a)
@@ -71,17 +72,17 @@ same_legs : (f g : Stage → List ℕ) (s z : Setting) (window : Run) (r : Reque
 same_legs f g s z window r legs each same =
     same_each f g (stages_of s r legs) each ∙ ap (flat_map g) (same_stages s z window 1 _ legs same)
 
+same_routes : (t : RouteTexts) (s z : Setting) (window : Run) (r : Request) (routes : List Route) → ((n : ℕ) (x : Stage) → t.leg s n x ≡ t.leg z n x)
+    → StandsFor s z window → routes_text t s r routes ≡ routes_text t z r routes
+same_routes t s z window r routes each same =
+    ap (λ (x : List ℕ). t.start (length routes) ++ x)
+    (same_numbered (route_text t s r) (route_text t z r) 1 routes
+    (λ n route. ap (λ (x : List ℕ). t.head n route ++ x ++ t.end n route)
+    (same_legs (t.leg s n) (t.leg z n) s z window r route.legs (each n) same)))
+
 pub same_report : (s z : Setting) (window : Run) (form : Form) (r : Request) (routes : List Route) → StandsFor s z window
     → report_text form s r routes ≡ report_text form z r routes
 same_report s z window Plain r routes same = refl
-same_report s z window Table r routes same =
-    ap (λ (t : List ℕ). codes "routes " ++ decimal (length routes) ++ codes "\n" ++ t)
-    (same_numbered (table_route_text s r) (table_route_text z r) 1 routes
-    (λ n route. ap (λ (t : List ℕ). table_head_text n route ++ t)
-    (same_legs (table_leg_text s) (table_leg_text z) s z window r route.legs (λ x. same_line s z window x same) same)))
-same_report s z window Csv r routes same =
-    ap (λ (t : List ℕ). codes "pair,leg,kind,arc,node,start,minutes,cost\n" ++ t)
-    (same_numbered (csv_route_text s r) (csv_route_text z r) 1 routes
-    (λ n route. ap (λ (t : List ℕ). t ++ csv_arrive_row r n route)
-    (same_legs (csv_leg_row s n) (csv_leg_row z n) s z window r route.legs (λ x. same_row s z window n x same) same)))
+same_report s z window Table r routes same = same_routes table_texts s z window r routes (λ n x. same_line s z window x same) same
+same_report s z window Csv r routes same = same_routes (csv_texts r) s z window r routes (λ n x. same_row s z window n x same) same
 same_report s z window Json r routes same = refl

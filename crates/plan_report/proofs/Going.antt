@@ -127,6 +127,13 @@ pub good_next : (s : Setting) (until : ℕ) (legs : List Leg) (i : ℕ) (d : Leg
 good_next s until legs i d p end low lead =
     good_first s until (get_or legs i d) (drop (i + 1) legs) p end (subst (λ (xs : List Leg). Lead s until xs p end) (drop_more legs i d low) lead)
 
+-- the same of the legs of a route
+pub passable_next : (s : Setting) (r : Request) (legs : List Leg) (pair : Pair) (i : ℕ) (d : Leg) (p : Position) → Achieves s r legs pair
+    → IsInstant r.depart × IsInstant r.until → i < length legs → Lead s r.until (drop i legs) p (end_of r pair) → first_instant ≤ p.minute
+    → pair.cost < 2 ^ 64 → IsPassable s p (get_or legs i d)
+passable_next s r legs pair i d p lawful timed low lead early cheap =
+    good_next s r.until legs i d p (end_of r pair) low lead early (arrives s r legs pair lawful timed.0 timed.1).1 cheap
+
 -- one numbered item more is written
 pub numbered_more : {A : Type 0} (f : ℕ → A → List ℕ) (xs : List A) (i : ℕ) (d : A) (out next all : List ℕ) → i < length xs
     → next ≡ out ++ f (i + 1) (get_or xs i d) → out ++ numbered_text f (i + 1) (drop i xs) ≡ all

@@ -1,5 +1,5 @@
 -- The CSV text of routes (source: RFC 4180, with line feeds; the columns are own).
-use Rattle.std.specs.Prelude.{ℕ, ◌+◌, List, ◌++◌, length, codes, decimal, flat_map}
+use Rattle.std.specs.Prelude.{ℕ, ◌+◌, List, [], ◌++◌, length, codes, decimal}
 use Rattle.calendar_days.specs.Texts.{instant_text_of}
 use Rattle.route_base.specs.Setting.{Setting}
 use Rattle.route_base.specs.Itinerary.{Position}
@@ -9,7 +9,8 @@ use Rattle.route_base.specs.declared.types.Leg.TheVariants.{Drive, Wait}
 use Rattle.route_base.specs.declared.types.Request.{Request}
 use Rattle.route_base.specs.declared.types.Route.{Route}
 use Rattle.line_texts.specs.Words.{thousandths_of}
-use Rattle.plan_report.specs.Stages.{Stage, minutes_of_leg, stages_of, numbered_text}
+use Rattle.plan_report.specs.Routes.{RouteTexts, routes_text}
+use Rattle.plan_report.specs.Stages.{Stage, minutes_of_leg}
 
 -- the columns node, start, minutes, and the cost up to there
 abbrev pub csv_place_text : Position → ℕ → List ℕ
@@ -33,10 +34,15 @@ csv_leg_row s n x = csv_row n x.number (csv_kind x.leg) x.from (minutes_of_leg s
 abbrev pub csv_arrive_row : Request → ℕ → Route → List ℕ
 csv_arrive_row r n route = csv_row n (length route.legs + 1) (codes ",arrive,,") (end_of r route.pair) 0
 
--- the rows of route n
-abbrev pub csv_route_text : Setting → Request → ℕ → Route → List ℕ
-csv_route_text s r n route = flat_map (csv_leg_row s n) (stages_of s r route.legs) ++ csv_arrive_row r n route
+-- the header, a row for each leg of a route, and behind them the row of its arrival
+abbrev pub csv_texts : Request → RouteTexts
+csv_texts r = record {
+  start = λ n. codes "pair,leg,kind,arc,node,start,minutes,cost\n";
+  head = λ n route. [];
+  leg = csv_leg_row;
+  end = csv_arrive_row r;
+}
 
--- the header, and then the routes, numbered from 1
+-- the header, and then the routes
 abbrev pub csv_text_of : Setting → Request → List Route → List ℕ
-csv_text_of s r routes = codes "pair,leg,kind,arc,node,start,minutes,cost\n" ++ numbered_text (csv_route_text s r) 1 routes
+csv_text_of s r routes = routes_text (csv_texts r) s r routes

@@ -11,6 +11,7 @@ use Rattle.route_base.specs.declared.types.Request.{Request}
 use Rattle.route_base.specs.declared.types.Route.{Route}
 use Rattle.plan_report.specs.Stages.{position_after, road_at, Stage}
 use Rattle.plan_report.specs.declared.places.Place.{Place}
+use Rattle.plan_report.specs.declared.places.Stage.{Stage as StageWords}
 
 abbrev pub position_at : Place → Position
 position_at at = record { node = at.node.0; minute = at.minute; cost = at.cost }
@@ -32,9 +33,13 @@ pub record IsPassable (s : Setting) (p : Position) (leg : Leg) : Type 0 where
   pub minute : IsInstant (position_after s p leg).minute
   pub cost : (position_after s p leg).cost < 2 ^ 64
 
--- the stage of a leg at a place
-abbrev pub stage_at : ℕ → Place → Leg → Stage
-stage_at number at leg = record { number = number; from = position_at at; leg = leg }
+-- the stage that the code holds
+abbrev pub stage_in : StageWords → Stage
+stage_in x = record { number = x.number; from = position_at x.from; leg = x.leg }
+
+-- the stage leads to its end
+abbrev pub LeadsOn : Setting → StageWords → Type 0
+LeadsOn s x = position_at x.to ≡ position_after s (position_at x.from) x.leg
 
 -- depart and until are instants
 abbrev pub HasInstants : Request → Type 0

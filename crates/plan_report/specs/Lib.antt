@@ -7,6 +7,7 @@ pub mod Json
 pub mod Plain
 pub mod Refusals
 pub mod Reports
+pub mod Routes
 pub mod Stages
 pub mod Summary
 pub mod Table

@@ -1,5 +1,5 @@
 -- The table of routes (source: own).
-use Rattle.std.specs.Prelude.{ℕ, List, ◌++◌, length, codes, decimal, flat_map}
+use Rattle.std.specs.Prelude.{ℕ, List, [], ◌++◌, codes, decimal}
 use Rattle.calendar_days.specs.Texts.{instant_text_of}
 use Rattle.route_base.specs.Setting.{Setting}
 use Rattle.route_base.specs.Itinerary.{Position}
@@ -8,7 +8,8 @@ use Rattle.route_base.specs.declared.types.Leg.TheVariants.{Drive, Wait}
 use Rattle.route_base.specs.declared.types.Request.{Request}
 use Rattle.route_base.specs.declared.types.Route.{Route}
 use Rattle.line_texts.specs.Words.{thousandths_of}
-use Rattle.plan_report.specs.Stages.{Stage, road_at, minutes_of_leg, stages_of, numbered_text}
+use Rattle.plan_report.specs.Routes.{RouteTexts, routes_text}
+use Rattle.plan_report.specs.Stages.{Stage, road_at, minutes_of_leg}
 
 -- the word of a leg with the arc and its ends, or with the node of a wait
 abbrev pub table_move_text : Setting → Position → Leg → List ℕ
@@ -27,10 +28,15 @@ table_head_text n route =
     codes "route " ++ decimal n ++ codes " arrive " ++ instant_text_of route.pair.arrival ++ codes " cost "
     ++ thousandths_of route.pair.cost ++ codes "\n"
 
--- the line of route n, and those of its legs
-abbrev pub table_route_text : Setting → Request → ℕ → Route → List ℕ
-table_route_text s r n route = table_head_text n route ++ flat_map (table_leg_text s) (stages_of s r route.legs)
+-- the number of routes, and for each route its line, and those of its legs
+abbrev pub table_texts : RouteTexts
+table_texts = record {
+  start = λ n. codes "routes " ++ decimal n ++ codes "\n";
+  head = table_head_text;
+  leg = λ s n x. table_leg_text s x;
+  end = λ n route. [];
+}
 
--- the number of routes, and then the routes, numbered from 1
+-- the number of routes, and then the routes
 abbrev pub table_text_of : Setting → Request → List Route → List ℕ
-table_text_of s r routes = codes "routes " ++ decimal (length routes) ++ codes "\n" ++ numbered_text (table_route_text s r) 1 routes
+table_text_of s r routes = routes_text table_texts s r routes

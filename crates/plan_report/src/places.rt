@@ -15,6 +15,16 @@ pub struct Place {
     pub cost: Cost,
 }
 
+/// A leg of a route, with the numbers of both, and the places before and after the leg.
+#[derive(Clone, Copy)]
+pub struct Stage {
+    pub route: u64,
+    pub number: u64,
+    pub from: Place,
+    pub to: Place,
+    pub leg: Leg,
+}
+
 /// The place from which a request's legs begin.
 pub fn first_place(request: Request) -> Place
     ensures { position_at result ≡ start_of request }

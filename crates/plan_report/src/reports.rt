@@ -5,10 +5,11 @@ ghost use Rattle.route_base.specs.Legs.{Achieves};
 ghost use Rattle.route_base.specs.Net.{setting_of};
 ghost use Rattle.route_base.specs.Time.{IsInstant};
 
-use crate::csv::csv_text;
+use crate::csv::CsvRows;
 use crate::json::json_text;
 use crate::plain::plain_text;
-use crate::table::table_text;
+use crate::routes::routes_text;
+use crate::table::TableLines;
 use route_base::{Form, OutOfMemory, Request, Routes, TimedNet};
 use std::alloc::Global;
 
@@ -28,8 +29,8 @@ pub fn plan_text(
 {
     match form {
         Form::Plain => plain_text(alloc, routes),
-        Form::Table => table_text(alloc, net, request, routes),
-        Form::Csv => csv_text(alloc, net, request, routes),
+        Form::Table => routes_text(alloc, &TableLines, net, request, routes),
+        Form::Csv => routes_text(alloc, &CsvRows { request }, net, request, routes),
         Form::Json => json_text(alloc, routes),
     }
 }
