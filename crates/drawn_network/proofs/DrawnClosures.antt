@@ -1,10 +1,9 @@
 -- Closures as they are drawn are lawful.
-use Rattle.std.proofs.Common.{ℕ, ◌%◌, ◌≤◌, List, [], length, arith}
+use Rattle.std.proofs.Common.{ℕ, ◌%◌, ◌≤◌, [], length, arith}
 use Rattle.std.specs.Prelude.{◌==◌, All}
 use Rattle.std.proofs.lemmas.List.Elements.{All-nil, All-cons}
 use Rattle.net_generator.specs.Draws.{next_state}
 use Rattle.net_generator.specs.Layout.{drawn_closure, closures_at, closures_drawn}
-use Rattle.net_generator.specs.declared.layout.Closure.{Closure}
 use Rattle.drawn_network.proofs.AllDrawn.{drawn_all, drawn_few}
 use Rattle.drawn_network.proofs.DrawnOrNot.{drawn_or_not, one_or_none}
 use Rattle.drawn_network.proofs.LawfulRows.{IsLawfulClosure}

@@ -1,14 +1,12 @@
 -- The files of a drawn network have no fault.
-use Rattle.std.proofs.Common.{◌≡◌, ℕ, ◌*◌, Option, None, List, [], ◌∷◌, length, refl, ap, ◌∙◌, arith}
+use Rattle.std.proofs.Common.{◌≡◌, ℕ, ◌*◌, None, length, refl, ap, ◌∙◌, arith}
 use Rattle.std.proofs.lemmas.List.{length-map}
-use Rattle.std.specs.List.{AllByRecursion}
-use Rattle.route_base.specs.declared.faults.FileKind.{FileKind}
 use Rattle.route_base.specs.declared.faults.FileKind.TheVariants as file
 use Rattle.table_reader.specs.Schema.{first_table_fault}
 use Rattle.network_tables.specs.Closures.{closures_schema}
-use Rattle.network_tables.specs.NetworkFiles.{arc_count_of, node_count_of, contents_fault, fault_in, first_some, ratings_of, table_fault}
-use Rattle.network_tables.specs.NetworkFiles.{graph_fault, zones_fault, areas_fault, roads_fault, vehicles_fault, rules_fault, closures_fault}
-use Rattle.network_tables.specs.NetworkFiles.{ratings_fault, parking_fault, holidays_fault}
+use Rattle.network_tables.specs.NetworkFiles.{arc_count_of, node_count_of, contents_fault, fault_in, ratings_of, table_fault}
+use Rattle.network_tables.specs.NetworkFiles.{graph_fault, closures_fault}
+use Rattle.network_tables.specs.NetworkFiles.{ratings_fault, parking_fault}
 use Rattle.network_tables.specs.Parking.{parking_schema}
 use Rattle.net_generator.specs.Generated.{closures_file, parking_file}
 use Rattle.net_generator.specs.Layout.{roads_drawn}
