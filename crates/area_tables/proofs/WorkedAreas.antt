@@ -6,24 +6,20 @@ use Rattle.route_base.specs.declared.faults.Cause.TheVariants.{BadField, Unknown
 use Rattle.calendar_days.specs.Days.{days_of_years, days_of_months}
 use Rattle.calendar_days.specs.Texts.{day_of_text}
 use Rattle.opening_hours.specs.Holidays.{is_listed}
+use Rattle.route_base.specs.Forms.{is_name}
 use Rattle.table_reader.specs.ByNumber.{given_by_number, numbered_in}
 use Rattle.table_reader.specs.NameIndex.{names_of, value_under}
 use Rattle.table_reader.specs.Records.{Record}
 use Rattle.table_reader.specs.Schema.{first_table_fault}
+use Rattle.table_reader.proofs.WorkedTables.{HaveFaults, two_fields, three_fields}
 use Rattle.area_tables.specs.Areas.{areas_schema, areas_in, areas_or_default}
 use Rattle.area_tables.specs.Holidays.{holidays_schema, holidays_in, rows_named, calendar_days}
 use Rattle.area_tables.specs.Roads.{roads_schema, area_by_arc}
 
-abbrev area_row : List ℕ → List ℕ → Record
-area_row area zone = area ∷ zone ∷ []
-
-abbrev areas_header : Record
-areas_header = codes "area" ∷ codes "zone" ∷ []
-
 abbrev two_zones : List ℕ → Option ℕ
 two_zones name = value_under ((codes "East", 0) ∷ (codes "UTC", 1) ∷ []) name
 
-areas_stated : areas_or_default (areas_in (area_row (codes "a") (codes "East") ∷ area_row (codes "b") (codes "UTC") ∷ [])) ≡
+areas_stated : areas_or_default (areas_in (two_fields (codes "a") (codes "East") ∷ two_fields (codes "b") (codes "UTC") ∷ [])) ≡
     (codes "a", codes "East") ∷ (codes "b", codes "UTC") ∷ []
 areas_stated = refl
 
@@ -31,58 +27,37 @@ areas_stated = refl
 default_area : areas_or_default (areas_in []) ≡ (codes "default", codes "UTC") ∷ []
 default_area = refl
 
-zone_unknown : first_table_fault (areas_schema two_zones) (areas_header ∷ area_row (codes "a") (codes "West") ∷ []) ≡ Some (2, Unknown)
+-- a zone that isn't there; an area that has a row; a zone that isn't there before an area that has a row; a field that is no name
+area_faults : HaveFaults (areas_schema two_zones) (codes "area" ∷ codes "zone" ∷ []) (
+    (two_fields (codes "a") (codes "West") ∷ [], Some (2, Unknown))
+    ∷ (two_fields (codes "a") (codes "East") ∷ two_fields (codes "a") (codes "UTC") ∷ [], Some (3, Duplicate))
+    ∷ (two_fields (codes "a") (codes "East") ∷ two_fields (codes "a") (codes "West") ∷ [], Some (3, Unknown))
+    ∷ (two_fields (codes "a") (codes "Far East") ∷ [], Some (2, BadField))
+    ∷ [])
 unfolding first_table_fault
-zone_unknown = refl
-
-area_twice : first_table_fault (areas_schema two_zones)
-    (areas_header ∷ area_row (codes "a") (codes "East") ∷ area_row (codes "a") (codes "UTC") ∷ []) ≡ Some (3, Duplicate)
-unfolding first_table_fault
-area_twice = refl
-
--- a zone that isn't there comes before an area that is there already, and a field that is no name before both
-zone_before_duplicate : first_table_fault (areas_schema two_zones)
-    (areas_header ∷ area_row (codes "a") (codes "East") ∷ area_row (codes "a") (codes "West") ∷ []) ≡ Some (3, Unknown)
-unfolding first_table_fault
-zone_before_duplicate = refl
-
-zone_no_name : first_table_fault (areas_schema two_zones) (areas_header ∷ area_row (codes "a") (codes "Far East") ∷ []) ≡ Some (2, BadField)
-unfolding first_table_fault
-zone_no_name = refl
+area_faults = refl
 
 abbrev two_areas : List (List ℕ)
 two_areas = names_of ((codes "a", codes "East") ∷ (codes "b", codes "UTC") ∷ [])
 
-abbrev road_row : List ℕ → List ℕ → Record
-road_row arc area = arc ∷ area ∷ []
-
 -- an arc without a row is in the first area
-roads_stated : area_by_arc 3 two_areas (numbered_in (road_row (codes "2") (codes "b") ∷ road_row (codes "1") (codes "a") ∷ [])) ≡ 0 ∷ 1 ∷ 0 ∷ []
+roads_stated : area_by_arc 3 two_areas (numbered_in is_name (two_fields (codes "2") (codes "b") ∷ two_fields (codes "1") (codes "a") ∷ [])) ≡ 0 ∷ 1 ∷ 0 ∷ []
 unfolding given_by_number
 roads_stated = refl
 
-abbrev roads_header : Record
-roads_header = codes "arc" ∷ codes "area" ∷ []
-
-area_unknown : first_table_fault (roads_schema 3 two_areas) (roads_header ∷ road_row (codes "1") (codes "c") ∷ []) ≡ Some (2, Unknown)
+-- an area that isn't there; an arc after the last; an arc that has a row
+road_faults : HaveFaults (roads_schema 3 two_areas) (codes "arc" ∷ codes "area" ∷ []) (
+    (two_fields (codes "1") (codes "c") ∷ [], Some (2, Unknown))
+    ∷ (two_fields (codes "4") (codes "a") ∷ [], Some (2, Unknown))
+    ∷ (two_fields (codes "3") (codes "a") ∷ two_fields (codes "03") (codes "b") ∷ [], Some (3, Duplicate))
+    ∷ [])
 unfolding first_table_fault
-area_unknown = refl
-
-road_after_last : first_table_fault (roads_schema 3 two_areas) (roads_header ∷ road_row (codes "4") (codes "a") ∷ []) ≡ Some (2, Unknown)
-unfolding first_table_fault
-road_after_last = refl
-
-arc_twice : first_table_fault (roads_schema 3 two_areas)
-    (roads_header ∷ road_row (codes "3") (codes "a") ∷ road_row (codes "03") (codes "b") ∷ []) ≡ Some (3, Duplicate)
-unfolding first_table_fault
-arc_twice = refl
-
-abbrev holiday_row : List ℕ → List ℕ → List ℕ → Record
-holiday_row area kind date = area ∷ kind ∷ date ∷ []
+road_faults = refl
 
 abbrev three_holidays : List Record
-three_holidays = holiday_row (codes "b") (codes "PH") (codes "1970-02-01") ∷ holiday_row (codes "a") (codes "PH") (codes "1970-01-02") ∷ holiday_row
-    (codes "b") (codes "SH") (codes "1970-01-01") ∷ []
+three_holidays =
+    three_fields (codes "b") (codes "PH") (codes "1970-02-01") ∷ three_fields (codes "a") (codes "PH") (codes "1970-01-02")
+    ∷ three_fields (codes "b") (codes "SH") (codes "1970-01-01") ∷ []
 
 -- each area has the days of its own rows, of either kind
 holidays_stated : rows_named (holidays_in three_holidays) (codes "b") ≡ record { public = 31 ∷ []; school = 0 ∷ [] }
@@ -94,28 +69,12 @@ days_once : filter (λ day. is_listed day (2 ∷ 0 ∷ 2 ∷ [])) (calendar_days
 unfolding calendar_days
 days_once = refl
 
-abbrev holidays_header : Record
-holidays_header = codes "area" ∷ codes "kind" ∷ codes "date" ∷ []
-
--- a row may be repeated
-holiday_twice : first_table_fault (holidays_schema two_areas)
-    (holidays_header ∷ holiday_row (codes "a") (codes "PH") (codes "1970-01-02") ∷ holiday_row (codes "a") (codes "PH") (codes "1970-01-02") ∷ [])
-    ≡ None
+-- a row may be repeated; an area may not be there, and a kind that is none, or a date that is none, comes before that
+holiday_faults : HaveFaults (holidays_schema two_areas) (codes "area" ∷ codes "kind" ∷ codes "date" ∷ []) (
+    (three_fields (codes "a") (codes "PH") (codes "1970-01-02") ∷ three_fields (codes "a") (codes "PH") (codes "1970-01-02") ∷ [], None)
+    ∷ (three_fields (codes "c") (codes "SH") (codes "1970-01-02") ∷ [], Some (2, Unknown))
+    ∷ (three_fields (codes "c") (codes "ph") (codes "1970-01-02") ∷ [], Some (2, BadField))
+    ∷ (three_fields (codes "c") (codes "PH") (codes "1970-02-29") ∷ [], Some (2, BadField))
+    ∷ [])
 unfolding first_table_fault day_of_text days_of_years days_of_months
-holiday_twice = refl
-
-holiday_nowhere : first_table_fault (holidays_schema two_areas)
-    (holidays_header ∷ holiday_row (codes "c") (codes "SH") (codes "1970-01-02") ∷ []) ≡ Some (2, Unknown)
-unfolding first_table_fault day_of_text days_of_years days_of_months
-holiday_nowhere = refl
-
--- a kind that is none, and a date that is none, come before an area that isn't there
-kind_before_area : first_table_fault (holidays_schema two_areas)
-    (holidays_header ∷ holiday_row (codes "c") (codes "ph") (codes "1970-01-02") ∷ []) ≡ Some (2, BadField)
-unfolding first_table_fault
-kind_before_area = refl
-
-date_before_area : first_table_fault (holidays_schema two_areas)
-    (holidays_header ∷ holiday_row (codes "c") (codes "PH") (codes "1970-02-29") ∷ []) ≡ Some (2, BadField)
-unfolding first_table_fault day_of_text
-date_before_area = refl
+holiday_faults = refl

@@ -1,57 +1,27 @@
 -- Worked rows of zones: what the definitions say of them, by computing.
-use Rattle.std.proofs.Common.{◌≡◌, ℕ, List, [], ◌∷◌, Some, None, pos, negsuc, refl}
+use Rattle.std.proofs.Common.{◌≡◌, ℕ, List, [], ◌∷◌, map, Some, None, pos, negsuc, refl}
 use Rattle.std.specs.Prelude.{codes}
 use Rattle.calendar_days.specs.Texts.{instant_of}
 use Rattle.route_base.specs.declared.faults.Cause.TheVariants.{BadField, NotRising}
 use Rattle.table_reader.specs.Schema.{first_table_fault}
 use Rattle.table_reader.specs.Records.{Record, rows_in}
+use Rattle.table_reader.proofs.WorkedTables.{HaveFaults, three_fields}
 use Rattle.area_tables.specs.Zones.{offset_of, zone_row, zone_entries_in, zone_named, zones_schema}
 
-east : offset_of (codes "+05:45") ≡ Some (pos 345)
+-- offsets to the east and to the west; one too far; sixty minutes; no sign, another sign, and no colon
+offsets : map offset_of (
+    codes "+05:45" ∷ codes "-03:30" ∷ codes "-00:00" ∷ codes "-18:00" ∷ codes "+18:01" ∷ codes "+01:60" ∷ codes "01:00" ∷ codes "*01:00" ∷ codes "+01.00" ∷ [])
+    ≡ Some (pos 345) ∷ Some (negsuc 209) ∷ Some (pos 0) ∷ Some (negsuc 1079) ∷ None ∷ None ∷ None ∷ None ∷ None ∷ []
 unfolding offset_of
-east = refl
-
-west : offset_of (codes "-03:30") ≡ Some (negsuc 209)
-unfolding offset_of
-west = refl
-
-no_minutes_west : offset_of (codes "-00:00") ≡ Some (pos 0)
-unfolding offset_of
-no_minutes_west = refl
-
-farthest_west : offset_of (codes "-18:00") ≡ Some (negsuc 1079)
-unfolding offset_of
-farthest_west = refl
-
-too_far : offset_of (codes "+18:01") ≡ None
-unfolding offset_of
-too_far = refl
-
-sixty_minutes : offset_of (codes "+01:60") ≡ None
-unfolding offset_of
-sixty_minutes = refl
-
-no_sign : offset_of (codes "01:00") ≡ None
-unfolding offset_of
-no_sign = refl
-
-another_sign : offset_of (codes "*01:00") ≡ None
-unfolding offset_of
-another_sign = refl
-
-no_colon : offset_of (codes "+01.00") ≡ None
-unfolding offset_of
-no_colon = refl
+offsets = refl
 
 abbrev zones_header_row : Record
 zones_header_row = codes "zone" ∷ codes "from" ∷ codes "offset" ∷ []
 
-abbrev row : List ℕ → List ℕ → List ℕ → Record
-row name from offset = name ∷ from ∷ offset ∷ []
-
 abbrev two_zones : List Record
-two_zones = zones_header_row ∷ row (codes "A") (codes "525600") (codes "+01:00") ∷ row (codes "B") (codes "525600") (codes "-02:00") ∷ row (codes "A")
-    (codes "525601") (codes "+02:00") ∷ []
+two_zones =
+    zones_header_row ∷ three_fields (codes "A") (codes "525600") (codes "+01:00") ∷ three_fields (codes "B") (codes "525600") (codes "-02:00")
+    ∷ three_fields (codes "A") (codes "525601") (codes "+02:00") ∷ []
 
 two_zones_faultless : first_table_fault zones_schema two_zones ≡ None
 unfolding first_table_fault offset_of instant_of
@@ -69,17 +39,15 @@ none_of_the_name : zone_named (zone_entries_in (rows_in two_zones)) (codes "C") 
 unfolding offset_of instant_of
 none_of_the_name = refl
 
-utc_of_the_file : zone_named (zone_entries_in (row (codes "UTC") (codes "525600") (codes "+01:00") ∷ [])) (codes "UTC") ≡ Some (zone_row 525600 (pos 60) ∷ [])
+utc_of_the_file : zone_named (zone_entries_in (three_fields (codes "UTC") (codes "525600") (codes "+01:00") ∷ [])) (codes "UTC")
+    ≡ Some (zone_row 525600 (pos 60) ∷ [])
 unfolding offset_of instant_of
 utc_of_the_file = refl
 
-same_start : first_table_fault zones_schema
-    (zones_header_row ∷ row (codes "A") (codes "525600") (codes "+01:00") ∷ row (codes "A") (codes "525600") (codes "+02:00") ∷ []) ≡ Some (3, NotRising)
+-- a start twice; a field that isn't in its form comes before a start that isn't above the one before
+zone_faults : HaveFaults zones_schema zones_header_row (
+    (three_fields (codes "A") (codes "525600") (codes "+01:00") ∷ three_fields (codes "A") (codes "525600") (codes "+02:00") ∷ [], Some (3, NotRising))
+    ∷ (three_fields (codes "A") (codes "525600") (codes "+01:00") ∷ three_fields (codes "A") (codes "525600") (codes "+19:00") ∷ [], Some (3, BadField))
+    ∷ [])
 unfolding first_table_fault offset_of instant_of
-same_start = refl
-
--- a field that isn't in its form comes before a start that isn't above the one before
-bad_before_order : first_table_fault zones_schema
-    (zones_header_row ∷ row (codes "A") (codes "525600") (codes "+01:00") ∷ row (codes "A") (codes "525600") (codes "+19:00") ∷ []) ≡ Some (3, BadField)
-unfolding first_table_fault offset_of instant_of
-bad_before_order = refl
+zone_faults = refl

@@ -1,5 +1,5 @@
 -- holidays.csv: public and school holidays of areas (source: own; the kinds are those of the OpenStreetMap wiki).
-use Rattle.std.specs.Prelude.{ℕ, Bool, true, false, ◌&&◌, is_some, Option, Some, None, List, [], ◌∷◌, map, filter, codes, bytes_eq, if◌then◌else◌}
+use Rattle.std.specs.Prelude.{ℕ, ◌+◌, Bool, true, false, ◌&&◌, is_some, Option, Some, None, List, [], ◌∷◌, map, filter, codes, bytes_eq, if◌then◌else◌}
 use Rattle.std.specs.List.{filter_map, range_with_len}
 use Rattle.std.specs.Option.{option_map, option_and_then}
 use Rattle.route_base.specs.Forms.{is_name}
@@ -10,7 +10,7 @@ use Rattle.opening_hours.specs.Holidays.{HolidayLists, is_listed}
 use Rattle.area_tables.specs.declared.holidays.row.Holiday.{Holiday}
 use Rattle.area_tables.specs.declared.holidays.row.HolidayKind.{HolidayKind}
 use Rattle.area_tables.specs.declared.holidays.row.HolidayKind.TheVariants.{Public, School}
-use Rattle.route_base.specs.declared.limits.TheConstants.{MOST_HOLIDAYS}
+use Rattle.route_base.specs.declared.limits.TheConstants.{LAST_DAY, MOST_HOLIDAYS}
 use Rattle.table_reader.specs.Schema.{Schema}
 use Rattle.table_reader.specs.NameIndex.{place_among}
 use Rattle.table_reader.specs.Records.{Record}
@@ -65,7 +65,7 @@ calendar_days n = range_with_len 0 n
 
 -- the days of the calendar, up to 2200-12-31, that are listed
 abbrev pub days_listed : List ℕ → List ℕ
-days_listed days = filter (λ day. is_listed day days) (calendar_days 84371)
+days_listed days = filter (λ day. is_listed day days) (calendar_days (LAST_DAY + 1))
 
 -- the same of both kinds
 abbrev pub in_calendar : HolidayLists → HolidayLists

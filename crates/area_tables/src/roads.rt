@@ -1,15 +1,16 @@
 // roads.csv: the area of each arc.
 ghost use Rattle.std.specs.Prelude.{◌≡◌, codes, map, unwrap_or, IfOk};
 ghost use Rattle.route_base.specs.declared.limits.TheConstants.{MOST_ROAD_ROWS};
+ghost use Rattle.route_base.specs.Forms.{is_name};
 ghost use Rattle.area_tables.specs.Words.{names_of, place_among, numbered_in, roads_schema, area_by_arc};
 ghost use Rattle.area_tables.specs.Words.{ReadsRows, first_table_fault, records_of, rows_of};
 
 use crate::Areas;
 use route_base::limits::MOST_ROAD_ROWS;
-use route_base::{OutOfMemory, TableFault};
+use route_base::{OutOfMemory, TableFault, is_name_field};
 use std::alloc::Global;
 use std::marker::Model;
-use table_reader::{Naming, NumberedTable, read_table};
+use table_reader::{FieldValues, NumberedTable, read_table};
 
 /// Areas by name, which contracts see as those areas.
 #[derive(Drop)]
@@ -26,14 +27,16 @@ impl<'a> Model for AreaNames<'a> {
 }
 
 /// The rows assign the place of an area to an arc.
-impl<'a> Naming<u32> for AreaNames<'a> {
+impl<'a> FieldValues<u32> for AreaNames<'a> {
     ghost numbers = { codes "arc" };
 
-    ghost names = { codes "area" };
+    ghost fields = { codes "area" };
 
     ghost limit = { MOST_ROAD_ROWS };
 
-    ghost named = { λ areas. place_among (names_of areas) };
+    ghost form = { is_name };
+
+    ghost value = { λ areas. place_among (names_of areas) };
 
     fn headers(&self) -> &'static [&'static [&'static str]] {
         &[&["arc", "area"]]
@@ -41,6 +44,10 @@ impl<'a> Naming<u32> for AreaNames<'a> {
 
     fn most_rows(&self) -> u32 {
         MOST_ROAD_ROWS
+    }
+
+    fn has_form(&self, field: &[u8]) -> bool {
+        is_name_field(field)
     }
 
     fn find(&self, name: &[u8]) -> Option<u32> {
@@ -70,7 +77,7 @@ pub fn read_roads(
     ensures { ReadsRows result
         (first_table_fault (roads_schema arcs (names_of areas.now)) (records_of bytes.now))
         (λ places. places.items
-        ≡ area_by_arc arcs (names_of areas.now) (numbered_in (rows_of bytes.now))) }
+        ≡ area_by_arc arcs (names_of areas.now) (numbered_in is_name (rows_of bytes.now))) }
 {
     let table = NumberedTable::new(alloc, arcs, AreaNames { areas })?;
     let (_, places) = read_table(alloc, bytes, table)?.into_parts();

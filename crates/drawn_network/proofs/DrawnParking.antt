@@ -5,7 +5,7 @@ use Rattle.net_generator.specs.Draws.{next_state}
 use Rattle.net_generator.specs.Layout.{drawn_parking, parking_at, parking_drawn}
 use Rattle.net_generator.specs.declared.layout.Parking.{Parking}
 use Rattle.drawn_network.proofs.AllDrawn.{drawn_few}
-use Rattle.drawn_network.proofs.DrawnOrNot.{drawn_or_not}
+use Rattle.drawn_network.proofs.DrawnOrNot.{drawn_or_not, one_or_none}
 use Rattle.drawn_network.proofs.LawfulRows.{AreRisingRows}
 
 -- from a lower number on
@@ -35,9 +35,7 @@ parking_drawn-rising (suc n) s =
     (parking_drawn-rising n s) (node-rising (suc n) (parking_drawn n s).state)
 
 at_most_one : (v s : ℕ) → length (parking_at v s).values ≤ 1
-at_most_one v s =
-    drawn_or_not (λ (areas : List Parking). length areas ≤ 1) (next_state s % 8 == 0) (drawn_parking v (next_state s)) (next_state s)
-    (omega arith) (omega arith)
+at_most_one v s = one_or_none (next_state s % 8 == 0) (drawn_parking v (next_state s)) (next_state s) (omega arith)
 
 -- at most one for each node
 pub parking_drawn-length : (nodes s : ℕ) → length (parking_drawn nodes s).values ≤ nodes

@@ -1,6 +1,7 @@
 -- The tables of a drawn network have no fault, and state what is drawn.
 use Rattle.std.proofs.Common.{◌≡◌, ℕ, ◌*◌, ◌≤◌, None, length, map, arith}
 use Rattle.route_base.specs.declared.limits.TheConstants.{MOST_CLOSURES, MOST_PARKING_ROWS}
+use Rattle.route_base.specs.Forms.{is_name}
 use Rattle.table_reader.specs.ByNumber.{numbered_in}
 use Rattle.table_reader.specs.Records.{records_of, rows_of}
 use Rattle.table_reader.specs.Schema.{first_table_fault}
@@ -44,7 +45,7 @@ closures_file-read number rows columns few =
 
 -- and so are the parking areas
 pub parking_file-read : (number rows columns : ℕ) → rows * columns ≤ MOST_PARKING_ROWS
-    → numbered_in (rows_of (parking_file number rows columns))
+    → numbered_in is_name (rows_of (parking_file number rows columns))
     ≡ map parking_read (parking_drawn (rows * columns) (closures_after number rows columns).state).values
 parking_file-read number rows columns few =
     let start = (closures_after number rows columns).state in

@@ -6,7 +6,7 @@ use Rattle.std.specs.List.{AllByRecursion, list_any}
 use Rattle.std.proofs.lemmas.Bool.{le-leb, ne_eqb, cases_eq}
 use Rattle.route_base.specs.Forms.{is_name}
 use Rattle.route_base.specs.declared.limits.TheConstants.{MOST_PARKING_ROWS}
-use Rattle.table_reader.specs.ByNumber.{NumberedRow, numbered_of, numbered_in, name_at, cause_of_numbered}
+use Rattle.table_reader.specs.ByNumber.{NumberedRow, numbered_of, numbered_in, field_for, cause_of_numbered}
 use Rattle.table_reader.specs.NameIndex.{value_under}
 use Rattle.table_reader.specs.Records.{Record, records_of, rows_in, rows_of}
 use Rattle.table_reader.specs.Schema.{row_fault_from, first_table_fault}
@@ -76,30 +76,30 @@ rows-plain first last [] few h = tt
 rows-plain first last (area ∷ more) few h = (row-plain first last area few h.0, rows-plain (suc area.node) last more few h.1)
 
 row-read : (first last : ℕ) (area : Parking) → last ≤ 4294967295 → IsLawfulParking first last area
-    → numbered_of (parking_record area) ≡ Some (parking_read area)
+    → numbered_of is_name (parking_record area) ≡ Some (parking_read area)
 row-read first last area few h =
     rw (letter-name area.rating h.rating_low h.rating_high, table_number-read area.node (omega (arith, h.high, few))) refl
 
 rows-read : (first last : ℕ) (areas : List Parking) → last ≤ 4294967295 → AreRisingRows first last areas
-    → numbered_in (map parking_record areas) ≡ map parking_read areas
+    → numbered_in is_name (map parking_record areas) ≡ map parking_read areas
 rows-read first last [] few h = refl
 rows-read first last (area ∷ more) few h = rw (row-read first last area few h.0, rows-read (suc area.node) last more few h.1) refl
 
 -- no node from `first` on has a row
 abbrev AreBefore : ℕ → List Record → Type 0
-AreBefore first before = (v : ℕ) → first ≤ v → name_at (numbered_in before) v ≡ None
+AreBefore first before = (v : ℕ) → first ≤ v → field_for (numbered_in is_name before) v ≡ None
 
 before-more : (first last : ℕ) (before : List Record) (area : Parking) → last ≤ 4294967295 → IsLawfulParking first last area → AreBefore first before
     → AreBefore (suc area.node) (before ++ parking_record area ∷ [])
 before-more first last before area few h none v above =
-    ap (λ (rows : List NumberedRow). name_at rows v)
-    (filter_map-push numbered_of before (parking_record area) (parking_read area) (row-read first last area few h))
-    ∙ lookup-other (λ k. eqb v k) (numbered_in before) (parking_read area) (ne_eqb v area.node (λ e. absurd (omega (arith, e, above))))
+    ap (λ (rows : List NumberedRow). field_for rows v)
+    (filter_map-push (numbered_of is_name) before (parking_record area) (parking_read area) (row-read first last area few h))
+    ∙ lookup-other (λ k. eqb v k) (numbered_in is_name before) (parking_read area) (ne_eqb v area.node (λ e. absurd (omega (arith, e, above))))
     ∙ none v (omega (arith, above, h.low))
 
 no_cause : (first nodes : ℕ) (ratings : List Rating) (before : List Record) (area : Parking) → ratings ≡ three_ratings → 1 ≤ first → nodes ≤ 4294967295
     → IsLawfulParking first nodes area → AreBefore first before
-    → cause_of_numbered nodes (value_under ratings) (numbered_in before) (numbered_of (parking_record area)) ≡ None
+    → cause_of_numbered nodes (value_under ratings) (numbered_in is_name before) (numbered_of is_name (parking_record area)) ≡ None
 no_cause first nodes ratings before area is low few h none =
     rw (
       is,
@@ -137,6 +137,6 @@ parkings_text-faultless nodes areas few h room =
 
 -- the table states the parking areas
 pub parkings_text-read : (nodes : ℕ) (areas : List Parking) → nodes ≤ 4294967295 → AreRisingRows 1 nodes areas
-    → numbered_in (rows_of (parkings_text areas)) ≡ map parking_read areas
+    → numbered_in is_name (rows_of (parkings_text areas)) ≡ map parking_read areas
 parkings_text-read nodes areas few h =
-    ap (λ (rows : List Record). numbered_in (rows_in rows)) (table-records nodes areas few h) ∙ rows-read 1 nodes areas few h
+    ap (λ (rows : List Record). numbered_in is_name (rows_in rows)) (table-records nodes areas few h) ∙ rows-read 1 nodes areas few h

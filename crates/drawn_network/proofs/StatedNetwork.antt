@@ -1,7 +1,9 @@
 -- The files of a drawn network state it.
-use Rattle.std.proofs.Common.{◌≡◌, ℕ, zero, suc, ◌*◌, false, Option, None, List, [], ◌∷◌, map, refl, ◌∙◌, ap, arith}
+use Rattle.std.proofs.Common.{◌≡◌, ℕ, zero, suc, ◌+◌, ◌*◌, false, Option, None, List, [], ◌∷◌, map, refl, ◌∙◌, ap, arith}
 use Rattle.std.proofs.Math.ListN.{replicate}
 use Rattle.std.specs.Prelude.{filter, unwrap_or}
+use Rattle.route_base.specs.Forms.{is_name}
+use Rattle.route_base.specs.declared.limits.TheConstants.{LAST_DAY}
 use Rattle.table_reader.specs.ByNumber.{numbered_in}
 use Rattle.table_reader.specs.NameIndex.{names_of, place_among}
 use Rattle.table_reader.specs.Records.{Record, rows_of}
@@ -35,7 +37,7 @@ none-listed [] = refl
 none-listed (day ∷ days) = none-listed days
 
 no_days : days_listed [] ≡ []
-no_days = none-listed (calendar_days 84371)
+no_days = none-listed (calendar_days (LAST_DAY + 1))
 
 -- the areas of tables without rows
 areas_from : List Record → List Area
@@ -60,8 +62,8 @@ roads_stated : (number rows columns : ℕ) → IsDrawable number rows columns
     → roads_of (drawn_files number rows columns) ≡ replicate (arcs_drawn number rows columns) 0
 roads_stated number rows columns d =
     let names = names_of (areas_of (drawn_files number rows columns)) in
-    ap (λ n. area_by_arc n names (numbered_in (rows_of []))) (arcs_are number rows columns d)
-    ∙ ap (λ (none : List Record). area_by_arc (arcs_drawn number rows columns) names (numbered_in none)) empty-rows
+    ap (λ n. area_by_arc n names (numbered_in is_name (rows_of []))) (arcs_are number rows columns d)
+    ∙ ap (λ (none : List Record). area_by_arc (arcs_drawn number rows columns) names (numbered_in is_name none)) empty-rows
     ∙ ap (map (λ (o : Option ℕ). unwrap_or o 0)) (given_at_first (place_among names) (arcs_drawn number rows columns))
     ∙ first_area (arcs_drawn number rows columns)
 
@@ -79,8 +81,8 @@ weights_stated : (number rows columns : ℕ) → IsDrawable number rows columns
     → weights_of (drawn_files number rows columns) ≡ drawn_weights number rows columns
 weights_stated number rows columns d =
     let files = drawn_files number rows columns in
-    ap (λ n. weights_by_node n (ratings_of files) (numbered_in (rows_of files.parking))) (nodes_are number rows columns d)
-    ∙ ap (λ (ratings : List Rating). weights_by_node (rows * columns) ratings (numbered_in (rows_of files.parking))) ratings_file-ratings
+    ap (λ n. weights_by_node n (ratings_of files) (numbered_in is_name (rows_of files.parking))) (nodes_are number rows columns d)
+    ∙ ap (λ (ratings : List Rating). weights_by_node (rows * columns) ratings (numbered_in is_name (rows_of files.parking))) ratings_file-ratings
     ∙ ap (weights_by_node (rows * columns) three_ratings) (parking_file-read number rows columns (omega (arith, d.nodes)))
 
 pub network_stated : (number rows columns : ℕ) → IsDrawable number rows columns

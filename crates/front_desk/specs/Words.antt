@@ -19,7 +19,7 @@ pub use Rattle.front_words.specs.Commands.{AsksSupported, IsTimed}
 pub use Rattle.network_folder.specs.ReadingOrder.{certificate_file}
 pub use Rattle.front_desk.specs.Check.{check_fault, certificate_held, check_setting, IsAccepted, IsRejected}
 pub use Rattle.front_desk.specs.Commands.{first_fault_for, failed_check_for, IsFinished, IsUndisturbed, ReadsNothing, LeavesFiles, LeavesPlan, LeavesGen, WritesFiles}
-pub use Rattle.network_folder.specs.Files.{IfTold, path_of, whole_fault, fault_of_file, first_unreadable, bytes_at, file_in, IsRead, AreRead}
+pub use Rattle.network_folder.specs.Files.{IfTold, path_of, whole_fault, fault_of_file, first_unreadable, bytes_at, file_in, IsRead}
 pub use Rattle.network_folder.specs.Writing.{written_in, HoldsEach}
 pub use Rattle.front_desk.specs.Gen.{drawn_trip, stated_network, files_to_write, files_written, IsSummary}
 pub use Rattle.network_folder.specs.ReadingOrder.{network_files, files_from, files_of, first_folder_fault, first_fault_with, network_held}

@@ -57,16 +57,3 @@ pub record IsRead (old : FolderState) (dir : List ℕ) (file : FileToRead) (byte
   pub within : length bytes ≤ file.limit
   pub told : IfTold old (λ held. bytes ≡ bytes_at held dir file)
   pub faultless : IfTold old (λ held. fault_of_file held dir file ≡ None)
-
--- as many files as there are lists of bytes, none above its limit
-abbrev pub AreWithin : List FileToRead → List (List ℕ) → Type 0
-AreWithin [] [] = ⊤
-AreWithin [] (bytes ∷ more) = ⊥
-AreWithin (file ∷ files) [] = ⊥
-AreWithin (file ∷ files) (bytes ∷ more) = (length bytes ≤ file.limit) × AreWithin files more
-
--- the bytes of files that could all be read
-pub record AreRead (old : FolderState) (dir : List ℕ) (files : List FileToRead) (read : List (List ℕ)) : Type 0 where
-  pub within : AreWithin files read
-  pub told : IfTold old (λ held. read ≡ map (bytes_at held dir) files)
-  pub faultless : IfTold old (λ held. first_unreadable held dir files ≡ None)

@@ -1,6 +1,6 @@
--- The ten files of a network in the order in which they are read, their first fault, and the network that they state; further files of
+-- The files of a network in the order in which they are read, their first fault, and the network that they state; further files of
 -- commands (source: own).
-use Rattle.std.specs.Prelude.{ℕ, true, false, Option, List, [], ◌∷◌, ◌++◌, map, slice_index_or}
+use Rattle.std.specs.Prelude.{ℕ, Bool, true, false, Option, List, [], ◌∷◌, ◌++◌, map}
 use Rattle.std.specs.Option.{option_or}
 use Rattle.route_base.specs.Contents.{Contents}
 use Rattle.route_base.specs.Labels.{label_of}
@@ -10,47 +10,54 @@ use Rattle.route_base.specs.declared.faults.FileKind.{FileKind}
 use Rattle.route_base.specs.declared.faults.FileKind.TheVariants.{Graph, Zones, Areas, Roads, Vehicles, Rules, Closures, Ratings, Parking, Holidays}
 use Rattle.route_base.specs.declared.faults.FileKind.TheVariants.{Certificate, Jobs}
 use Rattle.route_base.specs.declared.limits.TheConstants.{LONGEST_CERTIFICATE, LONGEST_FILE}
+use Rattle.network_tables.specs.Files.{no_files, with_file}
 use Rattle.network_tables.specs.NetworkFiles.{contents_fault, network_in_files}
 use Rattle.network_tables.specs.NetworkModel.{NetworkModel}
 use Rattle.network_tables.specs.declared.files.Files.{Files}
 use Rattle.network_folder.specs.Files.{FileToRead, first_unreadable, bytes_at}
 
+-- a file of this name, which is TooLong beyond the limit
+abbrev pub named_file : FileKind → List ℕ → Bool → ℕ → FileToRead
+named_file kind name required limit = record { kind = kind; name = name; required = required; limit = limit; beyond = TooLong }
+
 -- a file that has to be there
 abbrev pub required_file : FileKind → FileToRead
-required_file kind = record { kind = kind; name = label_of kind; required = true; limit = LONGEST_FILE; beyond = TooLong }
+required_file kind = named_file kind (label_of kind) true LONGEST_FILE
 
 -- a table, which may be missing
 abbrev pub table_file : FileKind → FileToRead
-table_file kind = record { kind = kind; name = label_of kind; required = false; limit = LONGEST_FILE; beyond = TooLong }
+table_file kind = named_file kind (label_of kind) false LONGEST_FILE
 
 -- a certificate, which has to be there
 abbrev pub certificate_file : List ℕ → FileToRead
-certificate_file name = record { kind = Certificate; name = name; required = true; limit = LONGEST_CERTIFICATE; beyond = TooLong }
+certificate_file name = named_file Certificate name true LONGEST_CERTIFICATE
 
 -- a table of jobs, which has to be there
 abbrev pub jobs_file : List ℕ → FileToRead
-jobs_file name = record { kind = Jobs; name = name; required = true; limit = LONGEST_FILE; beyond = TooLong }
+jobs_file name = named_file Jobs name true LONGEST_FILE
+
+-- the kinds of a network's files in the order in which they are read
+abbrev pub network_kinds : List FileKind
+network_kinds = Graph ∷ Zones ∷ Areas ∷ Roads ∷ Vehicles ∷ Rules ∷ Closures ∷ Ratings ∷ Parking ∷ Holidays ∷ []
+
+-- a file of a network: the graph has to be there, and a table may be missing
+abbrev pub network_file : FileKind → FileToRead
+network_file Graph = required_file Graph
+network_file table = table_file table
 
 -- the files in the order in which they are read
 abbrev pub network_files : List FileToRead
-network_files =
-    required_file Graph ∷ table_file Zones ∷ table_file Areas ∷ table_file Roads ∷ table_file Vehicles ∷ table_file Rules
-    ∷ table_file Closures ∷ table_file Ratings ∷ table_file Parking ∷ table_file Holidays ∷ []
+network_files = map network_file network_kinds
 
--- files by name, from their bytes in the order of `network_files`
+-- files into which the bytes of these kinds are put, one after another
+abbrev pub files_with : Files → List FileKind → List (List ℕ) → Files
+files_with files [] read = files
+files_with files (kind ∷ kinds) [] = files
+files_with files (kind ∷ kinds) (bytes ∷ read) = files_with (with_file files kind bytes) kinds read
+
+-- files by their kinds, from their bytes in the order of `network_kinds`
 abbrev pub files_from : List (List ℕ) → Files
-files_from read = record {
-  graph = slice_index_or read 0 [];
-  zones = slice_index_or read 1 [];
-  areas = slice_index_or read 2 [];
-  roads = slice_index_or read 3 [];
-  vehicles = slice_index_or read 4 [];
-  rules = slice_index_or read 5 [];
-  closures = slice_index_or read 6 [];
-  ratings = slice_index_or read 7 [];
-  parking = slice_index_or read 8 [];
-  holidays = slice_index_or read 9 [];
-}
+files_from read = files_with no_files network_kinds read
 
 -- the bytes of the files of dir
 abbrev pub files_of : Contents → List ℕ → Files

@@ -1,5 +1,6 @@
 // Why no network is loaded.
 ghost use Rattle.std.specs.Prelude.{◌≡◌};
+ghost use Rattle.network_folder.specs.declared.faults.LoadFault.{LoadFault};
 
 use route_base::{BadInput, OutOfMemory};
 
@@ -15,9 +16,7 @@ pub enum LoadFault {
 }
 
 impl From<OutOfMemory> for LoadFault {
-    ghost use Rattle.network_folder.specs.declared.faults.LoadFault.TheVariants.{OutOfMemory};
-
-    ghost from_gives = { λ _ e. e ≡ OutOfMemory };
+    ghost from_gives = { λ _ e. e ≡ LoadFault.OutOfMemory };
 
     fn from(_: OutOfMemory) -> Self {
         LoadFault::OutOfMemory

@@ -20,31 +20,29 @@ pub struct FileToRead<'a> {
 impl FileToRead<'static> {
     ghost use Rattle.std.specs.Prelude.{◌≡◌};
     ghost use Rattle.network_folder.specs.Files.{file_in};
-    ghost use Rattle.network_folder.specs.ReadingOrder.{required_file, table_file};
+    ghost use Rattle.network_folder.specs.ReadingOrder.{required_file, table_file, network_file};
 
     /// A file that has to be there.
     pub fn required(kind: FileKind) -> FileToRead<'static>
         ensures { file_in result ≡ required_file kind }
     {
-        FileToRead {
-            kind,
-            name: kind.label(),
-            required: true,
-            limit: LONGEST_FILE,
-            beyond: Cause::TooLong,
-        }
+        FileToRead::named(kind, kind.label(), true, LONGEST_FILE)
     }
 
     /// A table, which may be missing.
     pub fn table(kind: FileKind) -> FileToRead<'static>
         ensures { file_in result ≡ table_file kind }
     {
-        FileToRead {
-            kind,
-            name: kind.label(),
-            required: false,
-            limit: LONGEST_FILE,
-            beyond: Cause::TooLong,
+        FileToRead::named(kind, kind.label(), false, LONGEST_FILE)
+    }
+
+    // A file of a network: the graph has to be there, and a table may be missing.
+    pub(crate) fn of_network(kind: FileKind) -> FileToRead<'static>
+        ensures { file_in result ≡ network_file kind }
+    {
+        match kind {
+            FileKind::Graph => FileToRead::required(kind),
+            _ => FileToRead::table(kind),
         }
     }
 }
@@ -52,31 +50,37 @@ impl FileToRead<'static> {
 impl<'a> FileToRead<'a> {
     ghost use Rattle.std.specs.Prelude.{◌≡◌};
     ghost use Rattle.network_folder.specs.Files.{file_in};
-    ghost use Rattle.network_folder.specs.ReadingOrder.{certificate_file, jobs_file};
+    ghost use Rattle.network_folder.specs.ReadingOrder.{named_file, certificate_file, jobs_file};
+
+    // A file of this name, which is TooLong beyond the limit.
+    fn named(kind: FileKind, name: &'a str, required: bool, limit: u64) -> FileToRead<'a>
+        ensures { file_in result ≡ named_file kind name.now required limit }
+    {
+        FileToRead {
+            kind,
+            name,
+            required,
+            limit,
+            beyond: Cause::TooLong,
+        }
+    }
 
     /// The certificate of this name, which has to be there.
     pub fn certificate(name: &'a Text) -> FileToRead<'a>
         ensures { file_in result ≡ certificate_file name.now }
     {
-        FileToRead {
-            kind: FileKind::Certificate,
-            name: name.as_str(),
-            required: true,
-            limit: LONGEST_CERTIFICATE,
-            beyond: Cause::TooLong,
-        }
+        FileToRead::named(
+            FileKind::Certificate,
+            name.as_str(),
+            true,
+            LONGEST_CERTIFICATE,
+        )
     }
 
     /// The table of jobs of this name, which has to be there.
     pub fn jobs(name: &'a Text) -> FileToRead<'a>
         ensures { file_in result ≡ jobs_file name.now }
     {
-        FileToRead {
-            kind: FileKind::Jobs,
-            name: name.as_str(),
-            required: true,
-            limit: LONGEST_FILE,
-            beyond: Cause::TooLong,
-        }
+        FileToRead::named(FileKind::Jobs, name.as_str(), true, LONGEST_FILE)
     }
 }

@@ -1,8 +1,7 @@
 // Reads the files of a folder one after another.
-ghost use Rattle.std.specs.Prelude.{◌≡◌, ◌++◌, ◌∷◌, [], Some, None, IfOk, OnOk, IfErr, string_bytes, map, length};
+ghost use Rattle.std.specs.Prelude.{◌≡◌, ◌++◌, ◌∷◌, [], Some, None, IfOk, OnOk, IfErr, string_bytes};
 ghost use Rattle.network_folder.specs.Words.{KeepsFiles, IfTold, path_of, whole_fault, fault_of_file, first_unreadable, file_in, IsRead};
-ghost use Rattle.network_folder.specs.Words.{AreRead, network_files, files_from, files_of, StopsReading};
-ghost use Rattle.network_folder.specs.Words.{bytes_at};
+ghost use Rattle.network_folder.specs.Words.{network_kinds, network_files, files_of, StopsReading, bytes_at};
 
 use crate::LoadFault;
 use crate::file_to_read::FileToRead;
@@ -12,42 +11,21 @@ use route_base::{
 };
 use std::alloc::Global;
 
-// The files of a network in the order in which they are read.
-fn network_files() -> [FileToRead<'static>; 10]
-    ensures { map file_in result ≡ network_files }
+// The kinds of a network's files in the order in which they are read.
+fn network_kinds() -> &'static [FileKind]
+    ensures { result.now ≡ network_kinds }
 {
-    [
-        FileToRead::required(FileKind::Graph),
-        FileToRead::table(FileKind::Zones),
-        FileToRead::table(FileKind::Areas),
-        FileToRead::table(FileKind::Roads),
-        FileToRead::table(FileKind::Vehicles),
-        FileToRead::table(FileKind::Rules),
-        FileToRead::table(FileKind::Closures),
-        FileToRead::table(FileKind::Ratings),
-        FileToRead::table(FileKind::Parking),
-        FileToRead::table(FileKind::Holidays),
-    ]
-}
-
-// The files of a network, and then one more.
-fn files_with(last: FileToRead<'_>) -> [FileToRead<'_>; 11]
-    ensures { map file_in result ≡ network_files ++ file_in last.entry ∷ [] }
-{
-    let [
-        graph,
-        zones,
-        areas,
-        roads,
-        vehicles,
-        rules,
-        closures,
-        ratings,
-        parking,
-        holidays,
-    ] = network_files();
-    [
-        graph, zones, areas, roads, vehicles, rules, closures, ratings, parking, holidays, last,
+    &[
+        FileKind::Graph,
+        FileKind::Zones,
+        FileKind::Areas,
+        FileKind::Roads,
+        FileKind::Vehicles,
+        FileKind::Rules,
+        FileKind::Closures,
+        FileKind::Ratings,
+        FileKind::Parking,
+        FileKind::Holidays,
     ]
 }
 
@@ -101,65 +79,6 @@ fn read_file<F: Folder>(
     }
 }
 
-/// The bytes of these files of dir, read one after another. Linear in the bytes.
-pub fn read_each<F: Folder>(
-    alloc: Global,
-    folder: &mut F,
-    dir: &Text,
-    files: &[FileToRead<'_>],
-) -> Result<Vec<FileBytes>, LoadFault>
-    ensures read { IfOk result (λ read.
-        AreRead (F.state folder.old) dir.now (map file_in files.now) read.items) }
-    ensures refused { IfErr result (StopsReading
-        (λ held. first_unreadable held dir.now (map file_in files.now))
-        (F.state folder.old) (F.state folder.new)) }
-    ensures kept { KeepsFiles (F.state folder.old) (F.state folder.new) }
-{
-    let mut read = Vec::new(alloc);
-    for file in files {
-        let bytes = read_file(alloc, folder, dir, *file)?;
-        if read.push(bytes).is_err() {
-            return Err(LoadFault::OutOfMemory);
-        }
-    }
-    Ok(read)
-}
-
-// The files by name, from their bytes in the order of `network_files`.
-fn named_files(read: Vec<FileBytes>) -> Files
-    requires { length read.items ≡ 10 }
-    ensures { result ≡ files_from read.items }
-{
-    match <[FileBytes; 10]>::try_from(read) {
-        Ok(
-            [
-                graph,
-                zones,
-                areas,
-                roads,
-                vehicles,
-                rules,
-                closures,
-                ratings,
-                parking,
-                holidays,
-            ],
-        ) => Files {
-            graph,
-            zones,
-            areas,
-            roads,
-            vehicles,
-            rules,
-            closures,
-            ratings,
-            parking,
-            holidays,
-        },
-        Err(_rest) => unreachable!(),
-    }
-}
-
 /// The files of a network in the folder dir. Linear in the bytes.
 pub fn read_network_files<F: Folder>(
     alloc: Global,
@@ -175,27 +94,13 @@ pub fn read_network_files<F: Folder>(
         (F.state folder.old) (F.state folder.new)) }
     ensures kept { KeepsFiles (F.state folder.old) (F.state folder.new) }
 {
-    let files = network_files();
-    let read = read_each(alloc, folder, dir, &files)?;
-    Ok(named_files(read))
-}
-
-// The bytes of the files of a network, and then of one more.
-fn read_each_with<F: Folder>(
-    alloc: Global,
-    folder: &mut F,
-    dir: &Text,
-    last: FileToRead<'_>,
-) -> Result<Vec<FileBytes>, LoadFault>
-    ensures read { IfOk result (λ read. AreRead (F.state folder.old) dir.now
-        (network_files ++ file_in last.entry ∷ []) read.items) }
-    ensures refused { IfErr result (StopsReading (λ held.
-        first_unreadable held dir.now (network_files ++ file_in last.entry ∷ []))
-        (F.state folder.old) (F.state folder.new)) }
-    ensures kept { KeepsFiles (F.state folder.old) (F.state folder.new) }
-{
-    let files = files_with(last);
-    read_each(alloc, folder, dir, &files)
+    let mut files = Files::new(alloc);
+    let kinds = network_kinds();
+    for kind in kinds {
+        let bytes = read_file(alloc, folder, dir, FileToRead::of_network(*kind))?;
+        files.put(*kind, bytes);
+    }
+    Ok(files)
 }
 
 /// The files of a network in the folder dir, and the bytes of one more file, which is read behind them. Linear in the bytes.
@@ -216,9 +121,7 @@ pub fn read_files_with<F: Folder>(
         (F.state folder.old) (F.state folder.new)) }
     ensures kept { KeepsFiles (F.state folder.old) (F.state folder.new) }
 {
-    let mut read = read_each_with(alloc, folder, dir, last)?;
-    match read.pop() {
-        Some(bytes) => Ok((named_files(read), bytes)),
-        None => unreachable!(),
-    }
+    let files = read_network_files(alloc, folder, dir)?;
+    let bytes = read_file(alloc, folder, dir, last)?;
+    Ok((files, bytes))
 }

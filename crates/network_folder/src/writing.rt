@@ -45,9 +45,8 @@ pub fn put_each<F: Folder>(
         dir.now (map written_in files.now)) }
     ensures counts { CountsRise (F.state folder.old) (F.state folder.new) }
 {
-    for i in 0..files.len() {
-        let file = files[i];
-        put_file(alloc, folder, dir, file)?;
+    for file in files {
+        put_file(alloc, folder, dir, *file)?;
     }
     Ok(())
 }

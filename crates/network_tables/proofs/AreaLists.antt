@@ -48,6 +48,10 @@ module _ (zones : List (List ZoneRow)) (places : List ℕ) (holidays : List Holi
   pub size_at : length (areas_with (zones_at zones places) holidays) ≡ length places
   size_at = length-areas_with (zones_at zones places) holidays as_many ∙ length-map places zone_there
 
+  -- an area of the network has a place
+  pub place_within : (areas : List Area) (area : ℕ) → areas_with (zones_at zones places) holidays ≡ areas → area < length areas → area < length places
+  place_within areas area seen within = omega (arith, ap (λ (list : List Area). length list) seen, size_at, within)
+
   pub zone_at_place : (area place : ℕ) (zone : List ZoneRow) → area < length places → place ≡ get_or places area place → place < length zones
       → zone ≡ get_or zones place zone
       → option_map (λ (a : Area). a.zone) (slice_get (areas_with (zones_at zones places) holidays) area) ≡ Some zone

@@ -24,37 +24,22 @@ list_at items vs a v low high is =
     ∙ get_or-map items vs (a - 1) v [] there
     ∙ ap items (sym is)
 
+-- the network of these parts
+abbrev network_with : GraphModel → List Area → List ℕ → List VehicleEntry → RuleList → List (List Run) → List (Option ℕ) → NetworkModel
+network_with graph areas roads vehicles rules closures weights = record {
+  graph = graph;
+  areas = areas;
+  roads = roads;
+  vehicles = vehicles;
+  rules = rules.rules;
+  passed_over = rules.passed_over;
+  closures = closures;
+  weights = weights;
+}
+
 -- networks with the same parts
 pub same_network : {g h : GraphModel} {areas areas2 : List Area} {roads roads2 : List ℕ} {vehicles vehicles2 : List VehicleEntry}
     {rules rules2 : RuleList} {closures closures2 : List (List Run)} {weights weights2 : List (Option ℕ)}
     → g ≡ h → areas ≡ areas2 → roads ≡ roads2 → vehicles ≡ vehicles2 → rules ≡ rules2 → closures ≡ closures2 → weights ≡ weights2
-    → ◌≡◌ {A = NetworkModel} (record {
-      graph = g;
-      areas = areas;
-      roads = roads;
-      vehicles = vehicles;
-      rules = rules.rules;
-      passed_over = rules.passed_over;
-      closures = closures;
-      weights = weights;
-    })
-    (record {
-      graph = h;
-      areas = areas2;
-      roads = roads2;
-      vehicles = vehicles2;
-      rules = rules2.rules;
-      passed_over = rules2.passed_over;
-      closures = closures2;
-      weights = weights2;
-    })
-same_network p q r v u s t = λ i. record {
-  graph = p i;
-  areas = q i;
-  roads = r i;
-  vehicles = v i;
-  rules = (u i).rules;
-  passed_over = (u i).passed_over;
-  closures = s i;
-  weights = t i;
-}
+    → network_with g areas roads vehicles rules closures weights ≡ network_with h areas2 roads2 vehicles2 rules2 closures2 weights2
+same_network p q r v u s t = λ i. network_with (p i) (q i) (r i) (v i) (u i) (s i) (t i)

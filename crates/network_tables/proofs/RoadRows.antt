@@ -8,7 +8,7 @@ use Rattle.std.proofs.lemmas.List.Elements.{All-map}
 use Rattle.std.proofs.lemmas.Option.{option_and_then_some}
 use Rattle.area_tables.specs.Areas.{AreaEntry, areas_or_default}
 use Rattle.table_reader.specs.NameIndex.{names_of, place_among}
-use Rattle.table_reader.specs.ByNumber.{NumberedRow, name_at, given_to, given_by_number}
+use Rattle.table_reader.specs.ByNumber.{NumberedRow, field_for, given_to, given_by_number}
 use Rattle.area_tables.specs.Roads.{area_by_arc}
 use Rattle.network_tables.specs.NetworkModel.{AreBelow}
 use Rattle.table_reader.proofs.Lists.{map-map, position_within}
@@ -20,7 +20,7 @@ length-area_by_arc arcs names rows = length-map (given_by_number arcs (place_amo
 
 place_below : (names : List (List ℕ)) (rows : List NumberedRow) (v : ℕ) → 0 < length names → unwrap_or (given_to (place_among names) rows v) 0 < length names
 place_below names rows v some = by (given_to (place_among names) rows v)
-    (λ i is. option_and_then_some (place_among names) (name_at rows v) i is (λ name _ found. position_within (bytes_eq name) names i found))
+    (λ i is. option_and_then_some (place_among names) (field_for rows v) i is (λ name _ found. position_within (bytes_eq name) names i found))
   where
     by : (o : Option ℕ) → ((i : ℕ) → o ≡ Some i → i < length names) → unwrap_or o 0 < length names
     by None within = some

@@ -13,7 +13,7 @@ use Rattle.std.specs.Prelude.{◌==◌}
 use Rattle.route_base.specs.Forms.{at_most, is_name, weight_of, thousandths_in}
 use Rattle.route_base.specs.declared.limits.TheConstants.{HEAVIEST_WEIGHT}
 use Rattle.table_reader.specs.NameIndex.{value_under}
-use Rattle.table_reader.specs.ByNumber.{NumberedRow, name_at, given_to, given_by_number}
+use Rattle.table_reader.specs.ByNumber.{NumberedRow, field_for, given_to, given_by_number}
 use Rattle.network_tables.specs.Parking.{weights_by_node}
 use Rattle.network_tables.specs.Ratings.{Rating, rating_of, ratings_in}
 use Rattle.table_reader.specs.Records.{Record}
@@ -60,7 +60,7 @@ value_under-small (row ∷ rows) name w is = by_row (value_under-small rows name
         (cases_Bool (bytes_eq name r.0))
 
 given_to-small : (rows : List Record) (parked : List NumberedRow) (v : ℕ) → IsSmallWeight (given_to (value_under (ratings_in rows)) parked v)
-given_to-small rows parked v w is = option_and_then_some (value_under (ratings_in rows)) (name_at parked v) w is
+given_to-small rows parked v w is = option_and_then_some (value_under (ratings_in rows)) (field_for parked v) w is
     (λ name _ found. value_under-small rows name w found)
 
 pub weights_by_node-small : (nodes : ℕ) (rows : List Record) (parked : List NumberedRow) → All IsSmallWeight (weights_by_node nodes (ratings_in rows) parked)

@@ -25,7 +25,7 @@ abbrev pub limits_fault : Files → Option BadInput
 limits_fault files = first_some (closures_fault files ∷ ratings_fault files ∷ parking_fault files ∷ [])
 
 -- zones by name, areas with the places of their zones, and the place of each arc's area
-pub record ArePlaces (files : Files) (zones : ZoneList) (areas : List (List ℕ × ℕ)) (roads : List ℕ) : Type 0 where
+pub record HavePlaces (files : Files) (zones : ZoneList) (areas : List (List ℕ × ℕ)) (roads : List ℕ) : Type 0 where
   pub zoned : HasZones zones (zone_entries_in (rows_of files.zones))
   pub placed : HaveZones zones (areas_of files) areas
   pub on_roads : roads ≡ roads_of files

@@ -9,6 +9,7 @@ use Rattle.route_base.specs.declared.types.Run.{Run}
 use Rattle.dimacs_reader.specs.Faults.{fault_of}
 use Rattle.dimacs_reader.specs.GraphModel.{graph_of}
 use Rattle.zone_rules.specs.declared.rows.ZoneRow.{ZoneRow}
+use Rattle.route_base.specs.Forms.{is_name}
 use Rattle.table_reader.specs.ByNumber.{numbered_in}
 use Rattle.table_reader.specs.NameIndex.{names_of}
 use Rattle.table_reader.specs.Records.{records_of, rows_of}
@@ -51,7 +52,7 @@ areas_of files = areas_or_default (areas_in (rows_of files.areas))
 
 -- for each arc the place of its area
 abbrev pub roads_of : Files → List ℕ
-roads_of files = area_by_arc (arc_count_of files) (names_of (areas_of files)) (numbered_in (rows_of files.roads))
+roads_of files = area_by_arc (arc_count_of files) (names_of (areas_of files)) (numbered_in is_name (rows_of files.roads))
 
 -- the vehicles by name, `any` in front
 abbrev pub vehicles_of : Files → List VehicleEntry
@@ -71,7 +72,7 @@ ratings_of files = ratings_in (rows_of files.ratings)
 
 -- the weight of each node
 abbrev pub weights_of : Files → List (Option ℕ)
-weights_of files = weights_by_node (node_count_of files) (ratings_of files) (numbered_in (rows_of files.parking))
+weights_of files = weights_by_node (node_count_of files) (ratings_of files) (numbered_in is_name (rows_of files.parking))
 
 -- the rows of holidays
 abbrev pub holidays_of : Files → List HolidayEntry

@@ -1,5 +1,6 @@
 // The faults for which a network is not read.
 ghost use Rattle.std.specs.Prelude.{◌≡◌};
+ghost use Rattle.network_tables.specs.declared.faults.NetworkFault.{NetworkFault};
 
 use route_base::{BadInput, OutOfMemory};
 
@@ -11,9 +12,7 @@ pub enum NetworkFault {
 }
 
 impl From<OutOfMemory> for NetworkFault {
-    ghost use Rattle.network_tables.specs.declared.faults.NetworkFault.TheVariants.{OutOfMemory};
-
-    ghost from_gives = { λ _ e. e ≡ OutOfMemory };
+    ghost from_gives = { λ _ e. e ≡ NetworkFault.OutOfMemory };
 
     fn from(_: OutOfMemory) -> Self {
         NetworkFault::OutOfMemory

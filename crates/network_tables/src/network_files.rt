@@ -2,7 +2,7 @@
 ghost use Rattle.std.specs.Prelude.{◌≡◌, map};
 ghost use Rattle.dimacs_reader.specs.GraphModel.{graph_of};
 ghost use Rattle.network_tables.specs.NetworkFiles.{closed_runs_of, contents_fault, graph_fault, network_in_files, node_count_of, weights_of};
-ghost use Rattle.network_tables.specs.Inside.{places_fault, access_fault, limits_fault, ArePlaces, IsCalendar};
+ghost use Rattle.network_tables.specs.Inside.{places_fault, access_fault, limits_fault, HavePlaces, IsCalendar};
 ghost use Rattle.network_tables.specs.Words.{arc_count_of, areas_of, holidays_fault, names_of, rules_of, vehicles_of};
 ghost use Rattle.network_tables.specs.Refusals.{Reads};
 
@@ -45,7 +45,7 @@ fn read_places(
 ) -> Result<(Zones, Areas, Vec<u32>), NetworkFault>
     requires { arcs ≡ arc_count_of files.now }
     ensures { Reads result (places_fault files.now)
-        (λ read. ArePlaces files.now read.0 read.1 read.2.items) }
+        (λ read. HavePlaces files.now read.0 read.1 read.2.items) }
 {
     let zones = read_zone_file(alloc, files)?;
     let areas = read_area_file(alloc, files, &zones)?;

@@ -1,6 +1,7 @@
 // parking.csv: the nodes where one may wait.
 ghost use Rattle.std.specs.Prelude.{◌≡◌, codes};
 ghost use Rattle.route_base.specs.declared.limits.TheConstants.{MOST_PARKING_ROWS};
+ghost use Rattle.route_base.specs.Forms.{is_name};
 ghost use Rattle.table_reader.specs.NameIndex.{value_under};
 ghost use Rattle.network_tables.specs.NetworkFiles.{node_count_of, ratings_of, weights_of, parking_fault};
 ghost use Rattle.network_tables.specs.Refusals.{Reads};
@@ -9,19 +10,21 @@ use crate::files::read_file;
 use crate::ratings::RatingTable;
 use crate::{Files, NetworkFault};
 use route_base::limits::MOST_PARKING_ROWS;
-use route_base::{Cost, FileKind};
+use route_base::{Cost, FileKind, is_name_field};
 use std::alloc::Global;
-use table_reader::{Naming, NumberedTable};
+use table_reader::{FieldValues, NumberedTable};
 
 /// The rows assign the weight of a rating to a node.
-impl Naming<Cost> for RatingTable {
+impl FieldValues<Cost> for RatingTable {
     ghost numbers = { codes "node" };
 
-    ghost names = { codes "rating" };
+    ghost fields = { codes "rating" };
 
     ghost limit = { MOST_PARKING_ROWS };
 
-    ghost named = { value_under };
+    ghost form = { is_name };
+
+    ghost value = { value_under };
 
     fn headers(&self) -> &'static [&'static [&'static str]] {
         &[&["node", "rating"]]
@@ -29,6 +32,10 @@ impl Naming<Cost> for RatingTable {
 
     fn most_rows(&self) -> u32 {
         MOST_PARKING_ROWS
+    }
+
+    fn has_form(&self, field: &[u8]) -> bool {
+        is_name_field(field)
     }
 
     fn find(&self, name: &[u8]) -> Option<Cost> {

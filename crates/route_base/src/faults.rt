@@ -1,5 +1,6 @@
 // The causes for which an input or a request is refused, with their names.
 ghost use Rattle.std.specs.Prelude.{◌≡◌};
+ghost use Rattle.route_base.specs.declared.faults.TableFault.{TableFault};
 
 use std::alloc::{AllocError, AllocFailed};
 
@@ -167,9 +168,7 @@ pub enum TableFault {
 }
 
 impl From<AllocError> for TableFault {
-    ghost use Rattle.route_base.specs.declared.faults.TableFault.TheVariants.{OutOfMemory};
-
-    ghost from_gives = { λ _ e. e ≡ OutOfMemory };
+    ghost from_gives = { λ _ e. e ≡ TableFault.OutOfMemory };
 
     fn from(_: AllocError) -> Self {
         TableFault::OutOfMemory
@@ -177,9 +176,7 @@ impl From<AllocError> for TableFault {
 }
 
 impl<T: Drop> From<AllocFailed<T>> for TableFault {
-    ghost use Rattle.route_base.specs.declared.faults.TableFault.TheVariants.{OutOfMemory};
-
-    ghost from_gives = { λ _ e. e ≡ OutOfMemory };
+    ghost from_gives = { λ _ e. e ≡ TableFault.OutOfMemory };
 
     fn from(_: AllocFailed<T>) -> Self {
         TableFault::OutOfMemory
@@ -187,9 +184,7 @@ impl<T: Drop> From<AllocFailed<T>> for TableFault {
 }
 
 impl From<OutOfMemory> for TableFault {
-    ghost use Rattle.route_base.specs.declared.faults.TableFault.TheVariants.{OutOfMemory};
-
-    ghost from_gives = { λ _ e. e ≡ OutOfMemory };
+    ghost from_gives = { λ _ e. e ≡ TableFault.OutOfMemory };
 
     fn from(_: OutOfMemory) -> Self {
         TableFault::OutOfMemory

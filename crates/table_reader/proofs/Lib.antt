@@ -5,3 +5,5 @@ pub mod Lists
 pub mod NameRows
 pub mod NumberedRows
 pub mod RecordSteps
+pub mod RowRefusals
+pub mod WorkedTables

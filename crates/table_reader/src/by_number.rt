@@ -1,5 +1,5 @@
-// Tables that assign a named value to a number (arc to area, node to rating).
-ghost use Rattle.std.specs.Prelude.{◌≡◌, ◌∷◌, [], List, ℕ, None, Option, length, option_map, replicate, IfOk};
+// Tables that assign a value to a number (area to arc, weight to node).
+ghost use Rattle.std.specs.Prelude.{◌≡◌, ◌∷◌, [], List, ℕ, Bool, None, Option, length, option_map, replicate, IfOk};
 ghost use Rattle.csv.specs.Records.{fields_of};
 ghost use Rattle.table_reader.specs.ByNumber.{numbered_of, numbered_in, numbered_schema, HaveValues};
 ghost use Rattle.table_reader.specs.Records.{headers_of};
@@ -8,70 +8,77 @@ use crate::faults::RowFault;
 use crate::fields::two_fields;
 use crate::table::Table;
 use csv::ByteRecord;
-use route_base::{Cause, OutOfMemory, is_name_field, read_table_number};
+use route_base::{Cause, OutOfMemory, read_table_number};
 use std::alloc::Global;
 use std::marker::Model;
 
-/// The values that the names in a table stand for, with the form of that table: a column of numbers and a column of names.
-pub trait Naming<V>: Drop {
-    // The words above the numbers, and above the names.
+/// The values that the second fields of a table give, with the form of that table: a column of numbers and a column of fields.
+pub trait FieldValues<V>: Drop {
+    // The words above the numbers, and above the fields.
     ghost numbers: { List ℕ };
 
-    ghost names: { List ℕ };
+    ghost fields: { List ℕ };
 
     // The most data rows.
     ghost limit: { ℕ };
 
-    // The value of a name.
-    ghost named: { Self → List ℕ → Option V };
+    // Whether a field has its form; else the row has the cause `BadField`.
+    ghost form: { List ℕ → Bool };
+
+    // The value of a field; where it has none, the row has the cause `Unknown`.
+    ghost value: { Self → List ℕ → Option V };
 
     /// The header of the table, as the only one of a list.
     fn headers(&self) -> &'static [&'static [&'static str]]
-        ensures { headers_of result.now ≡ (numbers ∷ names ∷ []) ∷ [] };
+        ensures { headers_of result.now ≡ (numbers ∷ fields ∷ []) ∷ [] };
 
     /// The most data rows that the table may have.
     fn most_rows(&self) -> u32
         ensures { result ≡ limit };
 
-    /// The value of the name, in constant time on average.
-    fn find(&self, name: &[u8]) -> Option<V>
-        ensures { result ≡ named self.now name.now };
+    /// Whether the field has its form. Linear in its bytes.
+    fn has_form(&self, field: &[u8]) -> bool
+        ensures { result ≡ form field.now };
+
+    /// The value of the field, in constant time on average.
+    fn find(&self, field: &[u8]) -> Option<V>
+        ensures { result ≡ value self.now field.now };
 }
 
-/// The values assigned to the numbers 1, 2 and so on, and the names that the values have.
+/// The values assigned to the numbers 1, 2 and so on, and the source of the values.
 #[derive(Drop)]
-pub struct NumberedTable<N, V> {
-    names: N,
+pub struct NumberedTable<S, V> {
+    source: S,
     values: Vec<Option<V>>,
 }
 
-impl<N, V> Model for NumberedTable<N, V> {
+impl<S, V> Model for NumberedTable<S, V> {
     ghost use Rattle.table_reader.specs.ByNumber.{ValuesByNumber};
 
-    ghost Value = { ValuesByNumber N V };
+    ghost Value = { ValuesByNumber S V };
 
-    ghost view = { λ t. record { names = t.names; values = t.values.items } };
+    ghost view = { λ t. record { source = t.source; values = t.values.items } };
 }
 
-impl<N: Naming<V>, V: Copy> NumberedTable<N, V> {
+impl<S: FieldValues<V>, V: Copy> NumberedTable<S, V> {
     /// No assignments yet, for the numbers from 1 to `count`. Linear in `count`, in time and memory.
-    pub fn new(alloc: Global, count: u32, names: N) -> Result<Self, OutOfMemory>
+    pub fn new(alloc: Global, count: u32, source: S) -> Result<Self, OutOfMemory>
         ensures size { IfOk result (λ t. length t.values ≡ count) }
-        ensures names { IfOk result (λ t. t.names ≡ names) }
-        ensures none { IfOk result (λ t. HaveValues N.named t t []) }
+        ensures source { IfOk result (λ t. t.source ≡ source) }
+        ensures none { IfOk result (λ t. HaveValues S.value t t []) }
     {
         Ok(NumberedTable {
-            names,
+            source,
             values: no_values(alloc, count)?,
         })
     }
 
-    /// The names, and the values by number, at no cost.
-    pub fn into_parts(self) -> (N, Vec<Option<V>>)
-        ensures names { result.0 ≡ self.names }
+    /// The source, and the values by number, at no cost.
+    pub fn into_parts(self) -> (S, Vec<Option<V>>)
+        ensures source { result.0 ≡ self.source }
         ensures values { result.1.items ≡ self.values }
     {
-        (self.names, self.values)
+        (self.source, self.values)
     }
 }
 
@@ -83,39 +90,42 @@ fn no_values<V: Copy>(alloc: Global, count: u32) -> Result<Vec<Option<V>>, OutOf
 }
 
 // Parses a data row.
-fn read_numbered(row: &ByteRecord) -> Option<(u32, &[u8])>
+fn read_numbered<'a, S: FieldValues<V>, V>(
+    source: &S,
+    row: &'a ByteRecord,
+) -> Option<(u32, &'a [u8])>
     requires { length (fields_of row.now) ≡ 2 }
-    ensures { option_map (λ r. (r.0, r.1.now)) result ≡ numbered_of (fields_of row.now) }
+    ensures { option_map (λ r. (r.0, r.1.now)) result ≡ numbered_of S.form (fields_of row.now) }
 {
-    let (number, name) = two_fields(row);
-    if !is_name_field(name) {
+    let (number, field) = two_fields(row);
+    if !source.has_form(field) {
         return None;
     }
-    Some((read_table_number(number)?, name))
+    Some((read_table_number(number)?, field))
 }
 
-impl<N: Naming<V>, V: Copy> Table for NumberedTable<N, V> {
-    ghost schema = { λ t. numbered_schema N.numbers N.names N.limit (length t.values) (N.named t.names) };
+impl<S: FieldValues<V>, V: Copy> Table for NumberedTable<S, V> {
+    ghost schema = { λ t. numbered_schema S.numbers S.fields S.limit S.form (length t.values) (S.value t.source) };
 
-    ghost becomes = { λ start t header rows. HaveValues N.named start t (numbered_in rows) };
+    ghost becomes = { λ start t header rows. HaveValues S.value start t (numbered_in S.form rows) };
 
     fn headers(&self) -> &'static [&'static [&'static str]] {
-        self.names.headers()
+        self.source.headers()
     }
 
     fn limit(&self) -> u32 {
-        self.names.most_rows()
+        self.source.most_rows()
     }
 
     fn add(&mut self, _alloc: Global, _header: &[&str], row: &ByteRecord) -> Result<(), RowFault> {
-        let Some((number, name)) = read_numbered(row) else {
+        let Some((number, field)) = read_numbered(&self.source, row) else {
             return Err(RowFault::Bad(Cause::BadField));
         };
         let number = number as usize;
         if number < 1 || number > self.values.len() {
             return Err(RowFault::Bad(Cause::Unknown));
         }
-        let Some(value) = self.names.find(name) else {
+        let Some(value) = self.source.find(field) else {
             return Err(RowFault::Bad(Cause::Unknown));
         };
         if self.values[number - 1].is_some() {

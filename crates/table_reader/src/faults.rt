@@ -1,5 +1,6 @@
 // The faults for which a row is not added to a table.
 ghost use Rattle.std.specs.Prelude.{◌≡◌};
+ghost use Rattle.table_reader.specs.declared.faults.RowFault.{RowFault};
 
 use route_base::{Cause, OutOfMemory};
 use std::alloc::{AllocError, AllocFailed};
@@ -12,9 +13,7 @@ pub enum RowFault {
 }
 
 impl From<OutOfMemory> for RowFault {
-    ghost use Rattle.table_reader.specs.declared.faults.RowFault.TheVariants.{OutOfMemory};
-
-    ghost from_gives = { λ _ e. e ≡ OutOfMemory };
+    ghost from_gives = { λ _ e. e ≡ RowFault.OutOfMemory };
 
     fn from(_: OutOfMemory) -> Self {
         RowFault::OutOfMemory
@@ -22,9 +21,7 @@ impl From<OutOfMemory> for RowFault {
 }
 
 impl From<AllocError> for RowFault {
-    ghost use Rattle.table_reader.specs.declared.faults.RowFault.TheVariants.{OutOfMemory};
-
-    ghost from_gives = { λ _ e. e ≡ OutOfMemory };
+    ghost from_gives = { λ _ e. e ≡ RowFault.OutOfMemory };
 
     fn from(_: AllocError) -> Self {
         RowFault::OutOfMemory
@@ -32,9 +29,7 @@ impl From<AllocError> for RowFault {
 }
 
 impl<T: Drop> From<AllocFailed<T>> for RowFault {
-    ghost use Rattle.table_reader.specs.declared.faults.RowFault.TheVariants.{OutOfMemory};
-
-    ghost from_gives = { λ _ e. e ≡ OutOfMemory };
+    ghost from_gives = { λ _ e. e ≡ RowFault.OutOfMemory };
 
     fn from(_: AllocFailed<T>) -> Self {
         RowFault::OutOfMemory

@@ -2,7 +2,7 @@
 //!
 //! The law is in `specs/`: `Records` (the records of a file), `Schema` (the headers, the most rows and the causes that a table
 //! may have, and its first fault), `Refusals` (how faults are answered), `NameIndex` (values by name) and `ByNumber` (tables of
-//! a number and a name). `read_table` meets the first three over any `Table`; `NameIndex` and `NumberedTable` meet the others.
+//! a number and a field that gives its value). `read_table` meets the first three over any `Table`; `NameIndex` and `NumberedTable` meet the others.
 //!
 //! A table is added to a program by a type that implements `Table`: it says its headers, its limit, what is wrong with a row
 //! after others, and how its state changes by a row that has no fault.
@@ -16,7 +16,7 @@ mod records;
 mod table;
 mod threads;
 
-pub use by_number::{Naming, NumberedTable};
+pub use by_number::{FieldValues, NumberedTable};
 pub use faults::RowFault;
 pub use fields::{field, has_fields, three_fields, two_fields};
 pub use name_index::NameIndex;

@@ -1,12 +1,13 @@
 // Tables: the codes of lockers, as a table of one's own.
 ghost use Rattle.std.specs.Prelude.{◌≡◌, codes};
+ghost use Rattle.route_base.specs.Forms.{is_name};
 ghost use Rattle.table_reader.specs.NameIndex.{value_under};
 ghost use Rattle.table_reader.specs.Words.{ReadsRows, first_table_fault, records_of};
 ghost use Rattle.uses.specs.Lockers.{lockers_schema, codes_of};
 
-use route_base::TableFault;
+use route_base::{TableFault, is_name_field};
 use std::alloc::Global;
-use table_reader::{NameIndex, Naming, NumberedTable, read_table};
+use table_reader::{FieldValues, NameIndex, NumberedTable, read_table};
 
 /// The codes of colours, by name.
 #[derive(Drop)]
@@ -14,14 +15,16 @@ pub struct Codes {
     pub by_name: NameIndex<u64>,
 }
 
-impl Naming<u64> for Codes {
+impl FieldValues<u64> for Codes {
     ghost numbers = { codes "locker" };
 
-    ghost names = { codes "colour" };
+    ghost fields = { codes "colour" };
 
     ghost limit = { 100 };
 
-    ghost named = { λ held. value_under held.by_name };
+    ghost form = { is_name };
+
+    ghost value = { λ held. value_under held.by_name };
 
     fn headers(&self) -> &'static [&'static [&'static str]] {
         &[&["locker", "colour"]]
@@ -29,6 +32,10 @@ impl Naming<u64> for Codes {
 
     fn most_rows(&self) -> u32 {
         100
+    }
+
+    fn has_form(&self, field: &[u8]) -> bool {
+        is_name_field(field)
     }
 
     fn find(&self, name: &[u8]) -> Option<u64> {

@@ -1,16 +1,12 @@
 -- A row of the table, field by field, and the vehicles after one row more.
-use Rattle.std.proofs.Common.{◌≡◌, ℕ, ◌||◌, Bool, cond, Result, Ok, Err, IfErr, Some, None, List, [], ◌∷◌, ◌++◌, map, refl, sym, ◌∙◌, ap}
+use Rattle.std.proofs.Common.{◌≡◌, ℕ, ◌||◌, Bool, cond, Some, None, List, [], ◌∷◌, ◌++◌, map, refl, sym, ◌∙◌, ap}
 use Rattle.std.specs.Prelude.{codes}
 use Rattle.std.specs.List.{list_any, zip}
 use Rattle.std.specs.Option.{is_some}
 use Rattle.std.specs.Str.{bytes_eq}
 use Rattle.std.proofs.lemmas.List.{map-append}
 use Rattle.std.proofs.lemmas.Map.Made.{is_some-lookup}
-use Rattle.route_base.specs.declared.faults.Cause.{Cause}
 use Rattle.route_base.specs.declared.faults.Cause.TheVariants.{Duplicate}
-use Rattle.table_reader.specs.declared.faults.RowFault.{RowFault}
-use Rattle.table_reader.specs.declared.faults.RowFault.TheVariants as row
-use Rattle.table_reader.specs.Refusals.{IfBadCause}
 use Rattle.table_reader.specs.NameIndex.{names_of, value_under}
 use Rattle.table_reader.specs.Records.{Record}
 use Rattle.table_reader.proofs.Lists.{filter_map-push}
@@ -28,13 +24,6 @@ any_seen f p (x ∷ xs) = ap (λ (b : Bool). p (f x) || b) (any_seen f p xs)
 pub vehicles_push : (before : List Record) (row : Record) (v : VehicleEntry) → vehicle_of row ≡ Some v
     → vehicles_in before ++ v ∷ [] ≡ vehicles_in (before ++ row ∷ [])
 vehicles_push before row v e = ap (λ (vs : List VehicleEntry). (codes "any", any_vehicle) ∷ vs) (sym (filter_map-push vehicle_of before row v e))
-
--- a cause that is refused, under a weaker claim
-pub refused_weaker : {T : Type 0} (r : Result T RowFault) (P Q : Cause → Type 0) → ((cause : Cause) → P cause → Q cause)
-    → IfErr r (λ e. IfBadCause e P) → IfErr r (λ e. IfBadCause e Q)
-refused_weaker (Ok x) P Q weaker refused = tt
-refused_weaker (Err (row.Bad cause)) P Q weaker refused = weaker cause refused
-refused_weaker (Err row.OutOfMemory) P Q weaker refused = tt
 
 module _ (held : NamedVehicles) (pairs : List VehicleEntry) (hold : HoldVehicles held pairs) where
   -- why a row can't follow

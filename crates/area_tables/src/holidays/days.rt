@@ -1,6 +1,7 @@
 // An area's holidays while the table is being read.
-ghost use Rattle.std.specs.Prelude.{◌≡◌, ◌≤◌, ◌<◌, ◌∷◌, ◌++◌, [], All, OnOk, if◌then◌else◌};
+ghost use Rattle.std.specs.Prelude.{◌≡◌, ◌≤◌, ◌∷◌, ◌++◌, [], All, OnOk, if◌then◌else◌};
 ghost use Rattle.std.specs.List.Sorted.{IsStrictlyIncreasing};
+ghost use Rattle.route_base.specs.declared.limits.TheConstants.{LAST_DAY};
 ghost use Rattle.area_tables.specs.Holidays.{is_kind, days_listed, in_calendar};
 ghost use Rattle.area_tables.specs.declared.holidays.row.HolidayKind.TheVariants.{Public, School};
 
@@ -17,19 +18,20 @@ pub struct AreaDays {
 }
 
 impl Model for AreaDays {
-    ghost use Rattle.std.specs.Prelude.{◌<◌, All};
+    ghost use Rattle.std.specs.Prelude.{◌≤◌, All};
+    ghost use Rattle.route_base.specs.declared.limits.TheConstants.{LAST_DAY};
     ghost use Rattle.opening_hours.specs.Holidays.{HolidayLists};
 
     ghost Value = { HolidayLists };
 
     ghost view = { λ a. record { public = a.public.items; school = a.school.items } };
 
-    ghost invariant = { λ a. All (λ day. day < 84371) a.public.items × All (λ day. day < 84371) a.school.items };
+    ghost invariant = { λ a. All (λ day. day ≤ LAST_DAY) a.public.items × All (λ day. day ≤ LAST_DAY) a.school.items };
 }
 
 // The days in their order, each once.
 fn in_order(mut days: Vec<u32>) -> Vec<u32>
-    requires { All (λ day. day < 84371) days.items }
+    requires { All (λ day. day ≤ LAST_DAY) days.items }
     ensures value { result.items ≡ days_listed days.items }
     ensures rising { IsStrictlyIncreasing result.items }
 {
@@ -51,7 +53,7 @@ impl AreaDays {
 
     /// Adds a day, in constant time on average.
     pub fn add(&mut self, holiday: Holiday) -> Result<(), AllocFailed<u32>>
-        requires { holiday.day ≤ 84370 }
+        requires { holiday.day ≤ LAST_DAY }
         ensures public { OnOk result (self.new.public ≡
             self.old.public ++ (if is_kind Public holiday.kind then holiday.day ∷ [] else [])) }
         ensures school { OnOk result (self.new.school ≡

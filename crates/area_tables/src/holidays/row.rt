@@ -1,6 +1,7 @@
 // A data row of holidays.csv.
 ghost use Rattle.std.specs.Prelude.{◌≡◌, ◌≤◌, IfSome, length, option_map};
 ghost use Rattle.csv.specs.Records.{fields_of};
+ghost use Rattle.route_base.specs.declared.limits.TheConstants.{LAST_DAY};
 ghost use Rattle.area_tables.specs.Holidays.{kind_of, holiday_of};
 
 use calendar_days::read_date;
@@ -37,7 +38,7 @@ fn read_kind(word: &[u8]) -> Option<HolidayKind>
 pub fn read_holiday(row: &ByteRecord) -> Option<(&[u8], Holiday)>
     requires { length (fields_of row.now) ≡ 3 }
     ensures value { option_map (λ h. (h.0.now, h.1)) result ≡ holiday_of (fields_of row.now) }
-    ensures small { IfSome result (λ h. h.1.day ≤ 84370) }
+    ensures small { IfSome result (λ h. h.1.day ≤ LAST_DAY) }
 {
     let (area, kind, date) = three_fields(row);
     if !is_name_field(area) {

@@ -1,9 +1,9 @@
 // A table of values by number, read from its text.
 ghost use Rattle.std.specs.Prelude.{codes};
 
-use route_base::{Cause, TableFault};
+use route_base::{Cause, TableFault, is_name_field};
 use std::alloc::Global;
-use table_reader::{NameIndex, Naming, NumberedTable, read_table};
+use table_reader::{FieldValues, NameIndex, NumberedTable, read_table};
 
 // Sizes by name.
 #[derive(Drop)]
@@ -11,16 +11,19 @@ struct Sizes {
     held: NameIndex<u64>,
 }
 
-impl Naming<u64> for Sizes {
+impl FieldValues<u64> for Sizes {
+    ghost use Rattle.route_base.specs.Forms.{is_name};
     ghost use Rattle.table_reader.specs.NameIndex.{value_under};
 
     ghost numbers = { codes "box" };
 
-    ghost names = { codes "size" };
+    ghost fields = { codes "size" };
 
     ghost limit = { 3 };
 
-    ghost named = { λ sizes. value_under sizes.held };
+    ghost form = { is_name };
+
+    ghost value = { λ sizes. value_under sizes.held };
 
     fn headers(&self) -> &'static [&'static [&'static str]] {
         &[&["box", "size"]]
@@ -28,6 +31,10 @@ impl Naming<u64> for Sizes {
 
     fn most_rows(&self) -> u32 {
         3
+    }
+
+    fn has_form(&self, field: &[u8]) -> bool {
+        is_name_field(field)
     }
 
     fn find(&self, name: &[u8]) -> Option<u64> {

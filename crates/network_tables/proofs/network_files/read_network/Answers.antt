@@ -6,6 +6,7 @@ use Rattle.route_base.specs.declared.types.Run.{Run}
 use Rattle.dimacs_reader.specs.GraphModel.{GraphModel}
 use Rattle.opening_hours.specs.Holidays.{HolidayLists}
 use Rattle.zone_rules.specs.declared.rows.ZoneRow.{ZoneRow}
+use Rattle.route_base.specs.Forms.{is_name}
 use Rattle.table_reader.specs.ByNumber.{numbered_in}
 use Rattle.table_reader.specs.NameIndex.{names_of}
 use Rattle.table_reader.specs.Records.{rows_of}
@@ -78,7 +79,7 @@ new-requires c =
     let have = c.in_ok-zones.ensures.stated.placed in
     let graph = c.in_ok-graph.ensures.stated in
     let names = names_of (areas_of files) in
-    let rows = numbered_in (rows_of files.roads) in
+    let rows = numbered_in is_name (rows_of files.roads) in
     let on_roads = c.in_ok-zones.ensures.stated.on_roads in
     let calendar = c.in_ok-zones-2.ensures.stated in
     let kept = ap (λ (ns : List (List ℕ)). length ns) (names_kept zones (areas_of files) placed have) in
@@ -116,7 +117,7 @@ new-requires c =
             ∙ ap (λ (g : GraphModel). g.nodes) (sym graph);
         small =
             subst (λ (list : List (Option ℕ)). All IsSmallWeight list) (sym c.in_ok-closures.ensures.stated.1)
-            (weights_by_node-small (node_count_of files) (rows_of files.ratings) (numbered_in (rows_of files.parking)));
+            (weights_by_node-small (node_count_of files) (rows_of files.ratings) (numbered_in is_name (rows_of files.parking)));
       };
       zoned =
           subst (λ (list : List ℕ). AreBelow (length c.in_ok-zones-2.zones.items) list) (sym calendar.placed)

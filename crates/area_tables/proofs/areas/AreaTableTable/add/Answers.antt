@@ -1,15 +1,13 @@
-use Rattle.std.proofs.Common.{◌≡◌, ℕ, true, false, Option, Some, None, List, [], ◌∷◌, ◌++◌, ap, sym, ◌∙◌, subst, refl}
+use Rattle.std.proofs.Common.{◌≡◌, ℕ, Bool, true, false, cond, Option, Some, None, List, [], ◌∷◌, ◌++◌, ap, sym, ◌∙◌, subst, refl}
 use Rattle.std.specs.Option.{is_some}
-use Rattle.std.proofs.lemmas.Result.{IfErr-weaker, on_ok_weaker}
+use Rattle.std.proofs.lemmas.Result.{on_ok_weaker}
 use Rattle.csv.specs.Records.{fields_of}
 use Rattle.route_base.specs.declared.faults.Cause.{Cause}
-use Rattle.route_base.specs.declared.faults.Cause.TheVariants.{Unknown}
+use Rattle.route_base.specs.declared.faults.Cause.TheVariants.{Duplicate, Unknown}
 use Rattle.area_tables.specs.Areas.{AreaEntry, area_of_record, areas_in, cause_of_area}
 use Rattle.table_reader.specs.NameIndex.{value_under, names_of, place_among}
 use Rattle.table_reader.specs.Records.{Record}
-use Rattle.table_reader.specs.Refusals.{IfBadCause}
-use Rattle.table_reader.specs.declared.faults.RowFault.{RowFault}
-use Rattle.table_reader.specs.declared.faults.RowFault.TheVariants as row
+use Rattle.table_reader.proofs.RowRefusals.{refused_weaker}
 use Rattle.area_tables.specs.AreaPlaces.{HaveZones}
 use Rattle.area_tables.specs.Inside.{AreaPlaces}
 use Rattle.area_tables.specs.Zones.{ZoneList}
@@ -26,13 +24,15 @@ abbrev Has : Record → Option Cause → AreaPlaces → Type 0
 Has row cause t = (start : AreaPlaces) (before : List Record) → ReadsInto start before t
     → cause_of_area (value_under t.zones) (areas_in before) (area_of_record row) ≡ cause
 
--- the cause of a fault, if it has one, by a weaker fact
-cause_weaker : (P Q : Cause → Type 0) → ((cause : Cause) → P cause → Q cause) → (e : RowFault) → IfBadCause e P → IfBadCause e Q
-cause_weaker P Q weaker (row.Bad cause) refused = weaker cause refused
-cause_weaker P Q weaker row.OutOfMemory refused = tt
-
 zones_there : (start t : AreaPlaces) (before : List Record) → ReadsInto start before t → HaveZones t.zones (areas_in before) t.areas
 zones_there start t before reads = subst (λ (z : ZoneList). HaveZones z (areas_in before) t.areas) (sym reads.0) reads.1
+
+-- a row whose zone is there is a duplicate where its area has a row
+next_cause : (t : AreaPlaces) (row : Record) (a : AreaEntry) (i : ℕ) (b : Bool) → area_of_record row ≡ Some a
+    → place_among (names_of t.zones) a.1 ≡ Some i → is_some (value_under t.areas a.0) ≡ b → Has row (cond b (Some Duplicate) None) t
+next_cause t row a i b is place held = λ start before reads.
+    ap (λ (o : Option AreaEntry). cause_of_area (value_under t.zones) (areas_in before) o) is
+    ∙ cause_placed t.zones (areas_in before) t.areas (zones_there start t before reads) a i b place held
 
 pub returns-in_default-place-clause-refused : goal.returns-in_default-place-clause-refused
 returns-in_default-place-clause-refused c =
@@ -45,13 +45,10 @@ returns-in_default-place-clause-refused c =
 
 pub returns-clause-faultless : goal.returns-clause-faultless
 returns-clause-faultless c =
-    let table : AreaPlaces = record { zones = c.self.inside.zones.now; areas = c.self.inside.zone_places } in
-    let a : AreaEntry = (c.in-Some.area.now, c.in-Some.zone.now) in
-    let place : place_among (names_of table.zones) a.1 ≡ Some c.in-Some-place.zone = sym c.place.ensures.place ∙ c.in-Some-place.is in
-    on_ok_weaker c.add.result (λ free. subst (Has (fields_of c.args.row.now) None) c.self.view_is (λ start before reads.
-    ap (λ (o : Option AreaEntry). cause_of_area (value_under table.zones) (areas_in before) o) (sym c.in-Some.ensures)
-    ∙ cause_placed table.zones (areas_in before) table.areas (zones_there start table before reads) a c.in-Some-place.zone false place
-    (ap (λ (o : Option ℕ). is_some o) free)))
+    let row = fields_of c.args.row.now in
+    let place = sym c.place.ensures.place ∙ c.in-Some-place.is in
+    on_ok_weaker c.add.result (λ free. subst (Has row None) c.self.view_is
+    (next_cause _ row (c.in-Some.area.now, c.in-Some.zone.now) _ false (sym c.in-Some.ensures) place (ap (λ (o : Option ℕ). is_some o) free)))
     c.add.ensures.free
 
 pub returns-clause-added : goal.returns-clause-added
@@ -72,13 +69,11 @@ returns-clause-added c =
 
 pub returns-clause-refused : goal.returns-clause-refused
 returns-clause-refused c =
-    let table : AreaPlaces = record { zones = c.self.inside.zones.now; areas = c.self.inside.zone_places } in
-    let a : AreaEntry = (c.in-Some.area.now, c.in-Some.zone.now) in
-    let place : place_among (names_of table.zones) a.1 ≡ Some c.in-Some-place.zone = sym c.place.ensures.place ∙ c.in-Some-place.is in
-    IfErr-weaker c.add.result _ (λ e. IfBadCause e (λ cause. Has (fields_of c.args.row.now) (Some cause) c.args.self.now))
-    (cause_weaker _ (λ cause. Has (fields_of c.args.row.now) (Some cause) c.args.self.now)
-    (λ cause taken. subst (Has (fields_of c.args.row.now) (Some cause)) c.self.view_is (λ start before reads.
-    ap (λ (o : Option AreaEntry). cause_of_area (value_under table.zones) (areas_in before) o) (sym c.in-Some.ensures)
-    ∙ cause_placed table.zones (areas_in before) table.areas (zones_there start table before reads) a c.in-Some-place.zone true place taken.1
-    ∙ ap Some (sym taken.0))))
+    let row = fields_of c.args.row.now in
+    let place = sym c.place.ensures.place ∙ c.in-Some-place.is in
+    refused_weaker c.add.result _ (λ cause. Has row (Some cause) c.args.self.now)
+    (λ cause taken. subst (Has row (Some cause)) c.self.view_is (λ start before reads.
+    next_cause (record { zones = c.self.inside.zones.now; areas = c.self.inside.zone_places }) row (c.in-Some.area.now, c.in-Some.zone.now) _ true
+    (sym c.in-Some.ensures) place taken.1 start before reads
+    ∙ ap Some (sym taken.0)))
     c.add.ensures.refused

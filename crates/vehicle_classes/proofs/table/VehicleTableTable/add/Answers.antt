@@ -4,9 +4,10 @@ use Rattle.std.proofs.lemmas.Result.{on_ok_weaker}
 use Rattle.csv.specs.Records.{fields_of}
 use Rattle.table_reader.specs.NameIndex.{names_of}
 use Rattle.table_reader.specs.Records.{Record}
+use Rattle.table_reader.proofs.RowRefusals.{refused_weaker}
 use Rattle.vehicle_classes.specs.VehicleParts.{NamedVehicles, HoldVehicles}
 use Rattle.vehicle_classes.specs.Vehicles.{VehicleEntry, vehicle_of, vehicles_in, cause_of_vehicle}
-use Rattle.vehicle_classes.proofs.VehicleRows.{refused_weaker, cause_held, hold_more, vehicles_push}
+use Rattle.vehicle_classes.proofs.VehicleRows.{cause_held, hold_more, vehicles_push}
 use Rattle.vehicle_classes.proofs.table.VehicleTableTable.add.Goals as goal
 
 pub returns-clause-faultless : goal.returns-clause-faultless
