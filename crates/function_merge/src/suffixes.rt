@@ -33,9 +33,9 @@ pub fn runs_from(runs: &[Run], from: Minute) -> &[Run]
     requires { AreRuns runs.now }
     ensures runs { AreRuns result.now }
     ensures minutes { (t : ℕ) → from ≤ t → any_has result.now t ≡ any_has runs.now t }
-    ensures length { length result.now ≤ length runs.now }
     ensures shorter { (first : Run) (rest : List Run) → runs.now ≡ first ∷ rest
         → first.hi ≤ from → length result.now < length runs.now }
+    ensures length { length result.now ≤ length runs.now }
 {
     match runs {
         [first, rest @ ..] if first.hi <= from => rest,

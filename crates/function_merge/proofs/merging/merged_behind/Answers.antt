@@ -1,4 +1,4 @@
-use Rattle.std.proofs.Common.{⊎_elim, ◌≡◌, ◌<◌, ◌≤◌, ◌++◌, ◌∙◌, ℕ, All, get_or, sym, subst, arith}
+use Rattle.std.proofs.Common.{⊎_elim, ◌<◌, ◌≤◌, ◌++◌, ◌∙◌, ℕ, All, get_or, sym, subst, arith}
 use Rattle.std.proofs.lemmas.Bool.{cases_lt}
 use Rattle.cost_functions.specs.Building.{IsSettled}
 use Rattle.function_merge.specs.Least.{least_at, better_at}

@@ -1,4 +1,4 @@
-use Rattle.std.proofs.Common.{◌≡◌, ◌≤◌, length, take, drop, ap, sym, subst, arith}
+use Rattle.std.proofs.Common.{◌≤◌, length, take, ap, sym, subst, arith}
 use Rattle.function_merge.specs.Inside.Suffixes.{AreParts}
 use Rattle.function_merge.proofs.Outcomes.{both_ok}
 use Rattle.function_merge.proofs.Splits.{parts_at}

@@ -1,7 +1,6 @@
-use Rattle.std.proofs.Common.{◌≡◌, ◌<◌, ◌≤◌, ◌+◌, ℕ, None, ◌∙◌, arith}
+use Rattle.std.proofs.Common.{◌<◌, ◌≤◌, ◌+◌, ℕ, ◌∙◌, arith}
 use Rattle.route_base.specs.Runs.{any_has}
-use Rattle.function_merge.specs.Inside.CarriedWaits.{carried_to}
-use Rattle.function_merge.proofs.FirstPieces.{first_of, first_value, first_none, no_pieces}
+use Rattle.function_merge.proofs.FirstPieces.{first_value, first_none, no_pieces}
 use Rattle.function_merge.proofs.WaitSteps.{waited_gap, carried_gap, next_after}
 use Rattle.function_merge.proofs.waiting.next_wait.Goals as goal
 
