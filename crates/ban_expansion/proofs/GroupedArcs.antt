@@ -8,7 +8,7 @@ use Rattle.route_base.proofs.Items.{slice_get-push_end}
 use Rattle.network_tables.specs.Access.{area_place}
 use Rattle.network_tables.specs.NetworkModel.{NetworkModel}
 use Rattle.ban_expansion.specs.ArcGroups.{GroupsModel, IsArc, IsInGroup, AreGroupsOf}
-use Rattle.ban_expansion.specs.Inside.Grouping.{AreAlike, AreShared, begun, has_own, group_joined}
+use Rattle.ban_expansion.specs.Inside.Grouping.{AreAlike, AreGrouped, AreShared, GroupingModel, begun, has_own, group_joined}
 use Rattle.ban_expansion.proofs.AlikeArcs.{closed_alike, nothing_own}
 use Rattle.ban_expansion.proofs.ItemLists.{got_before, got_pushed, got_set}
 
@@ -49,6 +49,17 @@ module _ (net : NetworkModel) where
         (λ last same. subst (λ (j : ℕ). IsInGroup net all.firsts (j + 1) other) (sym groups.counted ∙ sym last)
         (subst (λ (g : ℕ). IsInGroup net all.firsts (n + 1) g) same is));
   }
+
+  -- where the next arc joins a group, the arcs are grouped one further
+  pub joined_one : (k group : ℕ) (grouping : GroupingModel) (all after : GroupsModel) (shared : List (Option ℕ))
+      → grouping ≡ record { all = all; shared = shared } → AreGrouped net k grouping → IsInGroup net grouping.all.firsts (k + 1) group
+      → after ≡ group_joined all group → AreGrouped net (k + 1) (record { all = after; shared = shared })
+  joined_one k group grouping all after shared viewed before is joined =
+      let held = subst (AreGrouped net k) viewed before in
+      subst (λ (g : GroupsModel). AreGrouped net (k + 1) (record { all = g; shared = shared })) (sym joined) (record {
+        groups = joined_groups k group all held.groups (subst (λ (g : GroupingModel). IsInGroup net g.all.firsts (k + 1) group) viewed is);
+        shares = held.shares;
+      })
 
   pub begun_groups : (n : ℕ) (a : ArcId) (all : GroupsModel) → a.0 ≡ n + 1 → n < length net.graph.arcs → AreGroupsOf net n all
       → AreGroupsOf net (n + 1) (begun all a)

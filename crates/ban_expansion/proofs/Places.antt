@@ -1,14 +1,21 @@
 -- Places of keys, one key after another.
 use Rattle.std.proofs.Common.{◌≡◌, ◌≤◌, length, arith, ℕ, zero, suc, ◌+◌, Bool, true, Option, Some}
-use Rattle.std.proofs.Common.{None, unwrap_or, List, [], ◌∷◌, ◌++◌, take, slice_get, refl, sym, ◌∙◌, ap}
+use Rattle.std.proofs.Common.{None, unwrap_or, option_and_then, List, [], ◌∷◌, ◌++◌, take, slice_get, refl, sym, ◌∙◌, ap}
 use Rattle.std.specs.List.{list_any}
 use Rattle.std.specs.Option.{option_or, option_map}
 use Rattle.std.proofs.lemmas.Bool.{or_left, or_right}
 use Rattle.std.proofs.lemmas.List.{take_more}
 use Rattle.std.proofs.lemmas.Option.{get_or_from_slice_get, slice_get_within}
+use Rattle.opening_hours.specs.Holidays.{HolidayLists}
+use Rattle.zone_rules.specs.declared.rows.ZoneRow.{ZoneRow}
+use Rattle.vehicle_classes.specs.Classes.{keys_of}
+use Rattle.vehicle_classes.specs.VehicleModel.{VehicleModel}
+use Rattle.vehicle_classes.specs.declared.classes.Class.{Class}
 use Rattle.vehicle_classes.specs.declared.classes.Key.{Key}
 use Rattle.conditional_rules.specs.Decisions.{last_given}
-use Rattle.network_tables.specs.Access.{places_of, places_of_key}
+use Rattle.conditional_rules.specs.declared.conditional.Clause.{Clause}
+use Rattle.network_tables.specs.Access.{access_given, area_at, area_place, decision_at, given_at, places_of, places_of_key}
+use Rattle.network_tables.specs.NetworkModel.{Area, NetworkModel}
 use Rattle.network_tables.specs.declared.rules.place.RulePlace.{RulePlace}
 use Rattle.ban_expansion.proofs.Lasts.{last_append}
 
@@ -36,6 +43,22 @@ given_next f area a keys k key is =
     ∙ ap (last_given f) (places_append area a (take k keys) (key ∷ []))
     ∙ last_append f (places_of area a (take k keys)) (places_of_key area a key)
 
+-- the key that is found at a place of a class's keys
+pub key_there : {class held : Class} {found : Option Key} (k : ℕ) (key : Option Key) → held ≡ class → found ≡ slice_get (keys_of held) k → found ≡ key
+    → slice_get (keys_of class) k ≡ key
+key_there k key same is found = ap (λ (c : Class). slice_get (keys_of c) k) (sym same) ∙ sym is ∙ found
+
+-- what the values of one key more give, where the arc's area is known
+pub next_access : (net : NetworkModel) (vehicle : VehicleModel) (a t k : ℕ) (key : Key) (area : ℕ) → area_place net a ≡ area
+    → slice_get (keys_of vehicle.class) k ≡ Some key
+    → access_given net vehicle a t (take (k + 1) (keys_of vehicle.class))
+    ≡ option_or (last_given (given_at net (area_at net area) vehicle t) (places_of_key area a key))
+    (access_given net vehicle a t (take k (keys_of vehicle.class)))
+next_access net vehicle a t k key area place there =
+    given_next (given_at net (area_at net (area_place net a)) vehicle t) (area_place net a) a (keys_of vehicle.class) k key there
+    ∙ ap (λ (n : ℕ). option_or (last_given (given_at net (area_at net n) vehicle t) (places_of_key n a key))
+    (access_given net vehicle a t (take k (keys_of vehicle.class)))) place
+
 pub unwrap_over : {A : Type 0} (later before : Option A) (d : A) → unwrap_or (option_or later before) d ≡ unwrap_or later (unwrap_or before d)
 unwrap_over None before d = refl
 unwrap_over (Some x) before d = refl
@@ -44,6 +67,21 @@ unwrap_over (Some x) before d = refl
 pub mapped_there : {A B : Type 0} (f : A → B) (o : Option A) (d : A) (y : B) → option_map f o ≡ Some y → f (unwrap_or o d) ≡ y
 mapped_there f None d y is = absurd (cc)
 mapped_there f (Some x) d y is = cc
+
+abbrev no_area : Area
+no_area = record { zone = []; holidays = record { public = []; school = [] } }
+
+-- clauses decide by the clocks and the holidays of their area
+pub decided_there : (net : NetworkModel) (vehicle : VehicleModel) (area t : ℕ) {zone : List ZoneRow} {holidays : HolidayLists}
+    → option_map (λ (a : Area). a.zone) (slice_get net.areas area) ≡ Some zone
+    → option_map (λ (a : Area). a.holidays) (slice_get net.areas area) ≡ Some holidays → (o : Option (List Clause))
+    → option_and_then (decision_at vehicle zone holidays t) o
+    ≡ option_and_then (decision_at vehicle (area_at net area).zone (area_at net area).holidays t) o
+decided_there net vehicle area t {zone = zone} {holidays = holidays} zoned held o =
+    ap (λ (z : List ZoneRow). option_and_then (decision_at vehicle z holidays t) o)
+    (sym (mapped_there (λ (a : Area). a.zone) (slice_get net.areas area) no_area zone zoned))
+    ∙ ap (λ (h : HolidayLists). option_and_then (decision_at vehicle (area_at net area).zone h t) o)
+    (sym (mapped_there (λ (a : Area). a.holidays) (slice_get net.areas area) no_area holidays held))
 
 pub any_found : {A : Type 0} (p : A → Bool) (xs : List A) (k : ℕ) (x : A) → slice_get xs k ≡ Some x → p x ≡ true → list_any p xs ≡ true
 any_found p [] k x is passes = absurd (cc)

@@ -12,6 +12,7 @@ use Rattle.std.proofs.lemmas.Option.{slice_get-get_or, slice_get_past, slice_get
 use Rattle.route_base.specs.Net.{Net, IsGoodNet, IsGoodArc, IsGoodPark, setting_of, at_number, road_of, runs_at, runs_by, shut_by}
 use Rattle.route_base.specs.Runs.{any_has, has_minute, AreRuns}
 use Rattle.route_base.specs.Matching.{StandsFor}
+use Rattle.route_base.specs.declared.types.ArcId.{ArcId}
 use Rattle.route_base.specs.declared.types.Park.{Park}
 use Rattle.route_base.specs.declared.types.Run.{Run}
 use Rattle.route_base.specs.declared.types.TimedArc.{TimedArc}
@@ -23,7 +24,7 @@ use Rattle.network_tables.specs.Access.{is_closed}
 use Rattle.network_tables.specs.NetworkModel.{NetworkModel, IsGoodNetwork, IsSmallWeight}
 use Rattle.network_tables.specs.RoadSetting.{road_setting, road_over}
 use Rattle.ban_expansion.specs.ArcGroups.{GroupsModel, AreGroups}
-use Rattle.ban_expansion.specs.Bans.{IsShutWithin}
+use Rattle.ban_expansion.specs.Bans.{IsNetFor, IsShutWithin}
 use Rattle.ban_expansion.specs.Inside.GroupedNets.{HasClosed, AreClosedLists, IsTimedArc, AreTimed, timed_over, park_over}
 use Rattle.ban_expansion.proofs.ItemLists.{got_pushed, zip_all, zip_at, zip_length}
 
@@ -195,16 +196,21 @@ net_with n arcs closed parks = record { nodes = n; arcs = arcs; closed = closed;
 pub net_made : (net : NetworkModel) (vehicle : VehicleModel) (window : Run) (all : GroupsModel) (arcs : List TimedArc) (lists : List (List Run))
     → IsGoodNetwork net → IsGoodGraph net.graph → AreGroups net all
     → AreTimed net all.groups (length net.graph.arcs) arcs → AreClosedLists net vehicle window all.firsts lists
-    → {n : ℕ} {closed : List (List Run)} {parks : List (Option Park)} → n ≡ net.graph.nodes → closed ≡ lists ++ [] ∷ []
-    → parks ≡ map (park_over (length lists)) net.weights
-    → IsGoodNet (net_with n arcs closed parks) × StandsFor (setting_of (net_with n arcs closed parks)) (road_setting net vehicle) window
-    × IsShutWithin net vehicle window (setting_of (net_with n arcs closed parks))
-net_made net vehicle window all arcs lists good graph groups timed sets nodes closed parks =
+    → {n count : ℕ} {closed : List (List Run)} {parks : List (Option Park)} → n ≡ net.graph.nodes → closed ≡ lists ++ [] ∷ []
+    → length lists ≡ count → parks ≡ map (park_over count) net.weights
+    → IsGoodNet (net_with n arcs closed parks) × IsNetFor net vehicle window (setting_of (net_with n arcs closed parks))
+net_made net vehicle window all arcs lists good graph groups timed sets nodes closed count parks =
+    let placed = parks ∙ ap (λ n. map (park_over n) net.weights) (sym count) in
     let same : net_over net arcs lists ≡ net_with _ arcs _ _ =
-    λ i. net_with (sym nodes i) arcs (sym closed i) (sym parks i) in (
+    λ i. net_with (sym nodes i) arcs (sym closed i) (sym placed i) in (
       subst IsGoodNet same (good_net net vehicle window all arcs lists good graph groups timed sets),
-      subst (λ (n : Net). StandsFor (setting_of n) (road_setting net vehicle) window) same
-          (net_stands net vehicle window all arcs lists good graph groups timed sets),
-      subst (λ (n : Net). IsShutWithin net vehicle window (setting_of n)) same
-          (net_shut net vehicle window all arcs lists good graph groups timed sets),
+      subst (λ (n : Net). IsNetFor net vehicle window (setting_of n)) same (record {
+        stands = net_stands net vehicle window all arcs lists good graph groups timed sets;
+        exact = net_shut net vehicle window all arcs lists good graph groups timed sets;
+      }),
     )
+
+-- the first arcs may be named otherwise
+pub same_firsts : (net : NetworkModel) (vehicle : VehicleModel) (window : Run) {firsts given : List ArcId} (lists : List (List Run)) → given ≡ firsts
+    → AreClosedLists net vehicle window given lists → AreClosedLists net vehicle window firsts lists
+same_firsts net vehicle window lists same sets = subst (λ (arcs : List ArcId). AreClosedLists net vehicle window arcs lists) same sets

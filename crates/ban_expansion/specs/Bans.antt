@@ -1,18 +1,13 @@
 -- Minutes that are closed by accesses, laid over one another from general to special (source: own).
 use Rattle.std.specs.Prelude.{◌≡◌, ◌&&◌, ℕ, Bool, not, Option, Some, None, IsSome, List, if◌then◌else◌}
+use Rattle.route_base.specs.Matching.{StandsFor}
 use Rattle.route_base.specs.Runs.{any_has, has_minute}
 use Rattle.route_base.specs.Setting.{Setting}
 use Rattle.route_base.specs.declared.types.Run.{Run}
-use Rattle.opening_hours.specs.Holidays.{HolidayLists}
-use Rattle.zone_rules.specs.Zones.{wall_at}
-use Rattle.zone_rules.specs.declared.rows.ZoneRow.{ZoneRow}
 use Rattle.vehicle_classes.specs.VehicleModel.{VehicleModel}
 use Rattle.vehicle_classes.specs.declared.classes.Purpose.{Purpose}
 use Rattle.conditional_rules.specs.Accesses.{lets_purpose_in}
-use Rattle.conditional_rules.specs.Decisions.{part_holds, clause_holds}
 use Rattle.conditional_rules.specs.declared.access.Access.{Access}
-use Rattle.conditional_rules.specs.declared.conditional.Clause.{Clause}
-use Rattle.conditional_rules.specs.declared.conditional.Part.{Part}
 use Rattle.network_tables.specs.Access.{is_closed}
 use Rattle.network_tables.specs.NetworkModel.{NetworkModel}
 use Rattle.network_tables.specs.RoadSetting.{road_setting}
@@ -28,18 +23,10 @@ pub record IsShutWithin (net : NetworkModel) (vehicle : VehicleModel) (window : 
   pub waits : (v t : ℕ) → IsSome (s.weight v)
       → s.wait_shut v t ≡ (has_minute t window && (road_setting net vehicle).wait_shut v t)
 
--- whether a part, and a clause, hold for the vehicle when clocks in the zone are read at this instant
-abbrev pub part_holds_at : VehicleModel → List ZoneRow → HolidayLists → Part → ℕ → Bool
-part_holds_at vehicle zone holidays part t = part_holds vehicle holidays (wall_at zone t).day (wall_at zone t).minute part
-
-abbrev pub clause_holds_at : VehicleModel → List ZoneRow → HolidayLists → Clause → ℕ → Bool
-clause_holds_at vehicle zone holidays clause t =
-    clause_holds vehicle holidays (wall_at zone t).day (wall_at zone t).minute clause
-
--- the access that a clause gives at an instant, where it holds
-abbrev pub clause_gives : VehicleModel → List ZoneRow → HolidayLists → ℕ → Clause → Option Access
-clause_gives vehicle zone holidays t clause =
-    if clause_holds_at vehicle zone holidays clause t then Some clause.access else None
+-- the setting stands for the road setting within the window, and is shut at exactly the minutes of the window at which that is
+pub record IsNetFor (net : NetworkModel) (vehicle : VehicleModel) (window : Run) (s : Setting) : Type 0 where
+  pub stands : StandsFor s (road_setting net vehicle) window
+  pub exact : IsShutWithin net vehicle window s
 
 -- whether a trip of this purpose is barred once an access is given, where it was barred before or not
 abbrev pub barred_by : Purpose → Option Access → Bool → Bool

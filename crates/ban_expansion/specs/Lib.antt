@@ -1,7 +1,6 @@
 pub mod ArcGroups
 pub mod Bans
-pub mod Coverage
+pub mod Circumstances
 pub mod Inside
 pub mod Layers
-pub mod LocalDays
 pub mod Words

@@ -1,7 +1,8 @@
 // Makes the net of a network for a vehicle, over which trips are planned.
 ghost use Rattle.std.specs.Prelude.{◌≡◌, ◌≤◌, ◌<◌, ◌^◌, ◌++◌, ◌∷◌, [], length, map, IfOk, OnOk};
-ghost use Rattle.ban_expansion.specs.Words.{StandsFor, IsShutWithin, setting_of, IsGoodGraph, road_setting, IsWindow};
-ghost use Rattle.ban_expansion.specs.Words.{AreGroups, AreTimed, IsTimedArc, timed_over, park_over};
+ghost use Rattle.ban_expansion.specs.Words.{IsNetFor, setting_of, IsGoodGraph, IsWindow, VehicleModel};
+ghost use Rattle.ban_expansion.specs.Words.{AreClosedLists, AreClosedOnce, AreGroups, AreTimed, IsTimedArc};
+ghost use Rattle.ban_expansion.specs.Words.{timed_over, park_over};
 
 use crate::arc_groups::ArcGroups;
 use crate::closed_lists::{closed_lists, closed_lists_at_once};
@@ -95,6 +96,27 @@ fn open_parks(
     Ok(parks)
 }
 
+// The net over these groups, where the lists have the closed minutes of the groups, for some vehicle and window.
+fn net_over(
+    alloc: Global,
+    network: &Network,
+    groups: &ArcGroups,
+    lists: Vec<Vec<Run>>,
+) -> Result<TimedNet, OutOfMemory>
+    requires groups { AreGroups network.now groups.now }
+    requires closed { AreClosedOnce network.now groups.now.firsts
+        (map (λ v. v.items) lists.items) }
+    ensures { IfOk result (λ net. (vehicle : VehicleModel) (window : Run) → AreClosedLists
+        network.now vehicle window groups.now.firsts (map (λ v. v.items) lists.items)
+        → IsNetFor network.now vehicle window (setting_of net)) }
+{
+    let nodes = network.graph().node_count();
+    let arcs = timed_arcs(alloc, network, groups)?;
+    let mut closed = lists;
+    let parks = open_parks(alloc, network, &mut closed)?;
+    Ok(TimedNet::new(nodes, arcs, closed, parks))
+}
+
 /// The network as a net for the vehicle, as `expand_plain` makes it, over groups that `group_arcs` found.
 ///
 /// It takes the time and memory of one `closed_set` for each group; beside, it is linear in nodes and arcs, and looks up no rules.
@@ -107,16 +129,11 @@ pub fn expand_groups(
 ) -> Result<TimedNet, OutOfMemory>
     requires groups { AreGroups network.now groups.now }
     requires window { IsWindow window }
-    ensures stands { IfOk result (λ net.
-        StandsFor (setting_of net) (road_setting network.now vehicle.now) window) }
-    ensures exact { IfOk result (λ net.
-        IsShutWithin network.now vehicle.now window (setting_of net)) }
+    ensures { IfOk result (λ net. IsNetFor network.now vehicle.now window (setting_of net)) }
 {
-    let nodes = network.graph().node_count();
-    let arcs = timed_arcs(alloc, network, groups)?;
-    let mut closed = closed_lists(alloc, network, groups.firsts(), vehicle, window)?;
-    let parks = open_parks(alloc, network, &mut closed)?;
-    Ok(TimedNet::new(nodes, arcs, closed, parks))
+    let closed = closed_lists(alloc, network, groups.firsts(), vehicle, window)?;
+    let net = net_over(alloc, network, groups, closed)?;
+    Ok(net)
 }
 
 /// The network as a net for the vehicle: each minute of driving costs 1,000 thousandths, an arc is closed at exactly the
@@ -131,10 +148,7 @@ pub fn expand_plain(
     window: Run,
 ) -> Result<TimedNet, OutOfMemory>
     requires { IsWindow window }
-    ensures stands { IfOk result (λ net.
-        StandsFor (setting_of net) (road_setting network.now vehicle.now) window) }
-    ensures exact { IfOk result (λ net.
-        IsShutWithin network.now vehicle.now window (setting_of net)) }
+    ensures { IfOk result (λ net. IsNetFor network.now vehicle.now window (setting_of net)) }
 {
     let groups = group_arcs(alloc, network)?;
     expand_groups(alloc, network, &groups, vehicle, window)
@@ -154,16 +168,11 @@ pub fn expand<R: Threads + Sync, G: Gate>(
     gate: &G,
 ) -> Result<TimedNet, OutOfMemory>
     requires { IsWindow window }
-    ensures stands { IfOk result (λ net.
-        StandsFor (setting_of net) (road_setting network.now vehicle.now) window) }
-    ensures exact { IfOk result (λ net.
-        IsShutWithin network.now vehicle.now window (setting_of net)) }
+    ensures { IfOk result (λ net. IsNetFor network.now vehicle.now window (setting_of net)) }
 {
     let groups = group_arcs(alloc, network)?;
-    let nodes = network.graph().node_count();
-    let arcs = timed_arcs(alloc, network, &groups)?;
     let firsts = groups.firsts();
-    let mut closed = closed_lists_at_once(rt, alloc, network, firsts, vehicle, window, gate)?;
-    let parks = open_parks(alloc, network, &mut closed)?;
-    Ok(TimedNet::new(nodes, arcs, closed, parks))
+    let closed = closed_lists_at_once(rt, alloc, network, firsts, vehicle, window, gate)?;
+    let net = net_over(alloc, network, &groups, closed)?;
+    Ok(net)
 }

@@ -2,7 +2,7 @@
 ghost use Rattle.std.specs.Prelude.{◌≡◌, ◌+◌, ◌≤◌, ◌<◌, ◌^◌, All, Some, [], length, slice_get, IfOk, IfSome, OnOk};
 ghost use Rattle.std.specs.List.{list_any};
 ghost use Rattle.ban_expansion.specs.Words.{AreGroups, AreGrouped, AreShared, begun_shared, every_key, has_own, has_own_rule};
-ghost use Rattle.ban_expansion.specs.Words.{IsArc, IsInGroup, IsGoodGraph, NetworkModel};
+ghost use Rattle.ban_expansion.specs.Words.{IsArc, IsInGroup, IsNext, NetworkModel};
 
 use crate::arc_comparison::{EVERY_KEY, are_alike};
 use crate::arc_digests::arc_digest;
@@ -140,9 +140,7 @@ impl Grouping {
 
     // Groups the arc at place k from 0, which has something of its own. It shares the group of an arc like it, or begins a group.
     fn add_own(&mut self, alloc: Global, network: &Network, k: u32) -> Result<(), OutOfMemory>
-        requires within { k < length network.now.graph.arcs }
-        requires graph { IsGoodGraph network.now.graph }
-        requires grouped { AreGrouped network.now k self.old }
+        requires { IsNext network.now k self.old }
         ensures { OnOk result (AreGrouped network.now (k + 1) self.new) }
     {
         let a = ArcId(k + 1);
@@ -158,9 +156,7 @@ impl Grouping {
 
     // Groups the arc at place k from 0. An arc without closures or rules of its own shares the group of its area.
     fn add(&mut self, alloc: Global, network: &Network, k: u32) -> Result<(), OutOfMemory>
-        requires within { k < length network.now.graph.arcs }
-        requires graph { IsGoodGraph network.now.graph }
-        requires grouped { AreGrouped network.now k self.old }
+        requires { IsNext network.now k self.old }
         ensures { OnOk result (AreGrouped network.now (k + 1) self.new) }
     {
         let a = ArcId(k + 1);

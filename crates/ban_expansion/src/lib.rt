@@ -12,40 +12,34 @@
 //! workers. `ArcGroups` is their law: to every vehicle, an arc is closed at exactly the minutes at which the first arc of its
 //! group is.
 //!
-//! The law of the parts is in `specs/`. `Coverage` says as a test which minutes of UTC hours cover: local time is read in the
-//! zone, and the spans that began on the local day or up to seven days before it count. The law `covered_exactly` says that this
-//! test is the relation of `opening_hours`; `covered_minutes` meets it for every minute of a window. `Layers` says what layers of
-//! minutes give: the last layer that has a minute decides whether it is closed. `overlaid` and `closed_by` meet this, and `common`
-//! has the minutes of all sets. The law `last_of_all` says that lists of clauses, one after another, may be taken as one list.
-//! `Bans` says when a set has exactly those minutes of a window that pass a test (`HasThose`): the set of `closed_set` has those at
-//! which the arc is closed; and when a net is shut at exactly these minutes (`IsShutWithin`), its roads as well as its places to wait, as
-//! those of `expand_plain` are.
+//! The law of the parts is in `specs/`. `Layers` says what layers of minutes give: the last layer that has a minute decides whether
+//! it is closed. `overlaid` and `closed_by` meet this, and `common` has the minutes of all sets. The law `last_of_all` says that
+//! lists of clauses, one after another, may be taken as one list. `Bans` says when a set has exactly those minutes of a window
+//! that pass a test (`HasThose`): the set of `closed_set` has those at which the arc is closed; and when a net is shut at exactly
+//! these minutes (`IsShutWithin`), its roads as well as its places to wait, as those of `expand_plain` are.
 //!
-//! The other definitions are machinery. `LocalDays` says which minutes of UTC the spans of a local day are, while the offset of
-//! the zone stays the same: `coverage` cuts the window where the offset changes, `local_days` lays out the days of each part, and
-//! both write runs in any order, of which `minute_sets` makes a set. `Bans` says too what it is to lay the values of rules over
-//! minutes that are closed so far, from general to special, as `closed_sets` does. `Inside` says how arcs are grouped and timed.
+//! The other definitions are machinery. `Bans` says too what it is to lay the values of rules over minutes that are closed so far,
+//! from general to special, as `closed_sets` does in the `Circumstances` of a vehicle; the minutes of hours come from
+//! `covered_minutes`. `Inside` says how arcs are grouped and timed.
 #![tactic(auto)]
 
 mod access;
 mod arc_comparison;
 mod arc_digests;
 mod arc_groups;
+mod circumstances;
 mod closed_lists;
 mod closed_sets;
-mod coverage;
 mod expansion;
 mod grouping;
 mod laws;
 mod layers;
-mod local_days;
 mod threads;
 
 pub use access::closed_at;
 pub use arc_groups::ArcGroups;
 pub use closed_sets::closed_set;
-pub use coverage::covered_minutes;
 pub use expansion::{expand, expand_groups, expand_plain};
 pub use grouping::group_arcs;
-pub use laws::{covered_exactly, last_of_all};
+pub use laws::last_of_all;
 pub use layers::{Layer, closed_by, common, overlaid};

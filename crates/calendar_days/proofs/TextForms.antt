@@ -1,5 +1,5 @@
 -- The texts of dates and instants are read, and only they are.
-use Rattle.std.proofs.Common.{◌≡◌, ◌⊎◌, inl, inr, ℕ, ◌+◌, ◌*◌, ◌/◌, ◌%◌, ◌<◌, ◌≤◌, ◌&&◌, ◌||◌, true, Some, List, [], ◌∷◌, ◌++◌, refl, ap, ◌∙◌, arith}
+use Rattle.std.proofs.Common.{◌≡◌, ◌⊎◌, inl, inr, ℕ, ◌+◌, ◌*◌, ◌/◌, ◌%◌, ◌<◌, ◌≤◌, ltb, ◌&&◌, ◌||◌, true, Some, List, [], ◌∷◌, ◌++◌, refl, ap, ◌∙◌, arith}
 use Rattle.std.specs.Prelude.{codes, bytes_eq, option_and_then, nat_lt}
 use Rattle.std.proofs.lemmas.Bool.{and_parts, or_cases, ltb-true, lt-ltb}
 use Rattle.std.proofs.lemmas.Option.{same_Some}
@@ -67,30 +67,21 @@ date_text-only (y3 ∷ y2 ∷ y1 ∷ y0 ∷ a ∷ m1 ∷ m0 ∷ b ∷ d1 ∷ d0 
     )
 date_text-only text n e = absurd (cc)
 
+-- the numbers of a clock, and that they are of a day
+clock_parts : (n : ℕ) → n < 1440 → (number_of (two_digits (n / 60)) ≡ Some (n / 60)) × (number_of (two_digits (n % 60)) ≡ Some (n % 60))
+    × (ltb (n / 60) 24 ≡ true) × (ltb (n % 60) 60 ≡ true) × (60 * (n / 60) + n % 60 ≡ n)
+clock_parts n small = (
+  two_digits-number (n / 60) (omega (arith, small)),
+  two_digits-number (n % 60) (omega arith),
+  lt-ltb (n / 60) 24 (omega (arith, small)),
+  lt-ltb (n % 60) 60 (omega arith),
+  omega arith,
+)
+
 pub clock_text-read : (n : ℕ) (end : List ℕ) → n < 1440 → (end ≡ codes "Z") ⊎ (end ≡ codes ":00Z") → clock_of (clock_text_of n ++ end) ≡ Some n
 unfolding clock_of
-clock_text-read n end small (inl z) =
-    let value : 60 * (n / 60) + n % 60 ≡ n = omega arith in
-    rw (
-      z,
-      two_digits-number (n / 60) (omega (arith, small)),
-      two_digits-number (n % 60) (omega arith),
-      lt-ltb (n / 60) 24
-          (omega (arith, small)),
-      lt-ltb (n % 60) 60 (omega arith),
-      value,
-    ) refl
-clock_text-read n end small (inr z) =
-    let value : 60 * (n / 60) + n % 60 ≡ n = omega arith in
-    rw (
-      z,
-      two_digits-number (n / 60) (omega (arith, small)),
-      two_digits-number (n % 60) (omega arith),
-      lt-ltb (n / 60) 24
-          (omega (arith, small)),
-      lt-ltb (n % 60) 60 (omega arith),
-      value,
-    ) refl
+clock_text-read n end small (inl z) = let parts = clock_parts n small in rw (z, parts.0, parts.1, parts.2, parts.3, parts.4) refl
+clock_text-read n end small (inr z) = let parts = clock_parts n small in rw (z, parts.0, parts.1, parts.2, parts.3, parts.4) refl
 
 clock_written : (t h1 h0 c n1 n0 h n : ℕ) → (t ≡ 84) × (c ≡ 58) → number_of (h1 ∷ h0 ∷ []) ≡ Some h
     → number_of (n1 ∷ n0 ∷ []) ≡ Some n → t ∷ h1 ∷ h0 ∷ c ∷ n1 ∷ n0 ∷ [] ≡ codes "T" ++ two_digits h ++ codes ":" ++ two_digits n

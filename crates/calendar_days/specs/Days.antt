@@ -34,6 +34,10 @@ abbrev pub is_date : CivilDate → Bool
 is_date d = nat_le 1970 d.year && nat_le d.year 2200 && nat_le 1 d.month && nat_le d.month 12 && nat_le 1 d.day
     && nat_le d.day (days_of_month d.year d.month)
 
+-- the days of its month after a date
+abbrev pub later_days : CivilDate → ℕ
+later_days d = days_of_month d.year d.month - d.day
+
 -- the days of the whole years and months before a date, and of its month before it
 abbrev pub day_number : CivilDate → ℕ
 day_number d = days_of_years (d.year - 1970) + days_of_months d.year (d.month - 1) + (d.day - 1)

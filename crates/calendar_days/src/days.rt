@@ -2,7 +2,7 @@
 ghost use Rattle.std.specs.Prelude.{◌≡◌, ◌≤◌, IsTrue, IfSome, pos};
 ghost use Rattle.jiff_core.specs.Date.{epoch_day};
 ghost use Rattle.jiff_core.specs.Weekday.{monday_zero};
-ghost use Rattle.calendar_days.specs.Days.{days_of_month, is_date, date_from, day_number, day_of_parts, date_on};
+ghost use Rattle.calendar_days.specs.Days.{days_of_month, is_date, date_from, later_days, day_number, day_of_parts, date_on};
 ghost use Rattle.calendar_days.specs.Weekdays.{index_of, weekday_on};
 
 use crate::Weekday;
@@ -88,6 +88,14 @@ pub fn date_of(day: u32) -> CivilDate
         month: date.month as u32,
         day: date.day as u32,
     }
+}
+
+/// The number of days of the date's month after it, 0 on its last day. In constant time.
+pub fn days_left(date: CivilDate) -> u32
+    requires { IsTrue (is_date date) }
+    ensures { result ≡ later_days date }
+{
+    month_length(date.year, date.month) - date.day
 }
 
 // The weekday that jiff's weekday is.

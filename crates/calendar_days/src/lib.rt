@@ -12,6 +12,6 @@ mod instants;
 mod threads;
 mod weekday;
 
-pub use days::{CivilDate, date_of, day_of, weekday_of};
+pub use days::{CivilDate, date_of, day_of, days_left, weekday_of};
 pub use instants::{NotADate, NotAnInstant, instant_text, read_date, read_instant};
 pub use weekday::Weekday;

@@ -11,8 +11,9 @@ use Rattle.calendar_days.specs.declared.weekday.Weekday.TheVariants.{Mo, Tu, We,
 use Rattle.calendar_days.specs.Texts.{two_digits}
 use Rattle.opening_hours.specs.declared.tokens.Token.{Token}
 use Rattle.opening_hours.specs.declared.tokens.Token.TheVariants.{Month, Day, Public, School, Off, Open, Always, Unknown}
-use Rattle.opening_hours.specs.declared.tokens.Token.TheVariants.{Time, Number, Dash, Comma, Semicolon, Colon}
-use Rattle.opening_hours.specs.CanonicalText.{month_text, weekday_text, lexeme, is_tight, is_semicolon, blank_between, spell}
+use Rattle.opening_hours.specs.declared.tokens.Token.TheVariants.{Time, Number, Dash, Comma, Semicolon, Colon, LeftBracket, RightBracket}
+use Rattle.opening_hours.specs.declared.tokens.Digits.TheVariants as digits
+use Rattle.opening_hours.specs.CanonicalText.{month_text, weekday_text, lexeme, is_tight, is_closing, blank_between, spell}
 use Rattle.opening_hours.proofs.Spelled.{Spells, AllSpell}
 use Rattle.opening_hours.specs.declared.types.HoursRule.{HoursRule}
 use Rattle.opening_hours.specs.CanonicalTokens.{hours_tokens, hours_text}
@@ -61,7 +62,8 @@ token_dark : (t : Token) → IsDark (lexeme t)
 token_dark (Month m) = month_dark m
 token_dark (Day d) = day_dark d
 token_dark (Time a b) = rw (digit_dark (a / 10), digit_dark a, digit_dark (b / 10), digit_dark b) refl
-token_dark (Number n) = rw (digit_dark (n / 10), digit_dark n) refl
+token_dark (Number n digits.One) = rw (digit_dark n) refl
+token_dark (Number n digits.Two) = rw (digit_dark (n / 10), digit_dark n) refl
 token_dark Unknown = refl
 token_dark Public = refl
 token_dark School = refl
@@ -72,6 +74,8 @@ token_dark Dash = refl
 token_dark Comma = refl
 token_dark Semicolon = refl
 token_dark Colon = refl
+token_dark LeftBracket = refl
+token_dark RightBracket = refl
 
 -- a byte that is no A
 other_first : (b : ℕ) (bs : List ℕ) → (b == 65) ≡ false → (b == 97) ≡ false → starts_with_and (32 ∷ b ∷ bs) ≡ false
@@ -118,7 +122,8 @@ token_other (Month m) more h = month_other m more
 token_other (Day d) more h = day_other d more
 token_other Unknown more h = absurd h
 token_other (Time a b) more h = digit_other (a / 10) ((48 + a % 10) ∷ (codes ":" ++ (two_digits b ++ more)))
-token_other (Number n) more h = digit_other (n / 10) ((48 + n % 10) ∷ more)
+token_other (Number n digits.One) more h = digit_other n more
+token_other (Number n digits.Two) more h = digit_other (n / 10) ((48 + n % 10) ∷ more)
 token_other Public more h = other_first 80 (72 ∷ more) refl refl
 token_other School more h = other_first 83 (72 ∷ more) refl refl
 token_other Off more h = other_first 111 (102 ∷ 102 ∷ more) refl refl
@@ -128,6 +133,8 @@ token_other Dash more h = other_first 45 more refl refl
 token_other Comma more h = other_first 44 more refl refl
 token_other Semicolon more h = other_first 59 more refl refl
 token_other Colon more h = other_first 58 more refl refl
+token_other LeftBracket more h = other_first 91 more refl refl
+token_other RightBracket more h = other_first 93 more refl refl
 
 spell_other : (t : Token) (ts : List Token) (more : List ℕ) → Spells t → starts_with_and (32 ∷ (spell (t ∷ ts) ++ more)) ≡ false
 unfolding spell
@@ -148,7 +155,7 @@ spell_passes (t ∷ []) more h = dark_passes (lexeme t) more (token_dark t)
 spell_passes (t ∷ u ∷ us) more h =
     let gap = blank_between t u in
     let later = spell (u ∷ us) in
-    let passed = gap_passes (is_tight t || (is_tight u || is_semicolon u)) (later ++ more) (spell_other u us more h.1.0) in
+    let passed = gap_passes (is_tight t || (is_tight u || is_closing u)) (later ++ more) (spell_other u us more h.1.0) in
     let first = dark_passes (lexeme t) ((gap ++ later) ++ more) (token_dark t) in
     let behind = both_over first_and first_and first_and gap later more passed (spell_passes (u ∷ us) more h.1) in
     both_over first_and first_and first_and (lexeme t) (gap ++ later) more first behind

@@ -20,19 +20,15 @@ quantity_text Axles = codes "axles"
 abbrev pub decimals_in : Quantity → ℕ
 decimals_in Weight = 3
 decimals_in Axleload = 3
-decimals_in Height = 2
-decimals_in Width = 2
-decimals_in Length = 2
 decimals_in Axles = 0
+decimals_in quantity = 2
 
 -- the unit that may be written after a size
 abbrev pub unit_text : Quantity → List ℕ
 unit_text Weight = codes "t"
 unit_text Axleload = codes "t"
-unit_text Height = codes "m"
-unit_text Width = codes "m"
-unit_text Length = codes "m"
 unit_text Axles = []
+unit_text quantity = codes "m"
 
 -- the signs of a comparison
 pub data IsSign : List ℕ → Comparison → Type 0 where

@@ -3,21 +3,8 @@ ghost use Rattle.std.specs.Prelude.{◌≡◌, ◌+◌, ◌<◌, ◌∷◌, [], 
 ghost use Rattle.opening_hours.specs.Tokens.{without_blanks};
 ghost use Rattle.conditional_rules.specs.Cutting.{trimmed, is_within, first_semicolon, is_and, starts_with_and, first_and};
 
+use opening_hours::behind_blanks;
 use route_base::is_blank;
-
-// The text without the blanks at its front.
-fn behind_blanks(text: &[u8]) -> &[u8]
-    ensures { result.now ≡ without_blanks text.now }
-{
-    let mut rest = text;
-    while let [b, after @ ..] = rest {
-        if !is_blank(*b) {
-            return rest;
-        }
-        rest = after;
-    }
-    rest
-}
 
 // The text without the blanks at its end.
 fn before_blanks(text: &[u8]) -> &[u8]

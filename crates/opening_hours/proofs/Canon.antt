@@ -64,6 +64,8 @@ item_canon ts i (grammar.weekdays {a = a} {b = b}) = by (index_of a == index_of 
     by false e = grammar.weekdays
 item_canon ts i grammar.public = grammar.public
 item_canon ts i grammar.school = grammar.school
+item_canon ts i (grammar.nth p) = grammar.nth p
+item_canon ts i (grammar.nth_last p) = grammar.nth_last p
 
 clock : (t : ℕ) → 60 * (t / 60) + t % 60 ≡ t
 clock t = omega arith

@@ -9,7 +9,8 @@ use Rattle.std.proofs.lemmas.List.Folds.{length-prefix_len}
 use Rattle.std.proofs.lemmas.List.Sums.{prefix_len-le-length}
 use Rattle.std.proofs.lemmas.Option.{some_pair_parts}
 use Rattle.opening_hours.specs.declared.tokens.Token.{Token}
-use Rattle.opening_hours.specs.declared.tokens.Token.TheVariants.{Always, Time, Number, Dash, Comma, Semicolon, Colon}
+use Rattle.opening_hours.specs.declared.tokens.Token.TheVariants.{Always, Time, Number, Dash, Comma, Semicolon, Colon, LeftBracket, RightBracket}
+use Rattle.opening_hours.specs.declared.tokens.Digits.TheVariants as digits
 use Rattle.opening_hours.specs.Tokens.{is_digit, is_letter, one_digit, number_of_two, word_token, without_blanks}
 use Rattle.route_base.specs.Forms.{is_blank}
 use Rattle.opening_hours.specs.Inside.Tokenizer.{word_of, word_at, always_at, long_time_at, short_time_at, long_number_at}
@@ -68,42 +69,56 @@ short_time_shorter text t after e = absurd cc
 
 long_number_shorter : (text : List ℕ) → Shorter long_number_at text
 unfolding Shorter
-long_number_shorter (a ∷ b ∷ rest) t after e = omega (arith, ap length (if_found (is_digit a && is_digit b) (Number (number_of_two a b)) t rest after e))
+long_number_shorter (a ∷ b ∷ rest) t after e = omega (arith, ap length (if_found (is_digit a && is_digit b) (Number (number_of_two a b) digits.Two) t rest after e))
 long_number_shorter text t after e = absurd cc
 
 short_number_shorter : (text : List ℕ) → Shorter short_number_at text
 unfolding Shorter
-short_number_shorter (a ∷ rest) t after e = omega (arith, ap length (if_found (is_digit a) (Number (one_digit a)) t rest after e))
+short_number_shorter (a ∷ rest) t after e = omega (arith, ap length (if_found (is_digit a) (Number (one_digit a) digits.One) t rest after e))
 short_number_shorter text t after e = absurd cc
 
-marks : (b c d f : Bool) (u : Token) (rest after : List ℕ)
+marks : (b c d f g h : Bool) (u : Token) (rest after : List ℕ)
     → cond b (found_one Dash rest) (cond c (found_one Comma rest)
-    (cond d (found_one Semicolon rest) (cond f (found_one Colon rest) None))) ≡ Some (u, after) → rest ≡ after
-marks true c d f u rest after e = (some_pair_parts Dash u rest after e).1
-marks false true d f u rest after e = (some_pair_parts Comma u rest after e).1
-marks false false true f u rest after e = (some_pair_parts Semicolon u rest after e).1
-marks false false false true u rest after e = (some_pair_parts Colon u rest after e).1
-marks false false false false u rest after e = absurd cc
+    (cond d (found_one Semicolon rest) (cond f (found_one Colon rest)
+    (cond g (found_one LeftBracket rest) (cond h (found_one RightBracket rest) None))))) ≡ Some (u, after) → rest ≡ after
+marks true c d f g h u rest after e = (some_pair_parts Dash u rest after e).1
+marks false true d f g h u rest after e = (some_pair_parts Comma u rest after e).1
+marks false false true f g h u rest after e = (some_pair_parts Semicolon u rest after e).1
+marks false false false true g h u rest after e = (some_pair_parts Colon u rest after e).1
+marks false false false false true h u rest after e = (some_pair_parts LeftBracket u rest after e).1
+marks false false false false false true u rest after e = (some_pair_parts RightBracket u rest after e).1
+marks false false false false false false u rest after e = absurd cc
 
 mark_shorter : (text : List ℕ) → Shorter mark_at text
 unfolding Shorter
-mark_shorter (a ∷ rest) t after e = omega (arith, ap length (marks (a == 45) (a == 44) (a == 59) (a == 58) t rest after e))
+mark_shorter (a ∷ rest) t after e = omega (arith, ap length (marks (a == 45) (a == 44) (a == 59) (a == 58) (a == 91) (a == 93) t rest after e))
 mark_shorter text t after e = absurd cc
 
-or_shorter : (text : List ℕ) (o p : Option (Token × List ℕ)) (t : Token) (after : List ℕ)
-    → (o ≡ Some (t, after) → length after < length text) → (p ≡ Some (t, after) → length after < length text)
-    → option_or o p ≡ Some (t, after) → length after < length text
-or_shorter text o p t after f g e = elim (or_some o p (t, after) e) [ inl h ↦ f h | inr h ↦ g h ]
+-- what each token of a kind is, with the text behind it
+abbrev pub AllAre : (Token → List ℕ → Type 0) → Option (Token × List ℕ) → Type 0
+AllAre Is found = (t : Token) (after : List ℕ) → found ≡ Some (t, after) → Is t after
+
+either_is : (Is : Token → List ℕ → Type 0) (o p : Option (Token × List ℕ)) → AllAre Is o → AllAre Is p → AllAre Is (option_or o p)
+either_is Is o p each other t after e = elim (or_some o p (t, after) e) [ inl h ↦ each t after h | inr h ↦ other t after h ]
+
+-- what is so for each kind of token is so for the token at the front of a text
+pub each_kind : (Is : Token → List ℕ → Type 0) (text : List ℕ) → AllAre Is (word_at text) → AllAre Is (long_time_at text)
+    → AllAre Is (always_at text) → AllAre Is (short_time_at text) → AllAre Is (long_number_at text) → AllAre Is (short_number_at text)
+    → AllAre Is (mark_at text) → AllAre Is (token_at text)
+unfolding token_at
+each_kind Is text word long_time always short_time long_number short_number mark =
+    either_is Is (word_at text) _ word
+    (either_is Is (long_time_at text) _ long_time
+    (either_is Is (always_at text) _ always
+    (either_is Is (short_time_at text) _ short_time
+    (either_is Is (long_number_at text) _ long_number
+    (either_is Is (short_number_at text) (mark_at text) short_number mark)))))
 
 pub token_shorter : (text : List ℕ) (t : Token) (after : List ℕ) → token_at text ≡ Some (t, after) → length after < length text
-unfolding token_at Shorter
-token_shorter text t after e =
-    or_shorter text (word_at text) _ t after (word_shorter text t after)
-    (or_shorter text (long_time_at text) _ t after (long_time_shorter text t after)
-    (or_shorter text (always_at text) _ t after (always_shorter text t after)
-    (or_shorter text (short_time_at text) _ t after (short_time_shorter text t after)
-    (or_shorter text (long_number_at text) _ t after (long_number_shorter text t after)
-    (or_shorter text (short_number_at text) (mark_at text) t after (short_number_shorter text t after) (mark_shorter text t after)))))) e
+unfolding Shorter
+token_shorter text =
+    each_kind (λ t after. length after < length text) text (word_shorter text) (long_time_shorter text) (always_shorter text)
+    (short_time_shorter text) (long_number_shorter text) (short_number_shorter text) (mark_shorter text)
 
 pub length-without_blanks : (text : List ℕ) → length (without_blanks text) ≤ length text
 length-without_blanks [] = omega arith

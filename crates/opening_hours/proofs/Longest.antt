@@ -1,6 +1,6 @@
 -- The token that is found is the longest.
 use Rattle.std.proofs.Common.{◌≡◌, ℕ, ◌+◌, ◌<◌, ◌≤◌, Bool, true, false, cond, List, [], ◌∷◌, ◌++◌, length, take, drop}
-use Rattle.std.proofs.Common.{Option, Some, None, refl, sym, ap, subst, ◌∙◌, arith, inl, inr, length-drop, length-append}
+use Rattle.std.proofs.Common.{Option, Some, None, refl, sym, ap, subst, ◌∙◌, arith, length-drop, length-append}
 use Rattle.std.specs.Prelude.{◌==◌, ◌&&◌, codes}
 use Rattle.std.specs.List.{take_while, prefix_len}
 use Rattle.std.specs.Option.{option_or}
@@ -11,15 +11,16 @@ use Rattle.std.proofs.lemmas.List.Folds.{length-prefix_len}
 use Rattle.std.proofs.lemmas.List.Sums.{take_while-cons}
 use Rattle.std.proofs.lemmas.Option.{some_pair_parts}
 use Rattle.opening_hours.specs.declared.tokens.Token.{Token}
-use Rattle.opening_hours.specs.declared.tokens.Token.TheVariants.{Always, Time, Number, Dash, Comma, Semicolon, Colon}
+use Rattle.opening_hours.specs.declared.tokens.Token.TheVariants.{Always, Time, Number, Dash, Comma, Semicolon, Colon, LeftBracket, RightBracket}
+use Rattle.opening_hours.specs.declared.tokens.Digits.TheVariants as digits
 use Rattle.opening_hours.specs.Tokens.{is_digit, is_letter, one_digit, number_of_two}
 use Rattle.opening_hours.specs.Tokens.{word_token, AreLetters, IsToken, IsFirst}
 use Rattle.opening_hours.specs.Tokens.{without_blanks, IsCut}
 use Rattle.opening_hours.specs.Inside.Tokenizer.{word_of, word_at, always_at, long_time_at, short_time_at, long_number_at}
 use Rattle.opening_hours.specs.Inside.Tokenizer.{short_number_at, mark_at, token_at, IsMatched}
 use Rattle.opening_hours.specs.Tokens as tokens
-use Rattle.opening_hours.proofs.Cuts.{or_some, token_shorter, found_one}
-use Rattle.opening_hours.proofs.Spelled.{no_word, word_first, time_first, mark_first, always_first}
+use Rattle.opening_hours.proofs.Cuts.{each_kind, token_shorter, found_one}
+use Rattle.opening_hours.proofs.Spelled.{no_word, word_first, time_first, mark_first, always_first, end_false}
 
 -- a token in front of a text, and what is behind it
 abbrev pub Front : List ℕ → Token → List ℕ → Type 0
@@ -91,47 +92,41 @@ short_time_front text t after e = absurd cc
 
 long_number_front : (text : List ℕ) (t : Token) (after : List ℕ) → long_number_at text ≡ Some (t, after) → Front text t after
 long_number_front (a ∷ b ∷ rest) t after h =
-    let f = if_some (is_digit a && is_digit b) (Number (number_of_two a b)) t rest after h in
+    let f = if_some (is_digit a && is_digit b) (Number (number_of_two a b) digits.Two) t rest after h in
     let g = and_parts (is_digit a) (is_digit b) f.0 in
-    front_is (a ∷ b ∷ []) rest after (Number (number_of_two a b)) t (tokens.long_number g.0 g.1) f.1 f.2
+    front_is (a ∷ b ∷ []) rest after (Number (number_of_two a b) digits.Two) t (tokens.long_number g.0 g.1) f.1 f.2
 long_number_front text t after e = absurd cc
 
 short_number_front : (text : List ℕ) (t : Token) (after : List ℕ) → short_number_at text ≡ Some (t, after) → Front text t after
 short_number_front (a ∷ rest) t after h =
-    let f = if_some (is_digit a) (Number (one_digit a)) t rest after h in
-    front_is (a ∷ []) rest after (Number (one_digit a)) t (tokens.short_number f.0) f.1 f.2
+    let f = if_some (is_digit a) (Number (one_digit a) digits.One) t rest after h in
+    front_is (a ∷ []) rest after (Number (one_digit a) digits.One) t (tokens.short_number f.0) f.1 f.2
 short_number_front text t after e = absurd cc
 
 mark_front : (text : List ℕ) (t : Token) (after : List ℕ) → mark_at text ≡ Some (t, after) → Front text t after
-mark_front (a ∷ rest) t after h = by (a == 45) (a == 44) (a == 59) (a == 58) refl refl refl refl h
+mark_front (a ∷ rest) t after h = by (a == 45) (a == 44) (a == 59) (a == 58) (a == 91) (a == 93) refl refl refl refl refl refl h
   where
     one : (k : ℕ) (u : Token) → (a == k) ≡ true → IsToken (k ∷ []) u → found_one u rest ≡ Some (t, after) → Front (a ∷ rest) t after
     one k u is token e = let p = some_pair_parts u t rest after e in
         front_is (a ∷ []) rest after u t (subst (λ (x : ℕ). IsToken (x ∷ []) u) (sym (eqb-true a k is)) token) p.0 p.1
 
-    by : (b c d f : Bool) → (a == 45) ≡ b → (a == 44) ≡ c → (a == 59) ≡ d → (a == 58) ≡ f
+    by : (b c d f g k : Bool) → (a == 45) ≡ b → (a == 44) ≡ c → (a == 59) ≡ d → (a == 58) ≡ f → (a == 91) ≡ g → (a == 93) ≡ k
         → cond b (found_one Dash rest) (cond c (found_one Comma rest)
-        (cond d (found_one Semicolon rest) (cond f (found_one Colon rest) None))) ≡ Some (t, after) → Front (a ∷ rest) t after
-    by true c d f p q r s e = one 45 Dash p tokens.dash e
-    by false true d f p q r s e = one 44 Comma q tokens.comma e
-    by false false true f p q r s e = one 59 Semicolon r tokens.semicolon e
-    by false false false true p q r s e = one 58 Colon s tokens.colon e
-    by false false false false p q r s e = absurd cc
+        (cond d (found_one Semicolon rest) (cond f (found_one Colon rest)
+        (cond g (found_one LeftBracket rest) (cond k (found_one RightBracket rest) None))))) ≡ Some (t, after) → Front (a ∷ rest) t after
+    by true c d f g k p q r s v w e = one 45 Dash p tokens.dash e
+    by false true d f g k p q r s v w e = one 44 Comma q tokens.comma e
+    by false false true f g k p q r s v w e = one 59 Semicolon r tokens.semicolon e
+    by false false false true g k p q r s v w e = one 58 Colon s tokens.colon e
+    by false false false false true k p q r s v w e = one 91 LeftBracket v tokens.left_bracket e
+    by false false false false false true p q r s v w e = one 93 RightBracket w tokens.right_bracket e
+    by false false false false false false p q r s v w e = absurd cc
 mark_front text t after e = absurd cc
 
-or_front : (text : List ℕ) (o p : Option (Token × List ℕ)) (t : Token) (after : List ℕ)
-    → (o ≡ Some (t, after) → Front text t after) → (p ≡ Some (t, after) → Front text t after) → option_or o p ≡ Some (t, after) → Front text t after
-or_front text o p t after f g e = elim (or_some o p (t, after) e) [ inl h ↦ f h | inr h ↦ g h ]
-
 pub token_front : (text : List ℕ) (t : Token) (after : List ℕ) → token_at text ≡ Some (t, after) → Front text t after
-unfolding token_at
-token_front text t after e =
-    or_front text (word_at text) _ t after (word_front text t after)
-    (or_front text (long_time_at text) _ t after (long_time_front text t after)
-    (or_front text (always_at text) _ t after (always_front text t after)
-    (or_front text (short_time_at text) _ t after (short_time_front text t after)
-    (or_front text (long_number_at text) _ t after (long_number_front text t after)
-    (or_front text (short_number_at text) (mark_at text) t after (short_number_front text t after) (mark_front text t after)))))) e
+token_front text =
+    each_kind (Front text) text (word_front text) (long_time_front text) (always_front text) (short_time_front text)
+    (long_number_front text) (short_number_front text) (mark_front text)
 
 -- something at least as long is found wherever a token stands in front
 abbrev pub ReachesAsFar : List ℕ → List ℕ → Type 0
@@ -162,10 +157,6 @@ word_reaches b bs more h =
     let n : length w ≡ prefix_len is_letter text = ap length (sym front) ∙ length-prefix_len is_letter text in
     let small : length rest ≤ length more = omega (arith, length-drop (length w) text, n, prefix_more (b ∷ bs) more h, length-append (b ∷ bs) more) in
     (word_token w, rest, rw front refl, small)
-
-end_false : (a : Bool) → a && false ≡ false
-end_false true = refl
-end_false false = refl
 
 short_time_reaches : (a d e : ℕ) (more : List ℕ) → is_digit a ≡ true → is_digit d ≡ true → is_digit e ≡ true → ReachesAsFar (a ∷ 58 ∷ d ∷ e ∷ more) more
 unfolding token_at
@@ -227,21 +218,21 @@ unfolding token_at
 long_number_reaches a b more ha hb =
     let text = a ∷ b ∷ more in
     let tail = option_or (short_number_at text) (mark_at text) in
-    let number : option_or (long_number_at text) tail ≡ Some (Number (number_of_two a b), more) = rw (ha, hb) refl in
+    let number : option_or (long_number_at text) tail ≡ Some (Number (number_of_two a b) digits.Two, more) = rw (ha, hb) refl in
     let found = or_reaches (long_time_at text) _ (length more) (λ t after e. long_time_leaves a b t after more e)
     (or_reaches (always_at text) _ (length more) (λ t after e. always_leaves a b t after more e)
     (or_reaches (short_time_at text) (option_or (long_number_at text) tail) (length more) (λ t after e. short_time_leaves a b t after more e)
-    (Number (number_of_two a b), more, number, omega arith))) in
+    (Number (number_of_two a b) digits.Two, more, number, omega arith))) in
     (found.0, found.1, rw (no_word a (b ∷ more) (digit_dark a ha)) found.2, found.3)
 
 short_number_reaches : (a : ℕ) (more : List ℕ) → is_digit a ≡ true → ReachesAsFar (a ∷ more) more
 unfolding token_at
 short_number_reaches a more ha =
     let text = a ∷ more in
-    let number : option_or (short_number_at text) (mark_at text) ≡ Some (Number (one_digit a), more) = rw ha refl in
+    let number : option_or (short_number_at text) (mark_at text) ≡ Some (Number (one_digit a) digits.One, more) = rw ha refl in
     let found = or_has (word_at text) _ (or_has (long_time_at text) _
     (or_has (always_at text) _ (or_has (short_time_at text) _
-    (or_has (long_number_at text) (option_or (short_number_at text) (mark_at text)) ((Number (one_digit a), more), number))))) in
+    (or_has (long_number_at text) (option_or (short_number_at text) (mark_at text)) ((Number (one_digit a) digits.One, more), number))))) in
     let whole : token_at text ≡ Some (found.0.0, found.0.1) = found.1 in
     (found.0.0, found.0.1, whole, omega (arith, token_shorter text found.0.0 found.0.1 whole))
 
@@ -257,6 +248,8 @@ reaches other more u tokens.dash = (Dash, more, mark_first 45 more Dash refl ref
 reaches other more u tokens.comma = (Comma, more, mark_first 44 more Comma refl refl refl refl, omega arith)
 reaches other more u tokens.semicolon = (Semicolon, more, mark_first 59 more Semicolon refl refl refl refl, omega arith)
 reaches other more u tokens.colon = (Colon, more, mark_first 58 more Colon refl refl refl refl, omega arith)
+reaches other more u tokens.left_bracket = (LeftBracket, more, mark_first 91 more LeftBracket refl refl refl refl, omega arith)
+reaches other more u tokens.right_bracket = (RightBracket, more, mark_first 93 more RightBracket refl refl refl refl, omega arith)
 
 -- The token that is found stands at the front, and no longer one does.
 pub found_first : (text : List ℕ) (t : Token) (rest : List ℕ) → token_at text ≡ Some (t, rest) → IsFirst text t rest
@@ -291,6 +284,8 @@ token_alone tokens.dash = mark_first 45 [] Dash refl refl refl refl
 token_alone tokens.comma = mark_first 44 [] Comma refl refl refl refl
 token_alone tokens.semicolon = mark_first 59 [] Semicolon refl refl refl refl
 token_alone tokens.colon = mark_first 58 [] Colon refl refl refl refl
+token_alone tokens.left_bracket = mark_first 91 [] LeftBracket refl refl refl refl
+token_alone tokens.right_bracket = mark_first 93 [] RightBracket refl refl refl refl
 
 one_token : (w : List ℕ) (t u : Token) → IsToken w t → IsToken w u → t ≡ u
 one_token w t u h k = (some_pair_parts t u [] [] (sym (token_alone h) ∙ token_alone k)).0

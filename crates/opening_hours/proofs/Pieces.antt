@@ -5,16 +5,17 @@ use Rattle.std.proofs.lemmas.Grind.{common_steps}
 use Rattle.std.proofs.lemmas.Bool.{and_parts}
 use Rattle.std.proofs.lemmas.Option.{cond_some}
 use Rattle.opening_hours.specs.declared.tokens.Token.{Token}
-use Rattle.opening_hours.specs.declared.tokens.Token.TheVariants.{Month, Day, Public, School, Open, Time, Number, Dash}
+use Rattle.opening_hours.specs.declared.tokens.Token.TheVariants.{Month, Day, Public, School, Open, Time, Number, Dash, LeftBracket, RightBracket}
+use Rattle.opening_hours.specs.declared.tokens.Digits.TheVariants as digits
 use Rattle.opening_hours.specs.declared.types.DateSpan.{DateSpan}
 use Rattle.opening_hours.specs.declared.types.DayItem.{DayItem}
 use Rattle.opening_hours.specs.declared.types.DayItem.TheVariants as items
 use Rattle.opening_hours.specs.declared.types.TimeSpan.{TimeSpan}
 use Rattle.opening_hours.specs.declared.types.LongSpan.{LongSpan}
-use Rattle.opening_hours.specs.Grammar.{IsMonth, IsDayNumber, IsTime, IsDate, IsItem, IsSpan, IsLong, IsOpens, dates_from_to}
+use Rattle.opening_hours.specs.Grammar.{IsMonth, IsDayNumber, IsOrdinal, IsTime, IsDate, IsItem, IsSpan, IsLong, IsOpens, dates_from_to}
 use Rattle.opening_hours.specs.Grammar.{span_length, long_length}
 use Rattle.opening_hours.specs.Grammar as grammar
-use Rattle.opening_hours.specs.Inside.Parser.{is_month, is_day_number, is_time, read_date, read_item, read_span, read_long, is_opens}
+use Rattle.opening_hours.specs.Inside.Parser.{is_month, is_day_number, is_ordinal, is_time, read_date, read_item, read_span, read_long, is_opens}
 
 month_true : (m : ℕ) → IsMonth m → is_month m ≡ true
 month_true m h = grind (arith, common_steps)
@@ -29,6 +30,13 @@ day_true a h = grind (arith, common_steps)
 day_is : (a : ℕ) → is_day_number a ≡ true → IsDayNumber a
 day_is a e = let h = and_parts (nat_le 1 a) (nat_le a 31) e in let low : 1 ≤ a = grind (arith, common_steps) in
     let high : a ≤ 31 = grind (arith, common_steps) in (low, high)
+
+ordinal_true : (k : ℕ) → IsOrdinal k → is_ordinal k ≡ true
+ordinal_true k h = grind (arith, common_steps)
+
+ordinal_is : (k : ℕ) → is_ordinal k ≡ true → IsOrdinal k
+ordinal_is k e = let h = and_parts (nat_le 1 k) (nat_le k 5) e in let low : 1 ≤ k = grind (arith, common_steps) in
+    let high : k ≤ 5 = grind (arith, common_steps) in (low, high)
 
 time_true : (h m limit : ℕ) → IsTime h m limit → is_time h m limit ≡ true
 time_true h m limit t = grind (arith, common_steps)
@@ -55,21 +63,21 @@ date_found (Month m ∷ Dash ∷ Month n ∷ []) d e =
     let h = cond_some (is_month m && is_month n) (dates_from_to m 1 n 31) d e in
     let b = and_parts (is_month m) (is_month n) h.0 in
     subst (IsDate (Month m ∷ Dash ∷ Month n ∷ [])) h.1 (grammar.months (month_is m b.0) (month_is n b.1))
-date_found (Month m ∷ Number a ∷ []) d e =
+date_found (Month m ∷ Number a i ∷ []) d e =
     let h = cond_some (is_month m && is_day_number a) (dates_from_to m a m a) d e in
     let b = and_parts (is_month m) (is_day_number a) h.0 in
-    subst (IsDate (Month m ∷ Number a ∷ [])) h.1 (grammar.day (month_is m b.0) (day_is a b.1))
-date_found (Month m ∷ Number a ∷ Dash ∷ Number b ∷ []) d e =
+    subst (IsDate (Month m ∷ Number a i ∷ [])) h.1 (grammar.day (month_is m b.0) (day_is a b.1))
+date_found (Month m ∷ Number a i ∷ Dash ∷ Number b j ∷ []) d e =
     let h = cond_some (is_month m && (is_day_number a && is_day_number b)) (dates_from_to m a m b) d e in
     let f = and_parts (is_month m) (is_day_number a && is_day_number b) h.0 in
     let s = and_parts (is_day_number a) (is_day_number b) f.1 in
-    subst (IsDate (Month m ∷ Number a ∷ Dash ∷ Number b ∷ [])) h.1 (grammar.days (month_is m f.0) (day_is a s.0) (day_is b s.1))
-date_found (Month m ∷ Number a ∷ Dash ∷ Month n ∷ Number b ∷ []) d e =
+    subst (IsDate (Month m ∷ Number a i ∷ Dash ∷ Number b j ∷ [])) h.1 (grammar.days (month_is m f.0) (day_is a s.0) (day_is b s.1))
+date_found (Month m ∷ Number a i ∷ Dash ∷ Month n ∷ Number b j ∷ []) d e =
     let h = cond_some (is_month m && (is_day_number a && (is_month n && is_day_number b))) (dates_from_to m a n b) d e in
     let f = and_parts (is_month m) (is_day_number a && (is_month n && is_day_number b)) h.0 in
     let s = and_parts (is_day_number a) (is_month n && is_day_number b) f.1 in
     let t = and_parts (is_month n) (is_day_number b) s.1 in
-    subst (IsDate (Month m ∷ Number a ∷ Dash ∷ Month n ∷ Number b ∷ [])) h.1
+    subst (IsDate (Month m ∷ Number a i ∷ Dash ∷ Month n ∷ Number b j ∷ [])) h.1
     (grammar.days_over (month_is m f.0) (day_is a s.0) (month_is n t.0) (day_is b t.1))
 date_found ts d e = absurd cc
 
@@ -78,12 +86,20 @@ item_again grammar.weekday = refl
 item_again grammar.weekdays = refl
 item_again grammar.public = refl
 item_again grammar.school = refl
+item_again (grammar.nth {k = k} p) = rw (ordinal_true k p) refl
+item_again (grammar.nth_last {k = k} p) = rw (ordinal_true k p) refl
 
 pub item_found : (ts : List Token) (i : DayItem) → read_item ts ≡ Some i → IsItem ts i
 item_found (Day a ∷ []) i e = let f : items.Week a a ≡ i = cc in subst (IsItem (Day a ∷ [])) f grammar.weekday
 item_found (Day a ∷ Dash ∷ Day b ∷ []) i e = let f : items.Week a b ≡ i = cc in subst (IsItem (Day a ∷ Dash ∷ Day b ∷ [])) f grammar.weekdays
 item_found (Public ∷ []) i e = let f : items.Public ≡ i = cc in subst (IsItem (Public ∷ [])) f grammar.public
 item_found (School ∷ []) i e = let f : items.School ≡ i = cc in subst (IsItem (School ∷ [])) f grammar.school
+item_found (Day a ∷ LeftBracket ∷ Number k digits.One ∷ RightBracket ∷ []) i e =
+    let h = cond_some (is_ordinal k) (items.Nth a k) i e in
+    subst (IsItem (Day a ∷ LeftBracket ∷ Number k digits.One ∷ RightBracket ∷ [])) h.1 (grammar.nth (ordinal_is k h.0))
+item_found (Day a ∷ LeftBracket ∷ Dash ∷ Number k digits.One ∷ RightBracket ∷ []) i e =
+    let h = cond_some (is_ordinal k) (items.NthLast a k) i e in
+    subst (IsItem (Day a ∷ LeftBracket ∷ Dash ∷ Number k digits.One ∷ RightBracket ∷ [])) h.1 (grammar.nth_last (ordinal_is k h.0))
 item_found ts i e = absurd cc
 
 pub span_again : {ts : List Token} {s : TimeSpan} → IsSpan ts s → read_span ts ≡ Some s

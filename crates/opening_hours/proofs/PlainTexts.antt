@@ -1,9 +1,10 @@
 -- Texts of hours within others.
-use Rattle.std.proofs.Common.{◌≡◌, ◌≢◌, ℕ, ◌<◌, ◌≤◌, Bool, true, false, cond, List, [], ◌∷◌, ◌++◌, Some, refl, sym, ap}
+use Rattle.std.proofs.Common.{◌≡◌, ◌≢◌, ℕ, ◌<◌, ◌≤◌, ltb, Bool, true, false, cond, List, [], ◌∷◌, ◌++◌, Some, refl, sym, ap}
 use Rattle.std.proofs.Common.{subst, ◌∙◌, arith, ◌⊎◌, inl, inr, append-nil}
 use Rattle.std.specs.Prelude.{◌==◌, codes}
 use Rattle.std.specs.List.{list_all}
 use Rattle.std.specs.Str.{bytes_eq}
+use Rattle.std.proofs.lemmas.Bool.{and_parts, ltb-true}
 use Rattle.std.proofs.lemmas.Grind.{common_steps}
 use Rattle.std.proofs.lemmas.List.Folds.{list_all-append}
 use Rattle.std.proofs.lemmas.Slice.Eq.{bytes_eq-Decides}
@@ -70,6 +71,8 @@ token_filled tokens.dash = (refl, refl, tt)
 token_filled tokens.comma = (refl, refl, tt)
 token_filled tokens.semicolon = (refl, refl, tt)
 token_filled tokens.colon = (refl, refl, tt)
+token_filled tokens.left_bracket = (refl, refl, tt)
+token_filled tokens.right_bracket = (refl, refl, tt)
 
 -- a token has a byte
 some_byte : {w : List ℕ} {t : Token} → IsToken w t → (b : ℕ) × (bs : List ℕ) × (w ≡ b ∷ bs)
@@ -83,6 +86,8 @@ some_byte tokens.dash = (45, [], refl)
 some_byte tokens.comma = (44, [], refl)
 some_byte tokens.semicolon = (59, [], refl)
 some_byte tokens.colon = (58, [], refl)
+some_byte tokens.left_bracket = (91, [], refl)
+some_byte tokens.right_bracket = (93, [], refl)
 
 starts_with : (w rest : List ℕ) (b : ℕ) (bs : List ℕ) → w ≡ b ∷ bs → AllFilled w → StartsFilled (w ++ rest)
 starts_with [] rest b bs e h = absurd cc
@@ -184,7 +189,8 @@ blank_calm b rest h =
     let letter : is_letter b ≡ false = grind (arith, common_steps) in
     let colon : (b == 58) ≡ false = grind (arith, common_steps) in
     let stroke : (b == 47) ≡ false = grind (arith, common_steps) in
-    (letter, colon, stroke)
+    let digit : is_digit b ≡ false = grind (arith, common_steps) in
+    (letter, colon, stroke, digit)
 
 -- a word and something calm behind it are cut after the word
 word_cut : (b : ℕ) (bs rest : List ℕ) (t : Token) (ts : List Token) → AreLetters (b ∷ bs) → Calm rest
@@ -241,58 +247,26 @@ no_row (row ∷ rows) other b bs h all = rw (all.0 b bs h) (no_row rows other b 
 apart : (b c : ℕ) (bs cs : List ℕ) → 97 ≤ b → c < 97 → bytes_eq (b ∷ bs) (c ∷ cs) ≡ false
 apart b c bs cs h k = let differ : (b == c) ≡ false = grind (arith, common_steps) in rw differ refl
 
-months_capital : AllCapital months
-months_capital = (
-  λ b bs h. apart b 74 bs _ h (omega arith),
-  (
-    λ b bs h. apart b 70 bs _ h (omega arith),
-    (
-      λ b bs h. apart b 77 bs _ h (omega arith),
-      (
-        λ b bs h. apart b 65 bs _ h (omega arith),
-        (
-          λ b bs h. apart b 77 bs _ h (omega arith),
-          (
-            λ b bs h. apart b 74 bs _ h (omega arith),
-            (
-              λ b bs h. apart b 74 bs _ h (omega arith),
-              (
-                λ b bs h. apart b 65 bs _ h (omega arith),
-                (
-                  λ b bs h. apart b 83 bs _ h (omega arith),
-                  (
-                    λ b bs h. apart b 79 bs _ h (omega arith),
-                    (λ b bs h. apart b 78 bs _ h (omega arith), (λ b bs h. apart b 68 bs _ h (omega arith), tt)),
-                  ),
-                ),
-              ),
-            ),
-          ),
-        ),
-      ),
-    ),
-  ),
-)
+-- a word begins with a capital, or with no letter at all
+starts_low : List ℕ → Bool
+starts_low [] = true
+starts_low (c ∷ cs) = ltb c 97
 
-weekdays_capital : AllCapital weekdays
-weekdays_capital = (
-  λ b bs h. apart b 77 bs _ h (omega arith),
-  (
-    λ b bs h. apart b 84 bs _ h (omega arith),
-    (
-      λ b bs h. apart b 87 bs _ h (omega arith),
-      (
-        λ b bs h. apart b 84 bs _ h (omega arith),
-        (λ b bs h. apart b 70 bs _ h (omega arith), (λ b bs h. apart b 83 bs _ h (omega arith), (λ b bs h. apart b 83 bs _ h (omega arith), tt))),
-      ),
-    ),
-  ),
-)
+not_low : (w : List ℕ) → starts_low w ≡ true → (b : ℕ) (bs : List ℕ) → 97 ≤ b → bytes_eq (b ∷ bs) w ≡ false
+unfolding starts_low
+not_low [] low b bs h = refl
+not_low (c ∷ cs) low b bs h = apart b c bs cs h (ltb-true c 97 low)
+
+all_capital : (rows : List (List ℕ × Token)) → list_all (λ (row : List ℕ × Token). starts_low row.0) rows ≡ true → AllCapital rows
+all_capital [] low = tt
+all_capital (row ∷ rows) low =
+    let parts = and_parts (starts_low row.0) (list_all (λ (other : List ℕ × Token). starts_low other.0) rows) low in
+    (not_low row.0 parts.0, all_capital rows parts.1)
 
 small_word : (b : ℕ) (bs : List ℕ) → 97 ≤ b → word_token (b ∷ bs) ≡ other_token (b ∷ bs)
-unfolding word_token weekday_token
-small_word b bs h = no_row months (token_in weekdays (other_token (b ∷ bs)) (b ∷ bs)) b bs h months_capital
-    ∙ no_row weekdays (other_token (b ∷ bs)) b bs h weekdays_capital
+unfolding word_token weekday_token starts_low
+small_word b bs h = no_row months (token_in weekdays (other_token (b ∷ bs)) (b ∷ bs)) b bs h (all_capital months refl)
+    ∙ no_row weekdays (other_token (b ∷ bs)) b bs h (all_capital weekdays refl)
 
 small_other : (b : ℕ) (bs : List ℕ) → 97 ≤ b → other_token (b ∷ bs) ≢ Unknown → other_token (b ∷ bs) ≢ Open
     → (b ∷ bs ≡ codes "off") ⊎ (b ∷ bs ≡ codes "closed")

@@ -8,7 +8,9 @@ use Rattle.std.proofs.lemmas.Option.{cond_some}
 use Rattle.route_base.proofs.Logic.{then_some, map_some}
 use Rattle.opening_hours.specs.declared.tokens.Token.{Token}
 use Rattle.opening_hours.specs.declared.tokens.Token.TheVariants.{Month, Day, Public, School, Off, Open, Always, Unknown}
-use Rattle.opening_hours.specs.declared.tokens.Token.TheVariants.{Time, Number, Dash, Comma, Semicolon, Colon}
+use Rattle.opening_hours.specs.declared.tokens.Token.TheVariants.{Time, Number, Dash, Comma, Semicolon, Colon, LeftBracket, RightBracket}
+use Rattle.opening_hours.specs.declared.tokens.Digits.{Digits}
+use Rattle.opening_hours.specs.declared.tokens.Digits.TheVariants as digits
 use Rattle.opening_hours.specs.declared.tokens.Part.TheVariants as parts
 use Rattle.opening_hours.specs.declared.types.DateSpan.{DateSpan}
 use Rattle.opening_hours.specs.declared.types.DayItem.{DayItem}
@@ -73,21 +75,26 @@ is_day_token t = false
 
 -- one thing
 module _ (p : Token → Bool) where
-  date_made : p Dash ≡ true → ((m : ℕ) → p (Month m) ≡ true) → ((a : ℕ) → p (Number a) ≡ true)
+  date_made : p Dash ≡ true → ((m : ℕ) → p (Month m) ≡ true) → ((a : ℕ) (i : Digits) → p (Number a i) ≡ true)
       → (ts : List Token) (d : DateSpan) → IsDate ts d → Made p ts
   date_made dash month number ts d (grammar.month {m = m} _) = (month m, tt)
   date_made dash month number ts d (grammar.months {m = m} {n = n} _ _) = (month m, (dash, (month n, tt)))
-  date_made dash month number ts d (grammar.day {m = m} {a = a} _ _) = (month m, (number a, tt))
-  date_made dash month number ts d (grammar.days {m = m} {a = a} {b = b} _ _ _) = (month m, (number a, (dash, (number b, tt))))
-  date_made dash month number ts d (grammar.days_over {m = m} {a = a} {n = n} {b = b} _ _ _ _) =
-      (month m, (number a, (dash, (month n, (number b, tt)))))
+  date_made dash month number ts d (grammar.day {m = m} {a = a} {i = i} _ _) = (month m, (number a i, tt))
+  date_made dash month number ts d (grammar.days {m = m} {a = a} {b = b} {i = i} {j = j} _ _ _) = (month m, (number a i, (dash, (number b j, tt))))
+  date_made dash month number ts d (grammar.days_over {m = m} {a = a} {n = n} {b = b} {i = i} {j = j} _ _ _ _) =
+      (month m, (number a i, (dash, (month n, (number b j, tt)))))
 
   item_made : p Dash ≡ true → ((a : Weekday) → p (Day a) ≡ true) → p Public ≡ true → p School ≡ true
+      → p LeftBracket ≡ true → ((a : ℕ) (i : Digits) → p (Number a i) ≡ true) → p RightBracket ≡ true
       → (ts : List Token) (i : DayItem) → IsItem ts i → Made p ts
-  item_made dash day public school ts i (grammar.weekday {a = a}) = (day a, tt)
-  item_made dash day public school ts i (grammar.weekdays {a = a} {b = b}) = (day a, (dash, (day b, tt)))
-  item_made dash day public school ts i grammar.public = (public, tt)
-  item_made dash day public school ts i grammar.school = (school, tt)
+  item_made dash day public school left number right ts i (grammar.weekday {a = a}) = (day a, tt)
+  item_made dash day public school left number right ts i (grammar.weekdays {a = a} {b = b}) = (day a, (dash, (day b, tt)))
+  item_made dash day public school left number right ts i grammar.public = (public, tt)
+  item_made dash day public school left number right ts i grammar.school = (school, tt)
+  item_made dash day public school left number right ts i (grammar.nth {a = a} {k = k} _) =
+      (day a, (left, (number k digits.One, (right, tt))))
+  item_made dash day public school left number right ts i (grammar.nth_last {a = a} {k = k} _) =
+      (day a, (left, (dash, (number k digits.One, (right, tt)))))
 
   span_made : p Dash ≡ true → ((h m : ℕ) → p (Time h m) ≡ true) → (ts : List Token) (s : TimeSpan) → IsSpan ts s → Made p ts
   span_made dash time ts s (grammar.span {h = h} {m = m} {g = g} {n = n} _ _) = (time h m, (dash, (time g n, tt)))
@@ -120,6 +127,8 @@ item_heads ts i grammar.weekday = refl
 item_heads ts i grammar.weekdays = refl
 item_heads ts i grammar.public = refl
 item_heads ts i grammar.school = refl
+item_heads ts i (grammar.nth _) = refl
+item_heads ts i (grammar.nth_last _) = refl
 
 span_heads : (ts : List Token) (s : TimeSpan) → IsSpan ts s → Heads is_time_token ts
 span_heads ts s (grammar.span _ _) = refl
@@ -128,11 +137,11 @@ span_heads ts s (grammar.span _ _) = refl
 dates_again : {ts : List Token} {ds : List DateSpan} → Joined IsDate Comma ts ds → read_list read_date ts ≡ Some ds
 unfolding read_list
 dates_again h = list_again IsDate read_date parts.Item Comma refl
-    (date_made (belongs parts.Item) refl (λ _. refl) (λ _. refl)) (λ ts d p. date_again p) h
+    (date_made (belongs parts.Item) refl (λ _. refl) (λ _ _. refl)) (λ ts d p. date_again p) h
 
 items_again : {ts : List Token} {is : List DayItem} → Joined IsItem Comma ts is → read_list read_item ts ≡ Some is
 unfolding read_list
-items_again h = list_again IsItem read_item parts.Item Comma refl (item_made (belongs parts.Item) refl (λ _. refl) refl refl)
+items_again h = list_again IsItem read_item parts.Item Comma refl (item_made (belongs parts.Item) refl (λ _. refl) refl refl refl (λ _ _. refl) refl)
     (λ ts d p. item_again p) h
 
 spans_again : {ts : List Token} {ss : List TimeSpan} → Joined IsSpan Comma ts ss → read_list read_span ts ≡ Some ss
@@ -187,7 +196,7 @@ unless_colon t ts (r ∷ rest) h = refl
 
 not_dates : (t : Token) → follows_dates t ≡ true → belongs parts.Dates t ≡ false
 not_dates (Month m) e = absurd cc
-not_dates (Number m) e = absurd cc
+not_dates (Number m i) e = absurd cc
 not_dates Dash e = absurd cc
 not_dates Comma e = absurd cc
 not_dates t e = refl
@@ -197,7 +206,7 @@ module _ (core : List Token) (ds : List DateSpan) (h : Joined IsDate Comma core 
   dates_read = filled_dates is_content core (joined_heads is_content IsDate Comma date_heads h) ∙ dates_again h
 
   core_made : Made (belongs parts.Dates) core
-  core_made = joined_made (belongs parts.Dates) IsDate Comma refl (date_made (belongs parts.Dates) refl (λ _. refl) (λ _. refl)) h
+  core_made = joined_made (belongs parts.Dates) IsDate Comma refl (date_made (belongs parts.Dates) refl (λ _. refl) (λ _ _. refl)) h
 
   dated_core : (rest after : List Token) → Stops (belongs parts.Dates) rest → without_colon core rest ≡ after
       → read_dated (core ++ rest) ≡ read_after ds after
@@ -237,13 +246,16 @@ not_days : (t : Token) → follows_days t ≡ true → belongs parts.Days t ≡ 
 not_days (Day m) e = absurd cc
 not_days Public e = absurd cc
 not_days School e = absurd cc
+not_days LeftBracket e = absurd cc
+not_days (Number m i) e = absurd cc
+not_days RightBracket e = absurd cc
 not_days Dash e = absurd cc
 not_days Comma e = absurd cc
 not_days t e = refl
 
 days_made : (ts : List Token) (is : List DayItem) → IsDays ts is → Made (belongs parts.Days) ts
 days_made ts is grammar.none = tt
-days_made ts is (grammar.some h) = joined_made (belongs parts.Days) IsItem Comma refl (item_made (belongs parts.Days) refl (λ _. refl) refl refl) h
+days_made ts is (grammar.some h) = joined_made (belongs parts.Days) IsItem Comma refl (item_made (belongs parts.Days) refl (λ _. refl) refl refl refl (λ _ _. refl) refl) h
 
 spans_made : (ts : List Token) (ss : List TimeSpan) → IsSpans ts ss → Made (belongs parts.Spans) ts
 spans_made ts is grammar.none = tt
@@ -279,12 +291,16 @@ spans_start : {ts : List Token} {ss : List TimeSpan} → IsSpans ts ss → Start
 spans_start grammar.none = tt
 spans_start (grammar.some {ts = ts} h) = time_weaker ts (joined_heads is_time_token IsSpan Comma span_heads h)
 
-open_follows : (ts : List Token) → Starts time_or_open ts → Starts follows_days ts
+-- what a time and `open` are, tokens that begin with one of them begin with
+times_follow : (p : Token → Bool) → ((a b : ℕ) → p (Time a b) ≡ true) → p Open ≡ true → (ts : List Token) → Starts time_or_open ts → Starts p ts
 unfolding time_or_open
-open_follows [] h = tt
-open_follows (Time a b ∷ ts) h = refl
-open_follows (Open ∷ ts) h = refl
-open_follows (t ∷ ts) h = absurd cc
+times_follow p time word [] h = tt
+times_follow p time word (Time a b ∷ ts) h = time a b
+times_follow p time word (Open ∷ ts) h = word
+times_follow p time word (t ∷ ts) h = absurd cc
+
+open_follows : (ts : List Token) → Starts time_or_open ts → Starts follows_days ts
+open_follows = times_follow follows_days (λ a b. refl) refl
 
 spans_then_open : {c os : List Token} {ss : List TimeSpan} → IsSpans c ss → IsOpens os → Starts time_or_open (c ++ os)
 spans_then_open {c = c} {os = os} s o = Starts-append time_or_open c os (spans_start s) (opens_start o)
@@ -314,10 +330,14 @@ no_long (grammar.some (grammar.one (grammar.weekday {a = a}))) rest one none = o
 no_long (grammar.some (grammar.one grammar.weekdays)) rest one none = refl
 no_long (grammar.some (grammar.one grammar.public)) rest one none = refl
 no_long (grammar.some (grammar.one grammar.school)) rest one none = refl
+no_long (grammar.some (grammar.one (grammar.nth _))) rest one none = refl
+no_long (grammar.some (grammar.one (grammar.nth_last _))) rest one none = refl
 no_long (grammar.some (grammar.more grammar.weekday hs)) rest one none = refl
 no_long (grammar.some (grammar.more grammar.weekdays hs)) rest one none = refl
 no_long (grammar.some (grammar.more grammar.public hs)) rest one none = refl
 no_long (grammar.some (grammar.more grammar.school hs)) rest one none = refl
+no_long (grammar.some (grammar.more (grammar.nth _) hs)) rest one none = refl
+no_long (grammar.some (grammar.more (grammar.nth_last _) hs)) rest one none = refl
 
 spans_no_long : {c os : List Token} {ss : List TimeSpan} → IsSpans c ss → IsOpens os → (a : Weekday) → is_long (Day a ∷ (c ++ os)) ≡ false
 spans_no_long grammar.none grammar.none a = refl
@@ -358,13 +378,13 @@ long_after {b = b} {os = os} {l = l} ds h o =
 -- the tokens of a rule
 dates_content : (ts : List Token) (ds : List DateSpan) → IsDates ts ds → Made is_content ts
 dates_content ts ds grammar.none = tt
-dates_content ts ds (grammar.plain h) = joined_made is_content IsDate Comma refl (date_made is_content refl (λ _. refl) (λ _. refl)) h
+dates_content ts ds (grammar.plain h) = joined_made is_content IsDate Comma refl (date_made is_content refl (λ _. refl) (λ _ _. refl)) h
 dates_content ts ds (grammar.colon {ts = us} h) =
-    Made-append is_content us (Colon ∷ []) (joined_made is_content IsDate Comma refl (date_made is_content refl (λ _. refl) (λ _. refl)) h) (refl, tt)
+    Made-append is_content us (Colon ∷ []) (joined_made is_content IsDate Comma refl (date_made is_content refl (λ _. refl) (λ _ _. refl)) h) (refl, tt)
 
 days_content : (ts : List Token) (is : List DayItem) → IsDays ts is → Made is_content ts
 days_content ts is grammar.none = tt
-days_content ts is (grammar.some h) = joined_made is_content IsItem Comma refl (item_made is_content refl (λ _. refl) refl refl) h
+days_content ts is (grammar.some h) = joined_made is_content IsItem Comma refl (item_made is_content refl (λ _. refl) refl refl refl (λ _ _. refl) refl) h
 
 spans_content : (ts : List Token) (ss : List TimeSpan) → IsSpans ts ss → Made is_content ts
 spans_content ts is grammar.none = tt
@@ -407,11 +427,7 @@ days_start grammar.none = tt
 days_start (grammar.some {ts = ts} h) = days_follow ts (joined_heads is_day_token IsItem Comma item_heads h)
 
 open_follows_dates : (ts : List Token) → Starts time_or_open ts → Starts follows_dates ts
-unfolding time_or_open
-open_follows_dates [] h = tt
-open_follows_dates (Time a b ∷ ts) h = refl
-open_follows_dates (Open ∷ ts) h = refl
-open_follows_dates (t ∷ ts) h = absurd cc
+open_follows_dates = times_follow follows_dates (λ a b. refl) refl
 
 long_start : {b : List Token} {l : LongSpan} (os : List Token) → IsLong b l → Starts follows_dates (b ++ os)
 long_start os (grammar.long _ _) = refl

@@ -13,7 +13,7 @@ use Rattle.opening_hours.proofs.Longest.{cut_of, match_of}
 use Rattle.opening_hours.specs.Hours.{IsParsed}
 use Rattle.opening_hours.specs.CanonicalTokens.{hours_tokens, hours_text}
 use Rattle.opening_hours.proofs.Canon.{rules_canon}
-use Rattle.opening_hours.proofs.Spelled.{spelled_cut, rules_spell}
+use Rattle.opening_hours.proofs.Spelled.{spelled_cut, rules_spell, rules_fit}
 use Rattle.opening_hours.proofs.Rules.{rules_again, rules_found}
 
 pub hours_read : (text : List ℕ) (ts : List Token) (us : List HoursRule) → IsCut text ts → IsHours text us → read_rules ts ≡ Some us
@@ -38,7 +38,8 @@ some_tokens ts rs h nil = let e : read_rules [] ≡ Some rs = ap read_rules (sym
 pub print_read : (rs : List HoursRule) → IsParsed rs → IsHours (hours_text rs) rs
 print_read rs h =
     let rules = rules_canon h.1.0 rs h.1.2 in
-    let matched = spelled_cut (hours_tokens rs) (some_tokens (hours_tokens rs) rs rules) (rules_spell (hours_tokens rs) rs rules) in
+    let matched = spelled_cut (hours_tokens rs) (some_tokens (hours_tokens rs) rs rules) (rules_spell (hours_tokens rs) rs rules)
+    (rules_fit h.1.0 rs h.1.2) in
     (hours_tokens rs, cut_of (hours_text rs) (hours_tokens rs) matched, rules)
 
 -- no text has two lists of rules

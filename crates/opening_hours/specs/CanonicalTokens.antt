@@ -5,6 +5,8 @@ use Rattle.calendar_days.specs.declared.weekday.Weekday.TheVariants.{Mo, Tu, We,
 use Rattle.calendar_days.specs.Weekdays.{index_of}
 use Rattle.opening_hours.specs.declared.tokens.Token.{Token}
 use Rattle.opening_hours.specs.declared.tokens.Token.TheVariants.{Month, Day, Public, School, Off, Time, Number, Dash, Comma, Semicolon}
+use Rattle.opening_hours.specs.declared.tokens.Token.TheVariants.{LeftBracket, RightBracket}
+use Rattle.opening_hours.specs.declared.tokens.Digits.TheVariants as digits
 use Rattle.opening_hours.specs.declared.types.DateSpan.{DateSpan}
 use Rattle.opening_hours.specs.declared.types.DayItem.{DayItem}
 use Rattle.opening_hours.specs.declared.types.DayItem.TheVariants as items
@@ -23,13 +25,15 @@ listed mark f (x ∷ y ∷ ys) = f x ++ mark ∷ listed mark f (y ∷ ys)
 
 -- Jul 01-Aug 31
 abbrev pub date_tokens : DateSpan → List Token
-date_tokens d = Month d.first_month ∷ Number d.first_day ∷ Dash ∷ Month d.last_month ∷ Number d.last_day ∷ []
+date_tokens d = Month d.first_month ∷ Number d.first_day digits.Two ∷ Dash ∷ Month d.last_month ∷ Number d.last_day digits.Two ∷ []
 
--- Mo-Fr, or Mo where both ends agree
+-- Mo-Fr, or Mo where both ends agree; Su[1], Fr[-1]
 abbrev pub item_tokens : DayItem → List Token
 item_tokens (items.Week a b) = if index_of a == index_of b then Day a ∷ [] else Day a ∷ Dash ∷ Day b ∷ []
 item_tokens items.Public = Public ∷ []
 item_tokens items.School = School ∷ []
+item_tokens (items.Nth a k) = Day a ∷ LeftBracket ∷ Number k digits.One ∷ RightBracket ∷ []
+item_tokens (items.NthLast a k) = Day a ∷ LeftBracket ∷ Dash ∷ Number k digits.One ∷ RightBracket ∷ []
 
 -- minute t of a day, or of the days after it
 abbrev pub time_token : ℕ → Token

@@ -5,7 +5,9 @@ use Rattle.calendar_days.specs.declared.weekday.Weekday.{Weekday}
 use Rattle.calendar_days.specs.Weekdays.{days_forward}
 use Rattle.opening_hours.specs.declared.tokens.Token.{Token}
 use Rattle.opening_hours.specs.declared.tokens.Token.TheVariants.{Month, Day, Public, School, Off, Open, Always, Time}
-use Rattle.opening_hours.specs.declared.tokens.Token.TheVariants.{Number, Dash, Comma, Semicolon, Colon}
+use Rattle.opening_hours.specs.declared.tokens.Token.TheVariants.{Number, Dash, Comma, Semicolon, Colon, LeftBracket, RightBracket}
+use Rattle.opening_hours.specs.declared.tokens.Digits.{Digits}
+use Rattle.opening_hours.specs.declared.tokens.Digits.TheVariants as digits
 use Rattle.opening_hours.specs.declared.types.DateSpan.{DateSpan}
 use Rattle.opening_hours.specs.declared.types.DayItem.{DayItem}
 use Rattle.opening_hours.specs.declared.types.DayItem.TheVariants as items
@@ -25,6 +27,10 @@ IsDayNumber a = (1 ≤ a) × (a ≤ 31)
 abbrev pub IsMonth : ℕ → Type 0
 IsMonth m = (1 ≤ m) × (m ≤ 12)
 
+-- a month has at most five days of a weekday
+abbrev pub IsOrdinal : ℕ → Type 0
+IsOrdinal k = (1 ≤ k) × (k ≤ 5)
+
 -- a time of day, h hours and m minutes, that is at most a limit
 abbrev pub IsTime : ℕ → ℕ → ℕ → Type 0
 IsTime h m limit = (m ≤ 59) × (60 * h + m ≤ limit)
@@ -41,17 +47,21 @@ long_length a start b end = let last = 1440 * days_forward a b + end in if nat_l
 pub data IsDate : List Token → DateSpan → Type 0 where
   month : {m : ℕ} → IsMonth m → IsDate (Month m ∷ []) (dates_from_to m 1 m 31)
   months : {m n : ℕ} → IsMonth m → IsMonth n → IsDate (Month m ∷ Dash ∷ Month n ∷ []) (dates_from_to m 1 n 31)
-  day : {m a : ℕ} → IsMonth m → IsDayNumber a → IsDate (Month m ∷ Number a ∷ []) (dates_from_to m a m a)
-  days : {m a b : ℕ} → IsMonth m → IsDayNumber a → IsDayNumber b → IsDate (Month m ∷ Number a ∷ Dash ∷ Number b ∷ []) (dates_from_to m a m b)
-  days_over : {m a n b : ℕ} → IsMonth m → IsDayNumber a → IsMonth n → IsDayNumber b
-      → IsDate (Month m ∷ Number a ∷ Dash ∷ Month n ∷ Number b ∷ []) (dates_from_to m a n b)
+  day : {m a : ℕ} {i : Digits} → IsMonth m → IsDayNumber a → IsDate (Month m ∷ Number a i ∷ []) (dates_from_to m a m a)
+  days : {m a b : ℕ} {i j : Digits} → IsMonth m → IsDayNumber a → IsDayNumber b
+      → IsDate (Month m ∷ Number a i ∷ Dash ∷ Number b j ∷ []) (dates_from_to m a m b)
+  days_over : {m a n b : ℕ} {i j : Digits} → IsMonth m → IsDayNumber a → IsMonth n → IsDayNumber b
+      → IsDate (Month m ∷ Number a i ∷ Dash ∷ Month n ∷ Number b j ∷ []) (dates_from_to m a n b)
 
--- Mo, Mo-Fr, PH, SH
+-- Mo, Mo-Fr, PH, SH, Su[1], Fr[-1]: the number in brackets has one digit
 pub data IsItem : List Token → DayItem → Type 0 where
   weekday : {a : Weekday} → IsItem (Day a ∷ []) (items.Week a a)
   weekdays : {a b : Weekday} → IsItem (Day a ∷ Dash ∷ Day b ∷ []) (items.Week a b)
   public : IsItem (Public ∷ []) items.Public
   school : IsItem (School ∷ []) items.School
+  nth : {a : Weekday} {k : ℕ} → IsOrdinal k → IsItem (Day a ∷ LeftBracket ∷ Number k digits.One ∷ RightBracket ∷ []) (items.Nth a k)
+  nth_last : {a : Weekday} {k : ℕ} → IsOrdinal k
+      → IsItem (Day a ∷ LeftBracket ∷ Dash ∷ Number k digits.One ∷ RightBracket ∷ []) (items.NthLast a k)
 
 -- 22:00-06:00: the start is before 24:00, and the end at 48:00 at the latest
 pub data IsSpan : List Token → TimeSpan → Type 0 where

@@ -1,10 +1,10 @@
 -- The rule that governs a day (source: OpenStreetMap wiki, `opening_hours`; that the last match governs the whole day is own).
-use Rattle.std.specs.Prelude.{ℕ, ◌==◌, ◌&&◌, ◌||◌, Bool, nat_le, nat_lt, length, Option, Some, None, List, [], ◌∷◌, if◌then◌else◌}
+use Rattle.std.specs.Prelude.{ℕ, ◌-◌, ◌*◌, ◌==◌, ◌&&◌, ◌||◌, Bool, nat_le, nat_lt, length, Option, Some, None, List, [], ◌∷◌, if◌then◌else◌}
 use Rattle.std.specs.List.{list_any}
 use Rattle.std.specs.Option.{option_or}
 use Rattle.calendar_days.specs.declared.days.CivilDate.{CivilDate}
 use Rattle.calendar_days.specs.Weekdays.{days_forward, index_of, weekday_on}
-use Rattle.calendar_days.specs.Days.{date_on}
+use Rattle.calendar_days.specs.Days.{date_on, later_days}
 use Rattle.opening_hours.specs.Holidays.{HolidayLists, is_listed}
 use Rattle.opening_hours.specs.declared.matching.DayFacts.{DayFacts}
 use Rattle.opening_hours.specs.declared.types.DateSpan.{DateSpan}
@@ -26,20 +26,31 @@ in_dates date s =
     if is_not_later s.first_month s.first_day s.last_month s.last_day then from_first && to_last else from_first || to_last
 
 -- the facts about a day that a rule depends on
-abbrev pub facts_of : HolidayLists → ℕ → DayFacts
+unfoldable pub facts_of : HolidayLists → ℕ → DayFacts
 facts_of holidays day = record {
   date = date_on day;
   weekday = weekday_on day;
   public =
       is_listed day holidays.public;
   school = is_listed day holidays.school;
+  days_left = later_days (date_on day);
 }
+
+-- the k-th day of a weekday in a month is one of the days 7k-6 to 7k
+abbrev pub is_nth : ℕ → ℕ → Bool
+is_nth k day = nat_le (7 * k - 6) day && nat_le day (7 * k)
+
+-- the k-th last has 7k-7 to 7k-1 days of the month after it
+abbrev pub is_nth_last : ℕ → ℕ → Bool
+is_nth_last k later = nat_le (7 * k - 7) later && nat_le later (7 * k - 1)
 
 -- weekday a to weekday b is each day from a forward to b
 abbrev pub in_item : DayFacts → DayItem → Bool
 in_item f (items.Week a b) = nat_le (days_forward a f.weekday) (days_forward a b)
 in_item f items.Public = f.public
 in_item f items.School = f.school
+in_item f (items.Nth a k) = index_of f.weekday == index_of a && is_nth k f.date.day
+in_item f (items.NthLast a k) = index_of f.weekday == index_of a && is_nth_last k f.days_left
 
 -- one of them holds the day, or there are none
 abbrev pub one_or_none : {A : Type 0} → (A → Bool) → List A → Bool

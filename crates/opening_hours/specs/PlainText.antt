@@ -5,9 +5,10 @@ use Rattle.opening_hours.specs.declared.tokens.Token.TheVariants.{Unknown}
 use Rattle.opening_hours.specs.Tokens.{is_digit, is_letter, word_token, AreLetters}
 use Rattle.route_base.specs.Forms.{is_blank}
 
--- a letter, a digit, a blank, or one of - , ; : and /
+-- a letter, a digit, a blank, or one of - , ; : / [ and ]
 abbrev pub is_hours_byte : ℕ → Bool
-is_hours_byte b = is_letter b || (is_digit b || (is_blank b || (b == 45 || (b == 44 || (b == 59 || (b == 58 || b == 47))))))
+is_hours_byte b =
+    is_letter b || (is_digit b || (is_blank b || (b == 45 || (b == 44 || (b == 59 || (b == 58 || (b == 47 || (b == 91 || b == 93))))))))
 
 -- there is a first byte, and it is no blank
 abbrev pub StartsFilled : List ℕ → Type 0

@@ -5,7 +5,8 @@ use Rattle.route_base.specs.Forms.{is_blank}
 use Rattle.calendar_days.specs.declared.weekday.Weekday.TheVariants.{Mo, Tu, We, Th, Fr, Sa, Su}
 use Rattle.opening_hours.specs.declared.tokens.Token.{Token}
 use Rattle.opening_hours.specs.declared.tokens.Token.TheVariants.{Month, Day, Public, School, Off, Open, Always, Unknown}
-use Rattle.opening_hours.specs.declared.tokens.Token.TheVariants.{Time, Number, Dash, Comma, Semicolon, Colon}
+use Rattle.opening_hours.specs.declared.tokens.Token.TheVariants.{Time, Number, Dash, Comma, Semicolon, Colon, LeftBracket, RightBracket}
+use Rattle.opening_hours.specs.declared.tokens.Digits.TheVariants as digits
 
 -- 0 to 9
 abbrev pub is_digit : ℕ → Bool
@@ -66,12 +67,14 @@ pub data IsToken : List ℕ → Token → Type 0 where
       → IsToken (a ∷ b ∷ (codes ":" ++ d ∷ e ∷ [])) (Time (number_of_two a b) (number_of_two d e))
   short_time : {a d e : ℕ} → is_digit a ≡ true → is_digit d ≡ true → is_digit e ≡ true
       → IsToken (a ∷ (codes ":" ++ d ∷ e ∷ [])) (Time (one_digit a) (number_of_two d e))
-  long_number : {a b : ℕ} → is_digit a ≡ true → is_digit b ≡ true → IsToken (a ∷ b ∷ []) (Number (number_of_two a b))
-  short_number : {a : ℕ} → is_digit a ≡ true → IsToken (a ∷ []) (Number (one_digit a))
+  long_number : {a b : ℕ} → is_digit a ≡ true → is_digit b ≡ true → IsToken (a ∷ b ∷ []) (Number (number_of_two a b) digits.Two)
+  short_number : {a : ℕ} → is_digit a ≡ true → IsToken (a ∷ []) (Number (one_digit a) digits.One)
   dash : IsToken (codes "-") Dash
   comma : IsToken (codes ",") Comma
   semicolon : IsToken (codes ";") Semicolon
   colon : IsToken (codes ":") Colon
+  left_bracket : IsToken (codes "[") LeftBracket
+  right_bracket : IsToken (codes "]") RightBracket
 
 -- the token stands at the front of the text, and no longer one does
 pub record IsFirst (text : List ℕ) (t : Token) (rest : List ℕ) : Type 0 where

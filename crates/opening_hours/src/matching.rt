@@ -1,11 +1,11 @@
 // The rule that governs a day.
 ghost use Rattle.std.specs.Prelude.{◌≡◌, ◌≤◌, option_map};
 ghost use Rattle.std.specs.List.{list_any};
-ghost use Rattle.opening_hours.specs.Matching.{facts_of, is_not_later, in_dates, in_item, in_days, one_or_none, matches, governing};
+ghost use Rattle.opening_hours.specs.Matching.{facts_of, is_not_later, in_dates, is_nth, is_nth_last, in_item, in_days, one_or_none, matches, governing};
 
 use crate::holidays::Holidays;
 use crate::types::{DateSpan, DayItem, HoursRule, RuleTimes};
-use calendar_days::{CivilDate, Weekday, date_of, weekday_of};
+use calendar_days::{CivilDate, Weekday, date_of, days_left, weekday_of};
 
 /// The facts about a day that a rule depends on.
 #[derive(Clone, Copy)]
@@ -14,6 +14,7 @@ pub struct DayFacts {
     pub weekday: Weekday,
     pub public: bool,
     pub school: bool,
+    pub days_left: u32,
 }
 
 // Whether a day of the year is not later than another.
@@ -41,6 +42,22 @@ fn dates_hold(date: CivilDate, span: DateSpan) -> bool
     }
 }
 
+// Whether a day of a month lies where the k-th day of its weekday does.
+fn nth_holds(k: u32, day: u32) -> bool
+    ensures { result ≡ is_nth k day }
+{
+    let last = 7 * k as u64;
+    last.saturating_sub(6) <= day as u64 && day as u64 <= last
+}
+
+// Whether a day with `left` days of its month after it lies where the k-th last day of its weekday does.
+fn nth_last_holds(k: u32, left: u32) -> bool
+    ensures { result ≡ is_nth_last k left }
+{
+    let end = 7 * k as u64;
+    end.saturating_sub(7) <= left as u64 && left as u64 <= end.saturating_sub(1)
+}
+
 // Whether a day item holds the day.
 fn item_holds(facts: DayFacts, item: DayItem) -> bool
     ensures { result ≡ in_item facts item }
@@ -49,6 +66,10 @@ fn item_holds(facts: DayFacts, item: DayItem) -> bool
         DayItem::Week(a, b) => a.days_to(facts.weekday) <= a.days_to(b),
         DayItem::Public => facts.public,
         DayItem::School => facts.school,
+        DayItem::Nth(a, k) => facts.weekday.index() == a.index() && nth_holds(k, facts.date.day),
+        DayItem::NthLast(a, k) => {
+            facts.weekday.index() == a.index() && nth_last_holds(k, facts.days_left)
+        }
     }
 }
 
@@ -115,14 +136,17 @@ pub(crate) fn last_match<'a>(facts: DayFacts, rules: &'a [HoursRule]) -> Option<
 }
 
 /// The facts about the day that a rule depends on.
+#[tactic(auto, unfolding(crate::specs::Matching::facts_of))]
 pub(crate) fn day_facts(day: u32, holidays: &Holidays) -> DayFacts
     requires { day ≤ 84370 }
     ensures { result ≡ facts_of holidays.now day }
 {
+    let date = date_of(day);
     DayFacts {
-        date: date_of(day),
+        date,
         weekday: weekday_of(day),
         public: holidays.is_public(day),
         school: holidays.is_school(day),
+        days_left: days_left(date),
     }
 }

@@ -9,7 +9,7 @@ ghost use Rattle.opening_hours.specs.Inside.Tokenizer.{word_of, word_at, always_
 ghost use Rattle.opening_hours.specs.Inside.Tokenizer.{short_number_at, mark_at, token_at};
 
 use crate::faults::HoursFault;
-use crate::tokens::Token;
+use crate::tokens::{Digits, Token};
 use crate::vocabulary::word;
 use route_base::{Listing, is_blank};
 use std::alloc::Global;
@@ -125,7 +125,7 @@ fn long_number(text: &[u8]) -> Option<(Token, &[u8])>
     match text {
         [a, b, rest @ ..] => {
             if digit(*a) && digit(*b) {
-                Some((Token::Number(two(*a, *b) as u32), rest))
+                Some((Token::Number(two(*a, *b) as u32, Digits::Two), rest))
             } else {
                 None
             }
@@ -141,7 +141,7 @@ fn short_number(text: &[u8]) -> Option<(Token, &[u8])>
     match text {
         [a, rest @ ..] => {
             if digit(*a) {
-                Some((Token::Number(value(*a) as u32), rest))
+                Some((Token::Number(value(*a) as u32, Digits::One), rest))
             } else {
                 None
             }
@@ -150,7 +150,7 @@ fn short_number(text: &[u8]) -> Option<(Token, &[u8])>
     }
 }
 
-// A dash, comma, semicolon or colon, and the bytes after it.
+// A dash, comma, semicolon, colon or bracket, and the bytes after it.
 fn mark(text: &[u8]) -> Option<(Token, &[u8])>
     ensures { option_map (λ f. (f.0, f.1.now)) result ≡ mark_at text.now }
 {
@@ -164,6 +164,10 @@ fn mark(text: &[u8]) -> Option<(Token, &[u8])>
                 Some((Token::Semicolon, rest))
             } else if *a == b':' {
                 Some((Token::Colon, rest))
+            } else if *a == b'[' {
+                Some((Token::LeftBracket, rest))
+            } else if *a == b']' {
+                Some((Token::RightBracket, rest))
             } else {
                 None
             }
@@ -198,8 +202,8 @@ fn first_token(text: &[u8]) -> Option<(Token, &[u8])>
     mark(text)
 }
 
-// The text without the blanks at its front.
-fn behind_blanks(text: &[u8]) -> &[u8]
+/// The text without the blanks at its front. Linear in their number.
+pub fn behind_blanks(text: &[u8]) -> &[u8]
     ensures { result.now ≡ without_blanks text.now }
 {
     let mut rest = text;

@@ -14,11 +14,20 @@ pub enum Token {
     /// A word that means nothing.
     Unknown,
     Time(u64, u64),
-    Number(u32),
+    Number(u32, Digits),
     Dash,
     Comma,
     Semicolon,
     Colon,
+    LeftBracket,
+    RightBracket,
+}
+
+/// The number of digits that a number is written with.
+#[derive(Clone, Copy, Debug)]
+pub enum Digits {
+    One,
+    Two,
 }
 
 /// The parts of a text of hours, by the tokens that they are made of.

@@ -12,12 +12,15 @@ pub struct DateSpan {
     pub last_day: u32,
 }
 
-/// Days from one weekday forward to another, both included, or holidays.
+/// Days from one weekday forward to another, both included; holidays; or the days of a weekday that are the n-th or the n-th last
+/// of their month, n from 1 to 5.
 #[derive(Clone, Copy, Debug, PartialEq, Eq)]
 pub enum DayItem {
     Week(Weekday, Weekday),
     Public,
     School,
+    Nth(Weekday, u32),
+    NthLast(Weekday, u32),
 }
 
 /// A span of minutes: its start, counted from the start of its day, and its length.

@@ -40,3 +40,7 @@ pub record HasClosed (net : NetworkModel) (vehicle : VehicleModel) (window : Run
 -- for each of these arcs a list of its closed minutes
 abbrev pub AreClosedLists : NetworkModel → VehicleModel → Run → List ArcId → List (List Run) → Type 0
 AreClosedLists net vehicle window arcs lists = AllZip (HasClosed net vehicle window) arcs lists
+
+-- the lists are those of some vehicle and window
+abbrev pub AreClosedOnce : NetworkModel → List ArcId → List (List Run) → Type 0
+AreClosedOnce net arcs lists = (vehicle : VehicleModel) × (window : Run) × AreClosedLists net vehicle window arcs lists

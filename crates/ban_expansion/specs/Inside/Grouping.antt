@@ -1,8 +1,9 @@
 -- Arcs that are grouped so far, and those that have nothing of their own (source: own).
-use Rattle.std.specs.Prelude.{◌≡◌, ℕ, ◌||◌, nat_lt, Bool, false, is_some, Option, Some}
+use Rattle.std.specs.Prelude.{◌≡◌, ◌<◌, ℕ, ◌||◌, nat_lt, Bool, false, is_some, Option, Some}
 use Rattle.std.specs.Prelude.{List, [], ◌∷◌, ◌++◌, length, slice_get, slice_set}
 use Rattle.std.specs.List.{list_any}
 use Rattle.route_base.specs.declared.types.ArcId.{ArcId}
+use Rattle.dimacs_reader.specs.GraphModel.{IsGoodGraph}
 use Rattle.vehicle_classes.specs.declared.classes.Key.{Key}
 use Rattle.vehicle_classes.specs.declared.classes.Key.TheVariants as keys
 use Rattle.network_tables.specs.Access.{area_place}
@@ -65,3 +66,9 @@ pub record AreShared (net : NetworkModel) (firsts : List ArcId) (shared : List (
 pub record AreGrouped (net : NetworkModel) (count : ℕ) (grouping : GroupingModel) : Type 0 where
   pub groups : AreGroupsOf net count grouping.all
   pub shares : AreShared net grouping.all.firsts grouping.shared
+
+-- the first k arcs are grouped, and there is one more
+pub record IsNext (net : NetworkModel) (k : ℕ) (grouping : GroupingModel) : Type 0 where
+  pub within : k < length net.graph.arcs
+  pub graph : IsGoodGraph net.graph
+  pub grouped : AreGrouped net k grouping

@@ -58,10 +58,36 @@ const NIGHTS: &[(&str, &str)] = &[
     ),
 ];
 
+const BY_ORDINALS: Texts<'static> = &[
+    ("d/graph.gr", "p sp 2 2\na 1 2 60\na 2 1 60\n"),
+    (
+        "d/rules.csv",
+        "scope,key,value\narc:1,access:conditional,no @ (Su[1])\n\
+        arc:2,access:conditional,no @ (Fr[-1])\n",
+    ),
+];
+
+// Words, and their answers; the first Sunday of July 2020 is the 5th, and the last Friday the 31st.
+const ORDINALS: &[(&str, &str)] = &[
+    (
+        "bans d any 1 2020-07-04T00:00Z 2020-07-06T00:00Z",
+        "bans 1\nclosed 2020-07-05T00:00Z 2020-07-06T00:00Z\npassed 0\n",
+    ),
+    (
+        "bans d any 1 2020-07-11T00:00Z 2020-07-13T00:00Z",
+        "bans 0\npassed 0\n",
+    ),
+    (
+        "bans d any 2 2020-07-30T00:00Z 2020-08-01T00:00Z",
+        "bans 1\nclosed 2020-07-31T00:00Z 2020-08-01T00:00Z\npassed 0\n",
+    ),
+];
+
 #[test]
 fn closes_roads_at_local_hours(rt: HostRuntime) {
     expect_texts(&rt, AT_WEEKENDS, Status::Done, WEEKENDS);
     expect_texts(&rt, AT_NIGHT, Status::Done, NIGHTS);
+    expect_texts(&rt, BY_ORDINALS, Status::Done, ORDINALS);
 }
 
 const OPEN: &str = "bans 0\npassed 0\n";

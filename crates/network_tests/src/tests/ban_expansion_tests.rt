@@ -4,7 +4,8 @@ ghost use Rattle.std.specs.Prelude.{◌≤◌};
 mod networks;
 mod weekends;
 
-use ban_expansion::{Layer, closed_by, common, covered_minutes, overlaid};
+use ban_expansion::{Layer, closed_by, common, overlaid};
+use covered_minutes::covered_minutes;
 use minute_sets::MinuteSet;
 use opening_hours::{Holidays, parse};
 use route_base::{OutOfMemory, Run};

@@ -4,7 +4,8 @@ use Rattle.std.specs.Prelude.{if◌then◌else◌, option_and_then, option_map, 
 use Rattle.std.specs.List.{slice_split, take_while}
 use Rattle.opening_hours.specs.declared.tokens.Token.{Token}
 use Rattle.opening_hours.specs.declared.tokens.Token.TheVariants.{Month, Day, Public, School, Off, Open, Always, Time}
-use Rattle.opening_hours.specs.declared.tokens.Token.TheVariants.{Number, Dash, Comma, Semicolon, Colon}
+use Rattle.opening_hours.specs.declared.tokens.Token.TheVariants.{Number, Dash, Comma, Semicolon, Colon, LeftBracket, RightBracket}
+use Rattle.opening_hours.specs.declared.tokens.Digits.TheVariants as digits
 use Rattle.opening_hours.specs.declared.tokens.Part.{Part}
 use Rattle.opening_hours.specs.declared.tokens.Part.TheVariants as parts
 use Rattle.opening_hours.specs.declared.types.DateSpan.{DateSpan}
@@ -25,16 +26,19 @@ is_day_number a = nat_le 1 a && nat_le a 31
 abbrev pub is_month : ℕ → Bool
 is_month m = nat_le 1 m && nat_le m 12
 
+abbrev pub is_ordinal : ℕ → Bool
+is_ordinal k = nat_le 1 k && nat_le k 5
+
 abbrev pub is_time : ℕ → ℕ → ℕ → Bool
 is_time h m limit = nat_le m 59 && nat_le (60 * h + m) limit
 
 abbrev pub read_date : List Token → Option DateSpan
 read_date (Month m ∷ []) = if is_month m then Some (dates_from_to m 1 m 31) else None
 read_date (Month m ∷ Dash ∷ Month n ∷ []) = if is_month m && is_month n then Some (dates_from_to m 1 n 31) else None
-read_date (Month m ∷ Number a ∷ []) = if is_month m && is_day_number a then Some (dates_from_to m a m a) else None
-read_date (Month m ∷ Number a ∷ Dash ∷ Number b ∷ []) = if is_month m && (is_day_number a && is_day_number b) then
+read_date (Month m ∷ Number a i ∷ []) = if is_month m && is_day_number a then Some (dates_from_to m a m a) else None
+read_date (Month m ∷ Number a i ∷ Dash ∷ Number b j ∷ []) = if is_month m && (is_day_number a && is_day_number b) then
     Some (dates_from_to m a m b) else None
-read_date (Month m ∷ Number a ∷ Dash ∷ Month n ∷ Number b ∷ []) =
+read_date (Month m ∷ Number a i ∷ Dash ∷ Month n ∷ Number b j ∷ []) =
     if is_month m && (is_day_number a && (is_month n && is_day_number b)) then Some (dates_from_to m a n b) else None
 read_date ts = None
 
@@ -43,6 +47,8 @@ read_item (Day a ∷ []) = Some (items.Week a a)
 read_item (Day a ∷ Dash ∷ Day b ∷ []) = Some (items.Week a b)
 read_item (Public ∷ []) = Some items.Public
 read_item (School ∷ []) = Some items.School
+read_item (Day a ∷ LeftBracket ∷ Number k digits.One ∷ RightBracket ∷ []) = if is_ordinal k then Some (items.Nth a k) else None
+read_item (Day a ∷ LeftBracket ∷ Dash ∷ Number k digits.One ∷ RightBracket ∷ []) = if is_ordinal k then Some (items.NthLast a k) else None
 read_item ts = None
 
 abbrev pub read_span : List Token → Option TimeSpan
@@ -57,13 +63,16 @@ belongs parts.Rule t = true
 belongs parts.Item Comma = false
 belongs parts.Item t = true
 belongs parts.Dates (Month m) = true
-belongs parts.Dates (Number a) = true
+belongs parts.Dates (Number a i) = true
 belongs parts.Dates Dash = true
 belongs parts.Dates Comma = true
 belongs parts.Dates t = false
 belongs parts.Days (Day a) = true
 belongs parts.Days Public = true
 belongs parts.Days School = true
+belongs parts.Days LeftBracket = true
+belongs parts.Days (Number a i) = true
+belongs parts.Days RightBracket = true
 belongs parts.Days Dash = true
 belongs parts.Days Comma = true
 belongs parts.Days t = false

@@ -3,7 +3,8 @@ use Rattle.std.specs.Prelude.{◌≡◌, ℕ, ◌==◌, ◌&&◌, Option, Some, 
 use Rattle.std.specs.List.{take_while}
 use Rattle.std.specs.Option.{option_or}
 use Rattle.opening_hours.specs.declared.tokens.Token.{Token}
-use Rattle.opening_hours.specs.declared.tokens.Token.TheVariants.{Always, Time, Number, Dash, Comma, Semicolon, Colon}
+use Rattle.opening_hours.specs.declared.tokens.Token.TheVariants.{Always, Time, Number, Dash, Comma, Semicolon, Colon, LeftBracket, RightBracket}
+use Rattle.opening_hours.specs.declared.tokens.Digits.TheVariants as digits
 use Rattle.opening_hours.specs.Tokens.{is_digit, is_letter, one_digit, number_of_two, word_token, without_blanks}
 
 -- Each kind of token at the front of a text, with what stands behind it.
@@ -32,11 +33,11 @@ short_time_at (a ∷ c ∷ d ∷ e ∷ rest) = if is_digit a && (c == 58 && (is_
 short_time_at text = None
 
 abbrev pub long_number_at : List ℕ → Option (Token × List ℕ)
-long_number_at (a ∷ b ∷ rest) = if is_digit a && is_digit b then Some (Number (number_of_two a b), rest) else None
+long_number_at (a ∷ b ∷ rest) = if is_digit a && is_digit b then Some (Number (number_of_two a b) digits.Two, rest) else None
 long_number_at text = None
 
 abbrev pub short_number_at : List ℕ → Option (Token × List ℕ)
-short_number_at (a ∷ rest) = if is_digit a then Some (Number (one_digit a), rest) else None
+short_number_at (a ∷ rest) = if is_digit a then Some (Number (one_digit a) digits.One, rest) else None
 short_number_at text = None
 
 abbrev pub mark_at : List ℕ → Option (Token × List ℕ)
@@ -45,6 +46,8 @@ mark_at (a ∷ rest) =
     else if a == 44 then Some (Comma, rest)
     else if a == 59 then Some (Semicolon, rest)
     else if a == 58 then Some (Colon, rest)
+    else if a == 91 then Some (LeftBracket, rest)
+    else if a == 93 then Some (RightBracket, rest)
     else None
 mark_at text = None
 

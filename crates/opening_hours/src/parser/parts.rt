@@ -1,9 +1,9 @@
 // Parses a single date, day item, span or long span.
 ghost use Rattle.std.specs.Prelude.{◌≡◌, ◌≤◌, Some, None, if◌then◌else◌};
 ghost use Rattle.opening_hours.specs.Grammar.{dates_from_to, span_length, long_length};
-ghost use Rattle.opening_hours.specs.Inside.Parser.{is_month, is_day_number, is_time, read_date, read_item, read_span, read_long, is_long, is_opens};
+ghost use Rattle.opening_hours.specs.Inside.Parser.{is_month, is_day_number, is_ordinal, is_time, read_date, read_item, read_span, read_long, is_long, is_opens};
 
-use crate::tokens::Token;
+use crate::tokens::{Digits, Token};
 use crate::types::{DateSpan, DayItem, LongSpan, TimeSpan};
 use calendar_days::Weekday;
 
@@ -21,6 +21,13 @@ fn is_day(number: u32) -> bool
     1 <= number && number <= 31
 }
 
+// Whether a number is an ordinal of a weekday in a month.
+fn is_ordinal_number(number: u32) -> bool
+    ensures { result ≡ is_ordinal number }
+{
+    1 <= number && number <= 5
+}
+
 // The date span between two ends.
 fn date_span(first_month: u32, first_day: u32, last_month: u32, last_day: u32) -> DateSpan
     ensures { result ≡ dates_from_to first_month first_day last_month last_day }
@@ -33,11 +40,11 @@ fn date_span(first_month: u32, first_day: u32, last_month: u32, last_day: u32) -
     }
 }
 
-// The date span, where its months and days are in range.
-fn date_if(fits: bool, span: DateSpan) -> Option<DateSpan>
-    ensures { result ≡ (if fits then Some span else None) }
+// The value, where its numbers are in range.
+fn some_if<T: Copy>(fits: bool, value: T) -> Option<T>
+    ensures { result ≡ (if fits then Some value else None) }
 {
-    if fits { Some(span) } else { None }
+    if fits { Some(value) } else { None }
 }
 
 /// The date span that the tokens are.
@@ -45,33 +52,33 @@ pub(crate) fn date(piece: &[Token]) -> Option<DateSpan>
     ensures { result ≡ read_date piece.now }
 {
     match piece {
-        [Token::Month(m)] => date_if(is_month_number(*m), date_span(*m, 1, *m, 31)),
+        [Token::Month(m)] => some_if(is_month_number(*m), date_span(*m, 1, *m, 31)),
         [Token::Month(m), Token::Dash, Token::Month(n)] => {
             let fits = is_month_number(*m) && is_month_number(*n);
-            date_if(fits, date_span(*m, 1, *n, 31))
+            some_if(fits, date_span(*m, 1, *n, 31))
         }
-        [Token::Month(m), Token::Number(a)] => {
+        [Token::Month(m), Token::Number(a, _)] => {
             let fits = is_month_number(*m) && is_day(*a);
-            date_if(fits, date_span(*m, *a, *m, *a))
+            some_if(fits, date_span(*m, *a, *m, *a))
         }
         [
             Token::Month(m),
-            Token::Number(a),
+            Token::Number(a, _),
             Token::Dash,
-            Token::Number(b),
+            Token::Number(b, _),
         ] => {
             let fits = is_month_number(*m) && is_day(*a) && is_day(*b);
-            date_if(fits, date_span(*m, *a, *m, *b))
+            some_if(fits, date_span(*m, *a, *m, *b))
         }
         [
             Token::Month(m),
-            Token::Number(a),
+            Token::Number(a, _),
             Token::Dash,
             Token::Month(n),
-            Token::Number(b),
+            Token::Number(b, _),
         ] => {
             let fits = is_month_number(*m) && is_day(*a) && is_month_number(*n) && is_day(*b);
-            date_if(fits, date_span(*m, *a, *n, *b))
+            some_if(fits, date_span(*m, *a, *n, *b))
         }
         _ => None,
     }
@@ -86,6 +93,19 @@ pub(crate) fn item(piece: &[Token]) -> Option<DayItem>
         [Token::Day(a), Token::Dash, Token::Day(b)] => Some(DayItem::Week(*a, *b)),
         [Token::Public] => Some(DayItem::Public),
         [Token::School] => Some(DayItem::School),
+        [
+            Token::Day(a),
+            Token::LeftBracket,
+            Token::Number(k, Digits::One),
+            Token::RightBracket,
+        ] => some_if(is_ordinal_number(*k), DayItem::Nth(*a, *k)),
+        [
+            Token::Day(a),
+            Token::LeftBracket,
+            Token::Dash,
+            Token::Number(k, Digits::One),
+            Token::RightBracket,
+        ] => some_if(is_ordinal_number(*k), DayItem::NthLast(*a, *k)),
         _ => None,
     }
 }

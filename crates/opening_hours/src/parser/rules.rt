@@ -23,13 +23,20 @@ fn is_of(part: Part, token: Token) -> bool
         Part::Dates => {
             matches!(
                 token,
-                Token::Month(_) | Token::Number(_) | Token::Dash | Token::Comma
+                Token::Month(_) | Token::Number(_, _) | Token::Dash | Token::Comma
             )
         }
         Part::Days => {
             matches!(
                 token,
-                Token::Day(_) | Token::Public | Token::School | Token::Dash | Token::Comma
+                Token::Day(_)
+                    | Token::Public
+                    | Token::School
+                    | Token::LeftBracket
+                    | Token::Number(_, _)
+                    | Token::RightBracket
+                    | Token::Dash
+                    | Token::Comma
             )
         }
         Part::Spans => matches!(token, Token::Time(_, _) | Token::Dash | Token::Comma),

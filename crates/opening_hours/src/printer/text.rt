@@ -1,9 +1,9 @@
 // Tokens as text.
 ghost use Rattle.std.specs.Prelude.{◌≡◌, ◌+◌, ◌*◌, ◌/◌, ◌%◌, ◌++◌, IfOk, OnOk, codes};
 ghost use Rattle.calendar_days.specs.Texts.{two_digits};
-ghost use Rattle.opening_hours.specs.CanonicalText.{month_text, weekday_text, lexeme, is_tight, is_semicolon, blank_between, spell};
+ghost use Rattle.opening_hours.specs.CanonicalText.{month_text, weekday_text, last_digit, lexeme, is_tight, is_closing, blank_between, spell};
 
-use crate::tokens::Token;
+use crate::tokens::{Digits, Token};
 use calendar_days::Weekday;
 use std::alloc::{AllocError, Global};
 
@@ -43,6 +43,14 @@ fn weekday_word(weekday: Weekday) -> &'static [u8]
     }
 }
 
+// Appends the last digit of a number.
+fn put_one(out: &mut Vec<u8>, number: u64) -> Result<(), AllocError>
+    ensures { OnOk result (out.new.items ≡ out.old.items ++ last_digit number) }
+{
+    out.push(b'0' + (number % 10) as u8)?;
+    Ok(())
+}
+
 // Appends a number in two digits.
 fn put_two(out: &mut Vec<u8>, number: u64) -> Result<(), AllocError>
     ensures { OnOk result (out.new.items ≡ out.old.items ++ two_digits number) }
@@ -71,7 +79,8 @@ fn put_token(out: &mut Vec<u8>, token: Token) -> Result<(), AllocError>
         Token::Month(m) => out.extend_from_slice(month_word(m)),
         Token::Day(w) => out.extend_from_slice(weekday_word(w)),
         Token::Time(h, m) => put_time(out, h, m),
-        Token::Number(n) => put_two(out, n as u64),
+        Token::Number(n, Digits::One) => put_one(out, n as u64),
+        Token::Number(n, Digits::Two) => put_two(out, n as u64),
         Token::Public => out.extend_from_slice(b"PH"),
         Token::School => out.extend_from_slice(b"SH"),
         Token::Off => out.extend_from_slice(b"off"),
@@ -82,6 +91,8 @@ fn put_token(out: &mut Vec<u8>, token: Token) -> Result<(), AllocError>
         Token::Comma => out.extend_from_slice(b","),
         Token::Semicolon => out.extend_from_slice(b";"),
         Token::Colon => out.extend_from_slice(b":"),
+        Token::LeftBracket => out.extend_from_slice(b"["),
+        Token::RightBracket => out.extend_from_slice(b"]"),
     }
 }
 
@@ -89,21 +100,21 @@ fn put_token(out: &mut Vec<u8>, token: Token) -> Result<(), AllocError>
 fn tight(token: Token) -> bool
     ensures { result ≡ is_tight token }
 {
-    matches!(token, Token::Dash | Token::Comma)
+    matches!(token, Token::Dash | Token::Comma | Token::LeftBracket)
 }
 
-// Whether a token is a semicolon.
-fn semicolon(token: Token) -> bool
-    ensures { result ≡ is_semicolon token }
+// Whether a token has no blank before it.
+fn closing(token: Token) -> bool
+    ensures { result ≡ is_closing token }
 {
-    matches!(token, Token::Semicolon)
+    matches!(token, Token::Semicolon | Token::RightBracket)
 }
 
 // Appends the blank between two tokens, where there is one.
 fn put_blank(out: &mut Vec<u8>, token: Token, next: Token) -> Result<(), AllocError>
     ensures { OnOk result (out.new.items ≡ out.old.items ++ blank_between token next) }
 {
-    if !(tight(token) || tight(next) || semicolon(next)) {
+    if !(tight(token) || tight(next) || closing(next)) {
         out.push(b' ')?;
     }
     Ok(())

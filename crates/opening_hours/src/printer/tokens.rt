@@ -8,7 +8,7 @@ ghost use Rattle.opening_hours.specs.declared.types.HoursRule.{HoursRule as Rule
 
 use crate::hours::Hours;
 use crate::printer::text::spelled;
-use crate::tokens::Token;
+use crate::tokens::{Digits, Token};
 use crate::types::{DateSpan, DayItem, HoursRule, LongSpan, RuleTimes, TimeSpan};
 use calendar_days::Weekday;
 use route_base::{Listing, OutOfMemory};
@@ -29,10 +29,10 @@ impl Written for DateSpan {
 
     fn write(self, out: &mut Listing<Token>) -> Result<(), OutOfMemory> {
         out.push(Token::Month(self.first_month))?;
-        out.push(Token::Number(self.first_day))?;
+        out.push(Token::Number(self.first_day, Digits::Two))?;
         out.push(Token::Dash)?;
         out.push(Token::Month(self.last_month))?;
-        out.push(Token::Number(self.last_day))?;
+        out.push(Token::Number(self.last_day, Digits::Two))?;
         Ok(())
     }
 }
@@ -52,6 +52,19 @@ impl Written for DayItem {
             }
             DayItem::Public => out.push(Token::Public),
             DayItem::School => out.push(Token::School),
+            DayItem::Nth(a, k) => {
+                out.push(Token::Day(a))?;
+                out.push(Token::LeftBracket)?;
+                out.push(Token::Number(k, Digits::One))?;
+                out.push(Token::RightBracket)
+            }
+            DayItem::NthLast(a, k) => {
+                out.push(Token::Day(a))?;
+                out.push(Token::LeftBracket)?;
+                out.push(Token::Dash)?;
+                out.push(Token::Number(k, Digits::One))?;
+                out.push(Token::RightBracket)
+            }
         }
     }
 }
@@ -157,8 +170,9 @@ fn write_rules(out: &mut Listing<Token>, rules: &[HoursRule]) -> Result<(), OutO
     Ok(())
 }
 
-/// The canonical text of hours: `; ` between rules, dates as `Jul 01-Aug 31`, weekdays as `Mo-Fr` or `Mo`, a span's end as its
-/// start and length give it (`22:00-30:00`), a long span's with its weekday and time of day. Linear in the text's length.
+/// The canonical text of hours: `; ` between rules, dates as `Jul 01-Aug 31`, weekdays as `Mo-Fr` or `Mo`, ordinals as `Su[1]` or
+/// `Fr[-1]`, a span's end as its start and length give it (`22:00-30:00`), a long span's with its weekday and time of day. Linear in
+/// the text's length.
 pub fn print(alloc: Global, hours: &Hours) -> Result<Vec<u8>, OutOfMemory>
     ensures text { IfOk result (λ v. v.items ≡ hours_text hours.now) }
     // It is read as the same rules.

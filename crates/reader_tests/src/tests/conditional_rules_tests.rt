@@ -55,6 +55,11 @@ no @ (Mo 22:00-06:00; PH off) => no @ (Mo 22:00-30:00; PH off)\n\
 no @ Mo 22:00-06:00; PH off => \n\
 no @ (Mo 22:00-06:00;) => \n\
 no @ (sunset-sunrise) => \n\
+no @ (Su[1]) => no @ (Su[1] 00:00-24:00)\n\
+no @ Fr [-1] => no @ (Fr[-1] 00:00-24:00)\n\
+no @ (Su[1],Fr[-1] 8:00-9:00; PH off AND weight>7.5) => no @ (Su[1],Fr[-1] 08:00-09:00; PH off AND weight>7.500)\n\
+no @ (Su[1] AND) => \n\
+no @ (Su[6]) => \n\
 no @ weight>7,5 => \n\
 no @ weight>7.5 t => no @ (weight>7.500)\n\
 no @ weight\t==\t007.50t => no @ (weight=7.500)\n\

@@ -43,8 +43,33 @@ Mo SH => \n\
 Mo-PH => \n\
 mo 08:00-09:00 => \n\
 MO => \n\
-Su[1] => \n\
-Su[-1] off => \n\
+Su[1] => Su[1] 00:00-24:00\n\
+Su [1] => Su[1] 00:00-24:00\n\
+Su[ -1 ] => Su[-1] 00:00-24:00\n\
+Su[-1] off => Su[-1] off\n\
+Mo[1]-Fr => \n\
+Su[0] => \n\
+Su[5] => Su[5] 00:00-24:00\n\
+Su[6] => \n\
+Su[01] => \n\
+Su[-05] => \n\
+Su[+1] => \n\
+Su[1,3] => \n\
+Su[1-2] => \n\
+Su[1]-Mo => \n\
+Su[--1] => \n\
+Su[] => \n\
+Su[1 => \n\
+Su 1] => \n\
+[1] => \n\
+PH[1] => \n\
+Su[1:30] => \n\
+Su 5 => \n\
+Fr [ - 1 ] 8:00-9:00 => Fr[-1] 08:00-09:00\n\
+Jul Su[1],PH,Fr[-2],Mo-We 08:00-12:00 => Jul 01-Jul 31 Su[1],PH,Fr[-2],Mo-We 08:00-12:00\n\
+Jul 5:Su[2]off;24/7 => Jul 05-Jul 05 Su[2] off; 00:00-24:00\n\
+Su[1] 22:00-Mo 06:00 => \n\
+Sa 22:00-Su[1] 06:00 => \n\
 Mo08:00-09:00 => Mo 08:00-09:00\n\
 Mo:08:00-09:00 => \n\
 8:00-8:00 => 08:00-32:00\n\
@@ -226,6 +251,31 @@ const COVERED: &[(&str, &[(u32, u32, bool)])] = &[
             (18628, 480, true),
             (18633, 480, true),
             (18634, 480, false),
+        ],
+    ),
+    // In July 2020 the first Sunday is the 5th, day 18448, and the last Friday, the fifth, is the 31st; there is no fifth Monday.
+    (
+        "Su[1]",
+        &[
+            (18447, 1439, false),
+            (18448, 0, true),
+            (18448, 1439, true),
+            (18449, 0, false),
+            (18455, 0, false),
+            (18476, 0, true),
+        ],
+    ),
+    (
+        "Fr[-1] 22:00-26:00; Fr[-5],Mo[5] 08:00-09:00",
+        &[
+            (18446, 480, true),
+            (18467, 1320, false),
+            (18470, 480, false),
+            (18474, 1319, false),
+            (18474, 1320, true),
+            (18475, 119, true),
+            (18475, 120, false),
+            (18505, 480, true),
         ],
     ),
     // A later rule replaces the whole day.

@@ -3,27 +3,20 @@ use Rattle.std.proofs.lemmas.List.{length-set}
 use Rattle.route_base.specs.declared.types.ArcId.{ArcId}
 use Rattle.route_base.proofs.Items.{slice_get-push_end}
 use Rattle.network_tables.specs.Access.{area_place}
-use Rattle.ban_expansion.specs.ArcGroups.{GroupsModel}
-use Rattle.ban_expansion.specs.Inside.Grouping.{AreGrouped, GroupingModel}
-use Rattle.ban_expansion.proofs.GroupedArcs.{begun_groups, joined_groups, stays_shared, shares_more}
+use Rattle.ban_expansion.specs.Inside.Grouping.{AreGrouped}
+use Rattle.ban_expansion.proofs.GroupedArcs.{begun_groups, joined_one, stays_shared, shares_more}
 use Rattle.ban_expansion.proofs.grouping.Grouping.add.Goals as goal
 
 pub returns-in-Some : goal.returns-in-Some
 returns-in-Some c =
-    let net = c.args.network.now in
-    let k = c.args.k in
     let area = c.area_of-area.result in
-    let all = c.self.inside.all in
-    let shared = c.self.inside.shared.items in
-    let before : AreGrouped net k (record { all = all; shared = shared }) = subst (AreGrouped net k) (sym c.self.view_is) c.requires.grouped in
-    let there : slice_get shared area ≡ Some (Some c.in-Some.group) =
-    ap (λ (g : GroupingModel). slice_get g.shared area) c.self.view_is ∙ c.shared_by.ensures ∙ ap (λ (o : Option ℕ). Some o) c.in-Some.is in
-    let place : area_place net (k + 1) ≡ area = ap (λ (o : Option ℕ). unwrap_or o 0) c.area_of-area.ensures.value in
-    let is = before.shares.each area c.in-Some.group (k + 1) there place (sym c.has_any.ensures ∙ c.if-has_any.false) in
-    subst (λ (g : GroupsModel). AreGrouped net (k + 1) (record { all = g; shared = shared })) (sym c.in_ok-join.ensures) (record {
-      groups = joined_groups net k c.in-Some.group all before.groups is;
-      shares = before.shares;
-    })
+    let there : slice_get c.args.self.now.shared area ≡ Some (Some c.in-Some.group) =
+    c.shared_by.ensures ∙ ap (λ (o : Option ℕ). Some o) c.in-Some.is in
+    let place : area_place c.args.network.now (c.args.k + 1) ≡ area = ap (λ (o : Option ℕ). unwrap_or o 0) c.area_of-area.ensures.value in
+    joined_one c.args.network.now c.args.k c.in-Some.group c.args.self.now c.self.inside.all _ c.self.inside.shared.items (sym c.self.view_is)
+    c.requires.grouped
+    (c.requires.grouped.shares.each area c.in-Some.group (c.args.k + 1) there place (sym c.has_any.ensures ∙ c.if-has_any.false))
+    c.in_ok-join.ensures
 
 pub returns : goal.returns
 returns c =

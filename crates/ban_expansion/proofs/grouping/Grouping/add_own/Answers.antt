@@ -1,24 +1,14 @@
 use Rattle.std.proofs.Common.{◌+◌, refl, sym, subst}
 use Rattle.route_base.specs.declared.types.ArcId.{ArcId}
-use Rattle.ban_expansion.specs.ArcGroups.{GroupsModel, IsInGroup}
-use Rattle.ban_expansion.specs.Inside.Grouping.{AreGrouped, GroupingModel}
-use Rattle.ban_expansion.proofs.GroupedArcs.{begun_groups, joined_groups, stays_shared}
+use Rattle.ban_expansion.specs.ArcGroups.{GroupsModel}
+use Rattle.ban_expansion.specs.Inside.Grouping.{AreGrouped}
+use Rattle.ban_expansion.proofs.GroupedArcs.{begun_groups, joined_one, stays_shared}
 use Rattle.ban_expansion.proofs.grouping.Grouping.add_own.Goals as goal
 
 pub returns-in-Some : goal.returns-in-Some
 returns-in-Some c =
-    let net = c.args.network.now in
-    let k = c.args.k in
-    let all = c.self.inside.all in
-    let shared = c.self.inside.shared.items in
-    let before : AreGrouped net k (record { all = all; shared = shared }) = subst (AreGrouped net k) (sym c.self.view_is) c.requires.grouped in
-    let is : IsInGroup net all.firsts (k + 1) c.in-Some.group =
-    subst (λ (g : GroupingModel). IsInGroup net g.all.firsts (k + 1) c.in-Some.group) (sym c.self.view_is)
-    (rw c.in-Some.is at c.in_ok-group.ensures) in
-    subst (λ (g : GroupsModel). AreGrouped net (k + 1) (record { all = g; shared = shared })) (sym c.in_ok-join.ensures) (record {
-      groups = joined_groups net k c.in-Some.group all before.groups is;
-      shares = before.shares;
-    })
+    joined_one c.args.network.now c.args.k c.in-Some.group c.args.self.now c.self.inside.all _ c.self.inside.shared.items (sym c.self.view_is)
+    c.requires.grouped (rw c.in-Some.is at c.in_ok-group.ensures) c.in_ok-join.ensures
 
 pub returns : goal.returns
 returns c =

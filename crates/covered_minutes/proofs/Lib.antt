@@ -1,0 +1,4 @@
+pub mod Algebra
+pub mod Changes
+pub mod CoverTest
+pub mod CoveringDays
