@@ -1,7 +1,8 @@
 -- Minutes that are closed by accesses, laid over one another from general to special (source: own).
-use Rattle.std.specs.Prelude.{◌≡◌, ◌&&◌, ℕ, Bool, not, Option, Some, None, IsSome, List, if◌then◌else◌}
+use Rattle.std.specs.Prelude.{◌≡◌, ◌≤◌, ◌*◌, ◌&&◌, ℕ, Bool, not, Option, Some, None, IsSome, List, if◌then◌else◌}
 use Rattle.route_base.specs.Runs.{any_has, has_minute}
-use Rattle.route_base.specs.Setting.{Setting}
+use Rattle.route_base.specs.Setting.{Setting, Road}
+use Rattle.route_base.specs.declared.limits.TheConstants.{DEAREST_MINUTE}
 use Rattle.route_base.specs.declared.types.Run.{Run}
 use Rattle.opening_hours.specs.Holidays.{HolidayLists}
 use Rattle.zone_rules.specs.Zones.{wall_at}
@@ -27,6 +28,10 @@ pub record IsShutWithin (net : NetworkModel) (vehicle : VehicleModel) (window : 
   pub roads : (a t : ℕ) → IsSome (s.road a) → s.shut a t ≡ (has_minute t window && is_closed net vehicle a t)
   pub waits : (v t : ℕ) → IsSome (s.weight v)
       → s.wait_shut v t ≡ (has_minute t window && (road_setting net vehicle).wait_shut v t)
+
+-- no road costs more than the dearest minute for each of its minutes
+abbrev pub HasNoDearMinute : Setting → Type 0
+HasNoDearMinute s = (a : ℕ) (road : Road) → s.road a ≡ Some road → road.cost ≤ DEAREST_MINUTE * road.minutes
 
 -- whether a part, and a clause, hold for the vehicle when clocks in the zone are read at this instant
 abbrev pub part_holds_at : VehicleModel → List ZoneRow → HolidayLists → Part → ℕ → Bool

@@ -9,7 +9,7 @@ pub use Rattle.network_tables.specs.Access.{access_at, area_at, decision_at, giv
 pub use Rattle.network_tables.specs.NetworkModel.{NetworkModel, closures_of}
 pub use Rattle.network_tables.specs.RoadSetting.{road_setting}
 pub use Rattle.ban_expansion.specs.ArcGroups.{AreGroups, IsArc, IsInGroup}
-pub use Rattle.ban_expansion.specs.Bans.{HasThose, IsShutWithin, Lays, part_holds_at, clause_holds_at, clause_gives}
+pub use Rattle.ban_expansion.specs.Bans.{HasNoDearMinute, HasThose, IsShutWithin, Lays, part_holds_at, clause_holds_at, clause_gives}
 pub use Rattle.ban_expansion.specs.Coverage.{IsWindow}
 pub use Rattle.ban_expansion.specs.Inside.GroupedNets.{AreClosedLists, AreTimed, IsTimedArc, timed_over, park_over}
 pub use Rattle.ban_expansion.specs.Inside.Grouping.{AreAlike, AreGrouped, AreShared, HaveSameRules}

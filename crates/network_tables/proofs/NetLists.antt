@@ -9,6 +9,7 @@ use Rattle.dimacs_reader.specs.GraphModel.{GraphModel}
 use Rattle.vehicle_classes.specs.Vehicles.{VehicleEntry}
 use Rattle.network_tables.specs.NetworkModel.{Area, NetworkModel}
 use Rattle.network_tables.specs.RuleLists.{RuleList}
+use Rattle.network_tables.specs.Tolls.{Toll}
 
 pub at_number-get : {A : Type 0} (xs : List A) (a : ℕ) → 1 ≤ a → at_number xs a ≡ slice_get xs (a - 1)
 at_number-get xs zero h = absurd (omega (arith, h))
@@ -27,7 +28,8 @@ list_at items vs a v low high is =
 -- networks with the same parts
 pub same_network : {g h : GraphModel} {areas areas2 : List Area} {roads roads2 : List ℕ} {vehicles vehicles2 : List VehicleEntry}
     {rules rules2 : RuleList} {closures closures2 : List (List Run)} {weights weights2 : List (Option ℕ)}
-    → g ≡ h → areas ≡ areas2 → roads ≡ roads2 → vehicles ≡ vehicles2 → rules ≡ rules2 → closures ≡ closures2 → weights ≡ weights2
+    {tolls tolls2 : List Toll}
+    → g ≡ h → areas ≡ areas2 → roads ≡ roads2 → vehicles ≡ vehicles2 → rules ≡ rules2 → closures ≡ closures2 → weights ≡ weights2 → tolls ≡ tolls2
     → ◌≡◌ {A = NetworkModel} (record {
       graph = g;
       areas = areas;
@@ -37,6 +39,7 @@ pub same_network : {g h : GraphModel} {areas areas2 : List Area} {roads roads2 :
       passed_over = rules.passed_over;
       closures = closures;
       weights = weights;
+      tolls = tolls;
     })
     (record {
       graph = h;
@@ -47,8 +50,9 @@ pub same_network : {g h : GraphModel} {areas areas2 : List Area} {roads roads2 :
       passed_over = rules2.passed_over;
       closures = closures2;
       weights = weights2;
+      tolls = tolls2;
     })
-same_network p q r v u s t = λ i. record {
+same_network p q r v u s t w = λ i. record {
   graph = p i;
   areas = q i;
   roads = r i;
@@ -57,4 +61,5 @@ same_network p q r v u s t = λ i. record {
   passed_over = (u i).passed_over;
   closures = s i;
   weights = t i;
+  tolls = w i;
 }

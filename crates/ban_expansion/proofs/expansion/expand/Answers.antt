@@ -6,7 +6,7 @@ use Rattle.route_base.specs.declared.types.ArcId.{ArcId}
 use Rattle.route_base.specs.declared.types.Run.{Run}
 use Rattle.dimacs_reader.specs.GraphModel.{GraphModel, IsGoodGraph}
 use Rattle.network_tables.specs.RoadSetting.{road_setting}
-use Rattle.ban_expansion.specs.Bans.{IsShutWithin}
+use Rattle.ban_expansion.specs.Bans.{HasNoDearMinute, IsShutWithin}
 use Rattle.ban_expansion.specs.Inside.GroupedNets.{AreClosedLists, HasClosed, park_over}
 use Rattle.ban_expansion.proofs.ItemLists.{zip_length}
 use Rattle.ban_expansion.proofs.TimedNets.{net_made}
@@ -63,3 +63,17 @@ returns-clause-exact g c =
     let made = net_made net c.args.vehicle.now c.args.window c.in_ok-groups.groups c.in_ok-arcs.arcs.items lists c.graph.ensures.good graph
     c.in_ok-groups.ensures c.in_ok-arcs.ensures sets nodes (c.in_ok-parks.ensures.closed) (c.in_ok-parks.ensures.parks ∙ places) in
     subst (λ (n : Net). IsShutWithin net c.args.vehicle.now c.args.window (setting_of n)) (sym c.new.ensures) made.2
+
+pub returns-clause-cheap : goal.returns-clause-cheap
+returns-clause-cheap g c =
+    let net = c.args.network.now in
+    let graph = subst IsGoodGraph c.graph.ensures.value c.node_count-nodes.ensures.good in
+    let nodes = c.node_count-nodes.ensures.value ∙ ap (λ (g : GraphModel). g.nodes) c.graph.ensures.value in
+    let lists : List (List Run) = map (λ v. v.items) c.in_ok-closed.closed.items in
+    let places : map (park_over (length c.in_ok-closed.closed.items)) net.weights ≡ map (park_over (length lists)) net.weights =
+    ap (λ n. map (park_over n) net.weights) (sym (length-map c.in_ok-closed.closed.items (λ v. v.items))) in
+    let sets = subst (λ (firsts : List ArcId). AreClosedLists net c.args.vehicle.now c.args.window firsts lists) c.firsts-firsts.ensures
+    c.in_ok-closed.ensures in
+    let made = net_made net c.args.vehicle.now c.args.window c.in_ok-groups.groups c.in_ok-arcs.arcs.items lists c.graph.ensures.good graph
+    c.in_ok-groups.ensures c.in_ok-arcs.ensures sets nodes (c.in_ok-parks.ensures.closed) (c.in_ok-parks.ensures.parks ∙ places) in
+    subst (λ (n : Net). HasNoDearMinute (setting_of n)) (sym c.new.ensures) made.3
