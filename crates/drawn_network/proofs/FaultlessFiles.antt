@@ -8,7 +8,7 @@ use Rattle.table_reader.specs.Schema.{Schema}
 use Rattle.network_tables.specs.Closures.{closures_schema}
 use Rattle.network_tables.specs.NetworkFiles.{arc_count_of, node_count_of, contents_fault, fault_in, first_some, ratings_of, table_fault}
 use Rattle.network_tables.specs.NetworkFiles.{graph_fault, zones_fault, areas_fault, roads_fault, vehicles_fault, rules_fault, closures_fault}
-use Rattle.network_tables.specs.NetworkFiles.{ratings_fault, parking_fault, holidays_fault}
+use Rattle.network_tables.specs.NetworkFiles.{ratings_fault, parking_fault, holidays_fault, tolls_fault}
 use Rattle.network_tables.specs.Parking.{parking_schema}
 use Rattle.net_generator.specs.Generated.{closures_file, parking_file}
 use Rattle.net_generator.specs.Layout.{roads_drawn}
@@ -61,5 +61,5 @@ files_faultless number rows columns d =
     let parking = parking_good number rows columns d in
     none_first
     (graph_fault files ∷ zones_fault files ∷ areas_fault files ∷ roads_fault files ∷ vehicles_fault files ∷ rules_fault files
-    ∷ closures_fault files ∷ ratings_fault files ∷ parking_fault files ∷ holidays_fault files ∷ [])
-    (graph, (empty _ _, (empty _ _, (empty _ _, (empty _ _, (empty _ _, (closures, (ratings, (parking, (empty _ _, tt))))))))))
+    ∷ closures_fault files ∷ ratings_fault files ∷ parking_fault files ∷ holidays_fault files ∷ tolls_fault files ∷ [])
+    (graph, (empty _ _, (empty _ _, (empty _ _, (empty _ _, (empty _ _, (closures, (ratings, (parking, (empty _ _, (empty _ _, tt)))))))))))
