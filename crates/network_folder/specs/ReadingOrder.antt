@@ -1,4 +1,4 @@
--- The ten files of a network in the order in which they are read, their first fault, and the network that they state; further files of
+-- The eleven files of a network in the order in which they are read, their first fault, and the network that they state; further files of
 -- commands (source: own).
 use Rattle.std.specs.Prelude.{ℕ, true, false, Option, List, [], ◌∷◌, ◌++◌, map, slice_index_or}
 use Rattle.std.specs.Option.{option_or}
@@ -7,7 +7,7 @@ use Rattle.route_base.specs.Labels.{label_of}
 use Rattle.route_base.specs.declared.faults.BadInput.{BadInput}
 use Rattle.route_base.specs.declared.faults.Cause.TheVariants.{TooLong}
 use Rattle.route_base.specs.declared.faults.FileKind.{FileKind}
-use Rattle.route_base.specs.declared.faults.FileKind.TheVariants.{Graph, Zones, Areas, Roads, Vehicles, Rules, Closures, Ratings, Parking, Holidays}
+use Rattle.route_base.specs.declared.faults.FileKind.TheVariants.{Graph, Zones, Areas, Roads, Vehicles, Rules, Closures, Ratings, Parking, Holidays, Tolls}
 use Rattle.route_base.specs.declared.faults.FileKind.TheVariants.{Certificate, Jobs}
 use Rattle.route_base.specs.declared.limits.TheConstants.{LONGEST_CERTIFICATE, LONGEST_FILE}
 use Rattle.network_tables.specs.NetworkFiles.{contents_fault, network_in_files}
@@ -35,7 +35,8 @@ jobs_file name = record { kind = Jobs; name = name; required = true; limit = LON
 abbrev pub network_files : List FileToRead
 network_files =
     required_file Graph ∷ table_file Zones ∷ table_file Areas ∷ table_file Roads ∷ table_file Vehicles ∷ table_file Rules
-    ∷ table_file Closures ∷ table_file Ratings ∷ table_file Parking ∷ table_file Holidays ∷ []
+    ∷ table_file Closures ∷ table_file Ratings ∷ table_file Parking ∷ table_file Holidays
+    ∷ table_file Tolls ∷ []
 
 -- files by name, from their bytes in the order of `network_files`
 abbrev pub files_from : List (List ℕ) → Files
@@ -50,6 +51,7 @@ files_from read = record {
   ratings = slice_index_or read 7 [];
   parking = slice_index_or read 8 [];
   holidays = slice_index_or read 9 [];
+  tolls = slice_index_or read 10 [];
 }
 
 -- the bytes of the files of dir

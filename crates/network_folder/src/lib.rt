@@ -1,7 +1,7 @@
 //! The files of a folder: reading those of a network one after another, and writing files.
 //!
 //! The law is in `specs/`. `Files` says what a file to read is, its first fault, and what the bytes of files are that could all be read; a
-//! file that needn't be there counts as empty. `ReadingOrder` lists the ten files of a network in the order in which they are read, and says
+//! file that needn't be there counts as empty. `ReadingOrder` lists the eleven files of a network in the order in which they are read, and says
 //! what their first fault is and which network they state. `Faults` says why no network is loaded, and `Writing` what a folder
 //! holds once files were written into it, or a part of them.
 //!

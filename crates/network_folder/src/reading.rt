@@ -13,7 +13,7 @@ use route_base::{
 use std::alloc::Global;
 
 // The files of a network in the order in which they are read.
-fn network_files() -> [FileToRead<'static>; 10]
+fn network_files() -> [FileToRead<'static>; 11]
     ensures { map file_in result ≡ network_files }
 {
     [
@@ -27,11 +27,12 @@ fn network_files() -> [FileToRead<'static>; 10]
         FileToRead::table(FileKind::Ratings),
         FileToRead::table(FileKind::Parking),
         FileToRead::table(FileKind::Holidays),
+        FileToRead::table(FileKind::Tolls),
     ]
 }
 
 // The files of a network, and then one more.
-fn files_with(last: FileToRead<'_>) -> [FileToRead<'_>; 11]
+fn files_with(last: FileToRead<'_>) -> [FileToRead<'_>; 12]
     ensures { map file_in result ≡ network_files ++ file_in last.entry ∷ [] }
 {
     let [
@@ -45,9 +46,11 @@ fn files_with(last: FileToRead<'_>) -> [FileToRead<'_>; 11]
         ratings,
         parking,
         holidays,
+        tolls,
     ] = network_files();
     [
-        graph, zones, areas, roads, vehicles, rules, closures, ratings, parking, holidays, last,
+        graph, zones, areas, roads, vehicles, rules, closures, ratings, parking, holidays, tolls,
+        last,
     ]
 }
 
@@ -127,10 +130,10 @@ pub fn read_each<F: Folder>(
 
 // The files by name, from their bytes in the order of `network_files`.
 fn named_files(read: Vec<FileBytes>) -> Files
-    requires { length read.items ≡ 10 }
+    requires { length read.items ≡ 11 }
     ensures { result ≡ files_from read.items }
 {
-    match <[FileBytes; 10]>::try_from(read) {
+    match <[FileBytes; 11]>::try_from(read) {
         Ok(
             [
                 graph,
@@ -143,6 +146,7 @@ fn named_files(read: Vec<FileBytes>) -> Files
                 ratings,
                 parking,
                 holidays,
+                tolls,
             ],
         ) => Files {
             graph,
@@ -155,6 +159,7 @@ fn named_files(read: Vec<FileBytes>) -> Files
             ratings,
             parking,
             holidays,
+            tolls,
         },
         Err(_rest) => unreachable!(),
     }
