@@ -1,5 +1,5 @@
 -- The timed net of a network is good and stands for its road setting.
-use Rattle.std.proofs.Common.{◌≡◌, ⊎_elim, ℕ, zero, suc, ◌+◌, ◌≤◌, ◌<◌, ◌&&◌, Bool, false}
+use Rattle.std.proofs.Common.{◌≡◌, ⊎_elim, ℕ, zero, suc, ◌+◌, ◌*◌, ◌≤◌, ◌<◌, ◌&&◌, Bool, false}
 use Rattle.std.proofs.Common.{Some, None, Option, List, [], ◌∷◌, ◌++◌, length, map, get_or, slice_get}
 use Rattle.std.proofs.Common.{refl, sym, ◌∙◌, ap, subst, arith, add-one}
 use Rattle.std.specs.Prelude.{IsSome, unwrap_or}
@@ -12,19 +12,22 @@ use Rattle.std.proofs.lemmas.Option.{slice_get-get_or, slice_get_past, slice_get
 use Rattle.route_base.specs.Net.{Net, IsGoodNet, IsGoodArc, IsGoodPark, setting_of, at_number, road_of, runs_at, runs_by, shut_by}
 use Rattle.route_base.specs.Runs.{any_has, has_minute, AreRuns}
 use Rattle.route_base.specs.Matching.{StandsFor}
+use Rattle.route_base.specs.Setting.{Road}
+use Rattle.route_base.specs.declared.limits.TheConstants.{DEAREST_MINUTE}
 use Rattle.route_base.specs.declared.types.ArcId.{ArcId}
 use Rattle.route_base.specs.declared.types.Park.{Park}
 use Rattle.route_base.specs.declared.types.Run.{Run}
 use Rattle.route_base.specs.declared.types.TimedArc.{TimedArc}
+use Rattle.route_base.proofs.Logic.{map_some}
 use Rattle.route_base.proofs.Numbered.{at_number-all, at_number-map, within_number}
 use Rattle.dimacs_reader.specs.GraphModel.{IsGoodGraph, IsGoodGraphArc}
 use Rattle.dimacs_reader.specs.declared.graph.GraphArc.{GraphArc}
 use Rattle.vehicle_classes.specs.VehicleModel.{VehicleModel}
 use Rattle.network_tables.specs.Access.{is_closed}
-use Rattle.network_tables.specs.NetworkModel.{NetworkModel, IsGoodNetwork, IsSmallWeight}
+use Rattle.network_tables.specs.NetworkModel.{NetworkModel, IsGoodNetwork, IsSmallWeight, toll_at}
 use Rattle.network_tables.specs.RoadSetting.{road_setting, road_over}
 use Rattle.ban_expansion.specs.ArcGroups.{GroupsModel, AreGroups}
-use Rattle.ban_expansion.specs.Bans.{IsNetFor, IsShutWithin}
+use Rattle.ban_expansion.specs.Bans.{HasNoDearMinute, IsNetFor, IsShutWithin}
 use Rattle.ban_expansion.specs.Inside.GroupedNets.{HasClosed, AreClosedLists, IsTimedArc, AreTimed, timed_over, park_over}
 use Rattle.ban_expansion.proofs.ItemLists.{got_pushed, zip_all, zip_at, zip_length}
 
@@ -42,12 +45,6 @@ timed_next net groups n arcs arc all timed = record {
       (λ last same. subst (λ (j : ℕ). IsTimedArc net groups j other) (sym all.counted ∙ sym last)
       (subst (λ (a : TimedArc). IsTimedArc net groups n a) same timed));
 }
-
--- the graph's arc that a timed arc is
-graph_arc_of : (place : ℕ) (o : Option GraphArc) (arc : TimedArc) → option_map (timed_over place) o ≡ Some arc
-    → (graph : GraphArc) × (o ≡ Some graph) × (timed_over place graph ≡ arc)
-graph_arc_of place None arc is = absurd (cc)
-graph_arc_of place (Some graph) arc is = (graph, refl, cc)
 
 -- a list that ends with the default has no other item at any place
 get_or-last : {A : Type 0} (xs : List A) (n : ℕ) (d : A) → get_or (xs ++ d ∷ []) n d ≡ get_or xs n d
@@ -83,14 +80,14 @@ module _ (net : NetworkModel) (vehicle : VehicleModel) (window : Run) (all : Gro
 
   good_arc : (k : ℕ) (arc : TimedArc) → IsTimedArc net all.groups k arc → IsGoodArc (net_over net arcs lists) arc
   good_arc k arc is =
-      let found = graph_arc_of arc.closed (slice_get net.graph.arcs k) arc is.is in
+      let found = map_some (slice_get net.graph.arcs k) (timed_over arc.closed (toll_at net (k + 1))) arc is.is in
       let named = at_number-all (IsGoodGraphArc net.graph.nodes) net.graph.arcs (suc k) found.0 graph.each_arc found.1 in
       let group = groups.each k arc.closed is.group in
       subst (IsGoodArc (net_over net arcs lists)) found.2 (record {
         tail = named.tail;
         head = named.head;
         minutes = named.minutes;
-        cost = omega (arith, named.minutes.1);
+        cost = omega (arith, named.minutes.1, good.tolls (k + 1));
         closed = omega (arith, slice_get_within all.firsts arc.closed group.first group.there, as_many, length_push lists []);
       })
 
@@ -118,12 +115,18 @@ module _ (net : NetworkModel) (vehicle : VehicleModel) (window : Run) (all : Gro
         (All-weaker IsSmallWeight (λ o. ForSome (park_over (length lists) o) (IsGoodPark (net_over net arcs lists))) good_park net.weights good.small);
   }
 
-  road_at : (k : ℕ) (arc : TimedArc) → IsTimedArc net all.groups k arc → Some (road_of arc) ≡ option_map road_over (slice_get net.graph.arcs k)
-  road_at k arc is =
-      let found = graph_arc_of arc.closed (slice_get net.graph.arcs k) arc is.is in
-      ap (λ (a : TimedArc). Some (road_of a)) (sym found.2) ∙ sym (ap (option_map road_over) found.1)
+  -- the road of an arc's number
+  abbrev road_with : ℕ → GraphArc → Road
+  road_with a arc = road_over (toll_at net a) arc
 
-  same_road : (a : ℕ) → option_map road_of (at_number arcs a) ≡ option_map road_over (at_number net.graph.arcs a)
+  road_at : (k : ℕ) (arc : TimedArc) → IsTimedArc net all.groups k arc
+      → Some (road_of arc) ≡ option_map (road_with (suc k)) (slice_get net.graph.arcs k)
+  road_at k arc is =
+      let found = map_some (slice_get net.graph.arcs k) (timed_over arc.closed (toll_at net (k + 1))) arc is.is in
+      ap (λ (a : TimedArc). Some (road_of a)) (sym found.2) ∙ ap (λ (a : ℕ). Some (road_with a found.0)) (add-one k)
+      ∙ sym (ap (option_map (road_with (suc k))) found.1)
+
+  same_road : (a : ℕ) → option_map road_of (at_number arcs a) ≡ option_map (road_with a) (at_number net.graph.arcs a)
   same_road zero = refl
   same_road (suc k) =
       ⊎_elim
@@ -132,7 +135,7 @@ module _ (net : NetworkModel) (vehicle : VehicleModel) (window : Run) (all : Gro
       ap (option_map road_of) here ∙ road_at k (get_or arcs k no_timed_arc) (timed.each k (get_or arcs k no_timed_arc) here))
       (λ (past : length net.graph.arcs ≤ k).
       ap (option_map road_of) (slice_get_past arcs k (omega (arith, past, timed.counted)))
-      ∙ sym (ap (option_map road_over) (slice_get_past net.graph.arcs k past)))
+      ∙ sym (ap (option_map (road_with (suc k))) (slice_get_past net.graph.arcs k past)))
       (cases_lt k (length net.graph.arcs))
 
   closed_minutes : (a t : ℕ) → IsSome (at_number net.graph.arcs a)
@@ -178,16 +181,23 @@ module _ (net : NetworkModel) (vehicle : VehicleModel) (window : Run) (all : Gro
     road = same_road;
     weight = same_weight;
     shut = λ a t there from to.
-        closed_minutes a t (some_inside road_over (at_number net.graph.arcs a) there)
+        closed_minutes a t (some_inside (road_with a) (at_number net.graph.arcs a) there)
         ∙ ap (λ (b : Bool). b && is_closed net vehicle a t) (and_from _ _ (le-leb window.lo t from) (lt-ltb t window.hi to));
     wait_shut = λ v t there from to. always_open v t;
   }
 
   pub net_shut : IsShutWithin net vehicle window (setting_of (net_over net arcs lists))
   net_shut = record {
-    roads = λ a t there. closed_minutes a t (some_inside road_over (at_number net.graph.arcs a) (subst IsSome (same_road a) there));
+    roads = λ a t there. closed_minutes a t (some_inside (road_with a) (at_number net.graph.arcs a) (subst IsSome (same_road a) there));
     waits = λ v t there. always_open v t ∙ sym (and-false (has_minute t window));
   }
+
+  -- a toll is at most 100.000, and each arc has a minute
+  pub net_cheap : HasNoDearMinute (setting_of (net_over net arcs lists))
+  net_cheap a road is =
+      let found = map_some (at_number net.graph.arcs a) (road_with a) road (sym (same_road a) ∙ is) in
+      let arc = at_number-all (IsGoodGraphArc net.graph.nodes) net.graph.arcs a found.0 graph.each_arc found.1 in
+      subst (λ (r : Road). r.cost ≤ DEAREST_MINUTE * r.minutes) found.2 (omega (arith, arc.minutes.0, good.tolls a))
 
 -- a net of these parts
 abbrev pub net_with : ℕ → List TimedArc → List (List Run) → List (Option Park) → Net
@@ -207,6 +217,7 @@ net_made net vehicle window all arcs lists good graph groups timed sets nodes cl
       subst (λ (n : Net). IsNetFor net vehicle window (setting_of n)) same (record {
         stands = net_stands net vehicle window all arcs lists good graph groups timed sets;
         exact = net_shut net vehicle window all arcs lists good graph groups timed sets;
+        cheap = net_cheap net vehicle window all arcs lists good graph groups timed sets;
       }),
     )
 

@@ -1,8 +1,9 @@
 -- Minutes that are closed by accesses, laid over one another from general to special (source: own).
-use Rattle.std.specs.Prelude.{◌≡◌, ◌&&◌, ℕ, Bool, not, Option, Some, None, IsSome, List, if◌then◌else◌}
+use Rattle.std.specs.Prelude.{◌≡◌, ◌≤◌, ◌*◌, ◌&&◌, ℕ, Bool, not, Option, Some, None, IsSome, List, if◌then◌else◌}
 use Rattle.route_base.specs.Matching.{StandsFor}
 use Rattle.route_base.specs.Runs.{any_has, has_minute}
-use Rattle.route_base.specs.Setting.{Setting}
+use Rattle.route_base.specs.Setting.{Setting, Road}
+use Rattle.route_base.specs.declared.limits.TheConstants.{DEAREST_MINUTE}
 use Rattle.route_base.specs.declared.types.Run.{Run}
 use Rattle.vehicle_classes.specs.VehicleModel.{VehicleModel}
 use Rattle.vehicle_classes.specs.declared.classes.Purpose.{Purpose}
@@ -23,10 +24,16 @@ pub record IsShutWithin (net : NetworkModel) (vehicle : VehicleModel) (window : 
   pub waits : (v t : ℕ) → IsSome (s.weight v)
       → s.wait_shut v t ≡ (has_minute t window && (road_setting net vehicle).wait_shut v t)
 
--- the setting stands for the road setting within the window, and is shut at exactly the minutes of the window at which that is
+-- no road costs more than the dearest minute for each of its minutes
+abbrev pub HasNoDearMinute : Setting → Type 0
+HasNoDearMinute s = (a : ℕ) (road : Road) → s.road a ≡ Some road → road.cost ≤ DEAREST_MINUTE * road.minutes
+
+-- the setting stands for the road setting within the window, is shut at exactly the minutes of the window at which that is, and has no
+-- dear minute
 pub record IsNetFor (net : NetworkModel) (vehicle : VehicleModel) (window : Run) (s : Setting) : Type 0 where
   pub stands : StandsFor s (road_setting net vehicle) window
   pub exact : IsShutWithin net vehicle window s
+  pub cheap : HasNoDearMinute s
 
 -- whether a trip of this purpose is barred once an access is given, where it was barred before or not
 abbrev pub barred_by : Purpose → Option Access → Bool → Bool

@@ -1,5 +1,6 @@
 // Makes the net of a network for a vehicle, over which trips are planned.
 ghost use Rattle.std.specs.Prelude.{◌≡◌, ◌≤◌, ◌<◌, ◌^◌, ◌++◌, ◌∷◌, [], length, map, IfOk, OnOk};
+ghost use Rattle.route_base.specs.declared.limits.TheConstants.{HIGHEST_TOLL, LONGEST_DRIVE};
 ghost use Rattle.ban_expansion.specs.Words.{IsNetFor, setting_of, IsGoodGraph, IsWindow, VehicleModel};
 ghost use Rattle.ban_expansion.specs.Words.{AreClosedLists, AreClosedOnce, AreGroups, AreTimed, IsTimedArc};
 ghost use Rattle.ban_expansion.specs.Words.{timed_over, park_over};
@@ -15,16 +16,17 @@ use std::alloc::Global;
 use std::thread::Threads;
 use vehicle_classes::Vehicle;
 
-// The arc of the net, with its closed runs at this place.
-fn timed(arc: GraphArc, place: u32) -> TimedArc
-    requires { arc.minutes ≤ 10080 }
-    ensures { result ≡ timed_over place arc }
+// The arc of the net with this toll, with its closed runs at this place.
+fn timed(arc: GraphArc, toll: Cost, place: u32) -> TimedArc
+    requires minutes { arc.minutes ≤ LONGEST_DRIVE }
+    requires toll { toll ≤ HIGHEST_TOLL }
+    ensures { result ≡ timed_over place toll arc }
 {
     TimedArc {
         tail: arc.tail,
         head: arc.head,
         minutes: arc.minutes,
-        cost: COST_OF_MINUTE * arc.minutes,
+        cost: COST_OF_MINUTE * arc.minutes + toll,
         closed: place,
     }
 }
@@ -36,8 +38,9 @@ fn timed_at(network: &Network, groups: &ArcGroups, k: u32) -> TimedArc
     requires groups { AreGroups network.now groups.now }
     ensures { IsTimedArc network.now groups.now.groups k result }
 {
-    let arc = network.graph().arc(ArcId(k + 1)).unwrap();
-    timed(arc, groups.groups()[k as usize])
+    let a = ArcId(k + 1);
+    let arc = network.graph().arc(a).unwrap();
+    timed(arc, network.toll(a), groups.groups()[k as usize])
 }
 
 // All arcs, with their closed runs at the places of their groups.
@@ -136,8 +139,8 @@ pub fn expand_groups(
     Ok(net)
 }
 
-/// The network as a net for the vehicle: each minute of driving costs 1,000 thousandths, an arc is closed at exactly the
-/// minutes of the window at which it is closed to the vehicle, and one may wait at the nodes with a weight, at every minute.
+/// The network as a net for the vehicle: an arc costs 1,000 thousandths for each of its minutes and its toll, it is closed at exactly
+/// the minutes of the window at which it is closed to the vehicle, and one may wait at the nodes with a weight, at every minute.
 ///
 /// It takes the time and memory of `group_arcs` and then of `expand_groups`; where many nets of one network are made, call these,
 /// and the first once.

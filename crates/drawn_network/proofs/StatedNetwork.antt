@@ -19,6 +19,7 @@ use Rattle.network_tables.specs.Parking.{weights_by_node}
 use Rattle.network_tables.specs.Ratings.{Rating}
 use Rattle.area_tables.specs.Roads.{area_by_arc}
 use Rattle.network_tables.specs.Rules.{rules_in, passed_over_in}
+use Rattle.network_tables.specs.Tolls.{tolls_in}
 use Rattle.area_tables.specs.Zones.{zone_entries_in, zone_named}
 use Rattle.net_generator.specs.Sizes.{IsDrawable}
 use Rattle.drawn_network.specs.DrawnFiles.{drawn_files}
@@ -92,6 +93,7 @@ network_stated number rows columns d =
     let files = drawn_files number rows columns in
     let no_rules = ap (λ (none : List Record). rules_in (arc_count_of files) (names_of (areas_of files)) none) empty-rows in
     let none_passed = ap (λ (none : List Record). passed_over_in (arc_count_of files) (names_of (areas_of files)) none) empty-rows in
+    let no_tolls = ap tolls_in empty-rows in
     λ i. record {
       graph = (drawn_read number rows columns d).graph i;
       areas = areas_stated number rows columns i;
@@ -101,4 +103,5 @@ network_stated number rows columns d =
       passed_over = none_passed i;
       closures = closures_stated number rows columns d i;
       weights = weights_stated number rows columns d i;
+      tolls = no_tolls i;
     }

@@ -12,7 +12,7 @@ use Rattle.drawn_network.specs.DrawnRows.{drawn_runs, drawn_weights}
 abbrev pub only_area : Area
 only_area = record { zone = zone_row first_instant (pos 0) ∷ []; holidays = record { public = []; school = [] } }
 
--- the roads, closures and parking areas that are drawn; the one vehicle `any`, and no rules
+-- the roads, closures and parking areas that are drawn; the one vehicle `any`, no rules and no tolls
 abbrev pub network_drawn : ℕ → ℕ → ℕ → NetworkModel
 network_drawn number rows columns = record {
   graph = drawn_graph number rows columns;
@@ -23,4 +23,5 @@ network_drawn number rows columns = record {
   passed_over = 0;
   closures = drawn_runs number rows columns;
   weights = drawn_weights number rows columns;
+  tolls = [];
 }

@@ -7,7 +7,7 @@ use Rattle.route_base.specs.Labels.{label_of}
 use Rattle.route_base.specs.declared.faults.BadInput.{BadInput}
 use Rattle.route_base.specs.declared.faults.Cause.TheVariants.{TooLong}
 use Rattle.route_base.specs.declared.faults.FileKind.{FileKind}
-use Rattle.route_base.specs.declared.faults.FileKind.TheVariants.{Graph, Zones, Areas, Roads, Vehicles, Rules, Closures, Ratings, Parking, Holidays}
+use Rattle.route_base.specs.declared.faults.FileKind.TheVariants.{Graph, Zones, Areas, Roads, Vehicles, Rules, Closures, Ratings, Parking, Holidays, Tolls}
 use Rattle.route_base.specs.declared.faults.FileKind.TheVariants.{Certificate, Jobs}
 use Rattle.route_base.specs.declared.limits.TheConstants.{LONGEST_CERTIFICATE, LONGEST_FILE}
 use Rattle.network_tables.specs.Files.{no_files, with_file}
@@ -38,7 +38,7 @@ jobs_file name = named_file Jobs name true LONGEST_FILE
 
 -- the kinds of a network's files in the order in which they are read
 abbrev pub network_kinds : List FileKind
-network_kinds = Graph ∷ Zones ∷ Areas ∷ Roads ∷ Vehicles ∷ Rules ∷ Closures ∷ Ratings ∷ Parking ∷ Holidays ∷ []
+network_kinds = Graph ∷ Zones ∷ Areas ∷ Roads ∷ Vehicles ∷ Rules ∷ Closures ∷ Ratings ∷ Parking ∷ Holidays ∷ Tolls ∷ []
 
 -- a file of a network: the graph has to be there, and a table may be missing
 abbrev pub network_file : FileKind → FileToRead

@@ -26,6 +26,7 @@ fn network_kinds() -> &'static [FileKind]
         FileKind::Ratings,
         FileKind::Parking,
         FileKind::Holidays,
+        FileKind::Tolls,
     ]
 }
 

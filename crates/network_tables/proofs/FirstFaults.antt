@@ -9,7 +9,7 @@ use Rattle.network_tables.specs.declared.files.Files.{Files}
 use Rattle.network_tables.specs.Inside.{places_fault, access_fault, limits_fault}
 use Rattle.network_tables.specs.NetworkFiles.{graph_fault, zones_fault, areas_fault, roads_fault}
 use Rattle.network_tables.specs.NetworkFiles.{vehicles_fault, rules_fault, closures_fault, ratings_fault, parking_fault}
-use Rattle.network_tables.specs.NetworkFiles.{holidays_fault, contents_fault, first_some}
+use Rattle.network_tables.specs.NetworkFiles.{holidays_fault, tolls_fault, contents_fault, first_some}
 use Rattle.network_tables.specs.Refusals.{IsInputRefusal, Reads}
 
 -- where the first has no fault, the others tell
@@ -23,19 +23,20 @@ some_of_both (Some x ∷ os) ps = refl
 
 -- the first fault by stages
 pub staged : (files : Files) → contents_fault files ≡ option_or (graph_fault files) (option_or (places_fault files)
-    (option_or (access_fault files) (option_or (limits_fault files) (holidays_fault files))))
+    (option_or (access_fault files) (option_or (limits_fault files) (option_or (holidays_fault files) (tolls_fault files)))))
 unfolding contents_fault
 staged files =
     let places = zones_fault files ∷ areas_fault files ∷ roads_fault files ∷ [] in
     let access = vehicles_fault files ∷ rules_fault files ∷ [] in
     let limits = closures_fault files ∷ ratings_fault files ∷ parking_fault files ∷ [] in
-    let last = holidays_fault files ∷ [] in
+    let last = holidays_fault files ∷ tolls_fault files ∷ [] in
     ap (λ (o : Option BadInput). option_or (graph_fault files) o)
     (some_of_both places (access ++ limits ++ last)
     ∙ ap (λ (o : Option BadInput). option_or (places_fault files) o)
     (some_of_both access (limits ++ last)
     ∙ ap (λ (o : Option BadInput). option_or (access_fault files) o)
-    (some_of_both limits last ∙ ap (λ (o : Option BadInput). option_or (limits_fault files) o) (option_or-none (holidays_fault files)))))
+    (some_of_both limits last
+    ∙ ap (λ (o : Option BadInput). option_or (limits_fault files) (option_or (holidays_fault files) o)) (option_or-none (tolls_fault files)))))
 
 -- a refusal of a stage is the refusal of all, where those before it have no fault
 pub refused_at : {X Y : Type 0} (e : NetworkFault) (fault rest other : Option BadInput) (P : X → Type 0) (Q : Y → Type 0)

@@ -17,6 +17,7 @@ no_files = record {
   ratings = [];
   parking = [];
   holidays = [];
+  tolls = [];
 }
 
 -- the files with these bytes in the place of that kind; the kinds that a network doesn't have change nothing
@@ -31,4 +32,5 @@ with_file files file.Closures bytes = record files { closures = bytes }
 with_file files file.Ratings bytes = record files { ratings = bytes }
 with_file files file.Parking bytes = record files { parking = bytes }
 with_file files file.Holidays bytes = record files { holidays = bytes }
+with_file files file.Tolls bytes = record files { tolls = bytes }
 with_file files other bytes = files

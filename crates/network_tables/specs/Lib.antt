@@ -10,6 +10,7 @@ pub mod Parking
 pub mod Ratings
 pub mod Refusals
 pub mod RoadSetting
+pub mod Tolls
 pub mod Words
 pub mod Rules
 pub mod RuleLists

@@ -25,6 +25,7 @@ use Rattle.network_tables.specs.Rules.{rules_schema}
 use Rattle.network_tables.specs.RuleLists.{RuleList, rules_stated}
 use Rattle.area_tables.specs.Roads.{roads_schema, area_by_arc}
 use Rattle.area_tables.specs.Zones.{zones_schema, zone_entries_in, zone_named}
+use Rattle.network_tables.specs.Tolls.{Toll, tolls_in, tolls_schema}
 use Rattle.network_tables.specs.declared.files.Files.{Files}
 
 -- a fault as that of a file
@@ -78,6 +79,10 @@ weights_of files = weights_by_node (node_count_of files) (ratings_of files) (num
 abbrev pub holidays_of : Files → List HolidayEntry
 holidays_of files = holidays_in (rows_of files.holidays)
 
+-- the tolls of arcs
+abbrev pub tolls_of : Files → List Toll
+tolls_of files = tolls_in (rows_of files.tolls)
+
 -- the zone of an area among these zones
 abbrev pub zone_for : (List ℕ → Option (List ZoneRow)) → AreaEntry → List ZoneRow
 zone_for zones a = unwrap_or (zones a.1) []
@@ -117,6 +122,9 @@ parking_fault files = table_fault file.Parking (parking_schema (node_count_of fi
 abbrev pub holidays_fault : Files → Option BadInput
 holidays_fault files = table_fault file.Holidays (holidays_schema (names_of (areas_of files))) files.holidays
 
+abbrev pub tolls_fault : Files → Option BadInput
+tolls_fault files = table_fault file.Tolls (tolls_schema (arc_count_of files)) files.tolls
+
 -- the first fault of a list, if there is one
 abbrev pub first_some : {X : Type 0} → List (Option X) → Option X
 first_some [] = None
@@ -125,7 +133,8 @@ first_some (o ∷ more) = option_or o (first_some more)
 -- the first fault of the files' contents, in the order in which they are read
 unfoldable pub contents_fault : Files → Option BadInput
 contents_fault files = first_some (graph_fault files ∷ zones_fault files ∷ areas_fault files ∷ roads_fault files
-    ∷ vehicles_fault files ∷ rules_fault files ∷ closures_fault files ∷ ratings_fault files ∷ parking_fault files ∷ holidays_fault files ∷ [])
+    ∷ vehicles_fault files ∷ rules_fault files ∷ closures_fault files ∷ ratings_fault files ∷ parking_fault files ∷ holidays_fault files
+    ∷ tolls_fault files ∷ [])
 
 -- the network that the files state
 unfoldable pub network_in_files : Files → NetworkModel
@@ -138,4 +147,5 @@ network_in_files files = record {
   passed_over = (rules_of files).passed_over;
   closures = closed_runs_of files;
   weights = weights_of files;
+  tolls = tolls_of files;
 }

@@ -1,12 +1,13 @@
 -- Road networks as contracts see them (source: own).
 use Rattle.std.specs.Prelude.{◌≡◌, ℕ, ◌≤◌, ◌<◌, Option, Some, List, [], length, unwrap_or, All}
 use Rattle.route_base.specs.Net.{at_number}
-use Rattle.route_base.specs.declared.limits.TheConstants.{HEAVIEST_WEIGHT}
+use Rattle.route_base.specs.declared.limits.TheConstants.{HEAVIEST_WEIGHT, HIGHEST_TOLL}
 use Rattle.route_base.specs.declared.types.Run.{Run}
 use Rattle.dimacs_reader.specs.GraphModel.{GraphModel}
 use Rattle.opening_hours.specs.Holidays.{HolidayLists}
 use Rattle.vehicle_classes.specs.Vehicles.{VehicleEntry}
 use Rattle.network_tables.specs.Rules.{Rule}
+use Rattle.network_tables.specs.Tolls.{Toll, toll_for}
 use Rattle.zone_rules.specs.declared.rows.ZoneRow.{ZoneRow}
 
 -- an area: the rows of its zone, and its holidays
@@ -15,7 +16,7 @@ pub record Area : Type 0 where
   pub holidays : HolidayLists
 
 -- a graph, the areas, for each arc the place of its area, the vehicles by name, the rules and the number of rows of rules that were
--- passed over, for each arc its closed minutes, and for each node its weight where one may wait
+-- passed over, for each arc its closed minutes, for each node its weight where one may wait, and the tolls of arcs
 pub record NetworkModel : Type 0 where
   pub graph : GraphModel
   pub areas : List Area
@@ -25,10 +26,15 @@ pub record NetworkModel : Type 0 where
   pub passed_over : ℕ
   pub closures : List (List Run)
   pub weights : List (Option ℕ)
+  pub tolls : List Toll
 
 -- the closed minutes of the arc of this number, in the order of its rows
 abbrev pub closures_of : NetworkModel → ℕ → List Run
 closures_of net a = unwrap_or (at_number net.closures a) []
+
+-- the toll of the arc of this number, which is 0 without a row
+abbrev pub toll_at : NetworkModel → ℕ → ℕ
+toll_at net a = unwrap_or (toll_for net.tolls a) 0
 
 -- a weight is at most 100 for a minute
 abbrev pub IsSmallWeight : Option ℕ → Type 0
@@ -38,10 +44,11 @@ IsSmallWeight o = (w : ℕ) → o ≡ Some w → w ≤ HEAVIEST_WEIGHT
 abbrev pub AreBelow : ℕ → List ℕ → Type 0
 AreBelow n places = All (λ i. i < n) places
 
--- a well-formed network: each arc has an area and closures, each node a weight or none, and weights are small
+-- a well-formed network: each arc has an area and closures, each node a weight or none, and weights and tolls are small
 pub record IsGoodNetwork (net : NetworkModel) : Type 0 where
   pub roads : length net.roads ≡ length net.graph.arcs
   pub placed : AreBelow (length net.areas) net.roads
   pub closures : length net.closures ≡ length net.graph.arcs
   pub weights : length net.weights ≡ net.graph.nodes
   pub small : All IsSmallWeight net.weights
+  pub tolls : (a : ℕ) → toll_at net a ≤ HIGHEST_TOLL

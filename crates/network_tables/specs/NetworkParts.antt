@@ -25,6 +25,7 @@ network_with parts = record {
   passed_over = parts.rules.passed_over;
   closures = map (λ v. v.items) parts.closures.items;
   weights = parts.weights.items;
+  tolls = parts.tolls;
 }
 
 -- a well-formed network: each area's zone is the one at its place in `zones`, and there is one entry of holidays per area

@@ -23,6 +23,7 @@ pub struct Files {
     pub ratings: FileBytes,
     pub parking: FileBytes,
     pub holidays: FileBytes,
+    pub tolls: FileBytes,
 }
 
 impl Files {
@@ -41,6 +42,7 @@ impl Files {
             ratings: FileBytes::new(alloc),
             parking: FileBytes::new(alloc),
             holidays: FileBytes::new(alloc),
+            tolls: FileBytes::new(alloc),
         }
     }
 
@@ -59,11 +61,8 @@ impl Files {
             FileKind::Ratings => self.ratings = bytes,
             FileKind::Parking => self.parking = bytes,
             FileKind::Holidays => self.holidays = bytes,
-            FileKind::Tolls
-            | FileKind::Jobs
-            | FileKind::Certificate
-            | FileKind::Stops
-            | FileKind::Itinerary => {}
+            FileKind::Tolls => self.tolls = bytes,
+            FileKind::Jobs | FileKind::Certificate | FileKind::Stops | FileKind::Itinerary => {}
         }
     }
 }

@@ -1,8 +1,8 @@
 //! Reads a road network from the bytes of its files: a graph, and tables (csv, RFC 4180). It also reads a table of jobs, the trips of a
 //! batch.
 //!
-//! The law is in `specs/`. A module for each table of this crate says its schema and what its rows state: `Rules`, `Closures`, `Ratings`
-//! and `Parking`, each over `Schema` of `table_reader`. The others are read by libraries below: zones, areas, roads and holidays by
+//! The law is in `specs/`. A module for each table of this crate says its schema and what its rows state: `Rules`, `Closures`, `Ratings`,
+//! `Parking` and `Tolls`, each over `Schema` of `table_reader`. The others are read by libraries below: zones, areas, roads and holidays by
 //! `area_tables`, and vehicles by `vehicle_classes`. `NetworkModel` says what a network is, `NetworkFiles` which network all files
 //! state together and what the first fault of their contents is, `Access` which access an arc gives a vehicle at an instant, and
 //! `RoadSetting` the setting in which trips over a network are planned. It is met by `read_network` and the calls of `Network`.
@@ -31,6 +31,7 @@ mod parking;
 mod ratings;
 mod rules;
 mod threads;
+mod tolls;
 mod vehicle_file;
 
 pub use faults::NetworkFault;

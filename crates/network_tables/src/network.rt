@@ -1,9 +1,11 @@
 // The network that files state.
 ghost use Rattle.std.specs.Prelude.{◌≡◌, ◌≤◌, ◌<◌, Some, length, option_map, slice_get};
-ghost use Rattle.network_tables.specs.Words.{option_flatten, at_number, closures_of, IsGoodNetwork, network_with};
+ghost use Rattle.route_base.specs.declared.limits.TheConstants.{HIGHEST_TOLL};
+ghost use Rattle.network_tables.specs.Words.{option_flatten, at_number, closures_of, toll_at, IsGoodNetwork, network_with};
 ghost use Rattle.network_tables.specs.Words.{HoldsNetwork, plain_at, conditional_at, has_arc_rules};
 
 use crate::rules::{Rules, Scope};
+use crate::tolls::Tolls;
 use conditional_rules::{Access, Conditional};
 use dimacs_reader::Graph;
 use opening_hours::Holidays;
@@ -13,7 +15,7 @@ use vehicle_classes::{Key, Vehicles};
 use zone_rules::Zone;
 
 /// The parts of a network: a graph, zones, for each area the place of its zone and its holidays, for each arc the place of its
-/// area and its closed minutes, vehicles, rules, and for each node its weight where one may wait.
+/// area and its closed minutes, vehicles, rules, for each node its weight where one may wait, and the tolls of arcs.
 #[derive(Drop)]
 pub struct NetworkParts {
     pub graph: Graph,
@@ -25,10 +27,11 @@ pub struct NetworkParts {
     pub rules: Rules,
     pub closures: Vec<Vec<Run>>,
     pub weights: Vec<Option<Cost>>,
+    pub tolls: Tolls,
 }
 
 /// A road network: a graph, the area of each arc with its zone and its holidays, vehicles by name, access rules of areas and
-/// arcs, the closed minutes of each arc, and the weights of the nodes where one may wait. Each zone is held once.
+/// arcs, the closed minutes and the toll of each arc, and the weights of the nodes where one may wait. Each zone is held once.
 #[derive(Drop)]
 pub struct Network {
     parts: NetworkParts,
@@ -159,6 +162,14 @@ impl Network {
         ensures good { IsGoodNetwork self.now }
     {
         self.parts.weights[v.0 as usize - 1]
+    }
+
+    /// The toll of the arc in thousandths, which is 0 without a row. In constant time on average.
+    pub fn toll(&self, a: ArcId) -> Cost
+        ensures value { result ≡ toll_at self.now a.0 }
+        ensures small { result ≤ HIGHEST_TOLL }
+    {
+        self.parts.tolls.toll(a.0).unwrap_or(0)
     }
 
     /// The number of closures of the arc. In constant time.

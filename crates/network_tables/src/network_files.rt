@@ -12,6 +12,7 @@ use crate::network::NetworkParts;
 use crate::parking::read_parking;
 use crate::ratings::read_ratings;
 use crate::rules::{Rules, read_rules};
+use crate::tolls::read_tolls;
 use crate::vehicle_file::read_vehicle_file;
 use crate::{Files, Network, NetworkFault};
 use area_tables::{Areas, Zones};
@@ -107,8 +108,8 @@ fn read_calendar(
     Ok((zones, zone_places, holidays))
 }
 
-/// Reads the network that the files state: the graph, then zones, areas, roads, vehicles, rules, closures, ratings, parking and
-/// holidays. Linear in the bytes, the nodes and the arcs, beside n log n steps for n days of holidays.
+/// Reads the network that the files state: the graph, then zones, areas, roads, vehicles, rules, closures, ratings, parking,
+/// holidays and tolls. Linear in the bytes, the nodes and the arcs, beside n log n steps for n days of holidays.
 ///
 /// `Bad` is the first fault of their contents, whose cause is never `Missing` or `TooLong`; `OutOfMemory` comes where a list can't
 /// grow.
@@ -123,6 +124,7 @@ pub fn read_network(alloc: Global, files: &Files) -> Result<Network, NetworkFaul
     let (vehicles, rules) = read_access(alloc, files, arcs, &areas)?;
     let (closures, weights) = read_limits(alloc, files, arcs, graph.node_count())?;
     let (zones, zone_places, holidays) = read_calendar(alloc, files, zones, areas)?;
+    let tolls = read_tolls(alloc, files, arcs)?;
     Ok(Network::new(NetworkParts {
         graph,
         zones,
@@ -133,5 +135,6 @@ pub fn read_network(alloc: Global, files: &Files) -> Result<Network, NetworkFaul
         rules,
         closures,
         weights,
+        tolls,
     }))
 }

@@ -14,7 +14,7 @@ use std::alloc::Global;
 
 /// For each node the least sum of minutes and, by itself, the least sum of costs over walks of arcs to the goal; `None` exactly
 /// where there is no walk. Takes (n + m) log n steps for n nodes and m arcs, and memory linear in both. One search finds both sums
-/// where every arc costs `COST_OF_MINUTE` for each of its minutes, as over a road graph; otherwise there are two.
+/// where every arc costs `COST_OF_MINUTE` for each of its minutes, as without tolls; otherwise there are two.
 pub fn to_goal(alloc: Global, net: &TimedNet, goal: NodeId) -> Result<Bounds, OutOfMemory>
     requires low { 1 ≤ goal.0 }
     requires high { goal.0 ≤ net.now.nodes }

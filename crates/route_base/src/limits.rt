@@ -70,6 +70,9 @@ pub const MOST_PARKING_ROWS: u32 = 500_000;
 /// The most data rows of `holidays.csv`.
 pub const MOST_HOLIDAYS: u32 = 100_000;
 
+/// The most data rows of `tolls.csv`.
+pub const MOST_TOLLS: u32 = 1_000_000;
+
 /// The largest size of a vehicle, in kilograms, centimetres or axles.
 pub const LARGEST_SIZE: u32 = 1_000_000;
 

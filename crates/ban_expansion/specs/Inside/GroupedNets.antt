@@ -1,5 +1,5 @@
 -- The arcs of a network and the closed minutes of their groups (source: own).
-use Rattle.std.specs.Prelude.{◌≡◌, ℕ, ◌*◌, Option, Some, List, length, slice_get}
+use Rattle.std.specs.Prelude.{◌≡◌, ℕ, ◌+◌, ◌*◌, Option, Some, List, length, slice_get}
 use Rattle.std.specs.List.{AllZip}
 use Rattle.std.specs.Option.{option_map}
 use Rattle.route_base.specs.Runs.{AreRuns}
@@ -11,20 +11,26 @@ use Rattle.route_base.specs.declared.types.TimedArc.{TimedArc}
 use Rattle.dimacs_reader.specs.declared.graph.GraphArc.{GraphArc}
 use Rattle.vehicle_classes.specs.VehicleModel.{VehicleModel}
 use Rattle.network_tables.specs.Access.{is_closed}
-use Rattle.network_tables.specs.NetworkModel.{NetworkModel}
+use Rattle.network_tables.specs.NetworkModel.{NetworkModel, toll_at}
 use Rattle.ban_expansion.specs.Bans.{HasThose}
 
--- the arc of a timed net, which takes its closed runs from the list at this place
-abbrev pub timed_over : ℕ → GraphArc → TimedArc
-timed_over place arc = record { tail = arc.tail; head = arc.head; minutes = arc.minutes; cost = COST_OF_MINUTE * arc.minutes; closed = place }
+-- the arc of a timed net with this toll, which takes its closed runs from the list at this place
+abbrev pub timed_over : ℕ → ℕ → GraphArc → TimedArc
+timed_over place toll arc = record {
+  tail = arc.tail;
+  head = arc.head;
+  minutes = arc.minutes;
+  cost = COST_OF_MINUTE * arc.minutes + toll;
+  closed = place;
+}
 
 -- the park of a node with this weight, which takes its shut runs from the list at this place
 abbrev pub park_over : ℕ → Option ℕ → Option Park
 park_over place weight = option_map (λ w. record { weight = w; shut = place }) weight
 
--- the timed arc is the graph's at place k, and takes its closed runs from the place of its group
+-- the timed arc is the graph's at place k with its toll, and takes its closed runs from the place of its group
 pub record IsTimedArc (net : NetworkModel) (groups : List ℕ) (k : ℕ) (arc : TimedArc) : Type 0 where
-  pub is : option_map (timed_over arc.closed) (slice_get net.graph.arcs k) ≡ Some arc
+  pub is : option_map (timed_over arc.closed (toll_at net (k + 1))) (slice_get net.graph.arcs k) ≡ Some arc
   pub group : slice_get groups k ≡ Some arc.closed
 
 -- the first `count` arcs of the network are timed

@@ -1,7 +1,8 @@
 use Rattle.std.proofs.Common.{map, Option, ℕ, List, length, subst, ap, sym, ◌∙◌, arith}
-use Rattle.std.specs.Prelude.{All}
+use Rattle.std.specs.Prelude.{◌≤◌, All, unwrap_or}
 use Rattle.std.proofs.lemmas.List.{length-map}
 use Rattle.std.proofs.lemmas.Result.{err_from_is_err_and}
+use Rattle.route_base.specs.declared.limits.TheConstants.{HIGHEST_TOLL}
 use Rattle.route_base.specs.declared.types.Run.{Run}
 use Rattle.dimacs_reader.specs.GraphModel.{GraphModel}
 use Rattle.opening_hours.specs.Holidays.{HolidayLists}
@@ -18,6 +19,7 @@ use Rattle.network_tables.specs.NetworkFiles.{arc_count_of, node_count_of, zones
 use Rattle.network_tables.specs.NetworkFiles.{network_in_files}
 use Rattle.network_tables.specs.NetworkModel.{AreBelow, IsSmallWeight}
 use Rattle.network_tables.specs.NetworkParts.{zones_at, areas_with}
+use Rattle.network_tables.specs.Tolls.{Toll, toll_for}
 use Rattle.network_tables.proofs.AreaLists.{areas_each, size_at}
 use Rattle.area_tables.proofs.AreaRows.{names_kept}
 use Rattle.network_tables.proofs.AreaRows.{zones_seen, places_within}
@@ -25,7 +27,7 @@ use Rattle.network_tables.proofs.ClosureRows.{length-runs_by_arc}
 use Rattle.network_tables.proofs.FirstFaults.{later, staged, refused_at, refused_so}
 use Rattle.network_tables.proofs.NetLists.{same_network}
 use Rattle.network_tables.proofs.RoadRows.{length-area_by_arc, area_by_arc-within, some_areas}
-use Rattle.network_tables.proofs.SmallWeights.{weights_by_node-small}
+use Rattle.network_tables.proofs.SmallWeights.{tolls_in-small, weights_by_node-small}
 use Rattle.network_tables.proofs.network_files.read_network.Goals as goal
 
 pub returns-in_err-graph : goal.returns-in_err-graph
@@ -66,10 +68,18 @@ read_calendar-requires c =
 pub returns-in_err-zones-2 : goal.returns-in_err-zones-2
 returns-in_err-zones-2 c =
     let p = err_from_is_err_and c.from_residual-in_err-zones-2.result c.from_residual-in_err-zones-2.ensures.1 in
-    rw (p.1, p.2) (refused_so c.in_err-zones-2.field-0.0 _ _ _ _
+    rw (p.1, p.2) (refused_at c.in_err-zones-2.field-0.0 _ _ _ _ _
     (staged c.args.files.now ∙ later c.in_ok-graph.ensures.faultless ∙ later c.in_ok-zones.ensures.faultless
     ∙ later c.in_ok-vehicles.ensures.faultless ∙ later c.in_ok-closures.ensures.faultless)
     c.in_err-zones-2.ensures)
+
+pub returns-in_err-tolls : goal.returns-in_err-tolls
+returns-in_err-tolls c =
+    let p = err_from_is_err_and c.from_residual-in_err-tolls.result c.from_residual-in_err-tolls.ensures.1 in
+    rw (p.1, p.2) (refused_so c.in_err-tolls.field-0.0 _ _ _ _
+    (staged c.args.files.now ∙ later c.in_ok-graph.ensures.faultless ∙ later c.in_ok-zones.ensures.faultless
+    ∙ later c.in_ok-vehicles.ensures.faultless ∙ later c.in_ok-closures.ensures.faultless ∙ later c.in_ok-zones-2.ensures.faultless)
+    c.in_err-tolls.ensures)
 
 pub new-requires : goal.new-requires
 new-requires c =
@@ -118,6 +128,9 @@ new-requires c =
         small =
             subst (λ (list : List (Option ℕ)). All IsSmallWeight list) (sym c.in_ok-closures.ensures.stated.1)
             (weights_by_node-small (node_count_of files) (rows_of files.ratings) (numbered_in is_name (rows_of files.parking)));
+        tolls = λ a.
+            subst (λ (list : List Toll). unwrap_or (toll_for list a) 0 ≤ HIGHEST_TOLL) (sym c.in_ok-tolls.ensures.stated)
+            (tolls_in-small (rows_of files.tolls) a);
       };
       zoned =
           subst (λ (list : List ℕ). AreBelow (length c.in_ok-zones-2.zones.items) list) (sym calendar.placed)
@@ -150,13 +163,15 @@ returns c =
           staged files ∙ later c.in_ok-graph.ensures.faultless ∙ later c.in_ok-zones.ensures.faultless
           ∙ later c.in_ok-vehicles.ensures.faultless
           ∙ later c.in_ok-closures.ensures.faultless
-          ∙ c.in_ok-zones-2.ensures.faultless;
+          ∙ later c.in_ok-zones-2.ensures.faultless
+          ∙ c.in_ok-tolls.ensures.faultless;
       stated =
           c.new.ensures
           ∙ same_network c.in_ok-graph.ensures.stated areas c.in_ok-zones.ensures.stated.on_roads c.in_ok-vehicles.ensures.stated.0
           c.in_ok-vehicles.ensures.stated.1
           c.in_ok-closures.ensures.stated.0
-          c.in_ok-closures.ensures.stated.1;
+          c.in_ok-closures.ensures.stated.1
+          c.in_ok-tolls.ensures.stated;
       refused = tt;
       cause = tt;
     }
