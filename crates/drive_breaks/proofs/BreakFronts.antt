@@ -17,7 +17,8 @@ use Rattle.front_transport.proofs.Transport.{carried}
 use Rattle.drive_breaks.specs.Rested.{IsRestedAchieved, IsRestedFront, AchievesRested, AreRightRested}
 use Rattle.route_base.specs.declared.types.Route.{Route}
 use Rattle.std.proofs.lemmas.List.Elements.{All-push, All-nil}
-use Rattle.drive_breaks.specs.Inside.StateNet.{IsStateNet, unpacked}
+use Rattle.drive_breaks.specs.Inside.StateNet.{IsStateNet}
+use Rattle.drive_breaks.specs.Inside.Unpacking.{unpacked, stay_at}
 use Rattle.drive_breaks.specs.declared.rule.BreakRule.{BreakRule}
 use Rattle.drive_breaks.specs.declared.rule.State.{State}
 use Rattle.drive_breaks.proofs.FoundBreaks.{arrives}
@@ -101,7 +102,7 @@ stays s r rule in_order same = record {
 
 -- the one route of a trip to its origin is right
 pub right_stay : (s : Setting) (r : Request) (rule : BreakRule) (routes : List Route) → r.depart ≤ r.until → r.origin.0 ≡ r.goal.0
-    → routes ≡ record { pair = record { arrival = r.depart; cost = 0 }; legs = [] } ∷ [] → AreRightRested s r rule routes
+    → routes ≡ stay_at r.depart → AreRightRested s r rule routes
 right_stay s r rule routes in_order same is = subst (AreRightRested s r rule) (sym is) (record {
   front = stays s r rule in_order same;
   legs = All-push (AchievesRested s r rule) [] (record { pair = record { arrival = r.depart; cost = 0 }; legs = [] }) (All-nil (AchievesRested s r rule))

@@ -1,19 +1,25 @@
 -- Legs over states, unpacked one by one.
 use Rattle.std.proofs.Common.{◌≡◌, ◌≢◌, ⊎_elim, ℕ, zero, suc, ◌+◌, ◌-◌, ◌≤◌, ◌<◌, Option, Some, List, [], ◌∷◌, ◌++◌, length, get_or, take, drop, replicate, All}
-use Rattle.std.proofs.Common.{refl, sym, ◌∙◌, ap, arith, length-append, append_assoc}
+use Rattle.std.proofs.Common.{refl, sym, ◌∙◌, ap, arith, length-append, append_assoc, subst}
 use Rattle.std.proofs.lemmas.List.{append-nil, take_more, take-append-drop}
-use Rattle.std.proofs.lemmas.List.Elements.{All-cons, All-nil}
+use Rattle.std.proofs.lemmas.List.Elements.{All-cons, All-nil, All-tail}
 use Rattle.route_base.specs.Setting.{Setting}
 use Rattle.route_base.specs.Itinerary.{Position, Step, drive, wait, Walks}
-use Rattle.route_base.specs.Legs.{steps_of, steps_of_leg, HasNoEmptyWait}
+use Rattle.route_base.specs.Front.{pairs_of}
+use Rattle.route_base.specs.Legs.{steps_of, steps_of_leg, start_of, end_of, HasNoEmptyWait}
 use Rattle.route_base.specs.Net.{at_number}
 use Rattle.route_base.specs.declared.types.Leg.{Leg}
 use Rattle.route_base.specs.declared.types.Leg.TheVariants.{Drive, Wait}
+use Rattle.route_base.specs.declared.types.Pair.{Pair}
+use Rattle.route_base.specs.declared.types.Request.{Request}
+use Rattle.route_base.specs.declared.types.Route.{Route}
 use Rattle.route_base.proofs.Arcs.{TakesTime}
 use Rattle.route_base.proofs.LegLists.{steps_of-push, steps_of-append}
 use Rattle.route_base.proofs.Numbered.{number_within, at_number-next}
 use Rattle.front_transport.proofs.Growing.{walk_after}
-use Rattle.drive_breaks.specs.Inside.StateNet.{steps_by, unpacked, IsSourced, IsStateNet}
+use Rattle.drive_breaks.specs.Inside.StateNet.{IsStateNet}
+use Rattle.drive_breaks.specs.Inside.Unpacking.{steps_by, unpacked, IsSourced, IsUnpackedRoute, AreUnpacked, IsUnpackable}
+use Rattle.drive_breaks.specs.Rested.{AchievesRested, IsRestedFrom}
 use Rattle.drive_breaks.specs.declared.rule.BreakRule.{BreakRule}
 use Rattle.drive_breaks.specs.declared.rule.State.{State}
 
@@ -97,3 +103,34 @@ module _ (s z : Setting) (rule : BreakRule) (origin goal : ℕ) (states : List S
       one_at_least : (n : ℕ) → Wait n ≢ Wait 0 → 1 ≤ n
       one_at_least zero some = absurd (some refl)
       one_at_least (suc n) some = omega arith
+
+-- one route more
+pub unpacked_push : (sources : List Leg) (overs routes : List Route) (over route : Route) → AreUnpacked sources overs routes
+    → IsUnpackedRoute sources over route → AreUnpacked sources (overs ++ over ∷ []) (routes ++ route ∷ [])
+unpacked_push sources [] [] over route are one = (one, tt)
+unpacked_push sources [] (x ∷ xs) over route are one = absurd are
+unpacked_push sources (x ∷ xs) [] over route are one = absurd are
+unpacked_push sources (x ∷ xs) (y ∷ ys) over route are one = (are.0, unpacked_push sources xs ys over route are.1 one)
+
+-- routes over states, unpacked, keep the rule and have their pairs
+pub rested_routes : (s : Setting) (r : Request) (rule : BreakRule) (sources : List Leg) (overs routes : List Route)
+    → All (IsUnpackable s r rule sources) overs → AreUnpacked sources overs routes → (pairs_of routes ≡ pairs_of overs) × All (AchievesRested s r rule) routes
+rested_routes s r rule sources [] [] can are = (refl, All-nil (AchievesRested s r rule))
+rested_routes s r rule sources [] (y ∷ ys) can are = absurd are
+rested_routes s r rule sources (x ∷ xs) [] can are = absurd are
+rested_routes s r rule sources (x ∷ xs) (y ∷ ys) can are =
+    let one : IsUnpackable s r rule sources x = can 0 x (omega arith) in
+    let more = rested_routes s r rule sources xs ys (All-tail (IsUnpackable s r rule sources) x xs can) are.1 in
+    let same : unpacked sources (steps_of x.legs) ≡ steps_of y.legs = sym are.0.steps in (
+      ap (λ (p : Pair). p ∷ pairs_of ys) are.0.pair ∙ ap (λ (ps : List Pair). x.pair ∷ ps) more.0,
+      All-cons (AchievesRested s r rule) y ys (record {
+        achieves = record {
+          in_time = one.in_time;
+          no_empty_wait = are.0.tidy.no_empty_wait;
+          walk = subst (λ (p : Pair). Walks s r.until (steps_of y.legs) (start_of r) (end_of r p)) (sym are.0.pair)
+              (subst (λ (w : List Step). Walks s r.until w (start_of r) (end_of r x.pair)) same one.walk);
+        };
+        rested = subst (IsRestedFrom s.road rule []) same one.rested;
+        apart = are.0.tidy.no_neighbours;
+      }) more.1,
+    )

@@ -1,34 +1,29 @@
 // Trips that keep a break rule.
 ghost use Rattle.std.specs.Prelude.{◌≡◌, ◌≢◌, ◌≤◌, ◌-◌, Err, IfOk};
 ghost use Rattle.drive_breaks.specs.Words.{IsGoodRequest, setting_of, HasCheapArcs, IsGoodRule};
-ghost use Rattle.drive_breaks.specs.Words.{AreRightRested, HasTooManyStates, IsExplored};
+ghost use Rattle.drive_breaks.specs.Words.{AreRightRested, HasTooManyStates, IsExplored, stay_at};
 ghost use Rattle.drive_breaks.specs.declared.rule.BreakFault.TheVariants.{TooManyStates};
 ghost use Rattle.route_base.specs.declared.limits.TheConstants.{LONGEST_HORIZON};
 
 use crate::exploration::{Explored, Plan, explore};
+use crate::rule::{State, Way};
 use crate::sources::unpacked_routes;
 use crate::states_as_net::{Ground, state_arcs, state_net};
 use crate::{BreakFault, BreakRule};
 use node_arcs::NodeArcs;
-use route_base::{FrontSearch, Legs, NodeId, OutOfMemory, Pair, Request, Route, Routes, TimedNet};
+use route_base::{
+    FrontSearch, Legs, Minute, NodeId, OutOfMemory, Pair, Request, Route, Routes, TimedNet,
+};
 use std::alloc::Global;
 
-// The one route of a trip to its origin.
-fn stay(
-    alloc: Global,
-    _net: &TimedNet,
-    request: Request,
-    _rule: BreakRule,
-) -> Result<Vec<Route>, OutOfMemory>
-    requires in_time { request.depart ≤ request.until }
-    requires same { request.origin.0 ≡ request.goal.0 }
-    ensures { IfOk result (λ routes.
-        AreRightRested (setting_of _net.now) request _rule routes.items) }
+// The one route of a trip to its origin: to stay.
+fn stay(alloc: Global, depart: Minute) -> Result<Vec<Route>, OutOfMemory>
+    ensures { IfOk result (λ routes. routes.items ≡ stay_at depart) }
 {
     let mut routes = Vec::new(alloc);
     routes.push(Route {
         pair: Pair {
-            arrival: request.depart,
+            arrival: depart,
             cost: 0,
         },
         legs: Legs::new(alloc),
@@ -43,7 +38,8 @@ fn routes_over<E: FrontSearch>(
     net: &TimedNet,
     request: Request,
     rule: BreakRule,
-    explored: &Explored,
+    states: &[State],
+    ways: &[Way],
 ) -> Result<Vec<Route>, OutOfMemory>
     requires good { IsGoodRequest net.now request }
     requires in_time { request.depart ≤ request.until }
@@ -51,20 +47,19 @@ fn routes_over<E: FrontSearch>(
     requires rule { IsGoodRule rule }
     requires cheap { HasCheapArcs net.now }
     requires away { request.origin.0 ≢ request.goal.0 }
-    requires explored { IsExplored (setting_of net.now) request.origin.0 rule
-        explored.now.states explored.now.ways.items }
+    requires explored { IsExplored (setting_of net.now) request.origin.0 rule states.now
+        ways.now }
     ensures { IfOk result (λ routes.
         AreRightRested (setting_of net.now) request rule routes.items) }
 {
     let _nodes = net.node_count();
-    let states = explored.states.as_slice();
     let ground = Ground {
         net,
         rule,
         goal: request.goal,
         states,
     };
-    let built = state_arcs(alloc, ground, explored.ways.as_slice())?;
+    let built = state_arcs(alloc, ground, ways)?;
     let over = state_net(alloc, net, states, built.arcs)?;
     let trip = Request {
         origin: NodeId(1),
@@ -72,14 +67,7 @@ fn routes_over<E: FrontSearch>(
         ..request
     };
     let routes = engine.front(alloc, &over, trip)?;
-    unpacked_routes(
-        alloc,
-        net,
-        request,
-        rule,
-        built.sources.as_slice(),
-        routes.as_slice(),
-    )
+    unpacked_routes(alloc, built.sources.as_slice(), routes.as_slice())
 }
 
 // The routes of a trip whose states are known.
@@ -102,9 +90,18 @@ fn routes_of<E: FrontSearch>(
         AreRightRested (setting_of net.now) request rule routes.items) }
 {
     if request.origin.0 == request.goal.0 {
-        return stay(alloc, net, request, rule);
+        return stay(alloc, request.depart);
     }
-    routes_over(alloc, engine, net, request, rule, explored)
+    let states = explored.states.as_slice();
+    routes_over(
+        alloc,
+        engine,
+        net,
+        request,
+        rule,
+        states,
+        explored.ways.as_slice(),
+    )
 }
 
 /// The Pareto front of arrival and cost over all lawful itineraries that keep the break rule, by rising arrival, each pair with the

@@ -1,12 +1,11 @@
 // The legs over states as legs of the net.
 ghost use Rattle.std.specs.Prelude.{◌≡◌, ◌≢◌, ◌<◌, ◌^◌, length, All, IfOk};
-ghost use Rattle.drive_breaks.specs.Words.{AchievesRested, unpacked, IsSourced, IsUnpackable, IsTidy};
-ghost use Rattle.drive_breaks.specs.Words.{pairs_of, setting_of, steps_of, steps_of_leg};
+ghost use Rattle.drive_breaks.specs.Words.{unpacked, IsSourced, IsSourcedRoute, IsUnpackedRoute, AreUnpacked};
+ghost use Rattle.drive_breaks.specs.Words.{IsTidy, steps_of, steps_of_leg};
 ghost use Rattle.route_base.specs.declared.types.Leg.TheVariants.{Wait};
 
-use crate::BreakRule;
 use front_transport::push_leg;
-use route_base::{Leg, Legs, OutOfMemory, Request, Route, TimedNet};
+use route_base::{Leg, Legs, OutOfMemory, Route};
 use std::alloc::Global;
 
 // The leg of the net for a leg over states.
@@ -37,19 +36,10 @@ fn unpacked_legs(alloc: Global, sources: &[Leg], legs: &[Leg]) -> Result<Vec<Leg
 }
 
 // A route over states as a route of the net.
-fn unpacked_route(
-    alloc: Global,
-    net: &TimedNet,
-    request: Request,
-    rule: BreakRule,
-    sources: &[Leg],
-    route: &Route,
-) -> Result<Route, OutOfMemory>
-    requires { IsUnpackable (setting_of net.now) request rule sources.now route.now }
-    ensures pair { IfOk result (λ out. out.pair ≡ route.now.pair) }
-    ensures rested { IfOk result (AchievesRested (setting_of net.now) request rule) }
+fn unpacked_route(alloc: Global, sources: &[Leg], route: &Route) -> Result<Route, OutOfMemory>
+    requires { IsSourcedRoute sources.now route.now }
+    ensures { IfOk result (IsUnpackedRoute sources.now route.now) }
 {
-    let _net = net;
     let legs = unpacked_legs(alloc, sources, route.legs.as_slice())?;
     Ok(Route {
         pair: route.pair,
@@ -60,19 +50,16 @@ fn unpacked_route(
 /// The routes over states as routes of the net, where `sources` has the leg of each arc over states. Linear in the legs.
 pub fn unpacked_routes(
     alloc: Global,
-    net: &TimedNet,
-    request: Request,
-    rule: BreakRule,
     sources: &[Leg],
     routes: &[Route],
 ) -> Result<Vec<Route>, OutOfMemory>
-    requires { All (IsUnpackable (setting_of net.now) request rule sources.now) routes.now }
-    ensures { IfOk result (λ out. (pairs_of out.items ≡ pairs_of routes.now)
-        × All (AchievesRested (setting_of net.now) request rule) out.items) }
+    requires { All (IsSourcedRoute sources.now) routes.now }
+    ensures { IfOk result (λ out. AreUnpacked sources.now routes.now out.items) }
 {
     let mut out = Vec::new(alloc);
     for route in routes {
-        out.push(unpacked_route(alloc, net, request, rule, sources, route)?)?;
+        let own = unpacked_route(alloc, sources, route)?;
+        out.push(own)?;
     }
     Ok(out)
 }

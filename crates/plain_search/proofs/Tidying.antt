@@ -2,7 +2,7 @@
 use Rattle.std.proofs.Common.{◌≡◌, ◌≢◌, ℕ, suc, ◌-◌, ◌≤◌, List, [], ◌∷◌, ◌++◌, length, get_or, drop, reverse, refl, sym, ◌∙◌, ap, arith}
 use Rattle.std.proofs.lemmas.List.{length-replicate, reverse-append}
 use Rattle.std.proofs.Math.Seq.{drop-cons}
-use Rattle.route_base.specs.Itinerary.{Step, wait}
+use Rattle.route_base.specs.Itinerary.{wait}
 use Rattle.route_base.specs.Legs.{steps_of, steps_of_leg}
 use Rattle.route_base.specs.declared.types.Leg.{Leg}
 use Rattle.route_base.specs.declared.types.Leg.TheVariants.{Drive, Wait}

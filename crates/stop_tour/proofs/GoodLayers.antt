@@ -16,7 +16,7 @@ use Rattle.route_base.specs.declared.types.Run.{Run}
 use Rattle.route_base.specs.declared.types.TimedArc.{TimedArc}
 use Rattle.route_base.proofs.Arcs.{good_arc}
 use Rattle.route_base.proofs.Lists.{pairs_append}
-use Rattle.route_base.proofs.Numbered.{at_number-all, at_number-next, number_within}
+use Rattle.route_base.proofs.Numbered.{at_number-all, number_within}
 use Rattle.route_base.proofs.Costs.{IsCheap}
 use Rattle.route_base.proofs.Logic.{map_some}
 use Rattle.front_transport.specs.CheapArcs.{HasCheapArcs}

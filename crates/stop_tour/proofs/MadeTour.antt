@@ -3,7 +3,7 @@ use Rattle.std.proofs.Common.{◌≡◌, ℕ, suc, ◌+◌, ◌-◌, ◌*◌, �
 use Rattle.std.specs.Prelude.{Vec}
 use Rattle.std.specs.declared.alloc.Global.{Global}
 use Rattle.std.proofs.lemmas.List.Elements.{All-cons, All-nil}
-use Rattle.route_base.specs.Itinerary.{Position, Step, wait, Walks}
+use Rattle.route_base.specs.Itinerary.{Position, wait, Walks}
 use Rattle.route_base.specs.Legs.{steps_of, CostsFit}
 use Rattle.route_base.specs.Front.{IsRight}
 use Rattle.route_base.specs.Net.{Net, net_from, at_number, road_of, setting_of, IsGoodNet}

@@ -1,31 +1,15 @@
 -- The net over states: each state is a node, each drive and each break an arc (source: own; no law).
-use Rattle.std.specs.Prelude.{◌≡◌, ◌≢◌, ◌⊎◌, ℕ, ◌+◌, ◌*◌, ◌≤◌, ◌<◌, ◌^◌, Option, Some, None, List, [], ◌∷◌, ◌++◌, length, map, All, Contains}
+use Rattle.std.specs.Prelude.{◌≡◌, ◌⊎◌, ℕ, ◌+◌, ◌*◌, ◌≤◌, Some, None, List, [], ◌∷◌, ◌++◌, length, map, Contains}
 use Rattle.route_base.specs.Setting.{Setting, Road}
-use Rattle.route_base.specs.Itinerary.{Step, drive, wait, Walks}
-use Rattle.route_base.specs.Legs.{steps_of, steps_of_leg, start_of, end_of}
-use Rattle.route_base.specs.declared.types.Request.{Request}
-use Rattle.route_base.specs.declared.types.Route.{Route}
-use Rattle.drive_breaks.specs.Rested.{IsRestedFrom}
 use Rattle.route_base.specs.Net.{Net, at_number, park_at, IsGoodPark}
-use Rattle.route_base.specs.declared.types.Park.{Park}
-use Rattle.route_base.specs.declared.types.TimedArc.{TimedArc}
-use Rattle.drive_breaks.specs.declared.rule.Way.{Way}
 use Rattle.route_base.specs.declared.types.ArcId.{ArcId}
 use Rattle.route_base.specs.declared.types.Leg.{Leg}
 use Rattle.route_base.specs.declared.types.Leg.TheVariants.{Drive, Wait}
+use Rattle.route_base.specs.declared.types.Park.{Park}
+use Rattle.route_base.specs.declared.types.TimedArc.{TimedArc}
 use Rattle.drive_breaks.specs.declared.rule.BreakRule.{BreakRule}
 use Rattle.drive_breaks.specs.declared.rule.State.{State}
-
--- the steps of an arc's leg
-abbrev pub steps_by : Option Leg → List Step
-steps_by None = []
-steps_by (Some leg) = steps_of_leg leg
-
--- steps over states as steps of the net
-abbrev pub unpacked : List Leg → List Step → List Step
-unpacked sources [] = []
-unpacked sources (drive x ∷ xs) = steps_by (at_number sources x) ++ unpacked sources xs
-unpacked sources (wait ∷ xs) = wait ∷ unpacked sources xs
+use Rattle.drive_breaks.specs.declared.rule.Way.{Way}
 
 -- this road over states is a drive from the state, which ends in a state or in the node behind all states
 pub record IsDriveWay (s z : Setting) (rule : BreakRule) (goal : ℕ) (states : List State) (from : State) (x : ℕ) (road : Road) (leg : Leg) : Type 0 where
@@ -139,16 +123,3 @@ net_over net states arcs = record {
   closed = net.closed;
   parks = map (λ st. park_at net st.node.0) states ++ None ∷ [];
 }
-
--- the leg has steps in the net
-abbrev pub IsSourced : List Leg → Leg → Type 0
-IsSourced sources (Drive x) = (leg : Leg) × (at_number sources x.0 ≡ Some leg) × (leg ≢ Wait 0)
-IsSourced sources (Wait k) = 1 ≤ k
-
--- the legs over states, unpacked, are lawful, keep the rule and have the pair
-pub record IsUnpackable (s : Setting) (r : Request) (rule : BreakRule) (sources : List Leg) (route : Route) : Type 0 where
-  pub sourced : All (IsSourced sources) route.legs
-  pub in_time : r.depart ≤ r.until
-  pub short : length (unpacked sources (steps_of route.legs)) < 2 ^ 62
-  pub walk : Walks s r.until (unpacked sources (steps_of route.legs)) (start_of r) (end_of r route.pair)
-  pub rested : IsRestedFrom s.road rule [] (unpacked sources (steps_of route.legs))

@@ -2,7 +2,7 @@ use Rattle.std.proofs.Common.{sym, ◌∙◌, ap, subst}
 use Rattle.route_base.specs.Legs.{steps_of_leg}
 use Rattle.route_base.specs.declared.types.Leg.{Leg}
 use Rattle.route_base.specs.declared.types.Leg.TheVariants.{Drive}
-use Rattle.drive_breaks.specs.Inside.StateNet.{unpacked, IsSourced}
+use Rattle.drive_breaks.specs.Inside.Unpacking.{unpacked, IsSourced}
 use Rattle.drive_breaks.proofs.Unpacked.{source_is, source_steps, unpacked_waits}
 use Rattle.drive_breaks.proofs.sources.source_of.Goals as goal
 

@@ -3,7 +3,7 @@ use Rattle.route_base.specs.Itinerary.{Step}
 use Rattle.route_base.specs.Legs.{steps_of, steps_of_leg}
 use Rattle.route_base.specs.declared.types.Leg.{Leg}
 use Rattle.route_base.specs.declared.types.Leg.TheVariants.{Drive}
-use Rattle.drive_breaks.specs.Inside.StateNet.{unpacked}
+use Rattle.drive_breaks.specs.Inside.Unpacking.{unpacked}
 use Rattle.drive_breaks.proofs.Unpacked.{steps_next, steps_within}
 use Rattle.drive_breaks.proofs.sources.unpacked_legs.Goals as goal
 

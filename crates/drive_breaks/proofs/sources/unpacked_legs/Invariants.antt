@@ -1,7 +1,7 @@
 use Rattle.std.proofs.Common.{◌≡◌, take}
 use Rattle.route_base.specs.Legs.{steps_of}
 use Rattle.front_transport.specs.Inside.Tidiness.{IsTidy}
-use Rattle.drive_breaks.specs.Inside.StateNet.{unpacked}
+use Rattle.drive_breaks.specs.Inside.Unpacking.{unpacked}
 use Rattle.drive_breaks.proofs.sources.unpacked_legs.Given as goal
 
 abbrev pub invariant-loop-leg : goal.invariant-loop-leg
