@@ -32,6 +32,20 @@ module _ (words : List (List ℕ)) (command : Command) (is : command_of words �
   pub report_due : (report : Report) → ReportsOn command old new report → IsDue words old new (status_of_report report) report.text.items
   report_due report reports = due_by report.text.items report.rejects reports.answered reports.judges reports.rejected
 
+-- all files stay as they are, whatever the status
+abbrev KeepsAll : Command → Type 0
+KeepsAll command = (old new : FolderState) (status : Status)
+    → (LeavesFiles (Some command) old new status → KeepsFiles old new) × (KeepsFiles old new → LeavesFiles (Some command) old new status)
+
+-- a command writes files as a plan or as the making of a network, or it writes none
+by_files : (P : Command → Type 0) → ((p : Plan) → P (to_plan p)) → ((g : Gen) → P (to_gen g)) → ((k : Command) → KeepsAll k → P k)
+    → (command : Command) → P command
+by_files P plan gen other (to_plan p) = plan p
+by_files P plan gen other (to_gen g) = gen g
+by_files P plan gen other (to_check c) = other (to_check c) (λ old new status. (λ left. left, λ kept. kept))
+by_files P plan gen other (to_bans b) = other (to_bans b) (λ old new status. (λ left. left, λ kept. kept))
+by_files P plan gen other (to_batch b) = other (to_batch b) (λ old new status. (λ left. left, λ kept. kept))
+
 module _ (old new : FolderState) where
   certificate_fault : (p : Plan) (name : List ℕ) (due : Status) → (due ≡ NoMemory → ⊥) → LeavesCertificate p name old new due
       → LeavesCertificate p name old new WriteFault
@@ -89,20 +103,16 @@ module _ (old new : FolderState) where
   files_fault : (command : Option Command) (due : Status) → (due ≡ NoMemory → ⊥) → LeavesFiles command old new due
       → LeavesFiles command old new WriteFault
   files_fault None due not left = left
-  files_fault (Some (to_plan p)) due not left = plan_fault p p.certificate due not left
-  files_fault (Some (to_check c)) due not left = left
-  files_fault (Some (to_bans b)) due not left = left
-  files_fault (Some (to_batch b)) due not left = left
-  files_fault (Some (to_gen g)) due not left = gen_fault g due not left
+  files_fault (Some command) due not left = by_files (λ k. LeavesFiles (Some k) old new due → LeavesFiles (Some k) old new WriteFault)
+      (λ p. plan_fault p p.certificate due not) (λ g. gen_fault g due not)
+      (λ k keeps left. (keeps old new WriteFault).1 ((keeps old new due).0 left)) command left
 
   files_memory : (command : Option Command) (due : Status) → (due ≡ WriteFault → ⊥) → LeavesFiles command old new due
       → LeavesFiles command old new NoMemory
   files_memory None due not left = left
-  files_memory (Some (to_plan p)) due not left = plan_memory p p.certificate due not left
-  files_memory (Some (to_check c)) due not left = left
-  files_memory (Some (to_bans b)) due not left = left
-  files_memory (Some (to_batch b)) due not left = left
-  files_memory (Some (to_gen g)) due not left = gen_memory g due not left
+  files_memory (Some command) due not left = by_files (λ k. LeavesFiles (Some k) old new due → LeavesFiles (Some k) old new NoMemory)
+      (λ p. plan_memory p p.certificate due not) (λ g. gen_memory g due not)
+      (λ k keeps left. (keeps old new NoMemory).1 ((keeps old new due).0 left)) command left
 
   -- where a text couldn't be written, the files are as its command left them
   pub still_left : (command : Option Command) (due status : Status) → (due ≡ WriteFault → ⊥) → (due ≡ NoMemory → ⊥)
@@ -174,15 +184,13 @@ same_state old = record { contents = refl; missing = omega arith; read_faults = 
 -- nothing was read or written yet, and memory has run out
 short_leaves : (command : Option Command) (old : FolderState) → LeavesFiles command old old NoMemory
 short_leaves None old = same_state old
-short_leaves (Some (to_plan p)) old = short_plan p.certificate
+short_leaves (Some command) old = by_files (λ k. LeavesFiles (Some k) old old NoMemory) (λ p. short_plan p p.certificate)
+    (λ g. record { written = []; others = files_written g; parts = refl; held = refl })
+    (λ k keeps. (keeps old old NoMemory).1 (same_state old)) command
   where
-    short_plan : (asked : Option (List ℕ)) → LeavesPlan p asked old old NoMemory
-    short_plan None = same_state old
-    short_plan (Some name) = inl refl
-short_leaves (Some (to_check c)) old = same_state old
-short_leaves (Some (to_bans b)) old = same_state old
-short_leaves (Some (to_batch b)) old = same_state old
-short_leaves (Some (to_gen g)) old = record { written = []; others = files_written g; parts = refl; held = refl }
+    short_plan : (p : Plan) (asked : Option (List ℕ)) → LeavesPlan p asked old old NoMemory
+    short_plan p None = same_state old
+    short_plan p (Some name) = inl refl
 
 ends_short : (words : List (List ℕ)) (old : FolderState) → EndsWords words old old (Err halt.NoMemory)
 ends_short words old = record {

@@ -1,5 +1,4 @@
 use Rattle.std.proofs.Common.{◌≡◌, Some, refl, sym, subst}
-use Rattle.std.proofs.lemmas.Result.{err_from_is_err_and}
 use Rattle.network_tables.specs.NetworkModel.{NetworkModel}
 use Rattle.front_desk.specs.Bans.{failed_bans_check}
 use Rattle.front_words.specs.declared.commands.Invocation.TheVariants.{Bans as to_bans}
@@ -9,9 +8,8 @@ use Rattle.front_desk.proofs.bans.report_bans.Goals as goal
 
 pub returns-in_err-network : goal.returns-in_err-network
 returns-in_err-network g c =
-    let p = err_from_is_err_and c.from_residual.result c.from_residual.ensures.1 in
     let kept = c.load_network.ensures.kept in
-    rw (p.1, p.2) (ends_unread (to_bans c.args.bans.now) _ _ kept (λ _. kept) _ c.in_err-network.ensures.refused)
+    ends_unread (to_bans c.args.bans.now) _ _ kept (λ _. kept) _ _ c.from_residual.ensures.1 c.in_err-network.ensures.refused
 
 pub returns-in-Err : goal.returns-in-Err
 returns-in-Err g c =
@@ -22,9 +20,8 @@ returns-in-Err g c =
 
 pub returns-in_err-closed_report-in-Ok : goal.returns-in_err-closed_report-in-Ok
 returns-in_err-closed_report-in-Ok g c =
-    let p = err_from_is_err_and c.from_residual-in_err-closed_report-in-Ok.result c.from_residual-in_err-closed_report-in-Ok.ensures.1 in
     let kept = c.load_network.ensures.kept in
-    rw (p.1, p.2) (ends_short (to_bans c.args.bans.now) _ _ kept (λ _. kept))
+    ends_short (to_bans c.args.bans.now) _ _ kept (λ _. kept) _ c.from_residual-in_err-closed_report-in-Ok.ensures.1
 
 pub returns : goal.returns
 returns g c =
