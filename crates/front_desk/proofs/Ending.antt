@@ -36,8 +36,11 @@ ends_at command old new (Ok report) halt at ends = absurd at
 ends_at command old new (Err h) halt at ends = subst (λ (k : Halt). Ends command old new (Err k)) (sym at) ends
 
 -- of a command whose halts leave the files as they were
-module _ (command : Command) (old new : FolderState) (kept : KeepsFiles old new)
-    (left : (halt : Halt) → LeavesFiles (Some command) old new (status_of_halt halt)) where
+module _ (command : Command) {old new : FolderState}
+    (leaves : KeepsFiles old new → (halt : Halt) → LeavesFiles (Some command) old new (status_of_halt halt)) (kept : KeepsFiles old new) where
+  left : (halt : Halt) → LeavesFiles (Some command) old new (status_of_halt halt)
+  left halt = leaves kept halt
+
   unread : (fault : LoadFault) → StopsReading (first_fault_for command) old new fault → Ends command old new (Err (halt_of_load fault))
   unread (Bad fault) why = record { concludes = why; left = left (Refused (Input fault)); counts = kept_rises old new kept }
   unread Failed why = record { concludes = why; left = left ReadFault; counts = kept_rises old new kept }

@@ -11,24 +11,17 @@ use Rattle.front_desk.proofs.Ending.{ends_short, ends_stopped, ends_unread}
 use Rattle.front_desk.proofs.Judgements.{ends_judged}
 use Rattle.front_desk.proofs.judgement.report_check.Goals as goal
 
-pub returns-in_err-network : goal.returns-in_err-network
-returns-in_err-network g c =
-    let kept = c.load_to_check.ensures.kept in
-    ends_unread (to_check c.args.check.now) _ _ kept (λ _. kept) _ _ c.from_residual.ensures.1 c.in_err-network.ensures.refused
+pub returns-in_err-report : goal.returns-in_err-report
+returns-in_err-report g c =
+    ends_short (to_check c.args.check.now) (λ kept _. kept) c.load_to_check.ensures.kept _ c.from_residual-in_err-report.ensures.1
 
 pub returns-in_err-net : goal.returns-in_err-net
 returns-in_err-net g c =
-    let kept = c.load_to_check.ensures.kept in
     let e = c.in_ok-network.ensures in
     let trip = c.args.check.now.trip in
-    ends_stopped (to_check c.args.check.now) _ _ kept (λ _. kept) c.in_ok-network.network trip tt e.faultless
+    ends_stopped (to_check c.args.check.now) (λ kept _. kept) c.load_to_check.ensures.kept c.in_ok-network.network trip tt e.faultless
     (λ held is. ap (λ (n : NetworkModel). failed_check n trip) (e.found held is)) _ _ _ c.trip_of-trip.ensures
     c.from_residual-in_err-net.ensures.1 c.in_err-net.ensures.refused
-
-pub returns-in_err-report : goal.returns-in_err-report
-returns-in_err-report g c =
-    let kept = c.load_to_check.ensures.kept in
-    ends_short (to_check c.args.check.now) _ _ kept (λ _. kept) _ c.from_residual-in_err-report.ensures.1
 
 pub returns : goal.returns
 returns g c =
@@ -46,3 +39,8 @@ returns g c =
     (c.judgements_agree.ensures network net trip bytes report
     (subst (λ (t : Trip). IsTripNet network t net) same c.in_ok-net.ensures.net) judged)
     c.load_to_check.ensures.kept
+
+pub returns-in_err-network : goal.returns-in_err-network
+returns-in_err-network g c =
+    ends_unread (to_check c.args.check.now) (λ kept _. kept) c.load_to_check.ensures.kept _ _ c.from_residual.ensures.1
+    c.in_err-network.ensures.refused

@@ -19,21 +19,20 @@ planned_over-requires g c =
 
 pub returns-in_err-network : goal.returns-in_err-network
 returns-in_err-network g c =
-    let left = left_unread c.args.plan.now _ _ c.load_network.ensures.kept in
-    ends_unread (to_plan c.args.plan.now) _ _ c.load_network.ensures.kept left _ _ c.from_residual.ensures.1 c.in_err-network.ensures.refused
+    ends_unread (to_plan c.args.plan.now) (left_unread c.args.plan.now _ _) c.load_network.ensures.kept _ _ c.from_residual.ensures.1
+    c.in_err-network.ensures.refused
 
 pub returns-in_err-net : goal.returns-in_err-net
 returns-in_err-net g c =
     let e = c.in_ok-network.ensures in
     let trip = c.args.plan.now.trip in
-    ends_stopped (to_plan c.args.plan.now) _ _ c.load_network.ensures.kept (left_unread c.args.plan.now _ _ c.load_network.ensures.kept)
+    ends_stopped (to_plan c.args.plan.now) (left_unread c.args.plan.now _ _) c.load_network.ensures.kept
     c.in_ok-network.network trip tt e.faultless (λ held is. ap (λ (n : NetworkModel). failed_check n trip) (e.found held is)) _ _ _
     c.trip_of.ensures c.from_residual-in_err-net.ensures.1 c.in_err-net.ensures.refused
 
 pub returns-in_err-planned : goal.returns-in_err-planned
 returns-in_err-planned g c =
-    let left = left_unread c.args.plan.now _ _ c.load_network.ensures.kept in
-    ends_short (to_plan c.args.plan.now) _ _ c.load_network.ensures.kept left _ c.from_residual-in_err-planned.ensures.1
+    ends_short (to_plan c.args.plan.now) (left_unread c.args.plan.now _ _) c.load_network.ensures.kept _ c.from_residual-in_err-planned.ensures.1
 
 pub returns : goal.returns
 returns g c =
