@@ -1,10 +1,12 @@
 -- How a command ends, before it has a report and with it.
-use Rattle.std.proofs.Common.{◌≡◌, false, Bool, cond, None, Some, Err, refl, sym, subst, arith}
+use Rattle.std.proofs.Common.{◌≡◌, false, Bool, cond, None, Some, Result, Ok, Err, refl, sym, subst, ◌∙◌, arith}
+use Rattle.std.specs.Result.{IsErrAnd}
 use Rattle.std.proofs.lemmas.Bool.{both_ways}
 use Rattle.route_base.specs.FolderState.{FolderState, CountsRise, KeepsFiles}
 use Rattle.route_base.specs.declared.faults.RequestFault.{RequestFault}
 use Rattle.route_base.specs.declared.status.Status.TheVariants.{Done, Rejected}
-use Rattle.plan_report.specs.declared.outcomes.Refusal.TheVariants.{Input, Request}
+use Rattle.network_tables.specs.NetworkModel.{NetworkModel}
+use Rattle.plan_report.specs.declared.outcomes.Refusal.TheVariants.{Usage, Input, Request}
 use Rattle.network_folder.specs.Faults.{StopsReading}
 use Rattle.network_folder.specs.Files.{IfTold}
 use Rattle.network_folder.specs.declared.faults.LoadFault.{LoadFault}
@@ -12,9 +14,11 @@ use Rattle.network_folder.specs.declared.faults.LoadFault.TheVariants.{Bad, Fail
 use Rattle.front_words.specs.declared.commands.Invocation.{Invocation as Command}
 use Rattle.front_desk.specs.Commands.{first_fault_for, failed_check_for, HasRequest, LeavesFiles}
 use Rattle.front_desk.specs.Inside.Ending.{Ends, ReportsOn, halt_of_load, status_of_halt, status_of_report}
+use Rattle.front_desk.specs.Inside.Planning.{StopsTrip}
 use Rattle.front_desk.specs.Run.{IsAnsweredBy}
+use Rattle.front_desk.specs.Trips.{Trip, failed_check}
 use Rattle.front_desk.specs.declared.outcome.Halt.{Halt}
-use Rattle.front_desk.specs.declared.outcome.Halt.TheVariants.{Refused, ReadFault, NoMemory}
+use Rattle.front_desk.specs.declared.outcome.Halt.TheVariants.{Refused, ReadFault, WriteFault, NoMemory}
 use Rattle.front_desk.specs.declared.outcome.Report.{Report}
 
 -- no count falls where all files are as they were
@@ -25,14 +29,27 @@ kept_rises old new a = record {
   write_faults = omega (arith, a.write_faults);
 }
 
+-- a command that stops at this halt ends by it
+ends_at : (command : Command) (old new : FolderState) (end : Result Report Halt) (halt : Halt) → IsErrAnd end (λ h. h ≡ halt)
+    → Ends command old new (Err halt) → Ends command old new end
+ends_at command old new (Ok report) halt at ends = absurd at
+ends_at command old new (Err h) halt at ends = subst (λ (k : Halt). Ends command old new (Err k)) (sym at) ends
+
 -- of a command whose halts leave the files as they were
-module _ (command : Command) (old new : FolderState) (kept : KeepsFiles old new)
-    (left : (halt : Halt) → LeavesFiles (Some command) old new (status_of_halt halt)) where
+module _ (command : Command) {old new : FolderState}
+    (leaves : KeepsFiles old new → (halt : Halt) → LeavesFiles (Some command) old new (status_of_halt halt)) (kept : KeepsFiles old new) where
+  left : (halt : Halt) → LeavesFiles (Some command) old new (status_of_halt halt)
+  left halt = leaves kept halt
+
+  unread : (fault : LoadFault) → StopsReading (first_fault_for command) old new fault → Ends command old new (Err (halt_of_load fault))
+  unread (Bad fault) why = record { concludes = why; left = left (Refused (Input fault)); counts = kept_rises old new kept }
+  unread Failed why = record { concludes = why; left = left ReadFault; counts = kept_rises old new kept }
+  unread OutOfMemory why = record { concludes = tt; left = left NoMemory; counts = kept_rises old new kept }
+
   -- there is no network
-  pub ends_unread : (fault : LoadFault) → StopsReading (first_fault_for command) old new fault → Ends command old new (Err (halt_of_load fault))
-  ends_unread (Bad fault) why = record { concludes = why; left = left (Refused (Input fault)); counts = kept_rises old new kept }
-  ends_unread Failed why = record { concludes = why; left = left ReadFault; counts = kept_rises old new kept }
-  ends_unread OutOfMemory why = record { concludes = tt; left = left NoMemory; counts = kept_rises old new kept }
+  pub ends_unread : (end : Result Report Halt) (fault : LoadFault) → IsErrAnd end (λ h. h ≡ halt_of_load fault)
+      → StopsReading (first_fault_for command) old new fault → Ends command old new end
+  ends_unread end fault at why = ends_at command old new end (halt_of_load fault) at (unread fault why)
 
   -- the request fails a check
   pub ends_refused : HasRequest command → IfTold old (λ held. first_fault_for command held ≡ None) → (fault : RequestFault)
@@ -44,8 +61,25 @@ module _ (command : Command) (old new : FolderState) (kept : KeepsFiles old new)
   }
 
   -- memory has run out
-  pub ends_short : Ends command old new (Err NoMemory)
-  ends_short = record { concludes = tt; left = left NoMemory; counts = kept_rises old new kept }
+  pub ends_short : (end : Result Report Halt) → IsErrAnd end (λ h. h ≡ NoMemory) → Ends command old new end
+  ends_short end at =
+      ends_at command old new end NoMemory at (record { concludes = tt; left = left NoMemory; counts = kept_rises old new kept })
+
+  -- the trip that the command asks for over a network has no net
+  module _ (network : NetworkModel) (trip : Trip) (asks : HasRequest command) (faultless : IfTold old (λ held. first_fault_for command held ≡ None))
+      (same : IfTold old (λ held. failed_check network trip ≡ failed_check_for command held)) where
+    stopped : (end : Result Report Halt) (halt : Halt) → IsErrAnd end (λ h. h ≡ halt) → StopsTrip network trip halt → Ends command old new end
+    stopped end (Refused Usage) at why = absurd why
+    stopped end (Refused (Input fault)) at why = absurd why
+    stopped end (Refused (Request fault)) at why =
+        ends_at command old new end (Refused (Request fault)) at (ends_refused asks faultless fault (λ held is. sym (same held is) ∙ why))
+    stopped end ReadFault at why = absurd why
+    stopped end WriteFault at why = absurd why
+    stopped end NoMemory at why = ends_short end at
+
+    pub ends_stopped : (asked : Trip) (end : Result Report Halt) (halt : Halt) → asked ≡ trip → IsErrAnd end (λ h. h ≡ halt)
+        → StopsTrip network asked halt → Ends command old new end
+    ends_stopped asked end halt is at why = stopped end halt at (subst (λ (t : Trip). StopsTrip network t halt) is why)
 
 -- the status of a report that rejects nothing
 pub status_done : (report : Report) → report.rejects ≡ false → status_of_report report ≡ Done

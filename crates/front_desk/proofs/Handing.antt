@@ -1,5 +1,6 @@
 -- A plan that is ready is handed over.
-use Rattle.std.proofs.Common.{◌≡◌, inl, inr, ℕ, Some, None, Option, List, Ok, Err, ap, sym, subst, ◌∙◌, arith}
+use Rattle.std.proofs.Common.{◌≡◌, inl, inr, ℕ, Some, None, Option, List, Result, Ok, Err, ap, sym, subst, ◌∙◌, arith}
+use Rattle.std.specs.Result.{IsErrAnd}
 use Rattle.route_base.specs.Contents.{Contents, Holds, LeavesOpen}
 use Rattle.route_base.specs.Counts.{HasRisen}
 use Rattle.route_base.specs.FolderState.{FolderState, CountsRise, KeepsFiles, FailedToWrite}
@@ -144,7 +145,7 @@ module _ (p : Plan) (old mid new : FolderState) (kept : KeepsFiles old mid) (net
     unwritten_stops (Some file) OutOfMemory for why = tt
 
     -- the text is handed over
-    pub ends_handed : (report : Report) → HandsOver mid new p.dir planned (Ok report) → Ends (to_plan p) old new (Ok report)
+    ends_handed : (report : Report) → HandsOver mid new p.dir planned (Ok report) → Ends (to_plan p) old new (Ok report)
     ends_handed report h = record {
       concludes = reports (to_plan p) old new report h.0 (λ held is. record {
         faultless = faultless held is;
@@ -163,9 +164,20 @@ module _ (p : Plan) (old mid new : FolderState) (kept : KeepsFiles old mid) (net
     }
 
     -- the certificate couldn't be written
-    pub ends_unwritten : (error : WriteError) → HandsOver mid new p.dir planned (Err error) → Ends (to_plan p) old new (Err (halt_of_write error))
+    ends_unwritten : (error : WriteError) → IsUnwritten mid new p.dir planned.certificate error → Ends (to_plan p) old new (Err (halt_of_write error))
     ends_unwritten error h = record {
       concludes = unwritten_stops planned.certificate error ready.file h;
       left = unwritten_leaves p.certificate planned.certificate error ready.file h;
       counts = unwritten_rises planned.certificate error h;
     }
+
+    -- how the handing over ends is how the plan ends
+    pub ends_handing : (end : Result Report Halt) → HandsOver mid new p.dir planned end → Ends (to_plan p) old new end
+    ends_handing (Ok report) h = ends_handed report h
+    ends_handing (Err halt) h = subst (λ (k : Halt). Ends (to_plan p) old new (Err k)) (sym h.is_halt) (ends_unwritten h.error h.unwritten)
+
+-- a certificate that couldn't be written stops the handing over
+pub stops_handing : (old new : FolderState) (dir : List ℕ) (planned : Planned) (end : Result Report Halt) (error : WriteError)
+    → IsErrAnd end (λ h. h ≡ halt_of_write error) → IsUnwritten old new dir planned.certificate error → HandsOver old new dir planned end
+stops_handing old new dir planned (Ok report) error at why = absurd at
+stops_handing old new dir planned (Err halt) error at why = record { error = error; is_halt = at; unwritten = why }

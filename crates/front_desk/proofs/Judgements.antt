@@ -14,7 +14,7 @@ use Rattle.route_base.specs.FolderState.{FolderState, KeepsFiles}
 use Rattle.network_tables.specs.NetworkModel.{NetworkModel}
 use Rattle.plan_report.specs.Check.{check_text_of}
 use Rattle.plan_report.specs.declared.outcomes.Verdict3.TheVariants.{Rejected as Rejected3}
-use Rattle.front_desk.specs.Check.{no_certificate, condition_fails, check_fault, certificate_held, FailsWith, IsAccepted, IsRejected}
+use Rattle.front_desk.specs.Check.{no_certificate, condition_fails, check_check, check_fault, check_setting, certificate_held, FailsWith, IsAccepted, IsRejected}
 use Rattle.front_words.specs.declared.commands.Check.{Check}
 use Rattle.front_words.specs.declared.commands.Invocation.TheVariants.{Check as to_check}
 use Rattle.network_folder.specs.Files.{IfTold}
@@ -75,24 +75,27 @@ module _ (s z : Setting) (request : Request)
 module _ (k : Check) (old new : FolderState) (network : NetworkModel) (bytes : List ℕ) (report : Report)
     (faultless : IfTold old (λ held. check_fault k held ≡ None)) (found : IfTold old (λ held. network ≡ network_held held k.dir))
     (certificate : IfTold old (λ held. bytes ≡ certificate_held k held)) (passed : failed_check network k.trip ≡ None) where
+  passes : IfTold old (λ held. check_check k held ≡ None)
+  passes held is = ap (λ (n : NetworkModel). failed_check n k.trip) (sym (found held is)) ∙ passed
+
+  -- what holds of the bytes over the network holds of the folder's
+  held_there : (P : Setting → List ℕ → Type 0) → P (trip_setting network k.trip) bytes → IfTold old (λ held. P (check_setting k held) (certificate_held k held))
+  held_there P here held is =
+      subst (λ (n : NetworkModel). P (trip_setting n k.trip) (certificate_held k held)) (found held is)
+      (subst (λ (bs : List ℕ). P (trip_setting network k.trip) bs) (certificate held is) here)
+
   reports_judged : IsJudged (trip_setting network k.trip) (request_of k.trip) bytes report → ReportsOn (to_check k) old new report
   reports_judged judged = record {
     answered = λ accepts held is. record {
       faultless = faultless held is;
-      good = ap (λ (n : NetworkModel). failed_check n k.trip) (sym (found held is)) ∙ passed;
-      answer = subst (λ (n : NetworkModel). IsAccepted (trip_setting n k.trip) (request_of k.trip) (certificate_held k held) report.text.items)
-          (found held is)
-          (subst (λ (bs : List ℕ). IsAccepted (trip_setting network k.trip) (request_of k.trip) bs report.text.items) (certificate held is)
-          (judged.accepted accepts));
+      good = passes held is;
+      answer = held_there (λ s bs. IsAccepted s (request_of k.trip) bs report.text.items) (judged.accepted accepts) held is;
     };
     judges = λ _. tt;
     rejected = λ rejects held is. record {
       faultless = faultless held is;
-      good = ap (λ (n : NetworkModel). failed_check n k.trip) (sym (found held is)) ∙ passed;
-      rejects = subst (λ (n : NetworkModel). IsRejected (trip_setting n k.trip) (request_of k.trip) (certificate_held k held) report.text.items)
-          (found held is)
-          (subst (λ (bs : List ℕ). IsRejected (trip_setting network k.trip) (request_of k.trip) bs report.text.items) (certificate held is)
-          (judged.rejected rejects));
+      good = passes held is;
+      rejects = held_there (λ s bs. IsRejected s (request_of k.trip) bs report.text.items) (judged.rejected rejects) held is;
     };
   }
 

@@ -32,77 +32,57 @@ module _ (words : List (List ℕ)) (command : Command) (is : command_of words �
   pub report_due : (report : Report) → ReportsOn command old new report → IsDue words old new (status_of_report report) report.text.items
   report_due report reports = due_by report.text.items report.rejects reports.answered reports.judges reports.rejected
 
+-- all files stay as they are, whatever the status
+abbrev KeepsAll : Command → Type 0
+KeepsAll command = (old new : FolderState) (status : Status)
+    → (LeavesFiles (Some command) old new status → KeepsFiles old new) × (KeepsFiles old new → LeavesFiles (Some command) old new status)
+
+-- a command writes files as a plan or as the making of a network, or it writes none
+by_files : (P : Command → Type 0) → ((p : Plan) → P (to_plan p)) → ((g : Gen) → P (to_gen g)) → ((k : Command) → KeepsAll k → P k)
+    → (command : Command) → P command
+by_files P plan gen other (to_plan p) = plan p
+by_files P plan gen other (to_gen g) = gen g
+by_files P plan gen other (to_check c) = other (to_check c) (λ old new status. (λ left. left, λ kept. kept))
+by_files P plan gen other (to_bans b) = other (to_bans b) (λ old new status. (λ left. left, λ kept. kept))
+by_files P plan gen other (to_batch b) = other (to_batch b) (λ old new status. (λ left. left, λ kept. kept))
+
 module _ (old new : FolderState) where
-  certificate_fault : (p : Plan) (name : List ℕ) (due : Status) → (due ≡ NoMemory → ⊥) → LeavesCertificate p name old new due
-      → LeavesCertificate p name old new WriteFault
-  certificate_fault p name Done not left = inr (inl left)
-  certificate_fault p name Rejected not left = inl left
-  certificate_fault p name Usage not left = inl left
-  certificate_fault p name BadInput not left = inl left
-  certificate_fault p name ReadFault not left = inl left
-  certificate_fault p name WriteFault not left = left
-  certificate_fault p name NoMemory not left = absurd (not refl)
-  certificate_fault p name BadRequest not left = inl left
+  -- what a status leaves is left, too, where the text then couldn't be written, or where memory ran out
+  abbrev StaysLeft : (Status → Type 0) → Status → Type 0
+  StaysLeft leaves due = ((due ≡ NoMemory → ⊥) → leaves WriteFault) × ((due ≡ WriteFault → ⊥) → leaves NoMemory)
 
-  certificate_memory : (p : Plan) (name : List ℕ) (due : Status) → (due ≡ WriteFault → ⊥) → LeavesCertificate p name old new due
-      → LeavesCertificate p name old new NoMemory
-  certificate_memory p name Done not left = inr left
-  certificate_memory p name Rejected not left = inl left.contents
-  certificate_memory p name Usage not left = inl left.contents
-  certificate_memory p name BadInput not left = inl left.contents
-  certificate_memory p name ReadFault not left = inl left.contents
-  certificate_memory p name WriteFault not left = absurd (not refl)
-  certificate_memory p name NoMemory not left = left
-  certificate_memory p name BadRequest not left = inl left.contents
+  certificate_left : (p : Plan) (name : List ℕ) (due : Status) → LeavesCertificate p name old new due
+      → StaysLeft (LeavesCertificate p name old new) due
+  certificate_left p name Done left = (λ _. inr (inl left), λ _. inr left)
+  certificate_left p name Rejected left = (λ _. inl left, λ _. inl left.contents)
+  certificate_left p name Usage left = (λ _. inl left, λ _. inl left.contents)
+  certificate_left p name BadInput left = (λ _. inl left, λ _. inl left.contents)
+  certificate_left p name ReadFault left = (λ _. inl left, λ _. inl left.contents)
+  certificate_left p name WriteFault left = (λ _. left, λ not. absurd (not refl))
+  certificate_left p name NoMemory left = (λ not. absurd (not refl), λ _. left)
+  certificate_left p name BadRequest left = (λ _. inl left, λ _. inl left.contents)
 
-  plan_fault : (p : Plan) (asked : Option (List ℕ)) (due : Status) → (due ≡ NoMemory → ⊥) → LeavesPlan p asked old new due
-      → LeavesPlan p asked old new WriteFault
-  plan_fault p None due not left = left
-  plan_fault p (Some name) due not left = certificate_fault p name due not left
-
-  plan_memory : (p : Plan) (asked : Option (List ℕ)) (due : Status) → (due ≡ WriteFault → ⊥) → LeavesPlan p asked old new due
-      → LeavesPlan p asked old new NoMemory
-  plan_memory p None due not left = left
-  plan_memory p (Some name) due not left = certificate_memory p name due not left
+  plan_left : (p : Plan) (asked : Option (List ℕ)) (due : Status) → LeavesPlan p asked old new due → StaysLeft (LeavesPlan p asked old new) due
+  plan_left p None due left = (λ _. left, λ _. left)
+  plan_left p (Some name) due left = certificate_left p name due left
 
   -- all drawn files were written before the text was handed over
-  gen_fault : (g : Gen) (due : Status) → (due ≡ NoMemory → ⊥) → LeavesGen g old new due → LeavesGen g old new WriteFault
-  gen_fault g Done not left = inl left
-  gen_fault g WriteFault not left = left
-  gen_fault g NoMemory not left = absurd (not refl)
-  gen_fault g Rejected not left = absurd left
-  gen_fault g Usage not left = absurd left
-  gen_fault g BadInput not left = absurd left
-  gen_fault g ReadFault not left = absurd left
-  gen_fault g BadRequest not left = absurd left
+  gen_left : (g : Gen) (due : Status) → LeavesGen g old new due → StaysLeft (LeavesGen g old new) due
+  gen_left g Done left = (λ _. inl left, λ _. record { written = files_written g; others = []; parts = refl; held = left })
+  gen_left g WriteFault left = (λ _. left, λ not. absurd (not refl))
+  gen_left g NoMemory left = (λ not. absurd (not refl), λ _. left)
+  gen_left g Rejected left = absurd left
+  gen_left g Usage left = absurd left
+  gen_left g BadInput left = absurd left
+  gen_left g ReadFault left = absurd left
+  gen_left g BadRequest left = absurd left
 
-  gen_memory : (g : Gen) (due : Status) → (due ≡ WriteFault → ⊥) → LeavesGen g old new due → LeavesGen g old new NoMemory
-  gen_memory g Done not left = record { written = files_written g; others = []; parts = refl; held = left }
-  gen_memory g WriteFault not left = absurd (not refl)
-  gen_memory g NoMemory not left = left
-  gen_memory g Rejected not left = absurd left
-  gen_memory g Usage not left = absurd left
-  gen_memory g BadInput not left = absurd left
-  gen_memory g ReadFault not left = absurd left
-  gen_memory g BadRequest not left = absurd left
-
-  files_fault : (command : Option Command) (due : Status) → (due ≡ NoMemory → ⊥) → LeavesFiles command old new due
-      → LeavesFiles command old new WriteFault
-  files_fault None due not left = left
-  files_fault (Some (to_plan p)) due not left = plan_fault p p.certificate due not left
-  files_fault (Some (to_check c)) due not left = left
-  files_fault (Some (to_bans b)) due not left = left
-  files_fault (Some (to_batch b)) due not left = left
-  files_fault (Some (to_gen g)) due not left = gen_fault g due not left
-
-  files_memory : (command : Option Command) (due : Status) → (due ≡ WriteFault → ⊥) → LeavesFiles command old new due
-      → LeavesFiles command old new NoMemory
-  files_memory None due not left = left
-  files_memory (Some (to_plan p)) due not left = plan_memory p p.certificate due not left
-  files_memory (Some (to_check c)) due not left = left
-  files_memory (Some (to_bans b)) due not left = left
-  files_memory (Some (to_batch b)) due not left = left
-  files_memory (Some (to_gen g)) due not left = gen_memory g due not left
+  files_left : (command : Option Command) (due : Status) → LeavesFiles command old new due → StaysLeft (LeavesFiles command old new) due
+  files_left None due left = (λ _. left, λ _. left)
+  files_left (Some command) due left = by_files (λ k. LeavesFiles (Some k) old new due → StaysLeft (LeavesFiles (Some k) old new) due)
+      (λ p. plan_left p p.certificate due) (λ g. gen_left g due)
+      (λ k keeps left. let kept = (keeps old new due).0 left in (λ _. (keeps old new WriteFault).1 kept, λ _. (keeps old new NoMemory).1 kept))
+      command left
 
   -- where a text couldn't be written, the files are as its command left them
   pub still_left : (command : Option Command) (due status : Status) → (due ≡ WriteFault → ⊥) → (due ≡ NoMemory → ⊥)
@@ -114,9 +94,9 @@ module _ (old new : FolderState) where
       (λ (failed : (status ≡ WriteFault) ⊎ (status ≡ NoMemory)).
       ⊎_elim
       (λ (fault : status ≡ WriteFault).
-      subst (λ (k : Status). LeavesFiles command old new k) (sym fault) (files_fault command due not_memory left))
+      subst (λ (k : Status). LeavesFiles command old new k) (sym fault) ((files_left command due left).0 not_memory))
       (λ (memory : status ≡ NoMemory).
-      subst (λ (k : Status). LeavesFiles command old new k) (sym memory) (files_memory command due not_fault left))
+      subst (λ (k : Status). LeavesFiles command old new k) (sym memory) ((files_left command due left).1 not_fault))
       failed)
       others
 
@@ -174,15 +154,13 @@ same_state old = record { contents = refl; missing = omega arith; read_faults = 
 -- nothing was read or written yet, and memory has run out
 short_leaves : (command : Option Command) (old : FolderState) → LeavesFiles command old old NoMemory
 short_leaves None old = same_state old
-short_leaves (Some (to_plan p)) old = short_plan p.certificate
+short_leaves (Some command) old = by_files (λ k. LeavesFiles (Some k) old old NoMemory) (λ p. short_plan p p.certificate)
+    (λ g. record { written = []; others = files_written g; parts = refl; held = refl })
+    (λ k keeps. (keeps old old NoMemory).1 (same_state old)) command
   where
-    short_plan : (asked : Option (List ℕ)) → LeavesPlan p asked old old NoMemory
-    short_plan None = same_state old
-    short_plan (Some name) = inl refl
-short_leaves (Some (to_check c)) old = same_state old
-short_leaves (Some (to_bans b)) old = same_state old
-short_leaves (Some (to_batch b)) old = same_state old
-short_leaves (Some (to_gen g)) old = record { written = []; others = files_written g; parts = refl; held = refl }
+    short_plan : (p : Plan) (asked : Option (List ℕ)) → LeavesPlan p asked old old NoMemory
+    short_plan p None = same_state old
+    short_plan p (Some name) = inl refl
 
 ends_short : (words : List (List ℕ)) (old : FolderState) → EndsWords words old old (Err halt.NoMemory)
 ends_short words old = record {

@@ -45,19 +45,12 @@ memory_or_done : NoMemory ≡ Done → ⊥
 memory_or_done same = cc
 
 -- a command comes to its end with Done, and with Rejected where it judges
-done_finished : (command : Command) → IsFinished command Done
-done_finished (to_plan p) = refl
-done_finished (to_check c) = inl refl
-done_finished (to_bans b) = refl
-done_finished (to_batch b) = refl
-done_finished (to_gen g) = refl
-
-rejected_finished : (command : Command) → Judges command → IsFinished command Rejected
-rejected_finished (to_plan p) judges = absurd judges
-rejected_finished (to_check c) judges = inr refl
-rejected_finished (to_bans b) judges = absurd judges
-rejected_finished (to_batch b) judges = absurd judges
-rejected_finished (to_gen g) judges = absurd judges
+finishes : (command : Command) → IsFinished command Done × (Judges command → IsFinished command Rejected)
+finishes (to_plan p) = (refl, λ judges. absurd judges)
+finishes (to_check c) = (inl refl, λ judges. inr refl)
+finishes (to_bans b) = (refl, λ judges. absurd judges)
+finishes (to_batch b) = (refl, λ judges. absurd judges)
+finishes (to_gen g) = (refl, λ judges. absurd judges)
 
 -- a good certificate fails no condition
 good_never_fails : (s : Setting) (r : Request) (c : Certificate) (k : ℕ) → IsGood s r c → FailsFirst s r c k → ⊥
@@ -165,9 +158,9 @@ module _ (words : List (List ℕ)) (old new : FolderState) where
             clash here = cc
 
         due_finished : (status : Status) (text : List ℕ) → IsDue words old new status text → IsFinished command status
-        due_finished Done text d = done_finished command
+        due_finished Done text d = (finishes command).0
         due_finished Rejected text d =
-            rejected_finished command (subst (λ (k : Command). Judges k) (same_command d.command d.is_command) d.judges)
+            (finishes command).1 (subst (λ (k : Command). Judges k) (same_command d.command d.is_command) d.judges)
         due_finished Usage text d = absurd (no_refusal d.refusal d.cause)
         due_finished BadInputStatus text d = absurd (no_refusal d.refusal d.cause)
         due_finished BadRequest text d = absurd (no_refusal d.refusal d.cause)

@@ -3,7 +3,7 @@ ghost use Rattle.std.specs.Prelude.{◌≡◌, ◌≤◌, None, All, IfOk, OnOk,
 ghost use Rattle.front_desk.specs.Words.{KeepsFiles, IfTold, network_held, StopsReading, StopsStating, Ends};
 ghost use Rattle.front_desk.specs.Words.{to_batch, batch_fault, jobs_fault, jobs_held, trip_in, IsBatchText};
 ghost use Rattle.front_desk.specs.Batch.{IsJobText, IsTripReport, trip_of_job};
-ghost use Rattle.front_desk.specs.Words.{IsGoodNetwork, IsGoodTrip, IsTimed, trip_setting, vehicle_named};
+ghost use Rattle.front_desk.specs.Words.{IsChecked, IsTimed, trip_setting};
 ghost use Rattle.front_desk.specs.Inside.Grouping.{KeepsGroups};
 ghost use Rattle.ban_expansion.specs.ArcGroups.{AreGroups};
 ghost use Rattle.network_tables.specs.Jobs.{IsTimedJob, jobs_in};
@@ -60,9 +60,7 @@ fn text_of_trip(
     trip: Trip<'_>,
 ) -> Result<Vec<u8>, OutOfMemory>
     requires groups { AreGroups network.now groups.now }
-    requires network { IsGoodNetwork network.now }
-    requires vehicle { vehicle.now ≡ vehicle_named network.now (trip_in trip).vehicle }
-    requires good { IsGoodTrip network.now.graph.nodes (trip_in trip) }
+    requires checked { IsChecked network.now (trip_in trip) vehicle.now }
     requires timed { IsTimed (trip_in trip) }
     ensures { IfOk result (λ text. IsTripReport (trip_setting network.now (trip_in trip.entry))
         (trip_in trip.entry) text.items) }

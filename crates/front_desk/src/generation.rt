@@ -1,10 +1,9 @@
 // The command that makes a network.
 ghost use Rattle.std.specs.Prelude.{◌≡◌, map, IfOk};
-ghost use Rattle.front_desk.specs.Words.{IsGoodNetwork, trip_setting, vehicle_named, request_of, trip_in, IsGoodTrip, IsTimed};
+ghost use Rattle.front_desk.specs.Words.{trip_in, IsChecked};
 ghost use Rattle.front_desk.specs.Words.{to_gen, drawn_trip, stated_network, written_in, files_to_write, files_written, IsSummary};
 ghost use Rattle.front_desk.specs.Words.{Ends};
 ghost use Rattle.net_generator.specs.Sizes.{IsDrawable};
-ghost use Rattle.route_base.specs.Front.{IsRight};
 
 use crate::networks::net_at_once;
 use crate::outcome::{Halt, Report};
@@ -16,7 +15,7 @@ use net_generator::Generated;
 use network_folder::{FileToWrite, put_each};
 use network_tables::Network;
 use plan_report::summary_text;
-use route_base::{FileKind, Folder, FrontSearch, Gate, OutOfMemory, Routes, settings_agree};
+use route_base::{FileKind, Folder, FrontSearch, Gate, OutOfMemory, settings_agree};
 use std::alloc::Global;
 use std::thread::Threads;
 use vehicle_classes::Vehicle;
@@ -35,35 +34,11 @@ fn drawn_trip(grid: &Gen) -> Trip<'static>
     }
 }
 
-// The Pareto front of a trip that passes the checks, for its vehicle, with an itinerary for each pair.
-fn front_of_trip<R: Threads + Sync, G: Gate>(
-    rt: &R,
-    alloc: Global,
-    network: &Network,
-    vehicle: &Vehicle,
-    trip: Trip<'_>,
-    gate: &G,
-) -> Result<Routes, OutOfMemory>
-    requires network { IsGoodNetwork network.now }
-    requires vehicle { vehicle.now ≡ vehicle_named network.now (trip_in trip).vehicle }
-    requires good { IsGoodTrip network.now.graph.nodes (trip_in trip) }
-    requires timed { IsTimed (trip_in trip) }
-    ensures { IfOk result (IsRight (trip_setting network.now (trip_in trip.entry))
-        (request_of (trip_in trip.entry))) }
-{
-    let net = net_at_once(rt, alloc, network, vehicle, trip, gate)?;
-    settings_agree();
-    let routes = FunctionEngine.front(alloc, &net, request_of(trip))?;
-    Ok(routes)
-}
-
 // The vehicle of the trip over a drawn network: the trip passes all checks.
 fn vehicle_of_drawn<'a>(network: &'a Network, grid: &Gen) -> &'a Vehicle
     requires drawable { IsDrawable grid.now.number grid.now.rows grid.now.columns }
     requires network { network.now ≡ stated_network grid.now }
-    ensures network { IsGoodNetwork network.now }
-    ensures vehicle { result.now ≡ vehicle_named network.now (drawn_trip grid.now).vehicle }
-    ensures good { IsGoodTrip network.now.graph.nodes (drawn_trip grid.now) }
+    ensures { IsChecked network.now (drawn_trip grid.now) result.now }
 {
     drawn_files_are_good();
     let trip = drawn_trip(grid);
@@ -73,7 +48,7 @@ fn vehicle_of_drawn<'a>(network: &'a Network, grid: &Gen) -> &'a Vehicle
     vehicle
 }
 
-// The summary of the drawn network, and of the trip over it.
+// The summary of the drawn network, and of the Pareto front of the trip over it.
 fn summary_of<R: Threads + Sync, G: Gate>(
     rt: &R,
     alloc: Global,
@@ -87,7 +62,9 @@ fn summary_of<R: Threads + Sync, G: Gate>(
 {
     let vehicle = vehicle_of_drawn(network, grid);
     let trip = drawn_trip(grid);
-    let routes = front_of_trip(rt, alloc, network, vehicle, trip, gate)?;
+    let net = net_at_once(rt, alloc, network, vehicle, trip, gate)?;
+    settings_agree();
+    let routes = FunctionEngine.front(alloc, &net, request_of(trip))?;
     let graph = network.graph();
     let text = summary_text(alloc, graph.node_count(), graph.arc_count(), &routes)?;
     Ok(text)

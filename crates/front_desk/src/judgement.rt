@@ -8,15 +8,15 @@ ghost use Rattle.front_desk.specs.declared.outcome.Report.{Report as ReportModel
 ghost use Rattle.network_tables.specs.NetworkModel.{NetworkModel};
 ghost use Rattle.route_base.specs.Net.{Net, IsGoodRequest, setting_of};
 
-use crate::networks::net_at_once;
+use crate::networks::net_for;
 use crate::outcome::{Halt, Report};
-use crate::requests::{request_of, trip_of, vehicle_of_trip};
+use crate::requests::{request_of, trip_of};
 use certificate::{Certificate, CertificateFault, read};
 use certificate_check::{Verdict, check, verdicts_agree};
 use front_words::Check;
 use network_folder::{FileToRead, LoadFault, load_with};
 use network_tables::Network;
-use plan_report::{Refusal, Verdict3, check_text};
+use plan_report::{Verdict3, check_text};
 use route_base::{FileBytes, Folder, Gate, OutOfMemory, Request, TimedNet, settings_agree};
 use std::alloc::Global;
 use std::thread::Threads;
@@ -113,14 +113,8 @@ pub fn report_check<R: Threads + Sync, F: Folder, G: Gate>(
 {
     let (network, bytes) = load_to_check(alloc, folder, check)?;
     let trip = trip_of(&check.trip);
-    match vehicle_of_trip(&network, trip) {
-        Ok(vehicle) => {
-            let net = net_at_once(rt, alloc, &network, vehicle, trip, gate)?;
-            drop(network);
-            judgements_agree();
-            let report = judged(alloc, &net, request_of(trip), bytes)?;
-            Ok(report)
-        }
-        Err(fault) => Err(Halt::Refused(Refusal::Request(fault))),
-    }
+    let net = net_for(rt, alloc, network, trip, gate)?;
+    judgements_agree();
+    let report = judged(alloc, &net, request_of(trip), bytes)?;
+    Ok(report)
 }

@@ -1,15 +1,17 @@
 // Makes the net of a trip over a network.
-ghost use Rattle.std.specs.Prelude.{◌≡◌, IfOk};
-ghost use Rattle.front_desk.specs.Words.{IsGoodNetwork, vehicle_named, trip_in, IsGoodTrip, IsTimed};
+ghost use Rattle.std.specs.Prelude.{◌≡◌, None, IfOk, OnOk, IfErr};
+ghost use Rattle.front_desk.specs.Words.{IsGoodNetwork, failed_check, trip_in, IsChecked, IsGoodTrip, IsTimed, StopsTrip};
 ghost use Rattle.ban_expansion.specs.ArcGroups.{AreGroups};
 ghost use Rattle.front_desk.specs.Words.{IsTripNet, trip_setting, trip_window};
 ghost use Rattle.route_base.specs.Matching.{StandsFor};
 ghost use Rattle.route_base.specs.Net.{setting_of};
 
-use crate::requests::Trip;
+use crate::outcome::Halt;
+use crate::requests::{Trip, vehicle_of_trip};
 use ban_expansion::{ArcGroups, expand, expand_groups};
 use network_tables::Network;
 use plan_certificate::certificates_agree;
+use plan_report::Refusal;
 use route_base::{Gate, OutOfMemory, Run, TimedNet, settings_agree};
 use std::alloc::Global;
 use std::thread::Threads;
@@ -31,6 +33,16 @@ fn trip_net(network: &Network, trip: Trip<'_>, net: TimedNet) -> TimedNet
     net
 }
 
+// The minutes of a trip.
+fn window_of(trip: Trip<'_>) -> Run
+    ensures { result ≡ trip_window (trip_in trip.entry) }
+{
+    Run {
+        lo: trip.depart,
+        hi: trip.until,
+    }
+}
+
 /// The net of a trip that passes the checks, for its vehicle, over groups of arcs that are found once for a network: it stands for the
 /// network's roads in the trip's minutes.
 pub fn net_of_trip(
@@ -41,17 +53,11 @@ pub fn net_of_trip(
     trip: Trip<'_>,
 ) -> Result<TimedNet, OutOfMemory>
     requires groups { AreGroups network.now groups.now }
-    requires network { IsGoodNetwork network.now }
-    requires vehicle { vehicle.now ≡ vehicle_named network.now (trip_in trip).vehicle }
-    requires good { IsGoodTrip network.now.graph.nodes (trip_in trip) }
+    requires checked { IsChecked network.now (trip_in trip) vehicle.now }
     requires timed { IsTimed (trip_in trip) }
     ensures { IfOk result (IsTripNet network.now (trip_in trip.entry)) }
 {
-    let window = Run {
-        lo: trip.depart,
-        hi: trip.until,
-    };
-    let net = expand_groups(alloc, network, groups, vehicle, window)?;
+    let net = expand_groups(alloc, network, groups, vehicle, window_of(trip))?;
     Ok(trip_net(network, trip, net))
 }
 
@@ -64,16 +70,30 @@ pub fn net_at_once<R: Threads + Sync, G: Gate>(
     trip: Trip<'_>,
     gate: &G,
 ) -> Result<TimedNet, OutOfMemory>
-    requires network { IsGoodNetwork network.now }
-    requires vehicle { vehicle.now ≡ vehicle_named network.now (trip_in trip).vehicle }
-    requires good { IsGoodTrip network.now.graph.nodes (trip_in trip) }
+    requires checked { IsChecked network.now (trip_in trip) vehicle.now }
     requires timed { IsTimed (trip_in trip) }
     ensures { IfOk result (IsTripNet network.now (trip_in trip.entry)) }
 {
-    let window = Run {
-        lo: trip.depart,
-        hi: trip.until,
-    };
-    let net = expand(rt, alloc, network, vehicle, window, gate)?;
+    let net = expand(rt, alloc, network, vehicle, window_of(trip), gate)?;
     Ok(trip_net(network, trip, net))
+}
+
+/// The net of a trip over a network, which is given back, or why there is none: the first check that the trip fails, or no memory.
+pub fn net_for<R: Threads + Sync, G: Gate>(
+    rt: &R,
+    alloc: Global,
+    network: Network,
+    trip: Trip<'_>,
+    gate: &G,
+) -> Result<TimedNet, Halt>
+    requires { IsTimed (trip_in trip) }
+    ensures passed { OnOk result (failed_check network (trip_in trip.entry) ≡ None) }
+    ensures good { OnOk result (IsGoodTrip network.graph.nodes (trip_in trip.entry)) }
+    ensures net { IfOk result (IsTripNet network (trip_in trip.entry)) }
+    ensures refused { IfErr result (StopsTrip network (trip_in trip.entry)) }
+{
+    match vehicle_of_trip(&network, trip) {
+        Ok(vehicle) => Ok(net_at_once(rt, alloc, &network, vehicle, trip, gate)?),
+        Err(fault) => Err(Halt::Refused(Refusal::Request(fault))),
+    }
 }

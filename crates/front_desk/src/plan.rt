@@ -1,7 +1,7 @@
 // The command that plans a trip.
-ghost use Rattle.std.specs.Prelude.{◌≡◌, IfOk, OnOk, IfErr};
-ghost use Rattle.front_desk.specs.Words.{IsGoodNetwork, trip_setting, vehicle_named, to_plan, IsTimed};
-ghost use Rattle.front_desk.specs.Words.{request_of, IsGoodTrip, IsPlannable, IsReady};
+ghost use Rattle.std.specs.Prelude.{IfOk, OnOk, IfErr};
+ghost use Rattle.front_desk.specs.Words.{trip_setting, to_plan, IsTimed};
+ghost use Rattle.front_desk.specs.Words.{request_of, IsPlannable, IsReady};
 ghost use Rattle.front_desk.specs.Words.{Ends, HandsOver, IsWritten, IsUnwritten};
 ghost use Rattle.front_words.specs.declared.commands.Plan.{Plan as PlanModel};
 ghost use Rattle.front_desk.specs.Words.{IsTripNet};
@@ -9,17 +9,16 @@ ghost use Rattle.front_desk.specs.declared.plan.Planned.{Planned as PlannedModel
 ghost use Rattle.network_tables.specs.NetworkModel.{NetworkModel};
 ghost use Rattle.route_base.specs.Net.{Net, setting_of};
 
-use crate::networks::net_at_once;
+use crate::networks::net_for;
 use crate::outcome::{Halt, Report};
-use crate::requests::{request_of, trip_of, vehicle_of_trip};
+use crate::requests::{request_of, trip_of};
 use certificate::write;
 use certificate_check::verdicts_agree;
 use front_words::Plan;
 use itinerary_unpack::FunctionEngine;
 use network_folder::{FileToWrite, load_network, put_file};
-use network_tables::Network;
 use plan_certificate::{certificates_agree, certify};
-use plan_report::{Refusal, plan_text, reports_agree};
+use plan_report::{plan_text, reports_agree};
 use route_base::limits::LONGEST_CERTIFICATE;
 use route_base::{
     Folder, FrontSearch, Gate, OutOfMemory, Request, Routes, Text, TimedNet, WriteError,
@@ -27,7 +26,6 @@ use route_base::{
 };
 use std::alloc::Global;
 use std::thread::Threads;
-use vehicle_classes::Vehicle;
 
 /// The bytes of a certificate, and the name of the file that they are for.
 #[derive(Drop)]
@@ -121,7 +119,7 @@ fn hand_over<F: Folder>(
     folder: &mut F,
     dir: &Text,
     planned: Planned<'_>,
-) -> Result<Report, WriteError>
+) -> Result<Report, Halt>
     ensures { HandsOver (F.state folder.old) (F.state folder.new) dir.now planned.entry result }
 {
     let Planned { text, certificate } = planned;
@@ -146,16 +144,8 @@ pub fn report_plan<R: Threads + Sync, F: Folder, G: Gate>(
         (F.state folder.old) (F.state folder.new) result }
 {
     let network = load_network(alloc, folder, &plan.dir)?;
-    let trip = trip_of(&plan.trip);
-    match vehicle_of_trip(&network, trip) {
-        Ok(vehicle) => {
-            let net = net_at_once(rt, alloc, &network, vehicle, trip, gate)?;
-            drop(network);
-            plans_agree();
-            let planned = planned_over(alloc, &net, plan)?;
-            let report = hand_over(alloc, folder, &plan.dir, planned)?;
-            Ok(report)
-        }
-        Err(fault) => Err(Halt::Refused(Refusal::Request(fault))),
-    }
+    let net = net_for(rt, alloc, network, trip_of(&plan.trip), gate)?;
+    plans_agree();
+    let planned = planned_over(alloc, &net, plan)?;
+    hand_over(alloc, folder, &plan.dir, planned)
 }

@@ -4,7 +4,7 @@ ghost use Rattle.std.specs.Result.{result_err};
 ghost use Rattle.route_base.specs.declared.limits.TheConstants.{LONGEST_HORIZON};
 ghost use Rattle.front_desk.specs.Words.{failed_time, failed_bans_check};
 ghost use Rattle.front_desk.specs.Words.{is_node, failed_check_over, failed_check, request_of, trip_in, IsGoodTrip};
-ghost use Rattle.front_desk.specs.Words.{is_vehicle, vehicle_named, IsGoodNetwork};
+ghost use Rattle.front_desk.specs.Words.{is_vehicle, vehicle_named, IsChecked};
 
 use front_words::{Bans, Trip as TripWords};
 use network_tables::Network;
@@ -88,10 +88,8 @@ pub fn vehicle_of_trip<'a>(
     trip: Trip<'_>,
 ) -> Result<&'a Vehicle, RequestFault>
     ensures passed { OnOk result (failed_check network.now (trip_in trip.entry) ≡ None) }
-    ensures network { OnOk result (IsGoodNetwork network.now) }
-    ensures good { OnOk result (IsGoodTrip network.now.graph.nodes (trip_in trip.entry)) }
-    ensures vehicle { IfOk result (λ vehicle.
-        vehicle.now ≡ vehicle_named network.now (trip_in trip.entry).vehicle) }
+    ensures checked { IfOk result (λ vehicle.
+        IsChecked network.now (trip_in trip.entry) vehicle.now) }
     ensures failed { IfErr result (λ fault.
         failed_check network.now (trip_in trip.entry) ≡ Some fault) }
 {

@@ -12,14 +12,19 @@ use Rattle.route_base.specs.declared.sink.WriteError.{WriteError}
 use Rattle.route_base.specs.declared.types.Request.{Request}
 use Rattle.route_base.specs.declared.types.Route.{Route}
 use Rattle.route_base.specs.declared.types.Run.{Run}
-use Rattle.network_tables.specs.NetworkModel.{NetworkModel}
+use Rattle.vehicle_classes.specs.VehicleModel.{VehicleModel}
+use Rattle.network_tables.specs.NetworkModel.{IsGoodNetwork, NetworkModel}
 use Rattle.plan_certificate.specs.CheapRoads.{HasCheapRoads}
 use Rattle.plan_report.specs.Reports.{report_text}
+use Rattle.plan_report.specs.declared.outcomes.Refusal.TheVariants.{Usage, Input, Request as RequestRefusal}
 use Rattle.front_words.specs.declared.commands.Plan.{Plan}
 use Rattle.network_folder.specs.Files.{path_of}
 use Rattle.network_folder.specs.Writing.{FailsToPut}
 use Rattle.front_desk.specs.Plan.{IsCertificateOf, trip_setting}
-use Rattle.front_desk.specs.Trips.{Trip, request_of}
+use Rattle.front_desk.specs.Inside.Ending.{halt_of_write}
+use Rattle.front_desk.specs.Trips.{IsGoodTrip, Trip, failed_check, request_of, vehicle_named}
+use Rattle.front_desk.specs.declared.outcome.Halt.{Halt}
+use Rattle.front_desk.specs.declared.outcome.Halt.TheVariants.{Refused, ReadFault, WriteFault, NoMemory}
 use Rattle.front_desk.specs.declared.outcome.Report.{Report}
 use Rattle.front_desk.specs.declared.plan.CertificateFile.{CertificateFile}
 use Rattle.front_desk.specs.declared.plan.Planned.{Planned}
@@ -27,6 +32,21 @@ use Rattle.front_desk.specs.declared.plan.Planned.{Planned}
 -- the minutes of a trip
 abbrev pub trip_window : Trip → Run
 trip_window trip = record { lo = trip.depart; hi = trip.until }
+
+-- the trip passes the checks over a sound network, which has the vehicle under its name
+pub record IsChecked (network : NetworkModel) (trip : Trip) (vehicle : VehicleModel) : Type 0 where
+  pub sound : IsGoodNetwork network
+  pub named : vehicle ≡ vehicle_named network trip.vehicle
+  pub good : IsGoodTrip network.graph.nodes trip
+
+-- why a trip has no net: it fails a check, or memory ran out
+abbrev pub StopsTrip : NetworkModel → Trip → Halt → Type 0
+StopsTrip network trip (Refused (RequestRefusal fault)) = failed_check network trip ≡ Some fault
+StopsTrip network trip (Refused (Input fault)) = ⊥
+StopsTrip network trip (Refused Usage) = ⊥
+StopsTrip network trip ReadFault = ⊥
+StopsTrip network trip WriteFault = ⊥
+StopsTrip network trip NoMemory = ⊤
 
 -- the net stands for the roads of the trip's vehicle in the trip's minutes, none of which is dear, and the trip is a request over it
 pub record IsTripNet (network : NetworkModel) (trip : Trip) (net : Net) : Type 0 where
@@ -73,8 +93,14 @@ abbrev pub IsUnwritten : FolderState → FolderState → List ℕ → Option Cer
 IsUnwritten old new dir None error = ⊥
 IsUnwritten old new dir (Some file) error = CountsRise old new × FailsToPut old new (path_of dir file.name.now) error
 
+-- the file couldn't be written, which stops the command
+pub record StopsHanding (old new : FolderState) (dir : List ℕ) (file : Option CertificateFile) (halt : Halt) : Type 0 where
+  pub error : WriteError
+  pub is_halt : halt ≡ halt_of_write error
+  pub unwritten : IsUnwritten old new dir file error
+
 -- the text is handed over and its certificate was written, or why not
-abbrev pub HandsOver : FolderState → FolderState → List ℕ → Planned → Result Report WriteError → Type 0
+abbrev pub HandsOver : FolderState → FolderState → List ℕ → Planned → Result Report Halt → Type 0
 HandsOver old new dir planned (Ok report) =
     (report.rejects ≡ false) × ((report.text.items ≡ planned.text.items) × IsWritten old new dir planned.certificate)
-HandsOver old new dir planned (Err error) = IsUnwritten old new dir planned.certificate error
+HandsOver old new dir planned (Err halt) = StopsHanding old new dir planned.certificate halt
