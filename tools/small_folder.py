@@ -29,6 +29,7 @@ NETWORK = {
     "ratings.csv": "rating,weight\ncheap,0.010\nr,2\n",
     "parking.csv": "node,rating\n2,r\n3,cheap\n",
     "holidays.csv": "area,kind,date\ntown,PH,2020-10-03\nland,SH,2020-07-01\n",
+    "tolls.csv": "arc,toll\n5,12.5\n3,0\n",
 }
 
 JOBS_TEXT = (

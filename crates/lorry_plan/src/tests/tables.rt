@@ -6,6 +6,7 @@ mod holidays;
 mod parking;
 mod ratings;
 mod roads;
+mod tolls;
 mod vehicles;
 mod zones;
 
@@ -84,6 +85,16 @@ const FIRST: &[Case<'static>] = &[
         words: TRIP,
         status: Status::BadInput,
         text: "refused input parking.csv 1 BadHeader\n",
+    },
+    Case {
+        more: &[
+            ("d/graph.gr", TRIANGLE),
+            ("d/holidays.csv", "x"),
+            ("d/tolls.csv", "x"),
+        ],
+        words: TRIP,
+        status: Status::BadInput,
+        text: "refused input holidays.csv 1 BadHeader\n",
     },
     Case {
         more: &[

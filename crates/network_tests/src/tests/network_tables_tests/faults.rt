@@ -4,7 +4,7 @@ use network_tables::NetworkFault;
 use route_base::{BadInput, Cause, FileKind};
 
 // A fault in each file, in the order in which they are read.
-const FAULTY: [(FileKind, &str); 9] = [
+const FAULTY: [(FileKind, &str); 10] = [
     (FileKind::Zones, "x"),
     (FileKind::Areas, "area,zone\nport,West\n"),
     (FileKind::Roads, "arc,area\n1,port\n01,port\n"),
@@ -17,10 +17,11 @@ const FAULTY: [(FileKind, &str); 9] = [
         FileKind::Holidays,
         "area,kind,date\nport,PH,2020-02-29\nport,PH,2020-02-30\n",
     ),
+    (FileKind::Tolls, "arc,toll\n1,60\n01,60\n"),
 ];
 
 // The record and the cause of each of these faults, and the text of the file without it.
-const REFUSED: [(FileKind, u64, Cause, &str); 9] = [
+const REFUSED: [(FileKind, u64, Cause, &str); 10] = [
     (FileKind::Zones, 1, Cause::BadHeader, ""),
     (FileKind::Areas, 2, Cause::Unknown, AREAS),
     (FileKind::Roads, 3, Cause::Duplicate, ""),
@@ -35,10 +36,11 @@ const REFUSED: [(FileKind, u64, Cause, &str); 9] = [
     ),
     (FileKind::Parking, 3, Cause::Duplicate, ""),
     (FileKind::Holidays, 3, Cause::BadField, ""),
+    (FileKind::Tolls, 3, Cause::Duplicate, ""),
 ];
 
 // The texts of the files, of which the first n have no fault.
-fn mended(n: usize) -> [(FileKind, &'static str); 9] {
+fn mended(n: usize) -> [(FileKind, &'static str); 10] {
     let mut texts = FAULTY;
     for (text, (file, _, _, mended)) in texts.iter_mut().zip(&REFUSED).take(n) {
         *text = (*file, *mended);

@@ -1,4 +1,4 @@
-// When arcs are closed and where one may wait: closures, ratings and parking.
+// When arcs are closed, where one may wait, and what arcs cost: closures, ratings, parking and tolls.
 use crate::tests::network_tables_tests::{found, read};
 use network_tables::{Network, NetworkFault};
 use route_base::{ArcId, FileKind, NodeId, Run};
@@ -25,6 +25,21 @@ fn closes_the_second_arc(network: &Network) -> bool {
         && network.closure_count(ArcId(2)) == 2
         && network.closure(ArcId(2), 0) == first
         && network.closure(ArcId(2), 1) == second
+}
+
+// Whether the first and the third arc have these tolls, and the second one none.
+fn has_two_tolls(network: &Network) -> bool {
+    network.toll(ArcId(1)) == 100_000
+        && network.toll(ArcId(2)) == 0
+        && network.toll(ArcId(3)) == 59_999
+}
+
+#[test]
+fn reads_tolls(rt: HostRuntime) -> Result<(), NetworkFault> {
+    let tolls = "\u{FEFF}arc,toll\r\n3,59.999\r\n0000000001,100\r\n";
+    let network = read(rt.alloc(), &[(FileKind::Tolls, tolls)]);
+    assert!(rt; found(network, |network| has_two_tolls(network))?);
+    Ok(())
 }
 
 #[test]
