@@ -10,7 +10,7 @@
 //! is always reduced and small, which is one word, `AreBuilt` in `Building`, and a clause `built` of all calls that make a
 //! function, here and above. `IsSettled` says how far a function is built already: the loops of `function_merge` keep it.
 //!
-//! `lookup` finds a value by a binary search, `points` makes functions of points, `reduction` joins what is on one line,
+//! `lookup` finds a value by a binary search, `points` makes pieces of points, `reduction` joins what is on one line,
 //! and `crossing` tells where two lines cross. `specs/Inside` is no law: it says what joining two pieces keeps.
 #![tactic(auto)]
 

@@ -55,7 +55,8 @@ last : (c : After-min-end) → c.max-lo.result < c.min-end.result
 last c some = (next c).part (c.min-end.result - 1) (omega (arith, c.max.ensures, c.max-lo.ensures, some)) (omega (arith, c.min-end.ensures, some))
 
 pub add_moved-requires-clause-minutes : goal.add_moved-requires-clause-minutes
-add_moved-requires-clause-minutes c = λ some. (let fit = c.requires.fit.minutes_fit _ _ (last (goal.at.add_moved-requires-clause-minutes c).After-min-end some) in omega (arith, fit, some))
+add_moved-requires-clause-minutes c = λ some.
+    (let fit = c.requires.fit.minutes_fit _ _ (last (goal.at.add_moved-requires-clause-minutes c).After-min-end some) in omega (arith, fit, some))
 
 pub add_moved-requires-clause-small : goal.add_moved-requires-clause-small
 add_moved-requires-clause-small c = λ some. c.requires.fit.values_fit _ _ (last (goal.at.add_moved-requires-clause-small c).After-min-end some)
@@ -79,7 +80,8 @@ sweep-preserved c =
           (omega (arith, c.max-from.ensures)) c.in_ok-arrived.ensures.arrived;
       pruned = subst (λ (n : ℕ). IsPrunedUpTo c.args.until c.args.pairs.now c.args.bound wanted c.add_moved.new.built (n + m)) (sym c.max-from.ensures)
           (c.in_ok-arrived.ensures.pruned wanted skipped (λ t from before. (moved_late m c.args.cost kept (t + m) t refl
-          ∙ ap (option_map (λ v. v + c.args.cost)) (parts.part t (omega (arith, c.max.ensures, c.max-lo.ensures, from)) (omega (arith, c.min-end.ensures, before))))));
+          ∙ ap (option_map (λ v. v + c.args.cost)) (parts.part t (omega (arith, c.max.ensures, c.max-lo.ensures, from))
+          (omega (arith, c.min-end.ensures, before))))));
       pieces = c.pieces_from-left.ensures.pieces;
       runs = c.runs_from-open.ensures.runs;
       values = λ t from. c.pieces_from-left.ensures.values t from ∙ inv.values t (omega (arith, late, c.max-from.ensures, from));

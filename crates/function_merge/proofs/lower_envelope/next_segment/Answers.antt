@@ -67,7 +67,8 @@ returns-else-q_lo-p_lo-clause-some c =
     let f = c.args.f.now in
     let g = c.args.g.now in
     let e = c.lesser.ensures in
-    next_in_both f g c.args.from c.lesser.result (omega (arith, e.lo, e.filled)) e.small c.in-len1-up.len_at_least c.in-len1-up-g-2.len_at_least c.requires.first.pieces c.requires.second.pieces
+    next_in_both f g c.args.from c.lesser.result (omega (arith, e.lo, e.filled)) e.small
+    c.in-len1-up.len_at_least c.in-len1-up-g-2.len_at_least c.requires.first.pieces c.requires.second.pieces
     (e.lo ∙ c.max-p_lo.ensures) (omega (arith, e.lo, c.max-q_lo.ensures, c.if-p_lo-q_lo.false, c.if-q_lo-p_lo.false)) e.first_end e.second_end
     (λ t late upto. e.line t (omega (arith, late, e.lo)) upto)
     (λ t late upto. e.better t (omega (arith, late, e.lo)) upto)
