@@ -1,20 +1,33 @@
 // Texts with their canonical texts, and the access that clauses give vehicles.
-use conditional_rules::{Access, ConditionalFault, decide, lets_in, parse, print, read_value};
+use conditional_rules::{
+    Access, Conditional, ConditionalFault, decide, lets_in, parse, print, read_value,
+};
 use opening_hours::Holidays;
-use route_base::{OutOfMemory, TableFault, read_number};
+use route_base::read_number;
 use std::alloc::{AllocError, Global};
-use std::test::Fail;
-use vehicle_classes::{Vehicles, read_vehicles};
+use vehicle_classes::{Vehicle, Vehicles, read_vehicles};
+
+// Whether the value has this canonical text.
+fn is_printed(alloc: Global, conditional: &Conditional, canonical: &str) -> bool {
+    match print(alloc, conditional) {
+        Ok(text) => text.as_slice() == canonical.as_bytes(),
+        Err(_) => false,
+    }
+}
 
 // Whether this is the canonical text of a text, or the text has no clauses and this is empty.
-fn has_canonical(alloc: Global, text: &str, canonical: &str) -> Result<bool, OutOfMemory> {
+fn has_canonical(alloc: Global, text: &str, canonical: &str) -> bool {
     match parse(alloc, text.as_bytes()) {
-        Ok(conditional) => {
-            let printed = print(alloc, &conditional)?;
-            Ok(printed.as_slice() == canonical.as_bytes())
-        }
-        Err(ConditionalFault::NotConditional) => Ok(canonical.is_empty()),
-        Err(ConditionalFault::OutOfMemory) => Err(OutOfMemory),
+        Ok(conditional) => is_printed(alloc, &conditional, canonical),
+        Err(fault) => fault == ConditionalFault::NotConditional && canonical.is_empty(),
+    }
+}
+
+// Whether the text of a row has the canonical text behind the arrow.
+fn is_canonical(alloc: Global, row: &str) -> bool {
+    match row.split_once(" => ") {
+        Some((text, canonical)) => has_canonical(alloc, text, canonical),
+        None => false,
     }
 }
 
@@ -107,16 +120,10 @@ no @ a\r => \n\
 ";
 
 #[test]
-fn texts_have_these_canonical_texts(rt: HostRuntime) -> Result<(), Fail> {
+fn texts_have_these_canonical_texts(rt: HostRuntime) {
     for row in TEXTS.lines() {
-        let Some((text, canonical)) = row.split_once(" => ") else {
-            assert!(rt; false, "a row has no arrow: {row}");
-            return Ok(());
-        };
-        let same = has_canonical(rt.alloc(), text, canonical)?;
-        assert!(rt; same, "{row}");
+        assert!(rt; is_canonical(rt.alloc(), row), "{row}");
     }
-    Ok(())
 }
 
 const VEHICLES: &str = "\
@@ -202,62 +209,59 @@ fn decision_of(row: &str) -> Option<Decision<'_>> {
     })
 }
 
-// Whether a row's text gives its vehicle this access at its minute.
-fn is_decided(
-    alloc: Global,
-    vehicles: &Vehicles,
+// Whether a row's text gives this vehicle its access at its minute.
+fn gives(
+    conditional: &Conditional,
+    vehicle: &Vehicle,
     holidays: &Holidays,
     row: &Decision<'_>,
-) -> Result<bool, ConditionalFault> {
-    let conditional = parse(alloc, row.text.as_bytes())?;
-    let Some(place) = vehicles.find(row.name.as_bytes()) else {
-        return Ok(false);
-    };
+) -> bool {
     if row.day < 7 || row.day > 84370 || row.minute >= 1440 {
-        return Ok(false);
+        return false;
     }
-    let vehicle = vehicles.vehicle(place);
-    let access = decide(
-        &conditional,
-        vehicle,
-        row.day as u32,
-        row.minute as u32,
-        holidays,
-    );
-    Ok(access == read_value(row.access.as_bytes()))
+    let (day, minute) = (row.day as u32, row.minute as u32);
+    decide(conditional, vehicle, day, minute, holidays) == read_value(row.access.as_bytes())
 }
 
-// The first row whose text gives its vehicle another access, or that has no decision.
-fn wrong_row(
-    alloc: Global,
-    vehicles: &Vehicles,
-    holidays: &Holidays,
-) -> Result<Option<&'static str>, ConditionalFault> {
-    for row in DECISIONS.lines() {
-        let decided = match decision_of(row) {
-            Some(decision) => is_decided(alloc, vehicles, holidays, &decision)?,
-            None => false,
-        };
-        if !decided {
-            return Ok(Some(row));
-        }
+// Whether a row's text gives its vehicle its access at its minute.
+fn is_decided(alloc: Global, vehicles: &Vehicles, holidays: &Holidays, row: &Decision<'_>) -> bool {
+    let Some(place) = vehicles.find(row.name.as_bytes()) else {
+        return false;
+    };
+    match parse(alloc, row.text.as_bytes()) {
+        Ok(conditional) => gives(&conditional, vehicles.vehicle(place), holidays, row),
+        Err(_) => false,
     }
-    Ok(None)
 }
 
-// The same, of the vehicles and holidays of the rows.
-fn wrong_decision(alloc: Global) -> Result<Option<&'static str>, Fail> {
-    let vehicles = read_vehicles(alloc, VEHICLES.as_bytes())?;
-    let holidays = two_holidays(alloc)?;
-    Ok(wrong_row(alloc, &vehicles, &holidays)?)
+// Whether a row is one of a decision, which is as it says.
+fn is_right(alloc: Global, vehicles: &Vehicles, holidays: &Holidays, row: &str) -> bool {
+    match decision_of(row) {
+        Some(decision) => is_decided(alloc, vehicles, holidays, &decision),
+        None => false,
+    }
 }
 
 #[test]
-fn the_last_clause_that_holds_decides(rt: HostRuntime) -> Result<(), Fail> {
-    let wrong = wrong_decision(rt.alloc())?;
-    assert_eq!(rt; wrong, None);
-    Ok(())
+fn the_last_clause_that_holds_decides(rt: HostRuntime) {
+    let vehicles = read_vehicles(rt.alloc(), VEHICLES.as_bytes()).expect(&rt, "vehicles");
+    let holidays = two_holidays(rt.alloc()).expect(&rt, "memory");
+    for row in DECISIONS.lines() {
+        let right = is_right(rt.alloc(), &vehicles, &holidays, row);
+        assert!(rt; right, "{row}");
+    }
 }
+
+// Words, and the access that each of them gives.
+const VALUES: &[(&str, Option<Access>)] = &[
+    ("yes designated permissive discouraged", Some(Access::Free)),
+    (
+        "no private agricultural forestry customers permit",
+        Some(Access::Barred),
+    ),
+    ("destination delivery", Some(Access::Purpose)),
+    ("maybe Yes none through emergency", None),
+];
 
 // Whether each of these words gives this access.
 fn each_gives(words: &str, access: Option<Access>) -> bool {
@@ -271,42 +275,38 @@ fn each_gives(words: &str, access: Option<Access>) -> bool {
 
 #[test]
 fn values_give_these_accesses(rt: HostRuntime) {
-    assert!(rt; each_gives("yes designated permissive discouraged", Some(Access::Free)));
-    let barred = "no private agricultural forestry customers permit";
-    assert!(rt; each_gives(barred, Some(Access::Barred)));
-    assert!(rt; each_gives("destination delivery", Some(Access::Purpose)));
-    assert!(rt; each_gives("maybe Yes none through emergency", None));
+    for (words, access) in VALUES {
+        assert!(rt; each_gives(words, *access), "{words}");
+    }
     assert!(rt; read_value(b"").is_none() && read_value(b"yes ").is_none());
 }
 
-// Whether an access lets the truck and the van in; none where a vehicle isn't found.
-fn lets_truck_and_van_in(vehicles: &Vehicles, access: Access) -> Option<(bool, bool)> {
-    let truck = vehicles.find(b"truck")?;
-    let van = vehicles.find(b"van")?;
-    Some((
-        lets_in(access, vehicles.vehicle(truck)),
-        lets_in(access, vehicles.vehicle(van)),
-    ))
-}
+// Accesses, and whether each lets the truck and the van in.
+const LET_IN: &[(Access, bool, bool)] = &[
+    (Access::Free, true, true),
+    (Access::Barred, false, false),
+    (Access::Purpose, false, true),
+];
 
-// The first access that lets others in.
-fn wrong_access(vehicles: &Vehicles) -> Option<Access> {
-    for (access, through, delivery) in [
-        (Access::Free, true, true),
-        (Access::Barred, false, false),
-        (Access::Purpose, false, true),
-    ] {
-        if lets_truck_and_van_in(vehicles, access) != Some((through, delivery)) {
-            return Some(access);
-        }
+// Whether an access lets the vehicle of this name in just as told.
+fn lets_in_as_told(vehicles: &Vehicles, access: Access, name: &str, told: bool) -> bool {
+    match vehicles.find(name.as_bytes()) {
+        Some(place) => lets_in(access, vehicles.vehicle(place)) == told,
+        None => false,
     }
-    None
 }
 
 #[test]
-fn accesses_let_these_purposes_in(rt: HostRuntime) -> Result<(), TableFault> {
-    let vehicles = read_vehicles(rt.alloc(), VEHICLES.as_bytes())?;
-    let wrong = wrong_access(&vehicles);
-    assert_eq!(rt; wrong, None);
-    Ok(())
+fn accesses_let_these_purposes_in(rt: HostRuntime) {
+    let vehicles = read_vehicles(rt.alloc(), VEHICLES.as_bytes()).expect(&rt, "vehicles");
+    for (access, truck, van) in LET_IN {
+        assert!(rt;
+            lets_in_as_told(&vehicles, *access, "truck", *truck),
+            "{access:?}"
+        );
+        assert!(rt;
+            lets_in_as_told(&vehicles, *access, "van", *van),
+            "{access:?}"
+        );
+    }
 }

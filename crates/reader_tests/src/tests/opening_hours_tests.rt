@@ -1,7 +1,6 @@
 // Texts with their canonical texts, and days with what is covered on them.
 use opening_hours::{Holidays, Hours, HoursFault, covers, parse, print, spans_on};
 use std::alloc::{AllocError, Global};
-use std::test::Fail;
 
 // A text, an arrow and its canonical text, which is empty where the text has no rules.
 const TEXTS: &str = "\
@@ -96,45 +95,35 @@ Fr,Sa 20:00-Su 06:00 => \n\
 Fr 20:00-Mo 06:00,Tu 07:00-We 08:00 => \n\
 ";
 
-// The canonical text, and nothing where the text has no rules.
-fn canonical_text(alloc: Global, text: &str) -> Result<Vec<u8>, HoursFault> {
+// Whether the hours have this canonical text.
+fn are_printed(alloc: Global, hours: &Hours, canonical: &str) -> bool {
+    match print(alloc, hours) {
+        Ok(text) => text.as_slice() == canonical.as_bytes(),
+        Err(_) => false,
+    }
+}
+
+// Whether this is the canonical text of a text, or the text has no rules and this is empty.
+fn has_canonical(alloc: Global, text: &str, canonical: &str) -> bool {
     match parse(alloc, text.as_bytes()) {
-        Ok(hours) => Ok(print(alloc, &hours)?),
-        Err(HoursFault::NotHours) => Ok(Vec::new(alloc)),
-        Err(HoursFault::OutOfMemory) => Err(HoursFault::OutOfMemory),
+        Ok(hours) => are_printed(alloc, &hours, canonical),
+        Err(fault) => fault == HoursFault::NotHours && canonical.is_empty(),
+    }
+}
+
+// Whether the text of a row has the canonical text behind the arrow.
+fn is_canonical(alloc: Global, row: &str) -> bool {
+    match row.split_once(" => ") {
+        Some((text, canonical)) => has_canonical(alloc, text, canonical),
+        None => false,
     }
 }
 
 #[test]
-fn texts_have_these_canonical_texts_or_none(rt: HostRuntime) -> Result<(), Fail> {
+fn texts_have_these_canonical_texts_or_none(rt: HostRuntime) {
     for row in TEXTS.lines() {
-        let Some((text, canonical)) = row.split_once(" => ") else {
-            assert!(rt; false, "a row has no arrow: {row}");
-            return Ok(());
-        };
-        let printed = canonical_text(rt.alloc(), text)?;
-        assert!(rt; printed.as_slice() == canonical.as_bytes(), "{row}");
+        assert!(rt; is_canonical(rt.alloc(), row), "{row}");
     }
-    Ok(())
-}
-
-// Whether the minutes of the days are covered just as the rows say.
-fn covers_as_told(
-    alloc: Global,
-    text: &str,
-    holidays: &Holidays,
-    rows: &[(u32, u32, bool)],
-) -> Result<bool, HoursFault> {
-    let hours = parse(alloc, text.as_bytes())?;
-    for (day, minute, covered) in rows {
-        if *day < 7 || *day > 84370 || *minute >= 1440 {
-            return Ok(false);
-        }
-        if covers(&hours, *day, *minute, holidays) != *covered {
-            return Ok(false);
-        }
-    }
-    Ok(true)
 }
 
 // Holidays without a school holiday, and with one public holiday.
@@ -149,38 +138,46 @@ fn has_two_rules(hours: &Hours) -> bool {
     hours.len() == 2 && hours.get(1).is_some() && hours.get(2).is_none()
 }
 
-// The starts and the lengths of the spans that begin on a day: whether they are all this one, and how many there are.
-fn spans_like(
+// Whether just this many spans begin on a day, each at this minute and of this length.
+fn has_spans(
     alloc: Global,
     hours: &Hours,
     holidays: &Holidays,
     day: u32,
-    wanted: (u32, u32),
-) -> Result<(bool, usize), HoursFault> {
+    (count, start, length): (usize, u32, u32),
+) -> bool {
     if day > 84370 {
-        return Ok((false, 0));
+        return false;
     }
-    let spans = spans_on(alloc, hours, day, holidays)?;
-    let alike = spans
-        .as_slice()
-        .iter()
-        .all(|span| span.start == wanted.0 && span.length == wanted.1);
-    Ok((alike, spans.len()))
+    match spans_on(alloc, hours, day, holidays) {
+        Ok(spans) => {
+            spans.len() == count
+                && spans
+                    .as_slice()
+                    .iter()
+                    .all(|span| span.start == start && span.length == length)
+        }
+        Err(_) => false,
+    }
+}
+
+// Whether a night begins on the weekday, and none on the next day, a holiday.
+fn has_one_night(alloc: Global, holidays: &Holidays) -> bool {
+    match parse(alloc, b"Mo-Fr 22:00-06:00; PH off") {
+        Ok(hours) => {
+            has_two_rules(&hours)
+                && has_spans(alloc, &hours, holidays, 18451, (1, 1320, 480))
+                && has_spans(alloc, &hours, holidays, 18452, (0, 1320, 480))
+        }
+        Err(_) => false,
+    }
 }
 
 #[test]
-fn the_governing_rule_of_a_day_has_its_spans(rt: HostRuntime) -> Result<(), Fail> {
-    let alloc = rt.alloc();
-    let holidays = one_holiday(alloc, 18452)?;
+fn the_governing_rule_of_a_day_has_its_spans(rt: HostRuntime) {
+    let holidays = one_holiday(rt.alloc(), 18452).expect(&rt, "memory");
     assert!(rt; holidays.is_public(18452) && !holidays.is_school(18452));
-    let hours = parse(alloc, b"Mo-Fr 22:00-06:00; PH off")?;
-    assert!(rt; has_two_rules(&hours));
-    let night = (1320, 480);
-    let weekday = spans_like(alloc, &hours, &holidays, 18451, night)?;
-    assert_eq!(rt; weekday, (true, 1));
-    let holiday = spans_like(alloc, &hours, &holidays, 18452, night)?;
-    assert_eq!(rt; holiday, (true, 0));
-    Ok(())
+    assert!(rt; has_one_night(rt.alloc(), &holidays));
 }
 
 // Hours, and whether they cover minutes of days. Day 18447 is 2020-07-04, a Saturday.
@@ -238,12 +235,33 @@ const COVERED: &[(&str, &[(u32, u32, bool)])] = &[
     ),
 ];
 
+// Whether a minute of a day is covered just as the row says.
+fn is_as_told(
+    hours: &Hours,
+    holidays: &Holidays,
+    (day, minute, covered): (u32, u32, bool),
+) -> bool {
+    7 <= day && day <= 84370 && minute < 1440 && covers(hours, day, minute, holidays) == covered
+}
+
+// Whether the minutes of the days are covered just as the rows say.
+fn covers_as_told(
+    alloc: Global,
+    text: &str,
+    holidays: &Holidays,
+    rows: &[(u32, u32, bool)],
+) -> bool {
+    match parse(alloc, text.as_bytes()) {
+        Ok(hours) => rows.iter().all(|row| is_as_told(&hours, holidays, *row)),
+        Err(_) => false,
+    }
+}
+
 #[test]
-fn these_minutes_are_covered_and_those_are_not(rt: HostRuntime) -> Result<(), Fail> {
-    let holidays = one_holiday(rt.alloc(), 18452)?;
+fn these_minutes_are_covered_and_those_are_not(rt: HostRuntime) {
+    let holidays = one_holiday(rt.alloc(), 18452).expect(&rt, "memory");
     for (text, rows) in COVERED {
-        let told = covers_as_told(rt.alloc(), text, &holidays, rows)?;
+        let told = covers_as_told(rt.alloc(), text, &holidays, rows);
         assert!(rt; told, "{text}");
     }
-    Ok(())
 }

@@ -54,22 +54,16 @@ fn sizes_of(alloc: Global, text: &str) -> Result<Vec<Option<u64>>, TableFault> {
     Ok(values)
 }
 
-// The record that is refused and why.
-fn fault_of(alloc: Global, text: &str) -> Option<(u64, Cause)> {
+// Whether a text states these sizes.
+fn has_sizes(alloc: Global, text: &str, sizes: &[Option<u64>]) -> bool {
     match sizes_of(alloc, text) {
-        Err(TableFault::BadRow { row, cause }) => Some((row, cause)),
-        _ => None,
+        Ok(values) => values.as_slice() == sizes,
+        Err(_) => false,
     }
 }
 
-// Whether a text states these sizes.
-fn has_sizes(alloc: Global, text: &str, sizes: &[Option<u64>]) -> Result<bool, TableFault> {
-    let values = sizes_of(alloc, text)?;
-    Ok(values.as_slice() == sizes)
-}
-
 // Texts that are refused: the record and the cause.
-const BAD_TEXTS: [(&str, u64, Cause); 6] = [
+const BAD_TEXTS: &[(&str, u64, Cause)] = &[
     ("size,box\n", 1, Cause::BadHeader),
     ("box,size\n1,small\n2\n", 3, Cause::FieldCount),
     ("box,size\n1,small\nx,small\n", 3, Cause::BadField),
@@ -79,21 +73,26 @@ const BAD_TEXTS: [(&str, u64, Cause); 6] = [
 ];
 
 #[test]
-fn reads_values_by_number(rt: HostRuntime) -> Result<(), TableFault> {
-    let alloc = rt.alloc();
+fn reads_values_by_number(rt: HostRuntime) {
     let sizes = [Some(40), None, Some(2)];
-    let read = has_sizes(alloc, "box,size\n3,small\n1,large\n", &sizes)?;
-    assert!(rt; read);
-    for (text, row, cause) in BAD_TEXTS {
-        assert_eq!(rt; fault_of(alloc, text), Some((row, cause)));
-    }
-    Ok(())
+    assert!(rt; has_sizes(rt.alloc(), "box,size\n3,small\n1,large\n", &sizes));
 }
 
 #[test]
-fn gives_values_in_the_order_of_names(rt: HostRuntime) -> Result<(), TableFault> {
-    let alloc = rt.alloc();
-    let sizes = both_sizes(alloc)?.into_values(alloc)?;
+fn refuses_texts_with_their_first_fault(rt: HostRuntime) {
+    for (text, row, cause) in BAD_TEXTS {
+        let due = TableFault::BadRow {
+            row: *row,
+            cause: *cause,
+        };
+        let fault = sizes_of(rt.alloc(), text).err();
+        assert!(rt; fault == Some(due), "{text}");
+    }
+}
+
+#[test]
+fn gives_values_in_the_order_of_names(rt: HostRuntime) {
+    let held = both_sizes(rt.alloc()).expect(&rt, "memory");
+    let sizes = held.into_values(rt.alloc()).expect(&rt, "memory");
     assert!(rt; sizes.as_slice() == [40, 2].as_slice());
-    Ok(())
 }

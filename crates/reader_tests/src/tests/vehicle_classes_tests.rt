@@ -12,14 +12,6 @@ fn vehicles_of(alloc: Global, rows: &str) -> Result<Vehicles, TableFault> {
     read_vehicles(alloc, text.as_bytes())
 }
 
-// The record that is refused and why.
-fn fault_of(alloc: Global, rows: &str) -> Option<(u64, Cause)> {
-    match vehicles_of(alloc, rows) {
-        Err(TableFault::BadRow { row, cause }) => Some((row, cause)),
-        _ => None,
-    }
-}
-
 // The sizes of the truck.
 const SIZES: &[(Quantity, Option<u64>)] = &[
     (Quantity::Weight, Some(40_000)),
@@ -46,10 +38,10 @@ fn are_any_and_the_truck(vehicles: &Vehicles) -> bool {
 }
 
 #[test]
-fn reads_a_vehicle(rt: HostRuntime) -> Result<(), TableFault> {
-    let vehicles = vehicles_of(rt.alloc(), "truck,hgv,40000,,400,255,1875,5,,\n")?;
+fn reads_a_vehicle(rt: HostRuntime) {
+    let rows = "truck,hgv,40000,,400,255,1875,5,,\n";
+    let vehicles = vehicles_of(rt.alloc(), rows).expect(&rt, "vehicles");
     assert!(rt; are_any_and_the_truck(&vehicles));
-    Ok(())
 }
 
 // Whether this is the bus of two axles that delivers.
@@ -76,13 +68,11 @@ fn are_the_bus_and_the_van(vehicles: &Vehicles) -> bool {
 }
 
 #[test]
-fn reads_flags_purposes_and_large_sizes(rt: HostRuntime) -> Result<(), TableFault> {
-    let vehicles = vehicles_of(
-        rt.alloc(),
-        "a,bus,,,,,,0000000002,delivery,hazmat  low_emission\nb,goods,1000000,,,,,,through,\n",
-    )?;
+fn reads_flags_purposes_and_large_sizes(rt: HostRuntime) {
+    let rows =
+        "a,bus,,,,,,0000000002,delivery,hazmat  low_emission\nb,goods,1000000,,,,,,through,\n";
+    let vehicles = vehicles_of(rt.alloc(), rows).expect(&rt, "vehicles");
     assert!(rt; are_the_bus_and_the_van(&vehicles));
-    Ok(())
 }
 
 // Rows, and the record and the cause of each refusal.
@@ -105,24 +95,34 @@ const REFUSED: &[(&str, u64, Cause)] = &[
     ("a,hgv,,,,,,,,\na,lorry,,,,,,,,\n", 3, Cause::BadField),
 ];
 
+#[test]
+fn refuses_rows(rt: HostRuntime) {
+    for (rows, row, cause) in REFUSED {
+        let due = TableFault::BadRow {
+            row: *row,
+            cause: *cause,
+        };
+        let fault = vehicles_of(rt.alloc(), rows).err();
+        assert!(rt; fault == Some(due), "{rows}");
+    }
+}
+
 // The number of vehicles that a whole text states.
 fn count_in(alloc: Global, text: &str) -> Result<usize, TableFault> {
-    Ok(read_vehicles(alloc, text.as_bytes())?.len())
+    match read_vehicles(alloc, text.as_bytes()) {
+        Ok(vehicles) => Ok(vehicles.len()),
+        Err(fault) => Err(fault),
+    }
 }
 
 #[test]
-fn refuses_rows(rt: HostRuntime) {
-    let alloc = rt.alloc();
-    for (rows, row, cause) in REFUSED {
-        let refused = fault_of(alloc, rows) == Some((*row, *cause));
-        assert!(rt; refused, "{rows}");
-    }
+fn reads_whole_texts(rt: HostRuntime) {
     let bad_header = TableFault::BadRow {
         row: 1,
         cause: Cause::BadHeader,
     };
-    assert!(rt; count_in(alloc, "name,class\n") == Err(bad_header));
-    assert!(rt; count_in(alloc, "") == Ok(1));
+    assert!(rt; count_in(rt.alloc(), "name,class\n") == Err(bad_header));
+    assert!(rt; count_in(rt.alloc(), "") == Ok(1));
 }
 
 // Whether the keys of a class are the general ones, its own, and this last one.
@@ -135,15 +135,17 @@ fn has_keys(class: Class, own: Key, last: Option<Key>) -> bool {
         && chain_at(class, 5).is_none()
 }
 
+// Classes, their own keys, and the last keys behind these.
+const CLASSES: &[(Class, Key, Option<Key>)] = &[
+    (Class::Hgv, Key::Hgv, None),
+    (Class::HgvArticulated, Key::Hgv, Some(Key::HgvArticulated)),
+    (Class::Goods, Key::Goods, None),
+    (Class::Bus, Key::Bus, None),
+];
+
 #[test]
 fn goes_from_general_keys_to_special_ones(rt: HostRuntime) {
-    let classes = [
-        (Class::Hgv, Key::Hgv, None),
-        (Class::HgvArticulated, Key::Hgv, Some(Key::HgvArticulated)),
-        (Class::Goods, Key::Goods, None),
-        (Class::Bus, Key::Bus, None),
-    ];
-    for (class, own, last) in classes {
-        assert!(rt; has_keys(class, own, last), "{own:?}");
+    for (class, own, last) in CLASSES {
+        assert!(rt; has_keys(*class, *own, *last), "{own:?} and {last:?}");
     }
 }
