@@ -3,6 +3,7 @@ mod certificate_tests;
 mod cost_functions_tests;
 mod engines;
 mod function_merge_tests;
+mod itinerary_unpack_tests;
 mod label_queue_tests;
 mod nets;
 mod plain_search_tests;

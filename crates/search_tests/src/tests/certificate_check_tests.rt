@@ -2,7 +2,6 @@
 ghost use Rattle.std.specs.Prelude.{◌↔◌, IsTrue};
 ghost use Rattle.cost_functions.specs.Lines.{IsPiece};
 ghost use Rattle.certificate_check.specs.Conditions.{AreBoundsInRange};
-ghost use Rattle.route_base.specs.Net.{IsGoodRequest};
 
 use crate::tests::nets::{shut_net, worked_net};
 use certificate::limits::LONGEST_BOUND;
@@ -15,31 +14,22 @@ use route_base::{
     TimedNet,
 };
 use std::alloc::Global;
-use std::test::Fail;
+use std::process::Abort;
 
-// Arrival, cost, the first leg, and two more.
-type RouteRow = (Minute, Cost, Leg, Option<(Leg, Leg)>);
+// Arrival, cost, and legs.
+type RouteRow<'a> = (Minute, Cost, &'a [Leg]);
 
-fn routes_of(alloc: Global, rows: &[Option<RouteRow>]) -> Result<Routes, OutOfMemory> {
+fn routes_of(alloc: Global, rows: &[RouteRow<'_>]) -> Result<Routes, OutOfMemory> {
     let mut routes = Routes::new(alloc);
-    for row in rows {
-        if let Some((arrival, cost, first, more)) = *row {
-            let legs = legs_of(alloc, first, more)?;
-            let pair = Pair { arrival, cost };
-            routes.push(Route { pair, legs })?;
-        }
+    for (arrival, cost, legs) in rows {
+        let legs = Legs::from_vec(Vec::from_slice(alloc, legs)?);
+        let pair = Pair {
+            arrival: *arrival,
+            cost: *cost,
+        };
+        routes.push(Route { pair, legs })?;
     }
     Ok(routes)
-}
-
-fn legs_of(alloc: Global, first: Leg, more: Option<(Leg, Leg)>) -> Result<Legs, OutOfMemory> {
-    let mut legs = Legs::new(alloc);
-    legs.push(first)?;
-    if let Some((second, third)) = more {
-        legs.push(second)?;
-        legs.push(third)?;
-    }
-    Ok(legs)
 }
 
 // The bounds of the three nodes, where those of node 1 have these minutes. None is left out, since the nodes rise.
@@ -54,15 +44,10 @@ fn bounds_of(alloc: Global, minutes: u64) -> Result<NodeBounds, OutOfMemory> {
 }
 
 // The functions of some nodes, each as one piece.
-fn functions_of(
-    alloc: Global,
-    pieces: &[Option<(u32, Piece)>],
-) -> Result<NodeFunctions, OutOfMemory> {
+fn functions_of(alloc: Global, pieces: &[(u32, Piece)]) -> Result<NodeFunctions, OutOfMemory> {
     let mut functions = NodeFunctions::new(alloc);
-    for entry in pieces {
-        if let Some((node, piece)) = *entry {
-            add_function(alloc, &mut functions, node, piece)?;
-        }
+    for (node, piece) in pieces {
+        add_function(alloc, &mut functions, *node, *piece)?;
     }
     Ok(functions)
 }
@@ -104,46 +89,49 @@ fn are_in_range(bounds: &NodeBounds) -> bool
             .all(|entry| entry.1.cost <= HIGHEST_PIECE_COST)
 }
 
-// Two routes, the minutes of the bounds of node 1, and pieces by their nodes.
-type CertificateRow = ([Option<RouteRow>; 2], u64, [Option<(u32, Piece)>; 3]);
+// Routes, the minutes of the bounds of node 1, and pieces by their nodes.
+type CertificateRow<'a> = (&'a [RouteRow<'a>], u64, &'a [(u32, Piece)]);
 
 // The certificate of a row.
-fn certificate_of(alloc: Global, row: &CertificateRow) -> Result<Certificate, OutOfMemory> {
+fn certificate_of<R: Abort + AllocGlobal>(rt: &R, row: &CertificateRow<'_>) -> Certificate {
     let (routes, minutes, pieces) = row;
-    Ok(Certificate {
-        routes: routes_of(alloc, routes)?,
-        bounds: bounds_of(alloc, *minutes)?,
-        functions: functions_of(alloc, pieces)?,
-    })
+    Certificate {
+        routes: routes_of(rt.alloc(), routes).expect(rt, "memory"),
+        bounds: bounds_of(rt.alloc(), *minutes).expect(rt, "memory"),
+        functions: functions_of(rt.alloc(), pieces).expect(rt, "memory"),
+    }
 }
 
-// The verdict on a row's certificate; none where its bounds are out of range.
-fn verdict_of(
-    alloc: Global,
+// The verdict on a row's certificate; none where its bounds are out of range, or memory doesn't suffice.
+fn verdict_of<R: Abort + AllocGlobal>(
+    rt: &R,
     net: &TimedNet,
-    request: Request,
-    row: &CertificateRow,
-) -> Result<Option<Verdict>, OutOfMemory>
-    requires { IsGoodRequest net.now request }
-{
-    let certificate = certificate_of(alloc, row)?;
-    if !are_in_range(&certificate.bounds) {
-        return Ok(None);
+    row: &CertificateRow<'_>,
+) -> Option<Verdict> {
+    let certificate = certificate_of(rt, row);
+    if !are_in_range(&certificate.bounds) || net.node_count() != 3 {
+        return None;
     }
-    Ok(Some(check(alloc, net, request, &certificate)?))
+    let request = Request {
+        origin: NodeId(1),
+        goal: NodeId(3),
+        depart: 26563680,
+        until: 26564080,
+    };
+    check(rt.alloc(), net, request, &certificate).ok()
 }
 
 // The way over node 2 with a wait there, the same for too little, and the straight way.
-const WAITS: Option<RouteRow> = Some((26563920, 360000, Leg::Drive(ArcId(1)), LATER));
+const WAITS: RouteRow<'static> = (26563920, 360000, OVER_2);
 
-const CHEAPER: Option<RouteRow> = Some((26563920, 359000, Leg::Drive(ArcId(1)), LATER));
+const CHEAPER: RouteRow<'static> = (26563920, 359000, OVER_2);
 
-const DRIVES: Option<RouteRow> = Some((26563980, 300000, Leg::Drive(ArcId(3)), None));
+const DRIVES: RouteRow<'static> = (26563980, 300000, &[Leg::Drive(ArcId(3))]);
 
-const LATER: Option<(Leg, Leg)> = Some((Leg::Wait(120), Leg::Drive(ArcId(2))));
+const OVER_2: &[Leg] = &[Leg::Drive(ArcId(1)), Leg::Wait(120), Leg::Drive(ArcId(2))];
 
 // The departure, the wait at node 2, the arrival there, and an arrival at node 3 for less.
-const START: Option<(u32, Piece)> = Some((
+const START: (u32, Piece) = (
     1,
     Piece {
         lo: 26563680,
@@ -151,9 +139,9 @@ const START: Option<(u32, Piece)> = Some((
         cost: 0,
         slope: 0,
     },
-));
+);
 
-const PARKED: Option<(u32, Piece)> = Some((
+const PARKED: (u32, Piece) = (
     2,
     Piece {
         lo: 26563740,
@@ -161,9 +149,9 @@ const PARKED: Option<(u32, Piece)> = Some((
         cost: 60000,
         slope: 2000,
     },
-));
+);
 
-const ARRIVED: Option<(u32, Piece)> = Some((
+const ARRIVED: (u32, Piece) = (
     2,
     Piece {
         lo: 26563740,
@@ -171,9 +159,9 @@ const ARRIVED: Option<(u32, Piece)> = Some((
         cost: 60000,
         slope: 0,
     },
-));
+);
 
-const EARLY: Option<(u32, Piece)> = Some((
+const EARLY: (u32, Piece) = (
     3,
     Piece {
         lo: 26563970,
@@ -181,76 +169,59 @@ const EARLY: Option<(u32, Piece)> = Some((
         cost: 100,
         slope: 0,
     },
-));
+);
+
+// A certificate, and the verdict on it: the first condition that fails, if one does.
+type Judged<'a> = (CertificateRow<'a>, Verdict);
+
+const JUDGED: &[Judged<'static>] = &[
+    ((&[WAITS, DRIVES], 120, &[START, PARKED]), Verdict::Accepted),
+    (
+        (&[DRIVES, WAITS], 120, &[START, PARKED]),
+        Verdict::Rejected(1),
+    ),
+    (
+        (&[CHEAPER, DRIVES], 120, &[START, PARKED]),
+        Verdict::Rejected(2),
+    ),
+    (
+        (&[WAITS, DRIVES], 121, &[START, PARKED]),
+        Verdict::Rejected(3),
+    ),
+    ((&[WAITS, DRIVES], 120, &[PARKED]), Verdict::Rejected(4)),
+    ((&[WAITS], 120, &[START, PARKED]), Verdict::Rejected(5)),
+    ((&[WAITS, DRIVES], 120, &[START]), Verdict::Rejected(5)),
+    (
+        (&[WAITS, DRIVES], 120, &[START, ARRIVED]),
+        Verdict::Rejected(5),
+    ),
+    (
+        (&[WAITS, DRIVES], 120, &[START, PARKED, EARLY]),
+        Verdict::Rejected(6),
+    ),
+];
+
+// Where waiting at node 2 is shut in its last minute, the wait is unlawful, and without its pair nothing else fails.
+const JUDGED_WHERE_SHUT: &[Judged<'static>] = &[
+    (
+        (&[WAITS, DRIVES], 120, &[START, PARKED]),
+        Verdict::Rejected(2),
+    ),
+    ((&[DRIVES], 120, &[START, PARKED]), Verdict::Accepted),
+];
+
+// Compares the verdict on each certificate over the net.
+fn expect_verdicts<R: Abort + AllocGlobal>(rt: &R, net: &TimedNet, judged: &[Judged<'_>]) {
+    for (place, (row, verdict)) in judged.iter().enumerate() {
+        let found = verdict_of(rt, net, row);
+        assert!(rt; found == Some(*verdict), "{verdict:?} at place {place}");
+    }
+}
 
 #[test]
-fn finds_the_first_condition_that_fails(rt: HostRuntime) -> Result<(), Fail> {
-    let alloc = rt.alloc();
-    let net = worked_net(alloc)?;
-    let request = Request {
-        origin: NodeId(1),
-        goal: NodeId(3),
-        depart: 26563680,
-        until: 26564080,
-    };
-    // Certificates, and the verdict on each: the first condition that fails, if one does.
-    let judged: [(CertificateRow, Verdict); 9] = [
-        (
-            ([WAITS, DRIVES], 120, [START, PARKED, None]),
-            Verdict::Accepted,
-        ),
-        (
-            ([DRIVES, WAITS], 120, [START, PARKED, None]),
-            Verdict::Rejected(1),
-        ),
-        (
-            ([CHEAPER, DRIVES], 120, [START, PARKED, None]),
-            Verdict::Rejected(2),
-        ),
-        (
-            ([WAITS, DRIVES], 121, [START, PARKED, None]),
-            Verdict::Rejected(3),
-        ),
-        (
-            ([WAITS, DRIVES], 120, [None, PARKED, None]),
-            Verdict::Rejected(4),
-        ),
-        (
-            ([WAITS, None], 120, [START, PARKED, None]),
-            Verdict::Rejected(5),
-        ),
-        (
-            ([WAITS, DRIVES], 120, [START, None, None]),
-            Verdict::Rejected(5),
-        ),
-        (
-            ([WAITS, DRIVES], 120, [START, ARRIVED, None]),
-            Verdict::Rejected(5),
-        ),
-        (
-            ([WAITS, DRIVES], 120, [START, PARKED, EARLY]),
-            Verdict::Rejected(6),
-        ),
-    ];
-    for (row, verdict) in &judged {
-        let found = verdict_of(alloc, &net, request, row)?;
-        assert_eq!(rt; found, Some(*verdict));
-    }
-    // Where waiting at node 2 is shut in its last minute, the wait is unlawful, and without its pair nothing else fails.
-    let shut = shut_net(alloc)?;
-    let judged: [(CertificateRow, Verdict); 2] = [
-        (
-            ([WAITS, DRIVES], 120, [START, PARKED, None]),
-            Verdict::Rejected(2),
-        ),
-        (
-            ([DRIVES, None], 120, [START, PARKED, None]),
-            Verdict::Accepted,
-        ),
-    ];
-    for (row, verdict) in &judged {
-        let found = verdict_of(alloc, &shut, request, row)?;
-        assert_eq!(rt; found, Some(*verdict));
-    }
-    Ok(())
+fn finds_the_first_condition_that_fails(rt: HostRuntime) {
+    let net = worked_net(rt.alloc()).expect(&rt, "memory");
+    expect_verdicts(&rt, &net, JUDGED);
+    let shut = shut_net(rt.alloc()).expect(&rt, "memory");
+    expect_verdicts(&rt, &shut, JUDGED_WHERE_SHUT);
 }

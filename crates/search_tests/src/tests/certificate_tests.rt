@@ -37,17 +37,19 @@ piece 1 2 2 10000000000000 0\n\
 piece 500000 0 120968639 7 0\n\
 end\n";
 
+// Texts of certificates.
+const GOOD: &[&str] = &[
+    SAMPLE,
+    LARGE,
+    "lorry-certificate 1\npairs 0\nbounds 0\npieces 0\nend\n",
+];
+
 #[test]
 fn reads_and_writes_back(rt: HostRuntime) {
-    let none = "lorry-certificate 1\npairs 0\nbounds 0\npieces 0\nend\n";
-    for text in [SAMPLE, LARGE, none] {
-        match read(rt.alloc(), text.as_bytes()) {
-            Ok(certificate) => match write(rt.alloc(), &certificate) {
-                Ok(again) => assert!(rt; again.as_slice() == text.as_bytes(), "at {text}"),
-                Err(_) => assert!(rt; false, "out of memory"),
-            },
-            Err(_) => assert!(rt; false, "refused: {text}"),
-        }
+    for text in GOOD {
+        let certificate = read(rt.alloc(), text.as_bytes()).expect(&rt, "a certificate");
+        let again = write(rt.alloc(), &certificate).expect(&rt, "memory");
+        assert!(rt; again.as_slice() == text.as_bytes(), "at {text}");
     }
 }
 
@@ -68,8 +70,8 @@ fn has_sample(certificate: &Certificate) -> bool {
 
 #[test]
 fn finds_by_node(rt: HostRuntime) {
-    let found = read(rt.alloc(), SAMPLE.as_bytes()).map(|certificate| has_sample(&certificate));
-    assert!(rt; found == Ok(true));
+    let certificate = read(rt.alloc(), SAMPLE.as_bytes()).expect(&rt, "a certificate");
+    assert!(rt; has_sample(&certificate));
 }
 
 // Texts of no certificate.
@@ -116,11 +118,10 @@ const OTHERS: &[&str] = &[
 #[test]
 fn refuses_other_texts(rt: HostRuntime) {
     for text in OTHERS {
-        match read(rt.alloc(), text.as_bytes()) {
-            Err(fault) => {
-                assert!(rt; fault == CertificateFault::NotACertificate, "at {text}");
-            }
-            Ok(_) => assert!(rt; false, "taken: {text}"),
-        }
+        let fault = read(rt.alloc(), text.as_bytes()).err();
+        assert!(rt;
+            fault == Some(CertificateFault::NotACertificate),
+            "at {text}"
+        );
     }
 }

@@ -1,8 +1,11 @@
 // The worked net of several tests: a way over node 2, whose second arc is closed for two hours, and one straight on.
-ghost use Rattle.std.specs.Prelude.{◌≡◌, ◌<◌, ◌≤◌, IfOk};
+ghost use Rattle.std.specs.Prelude.{◌≡◌, ◌-◌, ◌<◌, ◌≤◌, IfOk};
+ghost use Rattle.plain_search.specs.Words.{IsAsked};
 ghost use Rattle.search_tests.specs.WorkedNet.{worked_arc, worked, worked_with};
 
-use route_base::{NodeId, OutOfMemory, Park, Run, TimedArc, TimedNet};
+use route_base::{
+    ArcId, Leg, Minute, NodeId, OutOfMemory, Pair, Park, Request, Run, TimedArc, TimedNet,
+};
 use std::alloc::Global;
 
 const ALWAYS_OPEN: u32 = 0;
@@ -65,3 +68,36 @@ fn net_with(alloc: Global, shut: u32) -> Result<TimedNet, OutOfMemory>
     let parks = vec![in alloc; None, Some(park), None]?;
     Ok(TimedNet::new(3, arcs, closed, parks))
 }
+
+// The trip from node 1 to node 3 at midnight.
+pub fn trip_until(until: Minute) -> Request
+    requires from { 26563680 ≤ until }
+    requires upto { until ≤ 26650080 }
+    ensures asked { IsAsked worked result }
+    ensures horizon { result.until - result.depart ≤ 86400 }
+{
+    Request {
+        origin: NodeId(1),
+        goal: NodeId(3),
+        depart: 26563680,
+        until,
+    }
+}
+
+// The pairs and legs of the trip.
+pub const ROUTES: &[(Pair, &[Leg])] = &[
+    (
+        Pair {
+            arrival: 26563920,
+            cost: 360000,
+        },
+        &[Leg::Drive(ArcId(1)), Leg::Wait(120), Leg::Drive(ArcId(2))],
+    ),
+    (
+        Pair {
+            arrival: 26563980,
+            cost: 300000,
+        },
+        &[Leg::Drive(ArcId(3))],
+    ),
+];

@@ -1,15 +1,13 @@
 // Worked cases: a wait until an arc opens, against a longer way that is never closed, and the points before it opens.
 ghost use Rattle.std.specs.Prelude.{◌-◌, ◌≤◌};
 ghost use Rattle.plain_search.specs.Words.{IsAsked};
-ghost use Rattle.search_tests.specs.WorkedNet.{worked};
 
-use crate::tests::nets::worked_net;
+use crate::tests::nets::{ROUTES, trip_until, worked_net};
 use plain_search::{NodePoints, TableEngine, values};
 use route_base::{
-    ArcId, Cost, FrontSearch, Leg, Minute, NodeId, OutOfMemory, Pair, Request, Routes, TimedNet,
+    Cost, FrontSearch, Leg, Minute, NodeId, OutOfMemory, Pair, Request, Routes, TimedNet,
 };
 use std::alloc::Global;
-use std::test::Fail;
 
 // Whether the routes have these pairs and legs, in this order.
 fn are_routes(routes: &Routes, wants: &[(Pair, &[Leg])]) -> bool {
@@ -33,45 +31,15 @@ fn has_front<E: FrontSearch>(
     Ok(are_routes(&routes, wants))
 }
 
-// The trip from node 1 to node 3 at midnight.
-fn trip_until(until: Minute) -> Request
-    requires from { 26563680 ≤ until }
-    requires upto { until ≤ 26650080 }
-    ensures asked { IsAsked worked result }
-    ensures horizon { result.until - result.depart ≤ 86400 }
-{
-    Request {
-        origin: NodeId(1),
-        goal: NodeId(3),
-        depart: 26563680,
-        until,
-    }
+// Whether the plain search finds the routes of the worked trip.
+fn finds_routes(alloc: Global) -> Result<bool, OutOfMemory> {
+    let net = worked_net(alloc)?;
+    has_front(alloc, &TableEngine, &net, trip_until(26564080), ROUTES)
 }
 
 #[test]
-fn waits_for_an_arc_or_goes_round(rt: HostRuntime) -> Result<(), Fail> {
-    let alloc = rt.alloc();
-    let net = worked_net(alloc)?;
-    let request = trip_until(26564080);
-    let wants = [
-        (
-            Pair {
-                arrival: 26563920,
-                cost: 360000,
-            },
-            [Leg::Drive(ArcId(1)), Leg::Wait(120), Leg::Drive(ArcId(2))].as_slice(),
-        ),
-        (
-            Pair {
-                arrival: 26563980,
-                cost: 300000,
-            },
-            [Leg::Drive(ArcId(3))].as_slice(),
-        ),
-    ];
-    let found = has_front(alloc, &TableEngine, &net, request, &wants)?;
-    assert!(rt; found);
-    Ok(())
+fn waits_for_an_arc_or_goes_round(rt: HostRuntime) {
+    assert!(rt; finds_routes(rt.alloc()) == Ok(true));
 }
 
 // Whether these nodes are reached, each with this one point.
@@ -89,9 +57,7 @@ fn has_points(alloc: Global, wants: &[(NodeId, Minute, Cost)]) -> Result<bool, O
 }
 
 #[test]
-fn reads_the_points_of_reached_nodes(rt: HostRuntime) -> Result<(), Fail> {
+fn reads_the_points_of_reached_nodes(rt: HostRuntime) {
     let wants = [(NodeId(1), 26563680, 0), (NodeId(2), 26563740, 60000)];
-    let found = has_points(rt.alloc(), &wants)?;
-    assert!(rt; found);
-    Ok(())
+    assert!(rt; has_points(rt.alloc(), &wants) == Ok(true));
 }

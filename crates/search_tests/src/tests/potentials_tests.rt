@@ -1,10 +1,10 @@
 // Bounds over one net whose costs are in proportion to minutes, and over one with a dearer arc.
 ghost use Rattle.std.specs.Prelude.{◌≡◌, ◌≤◌, IfOk};
 
-use potentials::to_goal;
-use route_base::{Bound, Cost, NodeId, OutOfMemory, TimedArc, TimedNet};
+use node_arcs::NodeArcs;
+use potentials::{to_goal, to_goal_over};
+use route_base::{Bound, Bounds, Cost, NodeId, OutOfMemory, TimedArc, TimedNet};
 use std::alloc::Global;
-use std::test::Fail;
 
 fn arc(tail: u32, head: u32, minutes: u64, cost: Cost) -> TimedArc
     ensures { result ≡ record {
@@ -40,29 +40,34 @@ fn net_with(alloc: Global, cost: Cost) -> Result<TimedNet, OutOfMemory>
     Ok(TimedNet::new(4, arcs, closed, parks))
 }
 
+// The bound of these minutes and this cost.
+fn bound(minutes: u64, cost: Cost) -> Option<Bound> {
+    Some(Bound { minutes, cost })
+}
+
+// Whether the bounds are those to node 3, where the arc from 2 has this cost, and this is the least cost from 1.
+fn are_bounds(bounds: &Bounds, cost: Cost, least_from_1: Cost) -> bool {
+    bounds.get(NodeId(1)) == bound(120, least_from_1)
+        && bounds.get(NodeId(2)) == bound(60, cost)
+        && bounds.get(NodeId(3)) == bound(0, 0)
+        && bounds.get(NodeId(4)).is_none()
+}
+
+// The cost of the arc, and the least cost from node 1. Where the arc is dearer, that is the cost of the straight way; the least minutes
+// are still those over node 2.
+const COSTS: &[(Cost, Cost)] = &[(60_000, 120_000), (400_000, 300_000)];
+
 #[test]
-fn finds_least_minutes_and_costs(rt: HostRuntime) -> Result<(), Fail> {
-    let alloc = rt.alloc();
-    // Where the arc is dearer, the least cost from node 1 is that of the straight way; the least minutes are still those over node 2.
-    for (cost, least_from_1) in [(60_000, 120_000), (400_000, 300_000)] {
-        let net = net_with(alloc, cost)?;
-        let bounds = to_goal(alloc, &net, NodeId(3))?;
-        assert_eq!(rt;
-            bounds.get(NodeId(1)),
-            Some(Bound {
-                minutes: 120,
-                cost: least_from_1
-            })
+fn finds_least_minutes_and_costs(rt: HostRuntime) {
+    for (cost, least_from_1) in COSTS {
+        let net = net_with(rt.alloc(), (*cost).min(1_000_000)).expect(&rt, "memory");
+        let bounds = to_goal(rt.alloc(), &net, NodeId(3)).expect(&rt, "memory");
+        assert!(rt; are_bounds(&bounds, *cost, *least_from_1), "{cost}");
+        let incoming = NodeArcs::incoming(rt.alloc(), &net).expect(&rt, "memory");
+        let again = to_goal_over(rt.alloc(), &net, &incoming, NodeId(3)).expect(&rt, "memory");
+        assert!(rt;
+            are_bounds(&again, *cost, *least_from_1),
+            "{cost}, over arcs in order"
         );
-        assert_eq!(rt; bounds.get(NodeId(2)), Some(Bound { minutes: 60, cost }));
-        assert_eq!(rt;
-            bounds.get(NodeId(3)),
-            Some(Bound {
-                minutes: 0,
-                cost: 0
-            })
-        );
-        assert_eq!(rt; bounds.get(NodeId(4)), None);
     }
-    Ok(())
 }

@@ -10,7 +10,7 @@ use itinerary_unpack::{FunctionEngine, unpack};
 use plain_search::TableEngine;
 use propagation::search;
 use route_base::limits::{LAST_INSTANT, LONGEST_HORIZON};
-use route_base::{FrontSearch, OutOfMemory, Pair, Request, Route, Routes, TimedNet};
+use route_base::{Cost, FrontSearch, Minute, OutOfMemory, Request, Route, Routes, TimedNet};
 use std::alloc::Global;
 
 /// The routes that each engine found.
@@ -28,10 +28,12 @@ impl Fronts {
         self.unpacked && have_same_pairs(self.table.as_slice(), self.functions.as_slice())
     }
 
-    /// Whether the pairs are these.
-    pub fn are(&self, pairs: &[Pair]) -> bool {
+    /// Whether the pairs have these arrivals and costs.
+    pub fn are(&self, pairs: &[(Minute, Cost)]) -> bool {
         let table = self.table.as_slice();
-        table.len() == pairs.len() && table.iter().zip(pairs).all(|(a, pair)| a.pair == *pair)
+        table.len() == pairs.len()
+            && table.iter().zip(pairs).all(|(route, pair)| (route.pair.arrival, route.pair.cost)
+                == *pair)
     }
 }
 

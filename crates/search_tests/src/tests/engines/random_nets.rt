@@ -5,6 +5,7 @@ use super::fronts::fronts_of;
 use super::nets::NetLists;
 use route_base::{NodeId, OutOfMemory, Park, Request, Run, TimedArc};
 use std::alloc::Global;
+use std::process::Abort;
 use std::test::Fail;
 
 const SEED: u64 = 20201207;
@@ -53,21 +54,21 @@ struct Case {
     request: Request,
 }
 
-fn random_case(alloc: Global, random: &mut Random) -> Result<Case, OutOfMemory> {
+fn random_case<R: Abort + AllocGlobal>(rt: &R, random: &mut Random) -> Case {
     let nodes = random.below(4) as u32 + 3;
     let depart = random.below(10);
-    Ok(Case {
+    Case {
         nodes,
-        arcs: random_arcs(alloc, random, nodes)?,
-        closed: random_runs(alloc, random)?,
-        parks: random_parks(alloc, random, nodes)?,
+        arcs: random_arcs(rt.alloc(), random, nodes).expect(rt, "memory"),
+        closed: random_runs(rt.alloc(), random).expect(rt, "memory"),
+        parks: random_parks(rt.alloc(), random, nodes).expect(rt, "memory"),
         request: Request {
             origin: random.node(nodes),
             goal: random.node(nodes),
             depart,
             until: depart + random.below(31),
         },
-    })
+    }
 }
 
 // Up to 12 arcs, of which the shorter ones are mostly dearer.
@@ -124,34 +125,52 @@ fn random_parks(
     Ok(parks)
 }
 
+// The number of pairs that both engines find in a random net; none where they don't agree, or the net isn't well-formed.
+fn agreed_pairs<R: Abort + AllocGlobal>(rt: &R, random: &mut Random) -> Option<usize> {
+    let case = random_case(rt, random);
+    let lists = NetLists {
+        nodes: case.nodes,
+        arcs: &case.arcs,
+        lists: LISTS,
+        closed: &case.closed,
+        parks: &case.parks,
+    };
+    agreed_over(rt, lists, case.request)
+}
+
+// The same over the net of these lists.
+fn agreed_over<R: Abort + AllocGlobal>(
+    rt: &R,
+    lists: NetLists<'_>,
+    request: Request,
+) -> Option<usize> {
+    let fronts = fronts_of(rt.alloc(), lists, request).expect(rt, "memory")?;
+    if fronts.agree() {
+        Some(fronts.table.len())
+    } else {
+        None
+    }
+}
+
+// 1 where there are at least this many pairs, and 0 elsewhere.
+fn count_with(least: usize, pairs: Option<usize>) -> u64 {
+    match pairs {
+        Some(pairs) if pairs >= least => 1,
+        _ => 0,
+    }
+}
+
 #[test]
 fn agree_on_random_nets(rt: HostRuntime) -> Result<(), Fail> {
     println!(rt; "{NETS} random nets from the seed {SEED}")?;
-    let alloc = rt.alloc();
     let mut random = Random { state: SEED };
     let mut with_pairs = 0u64;
     let mut with_several = 0u64;
     for net in 0..NETS {
-        let case = random_case(alloc, &mut random)?;
-        let lists = NetLists {
-            nodes: case.nodes,
-            arcs: &case.arcs,
-            lists: LISTS,
-            closed: &case.closed,
-            parks: &case.parks,
-        };
-        let fronts = fronts_of(alloc, lists, case.request)?;
-        let Some(fronts) = fronts else {
-            assert!(rt; false, "net {net} isn't well-formed");
-            return Ok(());
-        };
-        assert!(rt; fronts.agree(), "net {net}");
-        if fronts.table.len() > 0 {
-            with_pairs = with_pairs.saturating_add(1);
-        }
-        if fronts.table.len() > 1 {
-            with_several = with_several.saturating_add(1);
-        }
+        let pairs = agreed_pairs(&rt, &mut random);
+        assert!(rt; pairs.is_some(), "net {net}");
+        with_pairs = with_pairs.saturating_add(count_with(1, pairs));
+        with_several = with_several.saturating_add(count_with(2, pairs));
     }
     println!(rt; "{with_pairs} of them with pairs, {with_several} with several")?;
     Ok(())

@@ -1,9 +1,9 @@
 // Worked nets, with the pairs that were found by hand.
 use super::fronts::fronts_of;
 use super::nets::NetLists;
-use route_base::{Cost, Minute, NodeId, OutOfMemory, Pair, Park, Request, Run, TimedArc};
+use route_base::{Cost, Minute, NodeId, OutOfMemory, Park, Request, Run, TimedArc};
 use std::alloc::Global;
-use std::test::Fail;
+use std::process::Abort;
 
 // A net, a trip from node 1, and its pairs as arrivals and costs.
 #[derive(Clone, Copy)]
@@ -53,7 +53,7 @@ const WAITS_FOR_HOURS: Worked<'static> = Worked {
     pairs: &[(26_563_920, 360_000), (26_563_980, 300_000)],
 };
 
-const WORKED: [Worked<'static>; 16] = [
+const WORKED: &[Worked<'static>] = &[
     WAITS,
     Worked {
         name: "the same where no wait is allowed",
@@ -210,23 +210,11 @@ fn parks_of(alloc: Global, worked: Worked<'_>) -> Result<Vec<Option<Park>>, OutO
     Ok(parks)
 }
 
-fn pairs_of(alloc: Global, worked: Worked<'_>) -> Result<Vec<Pair>, OutOfMemory> {
-    let mut pairs = Vec::new(alloc);
-    for (arrival, cost) in worked.pairs {
-        pairs.push(Pair {
-            arrival: *arrival,
-            cost: *cost,
-        })?;
-    }
-    Ok(pairs)
-}
-
 // Whether both engines find the pairs of the worked net.
-fn is_found(alloc: Global, worked: Worked<'_>) -> Result<bool, OutOfMemory> {
-    let arcs = arcs_of(alloc, worked)?;
-    let closed = runs_of(alloc, worked)?;
-    let pairs = pairs_of(alloc, worked)?;
-    let parks = parks_of(alloc, worked)?;
+fn is_found<R: Abort + AllocGlobal>(rt: &R, worked: Worked<'_>) -> bool {
+    let arcs = arcs_of(rt.alloc(), worked).expect(rt, "memory");
+    let closed = runs_of(rt.alloc(), worked).expect(rt, "memory");
+    let parks = parks_of(rt.alloc(), worked).expect(rt, "memory");
     let lists = NetLists {
         nodes: worked.nodes,
         arcs: &arcs,
@@ -240,17 +228,15 @@ fn is_found(alloc: Global, worked: Worked<'_>) -> Result<bool, OutOfMemory> {
         depart: worked.depart,
         until: worked.until,
     };
-    let Some(fronts) = fronts_of(alloc, lists, request)? else {
-        return Ok(false);
-    };
-    Ok(fronts.agree() && fronts.are(&pairs))
+    match fronts_of(rt.alloc(), lists, request).expect(rt, "memory") {
+        Some(fronts) => fronts.agree() && fronts.are(worked.pairs),
+        None => false,
+    }
 }
 
 #[test]
-fn find_the_pairs_of_worked_nets(rt: HostRuntime) -> Result<(), Fail> {
+fn find_the_pairs_of_worked_nets(rt: HostRuntime) {
     for worked in WORKED {
-        let found = is_found(rt.alloc(), worked)?;
-        assert!(rt; found, "{}", worked.name);
+        assert!(rt; is_found(&rt, *worked), "{}", worked.name);
     }
-    Ok(())
 }

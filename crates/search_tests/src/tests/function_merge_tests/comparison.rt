@@ -12,6 +12,7 @@ use function_merge::{
 use minute_sets::MinuteSet;
 use route_base::{Bound, OutOfMemory, Pair, Run};
 use std::alloc::Global;
+use std::process::Abort;
 use std::test::Fail;
 
 const SEED: u64 = 20201207;
@@ -164,38 +165,38 @@ fn is_any_better(a: &[Option<u64>], b: &[Option<u64>]) -> bool {
     false
 }
 
-fn merges_as_lists(
-    alloc: Global,
+fn merges_as_lists<R: Abort + AllocGlobal>(
+    rt: &R,
     f: &CostFn,
     a: &[Option<u64>],
     g: &CostFn,
     b: &[Option<u64>],
-) -> Result<bool, OutOfMemory>
+) -> bool
     requires first { AreBuilt f.now }
     requires second { AreBuilt g.now }
 {
-    let merged = least(alloc, f, g)?;
-    Ok(
-        is_least(&merged.function, a, b)
-            && has_better(&merged.improved, a, b)
-            && is_improved(f, g) == is_any_better(a, b),
-    )
+    let merged = least(rt.alloc(), f, g).expect(rt, "memory");
+    is_least(&merged.function, a, b)
+        && has_better(&merged.improved, a, b)
+        && is_improved(f, g) == is_any_better(a, b)
 }
 
-fn merges_in_place_as_lists(
-    alloc: Global,
+fn merges_in_place_as_lists<R: Abort + AllocGlobal>(
+    rt: &R,
     f: &CostFn,
     a: &[Option<u64>],
     g: &CostFn,
     b: &[Option<u64>],
-) -> Result<bool, OutOfMemory>
+) -> bool
     requires first { AreBuilt f.now }
     requires second { AreBuilt g.now }
 {
-    let mut in_place = f.reduce(alloc)?;
-    let mut spare = g.reduce(alloc)?.into_pieces();
-    let improved = improve_with_spare(alloc, &mut in_place, g, &mut spare)?;
-    Ok(is_least(&in_place, a, b) && has_better(&improved, a, b))
+    let mut in_place = f.reduce(rt.alloc()).expect(rt, "memory");
+    let mut spare = g.reduce(rt.alloc()).expect(rt, "memory").into_pieces();
+    let improved = improve_with_spare(rt.alloc(), &mut in_place, g, &mut spare).expect(
+        rt, "memory",
+    );
+    is_least(&in_place, a, b) && has_better(&improved, a, b)
 }
 
 // Whether the function has the values that are kept, later and at a cost, and is reduced.
@@ -208,171 +209,175 @@ fn is_shifted(f: &CostFn, a: &[Option<u64>], kept: &[bool], minutes: u64, cost: 
     f.is_reduced()
 }
 
-fn shifts_as_lists(
-    alloc: Global,
+fn shifts_as_lists<R: Abort + AllocGlobal>(
+    rt: &R,
     random: &mut Random,
     f: &CostFn,
     a: &[Option<u64>],
     kept: &[bool],
     keep: &MinuteSet,
-) -> Result<bool, OutOfMemory>
+) -> bool
     requires { AreBuilt f.now }
 {
     let minutes = random.below(12);
     let cost = random.below(30);
     if !can_shift(f, minutes, cost) {
-        return Ok(false);
+        return false;
     }
-    let moved = shift_with_spare(f.reduce(alloc)?, f, keep, minutes, cost)?;
-    Ok(is_shifted(&moved, a, kept, minutes, cost))
+    let spare = f.reduce(rt.alloc()).expect(rt, "memory");
+    let moved = shift_with_spare(spare, f, keep, minutes, cost).expect(rt, "memory");
+    is_shifted(&moved, a, kept, minutes, cost)
 }
 
-fn cuts_as_lists(
-    alloc: Global,
+fn cuts_as_lists<R: Abort + AllocGlobal>(
+    rt: &R,
     f: &CostFn,
     a: &[Option<u64>],
     kept: &[bool],
     keep: &MinuteSet,
-) -> Result<bool, OutOfMemory>
+) -> bool
     requires { AreBuilt f.now }
 {
-    let part = cut_with_spare(f.reduce(alloc)?, f, keep)?;
-    Ok(is_shifted(&part, a, kept, 0, 0))
+    let spare = f.reduce(rt.alloc()).expect(rt, "memory");
+    let part = cut_with_spare(spare, f, keep).expect(rt, "memory");
+    is_shifted(&part, a, kept, 0, 0)
 }
 
-fn moves_as_lists(
-    alloc: Global,
+fn moves_as_lists<R: Abort + AllocGlobal>(
+    rt: &R,
     random: &mut Random,
     f: &CostFn,
     a: &[Option<u64>],
-) -> Result<bool, OutOfMemory>
+) -> bool
     requires { AreBuilt f.now }
 {
-    let kept = random_keep(alloc, random)?;
-    let keep = set_of(alloc, &kept)?;
-    let shifts = shifts_as_lists(alloc, random, f, a, &kept, &keep)?;
-    Ok(shifts && cuts_as_lists(alloc, f, a, &kept, &keep)?)
+    let kept = random_keep(rt.alloc(), random).expect(rt, "memory");
+    let keep = set_of(rt.alloc(), &kept).expect(rt, "memory");
+    shifts_as_lists(rt, random, f, a, &kept, &keep) && cuts_as_lists(rt, f, a, &kept, &keep)
 }
 
-fn waits_as_lists(
-    alloc: Global,
+// Whether the function has the least values after waits at these minutes, and is reduced.
+fn is_waited(f: &CostFn, a: &[Option<u64>], weight: u64, allowed: &[bool], until: u64) -> bool {
+    for t in 0..COMPARED {
+        if f.at(t) != waited(a, weight, allowed, until, t) {
+            return false;
+        }
+    }
+    f.is_reduced()
+}
+
+fn waits_as_lists<R: Abort + AllocGlobal>(
+    rt: &R,
     random: &mut Random,
     f: &CostFn,
     a: &[Option<u64>],
-) -> Result<bool, OutOfMemory>
+) -> bool
     requires { AreBuilt f.now }
 {
     let weight = random.below(6);
     let until = random.below(COMPARED);
-    let kept = random_keep(alloc, random)?;
-    let allowed = set_of(alloc, &kept)?;
     if !can_wait(f, weight, until) {
-        return Ok(false);
+        return false;
     }
-    let made = wait_with_spare(f.reduce(alloc)?, f, weight, &allowed, until)?;
-    for t in 0..COMPARED {
-        if made.at(t) != waited(a, weight, &kept, until, t) {
-            return Ok(false);
-        }
-    }
-    Ok(made.is_reduced())
+    let kept = random_keep(rt.alloc(), random).expect(rt, "memory");
+    let allowed = set_of(rt.alloc(), &kept).expect(rt, "memory");
+    let spare = f.reduce(rt.alloc()).expect(rt, "memory");
+    let made = wait_with_spare(spare, f, weight, &allowed, until).expect(rt, "memory");
+    is_waited(&made, a, weight, &kept, until)
 }
 
-fn prunes_as_lists(
-    alloc: Global,
+fn random_bound(random: &mut Random) -> Bound {
+    Bound {
+        minutes: random.below(6),
+        cost: random.below(30),
+    }
+}
+
+// Whether the function has the values that are kept, and is reduced.
+fn is_pruned(f: &CostFn, a: &[Option<u64>], until: u64, pairs: &[Pair], bound: Bound) -> bool {
+    for t in 0..COMPARED {
+        if f.at(t) != pruned(a, until, pairs, bound, t) {
+            return false;
+        }
+    }
+    f.is_reduced()
+}
+
+fn prunes_as_lists<R: Abort + AllocGlobal>(
+    rt: &R,
     random: &mut Random,
     f: &CostFn,
     a: &[Option<u64>],
-) -> Result<bool, OutOfMemory>
+) -> bool
     requires { AreBuilt f.now }
 {
-    let pairs = random_pairs(alloc, random)?;
+    let pairs = random_pairs(rt.alloc(), random).expect(rt, "memory");
     let until = random.below(COMPARED);
-    let bound = Bound {
-        minutes: random.below(6),
-        cost: random.below(30),
-    };
-    let made = prune(alloc, f, until, &pairs, bound)?;
-    let in_place = into_pruned(f.reduce(alloc)?, until, &pairs, bound);
+    let bound = random_bound(random);
+    let made = prune(rt.alloc(), f, until, &pairs, bound).expect(rt, "memory");
+    let spare = f.reduce(rt.alloc()).expect(rt, "memory");
+    let in_place = into_pruned(spare, until, &pairs, bound);
+    is_pruned(&made, a, until, &pairs, bound) && is_pruned(&in_place, a, until, &pairs, bound)
+}
+
+// Whether two functions have the same values.
+fn are_alike(f: &CostFn, g: &CostFn) -> bool {
     for t in 0..COMPARED {
-        let wanted = pruned(a, until, &pairs, bound, t);
-        if made.at(t) != wanted || in_place.at(t) != wanted {
-            return Ok(false);
+        if f.at(t) != g.at(t) {
+            return false;
         }
     }
-    Ok(made.is_reduced())
+    true
 }
 
 // Whether shifting and pruning at once gives the values that pruning after shifting gives.
-fn shifts_and_prunes_alike(
-    alloc: Global,
-    random: &mut Random,
-    f: &CostFn,
-) -> Result<bool, OutOfMemory>
+fn shifts_and_prunes_alike<R: Abort + AllocGlobal>(rt: &R, random: &mut Random, f: &CostFn) -> bool
     requires { AreBuilt f.now }
 {
-    let kept = random_keep(alloc, random)?;
-    let keep = set_of(alloc, &kept)?;
     let minutes = random.below(12);
     let cost = random.below(30);
     if !can_shift(f, minutes, cost) {
-        return Ok(false);
+        return false;
     }
-    let pairs = random_pairs(alloc, random)?;
     let until = random.below(COMPARED);
-    let bound = Bound {
-        minutes: random.below(6),
-        cost: random.below(30),
-    };
-    let spare = f.reduce(alloc)?;
-    let at_once = shift_and_prune(spare, f, &keep, minutes, cost, until, &pairs, bound)?;
-    let moved = shift(alloc, f, &keep, minutes, cost)?;
-    let after = prune(alloc, &moved, until, &pairs, bound)?;
-    for t in 0..COMPARED {
-        if at_once.at(t) != after.at(t) {
-            return Ok(false);
-        }
-    }
-    Ok(at_once.is_reduced())
+    let bound = random_bound(random);
+    let kept = random_keep(rt.alloc(), random).expect(rt, "memory");
+    let keep = set_of(rt.alloc(), &kept).expect(rt, "memory");
+    let pairs = random_pairs(rt.alloc(), random).expect(rt, "memory");
+    let spare = f.reduce(rt.alloc()).expect(rt, "memory");
+    let at_once = shift_and_prune(spare, f, &keep, minutes, cost, until, &pairs, bound).expect(
+        rt, "memory",
+    );
+    let moved = shift(rt.alloc(), f, &keep, minutes, cost).expect(rt, "memory");
+    let after = prune(rt.alloc(), &moved, until, &pairs, bound).expect(rt, "memory");
+    are_alike(&at_once, &after) && at_once.is_reduced()
 }
 
 // Whether the calls on one function are right.
-fn changes_as_lists(
-    alloc: Global,
+fn changes_as_lists<R: Abort + AllocGlobal>(
+    rt: &R,
     random: &mut Random,
     f: &CostFn,
     a: &[Option<u64>],
-) -> Result<bool, OutOfMemory>
+) -> bool
     requires { AreBuilt f.now }
 {
-    Ok(
-        has_values(f, a)
-            && moves_as_lists(alloc, random, f, a)?
-            && waits_as_lists(alloc, random, f, a)?
-            && prunes_as_lists(alloc, random, f, a)?
-            && shifts_and_prunes_alike(alloc, random, f)?,
-    )
+    has_values(f, a)
+        && moves_as_lists(rt, random, f, a)
+        && waits_as_lists(rt, random, f, a)
+        && prunes_as_lists(rt, random, f, a)
+        && shifts_and_prunes_alike(rt, random, f)
 }
 
-// Whether the calls on the functions of these values are right.
-fn are_right(
-    alloc: Global,
-    random: &mut Random,
-    a: &[Option<u64>],
-    b: &[Option<u64>],
-) -> Result<bool, OutOfMemory> {
-    let f = function_of(alloc, a)?;
-    let g = function_of(alloc, b)?;
-    let right = changes_as_lists(alloc, random, &f, a)?
-        && merges_as_lists(alloc, &f, a, &g, b)?
-        && merges_in_place_as_lists(alloc, &f, a, &g, b)?;
-    Ok(right)
-}
-
-fn is_right(alloc: Global, random: &mut Random) -> Result<bool, OutOfMemory> {
-    let a = random_values(alloc, random)?;
-    let b = random_values(alloc, random)?;
-    are_right(alloc, random, &a, &b)
+// Whether the calls on random functions are right.
+fn is_right<R: Abort + AllocGlobal>(rt: &R, random: &mut Random) -> bool {
+    let a = random_values(rt.alloc(), random).expect(rt, "memory");
+    let b = random_values(rt.alloc(), random).expect(rt, "memory");
+    let f = function_of(rt.alloc(), &a).expect(rt, "memory");
+    let g = function_of(rt.alloc(), &b).expect(rt, "memory");
+    changes_as_lists(rt, random, &f, &a)
+        && merges_as_lists(rt, &f, &a, &g, &b)
+        && merges_in_place_as_lists(rt, &f, &a, &g, &b)
 }
 
 #[test]
@@ -380,7 +385,7 @@ fn agrees_with_lists_of_values(rt: HostRuntime) -> Result<(), Fail> {
     println!(rt; "{CASES} random cases from the seed {SEED}")?;
     let mut random = Random { state: SEED };
     for case in 0..CASES {
-        let right = is_right(rt.alloc(), &mut random)?;
+        let right = is_right(&rt, &mut random);
         assert!(rt; right, "case {case}");
     }
     Ok(())

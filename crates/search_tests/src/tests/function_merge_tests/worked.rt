@@ -10,7 +10,6 @@ use function_merge::{
 use minute_sets::MinuteSet;
 use route_base::{Bound, OutOfMemory, Pair, Run};
 use std::alloc::Global;
-use std::test::Fail;
 
 const RISING: Piece = Piece {
     lo: 0,
@@ -44,49 +43,55 @@ fn is_lesser(merged: &Merged, improved: &[Run]) -> bool {
 }
 
 #[test]
-fn merges_where_lines_cross(rt: HostRuntime) -> Result<(), Fail> {
-    let f = of_one(rt.alloc(), RISING)?;
-    let g = of_one(rt.alloc(), FLAT)?;
+fn merges_where_lines_cross(rt: HostRuntime) {
+    let f = of_one(rt.alloc(), RISING).expect(&rt, "memory");
+    let g = of_one(rt.alloc(), FLAT).expect(&rt, "memory");
     assert!(rt; is_improved(&f, &g));
-    let merged = least(rt.alloc(), &f, &g)?;
+    let merged = least(rt.alloc(), &f, &g).expect(&rt, "memory");
     assert!(rt; is_lesser(&merged, &[Run { lo: 5, hi: 11 }]));
-    let again = improve(rt.alloc(), merged.function, &g)?;
+    let again = improve(rt.alloc(), merged.function, &g).expect(&rt, "memory");
     assert!(rt; is_lesser(&again, &[]));
-    let mut function = again.function;
-    let improved = improve_in_place(rt.alloc(), &mut function, &f)?;
-    assert!(rt; function.pieces() == LESSER.as_slice());
-    assert!(rt; improved.runs().is_empty());
-    Ok(())
 }
 
-// Whether the entries of the rising line from minute 3 on arrive an hour later, at a cost.
-fn moves(alloc: Global) -> Result<bool, OutOfMemory> {
-    let f = of_one(alloc, RISING)?;
-    if !can_shift(&f, 60, 60000) {
-        return Ok(false);
-    }
-    let entries = MinuteSet::whole(alloc, Run { lo: 3, hi: 6 })?;
-    let moved = shift(alloc, &f, &entries, 60, 60000)?;
+#[test]
+fn merges_in_place(rt: HostRuntime) {
+    let f = of_one(rt.alloc(), RISING).expect(&rt, "memory");
+    let mut function = of_one(rt.alloc(), FLAT).expect(&rt, "memory");
+    let improved = improve_in_place(rt.alloc(), &mut function, &f).expect(&rt, "memory");
+    assert!(rt; function.pieces() == LESSER.as_slice());
+    assert!(rt; improved.runs() == [Run { lo: 0, hi: 5 }].as_slice());
+    let improved = improve_in_place(rt.alloc(), &mut function, &f).expect(&rt, "memory");
+    assert!(rt; function.pieces() == LESSER.as_slice());
+    assert!(rt; improved.runs().is_empty());
+}
+
+#[test]
+fn shifts_entries(rt: HostRuntime) {
+    let f = of_one(rt.alloc(), RISING).expect(&rt, "memory");
+    assert!(rt; can_shift(&f, 60, 60000));
+    let entries = MinuteSet::whole(rt.alloc(), Run { lo: 3, hi: 6 }).expect(&rt, "memory");
+    let moved = shift(rt.alloc(), &f, &entries, 60, 60000).expect(&rt, "memory");
     let later = Piece {
         lo: 63,
         hi: 65,
         cost: 60006,
         slope: 2,
     };
-    Ok(moved.pieces() == [later].as_slice())
+    assert!(rt; moved.pieces() == [later].as_slice());
 }
 
-// Whether the rising line is cut to its first two minutes.
-fn cuts(alloc: Global) -> Result<bool, OutOfMemory> {
-    let f = of_one(alloc, RISING)?;
-    let keep = MinuteSet::whole(alloc, Run { lo: 0, hi: 2 })?;
-    let kept = cut(alloc, &f, &keep)?;
-    Ok(kept.pieces() == [Piece { hi: 1, ..RISING }].as_slice())
+#[test]
+fn cuts_to_minutes(rt: HostRuntime) {
+    let f = of_one(rt.alloc(), RISING).expect(&rt, "memory");
+    let keep = MinuteSet::whole(rt.alloc(), Run { lo: 0, hi: 2 }).expect(&rt, "memory");
+    let kept = cut(rt.alloc(), &f, &keep).expect(&rt, "memory");
+    assert!(rt; kept.pieces() == [Piece { hi: 1, ..RISING }].as_slice());
 }
 
-// Whether the rising line ends at minute 4, by the horizon and by a pair.
-fn prunes(alloc: Global) -> Result<bool, OutOfMemory> {
-    let f = of_one(alloc, RISING)?;
+// The rising line ends at minute 4, by the horizon and by a pair.
+#[test]
+fn prunes_by_the_horizon_and_by_pairs(rt: HostRuntime) {
+    let f = of_one(rt.alloc(), RISING).expect(&rt, "memory");
     let bound = Bound {
         minutes: 5,
         cost: 100,
@@ -95,47 +100,50 @@ fn prunes(alloc: Global) -> Result<bool, OutOfMemory> {
         arrival: 9,
         cost: 110,
     };
-    let in_time = prune(alloc, &f, 9, &[], bound)?;
+    let in_time = prune(rt.alloc(), &f, 9, &[], bound).expect(&rt, "memory");
+    assert!(rt; in_time.pieces() == [Piece { hi: 4, ..RISING }].as_slice());
     let cheap = into_pruned(f, 100, &[pair], bound);
-    let kept = [Piece { hi: 4, ..RISING }];
-    Ok(in_time.pieces() == kept.as_slice() && cheap.pieces() == kept.as_slice())
+    assert!(rt; cheap.pieces() == in_time.pieces());
 }
 
-#[test]
-fn moves_and_prunes(rt: HostRuntime) -> Result<(), Fail> {
-    assert!(rt; moves(rt.alloc())?);
-    assert!(rt; cuts(rt.alloc())?);
-    assert!(rt; prunes(rt.alloc())?);
-    Ok(())
-}
+// Runs of minutes at which waiting is allowed, and the values of each minute from 0 on after waits at 5 a minute until minute 6.
+const WAITED: &[(&[Run], &[Option<u64>])] = &[
+    (
+        &[Run { lo: 0, hi: 6 }],
+        &[
+            Some(100),
+            Some(105),
+            Some(110),
+            Some(90),
+            Some(95),
+            Some(100),
+            Some(105),
+            None,
+        ],
+    ),
+    (
+        &[Run { lo: 0, hi: 2 }, Run { lo: 4, hi: 6 }],
+        &[Some(100), Some(105), Some(110), Some(90), None, None, None],
+    ),
+];
 
-#[test]
-fn waits_for_the_least(rt: HostRuntime) -> Result<(), Fail> {
-    let f = CostFn::from_points(rt.alloc(), &[(0, 100), (3, 90)])?;
-    assert!(rt; can_wait(&f, 5, 6));
-    let always = MinuteSet::whole(rt.alloc(), Run { lo: 0, hi: 6 })?;
-    let waited = wait(rt.alloc(), &f, 5, &always, 6)?;
-    let values = [100, 105, 110, 90, 95, 100, 105];
+// Whether the function has these values, from minute 0 on.
+fn has_values(f: &CostFn, values: &[Option<u64>]) -> bool {
     for t in 0..values.len() {
-        assert!(rt; waited.at(t as u64) == Some(values[t]));
+        if f.at(t as u64) != values[t] {
+            return false;
+        }
     }
-    assert!(rt; waited.at(7) == None);
-    Ok(())
+    true
 }
 
 #[test]
-fn waits_at_allowed_minutes(rt: HostRuntime) -> Result<(), Fail> {
-    let f = CostFn::from_points(rt.alloc(), &[(0, 100), (3, 90)])?;
-    assert!(rt; can_wait(&f, 5, 6));
-    let runs = [Run { lo: 0, hi: 2 }, Run { lo: 4, hi: 6 }];
-    let allowed = MinuteSet::from_runs(rt.alloc(), &runs)?;
-    let waited = wait(rt.alloc(), &f, 5, &allowed, 6)?;
-    let values = [100, 105, 110, 90];
-    for t in 0..values.len() {
-        assert!(rt; waited.at(t as u64) == Some(values[t]));
+fn waits_for_the_least(rt: HostRuntime) {
+    let f = CostFn::from_points(rt.alloc(), &[(0, 100), (3, 90)]).expect(&rt, "memory");
+    for (runs, values) in WAITED {
+        assert!(rt; can_wait(&f, 5, 6));
+        let allowed = MinuteSet::from_runs(rt.alloc(), runs).expect(&rt, "memory");
+        let waited = wait(rt.alloc(), &f, 5, &allowed, 6).expect(&rt, "memory");
+        assert!(rt; has_values(&waited, values), "{values:?}");
     }
-    for t in 4..7 {
-        assert!(rt; waited.at(t) == None);
-    }
-    Ok(())
 }

@@ -1,7 +1,7 @@
 use Rattle.std.proofs.Common.{arith}
 use Rattle.route_base.specs.declared.types.Request.{Request}
 use Rattle.search_tests.proofs.WorkedNet.{worked_fits}
-use Rattle.search_tests.proofs.tests.plain_search_tests.trip_until.Goals as goal
+use Rattle.search_tests.proofs.tests.nets.trip_until.Goals as goal
 
 pub returns-clause-asked : goal.returns-clause-asked
 returns-clause-asked c =
