@@ -1,7 +1,7 @@
 -- The trip over a drawn network passes all checks, and the drawn files are written.
 use Rattle.std.proofs.Common.{◌≡◌, inr, ℕ, ◌*◌, ◌≤◌, Bool, true, false, cond, Some, None, Option, List, [], Ok, Err, codes, refl, ap, sym, subst, ◌∙◌, arith}
 use Rattle.std.specs.Prelude.{not}
-use Rattle.std.proofs.lemmas.Bool.{both_ways, le-leb, and_from}
+use Rattle.std.proofs.lemmas.Bool.{le-leb, and_from}
 use Rattle.std.proofs.Math.Nat.{mul-le-mul_left}
 use Rattle.route_base.specs.Contents.{Contents}
 use Rattle.route_base.specs.FolderState.{FolderState, CountsRise}

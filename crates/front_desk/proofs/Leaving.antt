@@ -101,19 +101,15 @@ module _ (old new : FolderState) where
       others
 
 -- the status of a report is that of neither a failed write nor of want of memory
+reported : (rejects : Bool) → (cond rejects Rejected Done ≡ WriteFault → ⊥) × (cond rejects Rejected Done ≡ NoMemory → ⊥)
+reported true = (λ same. cc, λ same. cc)
+reported false = (λ same. cc, λ same. cc)
+
 pub never_fault : (report : Report) → status_of_report report ≡ WriteFault → ⊥
-never_fault report = not report.rejects
-  where
-    not : (rejects : Bool) → cond rejects Rejected Done ≡ WriteFault → ⊥
-    not true same = cc
-    not false same = cc
+never_fault report = (reported report.rejects).0
 
 pub never_memory : (report : Report) → status_of_report report ≡ NoMemory → ⊥
-never_memory report = not report.rejects
-  where
-    not : (rejects : Bool) → cond rejects Rejected Done ≡ NoMemory → ⊥
-    not true same = cc
-    not false same = cc
+never_memory report = (reported report.rejects).1
 
 -- how words end by the end of their command
 module _ (words : List (List ℕ)) (command : Command) (is : command_of words ≡ Some command) (old new : FolderState) where

@@ -20,29 +20,10 @@ use Rattle.front_words.specs.declared.commands.Check.{Check}
 use Rattle.front_words.specs.declared.commands.Invocation.{Invocation as Command}
 use Rattle.front_words.specs.declared.commands.Invocation.TheVariants.{Plan as to_plan, Check as to_check, Bans as to_bans, Batch as to_batch, Gen as to_gen}
 use Rattle.front_words.specs.Commands.{command_of}
-use Rattle.front_desk.specs.Commands.{first_fault_for, failed_check_for, IsFinished, IsUndisturbed, Judges, LeavesFiles, Rejects, ReadsNothing, WritesFiles}
+use Rattle.front_desk.specs.Commands.{first_fault_for, failed_check_for, IsFinished, Judges, LeavesFiles, Rejects, ReadsNothing, WritesFiles}
 use Rattle.front_desk.specs.Inside.Ending.{Writes}
-use Rattle.front_desk.specs.Run.{IsCause, IsDue, IsRefused, Prints, Runs, HasFailed, StopsWriting, status_of}
+use Rattle.front_desk.specs.Run.{Completes, FailsToWrite, IsCause, IsDue, IsRefused, Prints, Runs, HasFailed, StopsWriting, status_of}
 use Rattle.front_desk.proofs.Leaving.{still_left}
-
--- statuses that differ
-fault_or_read : WriteFault ≡ ReadFault → ⊥
-fault_or_read same = cc
-
-memory_or_read : NoMemory ≡ ReadFault → ⊥
-memory_or_read same = cc
-
-fault_or_memory : WriteFault ≡ NoMemory → ⊥
-fault_or_memory same = cc
-
-read_or_done : ReadFault ≡ Done → ⊥
-read_or_done same = cc
-
-fault_or_done : WriteFault ≡ Done → ⊥
-fault_or_done same = cc
-
-memory_or_done : NoMemory ≡ Done → ⊥
-memory_or_done same = cc
 
 -- a command comes to its end with Done, and with Rejected where it judges
 finishes : (command : Command) → IsFinished command Done × (Judges command → IsFinished command Rejected)
@@ -230,7 +211,7 @@ module _ (words : List (List ℕ)) (old new : FolderState) where
 
     never_read : status ≢ ReadFault
     never_read same =
-        by_others ⊥ (λ here. not_read (sym here ∙ same)) (λ fault. fault_or_read (sym fault ∙ same)) (λ memory. memory_or_read (sym memory ∙ same))
+        by_others ⊥ (λ here. not_read (sym here ∙ same)) (λ fault. cc) (λ memory. cc)
 
     pub runs_printed : Runs words old new from to status
     runs_printed = record {
@@ -262,59 +243,43 @@ module _ (words : List (List ℕ)) (old new : FolderState) where
 
   -- reading, writing a file or memory failed, and nothing was printed
   module _ (sink : SinkState) (counts : CountsRise old new) where
+    -- all that doesn't speak of the status that a failure has
+    runs_failed : (status : Status) → HasFailed status → (status ≡ Done → ⊥) → (IsRefused status → ⊥)
+        → (status ≡ WriteFault → FailsToWrite words old new sink sink) → (status ≡ ReadFault → FailedToRead old new)
+        → (ReadsNothing (command_of words) → status ≢ ReadFault) → Completes words old new sink sink status
+        → LeavesFiles (command_of words) old new status → Runs words old new sink sink status
+    runs_failed status failed not_done not_refused write_fault read_fault nothing_read complete left = record {
+      done = λ same. absurd (not_done same);
+      refused = λ is. absurd (not_refused is);
+      write_fault = write_fault;
+      silent = λ _. refl;
+      read_fault = read_fault;
+      nothing_read = nothing_read;
+      usage_due = λ none. inr failed;
+      bad_input_due = λ held command fault told is bad. inr failed;
+      bad_request_due = λ held command fault told is faultless bad. inr failed;
+      complete = complete;
+      accepted = λ held check told is good. inr failed;
+      left = left;
+      folder_counts = counts;
+      sink_count = omega arith;
+    }
+
     pub runs_unread : FailedToRead old new → (ReadsNothing (command_of words) → ⊥) → LeavesFiles (command_of words) old new ReadFault
         → Runs words old new sink sink ReadFault
-    runs_unread counted reads left = record {
-      done = λ same. absurd (read_or_done same);
-      refused = λ is. absurd is;
-      write_fault = λ same. absurd (fault_or_read (sym same));
-      silent = λ _. refl;
-      read_fault = λ _. counted;
-      nothing_read = λ nothing. absurd (reads nothing);
-      usage_due = λ none. inr (inl refl);
-      bad_input_due = λ held command fault told is bad. inr (inl refl);
-      bad_request_due = λ held command fault told is faultless bad. inr (inl refl);
-      complete = λ held command told is faultless passed undisturbed. absurd (undisturbed.reads counted);
-      accepted = λ held check told is good. inr (inl refl);
-      left = left;
-      folder_counts = counts;
-      sink_count = omega arith;
-    }
+    runs_unread counted reads left =
+        runs_failed ReadFault (inl refl) (λ same. cc) (λ is. is) (λ same. cc) (λ _. counted) (λ nothing. absurd (reads nothing))
+        (λ held command told is faultless passed undisturbed. absurd (undisturbed.reads counted)) left
 
     pub runs_unwritten : StopsWriting words old new → LeavesFiles (command_of words) old new WriteFault → Runs words old new sink sink WriteFault
-    runs_unwritten stops left = record {
-      done = λ same. absurd (fault_or_done same);
-      refused = λ is. absurd is;
-      write_fault = λ _. inl (record { stops = stops; silent = refl });
-      silent = λ _. refl;
-      read_fault = λ same. absurd (fault_or_read same);
-      nothing_read = λ nothing. fault_or_read;
-      usage_due = λ none. inr (inr (inl refl));
-      bad_input_due = λ held command fault told is bad. inr (inr (inl refl));
-      bad_request_due = λ held command fault told is faultless bad. inr (inr (inl refl));
-      complete = λ held command told is faultless passed undisturbed. absurd (undisturbed.writes
-          (subst (λ (k : Command). WritesFiles k) (same_command held told command is stops.command stops.is_command) stops.stops.writes)
-          stops.stops.counted);
-      accepted = λ held check told is good. inr (inr (inl refl));
-      left = left;
-      folder_counts = counts;
-      sink_count = omega arith;
-    }
+    runs_unwritten stops left =
+        runs_failed WriteFault (inr (inl refl)) (λ same. cc) (λ is. is) (λ _. inl (record { stops = stops; silent = refl })) (λ same. cc)
+        (λ nothing same. cc)
+        (λ held command told is faultless passed undisturbed. absurd (undisturbed.writes
+        (subst (λ (k : Command). WritesFiles k) (same_command held told command is stops.command stops.is_command) stops.stops.writes)
+        stops.stops.counted)) left
 
     pub runs_short : LeavesFiles (command_of words) old new NoMemory → Runs words old new sink sink NoMemory
-    runs_short left = record {
-      done = λ same. absurd (memory_or_done same);
-      refused = λ is. absurd is;
-      write_fault = λ same. absurd (fault_or_memory (sym same));
-      silent = λ _. refl;
-      read_fault = λ same. absurd (memory_or_read same);
-      nothing_read = λ nothing. memory_or_read;
-      usage_due = λ none. inr (inr (inr refl));
-      bad_input_due = λ held command fault told is bad. inr (inr (inr refl));
-      bad_request_due = λ held command fault told is faultless bad. inr (inr (inr refl));
-      complete = λ held command told is faultless passed undisturbed. inr refl;
-      accepted = λ held check told is good. inr (inr (inr refl));
-      left = left;
-      folder_counts = counts;
-      sink_count = omega arith;
-    }
+    runs_short left =
+        runs_failed NoMemory (inr (inr refl)) (λ same. cc) (λ is. is) (λ same. cc) (λ same. cc) (λ nothing same. cc)
+        (λ held command told is faultless passed undisturbed. inr refl) left

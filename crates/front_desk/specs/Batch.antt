@@ -1,5 +1,5 @@
 -- The texts of the command that plans a table of jobs (source: own).
-use Rattle.std.specs.Prelude.{◌≡◌, ℕ, true, Option, Some, None, List, length, IfSome, slice_get}
+use Rattle.std.specs.Prelude.{◌≡◌, ℕ, Option, Some, None, List, length, IfSome, slice_get}
 use Rattle.std.specs.Option.{option_or}
 use Rattle.route_base.specs.Contents.{Contents}
 use Rattle.route_base.specs.Front.{IsRight}

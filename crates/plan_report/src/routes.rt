@@ -48,9 +48,9 @@ fn push_legs<F: RouteForm>(
     out: &mut Vec<u8>,
     net: &TimedNet,
     request: Request,
-    number: u64,
-    pair: Pair,
     legs: &[Leg],
+    pair: Pair,
+    number: u64,
 ) -> Result<(), OutOfMemory>
     requires timed { HasInstants request }
     requires lawful { Achieves (setting_of net.now) request legs.now pair }
@@ -94,9 +94,9 @@ fn push_route<F: RouteForm>(
         out,
         net,
         request,
-        number,
-        route.pair,
         route.legs.as_slice(),
+        route.pair,
+        number,
     )?;
     form.push_end(out, number, route)
 }

@@ -1,5 +1,5 @@
 -- How a command ends, with its report or without, and how a text is handed to a sink (source: own).
-use Rattle.std.specs.Prelude.{◌≡◌, ◌≢◌, ◌⊎◌, ℕ, true, false, ⊤, Option, Some, None, List, if◌then◌else◌, Result, Ok, Err}
+use Rattle.std.specs.Prelude.{◌≡◌, ◌≢◌, ◌⊎◌, ℕ, true, false, ⊤, Some, List, if◌then◌else◌, Result, Ok, Err}
 use Rattle.route_base.specs.FolderState.{FolderState, CountsRise, FailedToRead}
 use Rattle.route_base.specs.SinkState.{SinkState, Appends, AppendsPrefix, StaysSilent, FaultsRise, FailedToAppend}
 use Rattle.route_base.specs.declared.sink.WriteError.{WriteError}
