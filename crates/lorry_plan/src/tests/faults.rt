@@ -88,7 +88,7 @@ fn expect_calls<R: Abort + Threads + Sync + AllocGlobal>(rt: &R, calls: u8, case
 // Runs, and the number of calls that read. A file that is there is read in two calls, and one that isn't in one.
 const READING: &[(u8, Case<'static>)] = &[
     (
-        11,
+        12,
         Case {
             more: GRAPH,
             words: TRIP,
@@ -97,7 +97,7 @@ const READING: &[(u8, Case<'static>)] = &[
         },
     ),
     (
-        14,
+        15,
         Case {
             more: NETWORK,
             words: TRIP,
@@ -106,7 +106,7 @@ const READING: &[(u8, Case<'static>)] = &[
         },
     ),
     (
-        14,
+        15,
         Case {
             more: NETWORK,
             words: "plan d any 0 3 26563680 26564080",
@@ -124,7 +124,7 @@ const READING: &[(u8, Case<'static>)] = &[
         },
     ),
     (
-        12,
+        13,
         Case {
             more: &[("d/graph.gr", TRIANGLE), ("d/closures.csv", "x")],
             words: TRIP,
@@ -197,12 +197,12 @@ fn certify<R: Threads + Sync + AllocGlobal>(
     Ok((ended, silent, certificate_in(&folder)))
 }
 
-// Whether such an end of `certify` is due where these calls fail: fourteen calls read, and the fifteenth writes the
+// Whether such an end of `certify` is due where these calls fail: fifteen calls read, and the sixteenth writes the
 // certificate, of which nothing is known where it fails.
 fn is_due((read, write): (u64, u64), (ended, silent, left): (Status, bool, Option<bool>)) -> bool {
     match (read, write) {
-        (1..=14, 0) => ended == Status::ReadFault && silent && left == None,
-        (15, 0) => ended == Status::WriteFault && silent,
+        (1..=15, 0) => ended == Status::ReadFault && silent && left == None,
+        (16, 0) => ended == Status::WriteFault && silent,
         _ => ended == Status::WriteFault && silent && left == Some(true),
     }
 }
@@ -215,7 +215,7 @@ fn expect_certified<R: Abort + Threads + Sync + AllocGlobal>(rt: &R, failing: (u
 
 #[test]
 fn leaves_certificates_whole_or_not_at_all(rt: HostRuntime) {
-    for failing in 1..=15 {
+    for failing in 1..=16 {
         expect_certified(&rt, (failing, 0));
     }
     expect_certified(&rt, (0, 1));
