@@ -14,7 +14,8 @@ use Rattle.route_base.specs.FolderState.{FolderState, KeepsFiles}
 use Rattle.network_tables.specs.NetworkModel.{NetworkModel}
 use Rattle.plan_report.specs.Check.{check_text_of}
 use Rattle.plan_report.specs.declared.outcomes.Verdict3.TheVariants.{Rejected as Rejected3}
-use Rattle.front_desk.specs.Check.{no_certificate, condition_fails, check_check, check_fault, check_setting, certificate_held, FailsWith, IsAccepted, IsRejected}
+use Rattle.front_desk.specs.Check.{no_certificate, condition_fails, check_check, check_fault, check_setting, certificate_held}
+use Rattle.front_desk.specs.Check.{FailsWith, IsAccepted, IsRejected}
 use Rattle.front_words.specs.declared.commands.Check.{Check}
 use Rattle.front_words.specs.declared.commands.Invocation.TheVariants.{Check as to_check}
 use Rattle.network_folder.specs.Files.{IfTold}

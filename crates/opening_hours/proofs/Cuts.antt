@@ -69,7 +69,8 @@ short_time_shorter text t after e = absurd cc
 
 long_number_shorter : (text : List ℕ) → Shorter long_number_at text
 unfolding Shorter
-long_number_shorter (a ∷ b ∷ rest) t after e = omega (arith, ap length (if_found (is_digit a && is_digit b) (Number (number_of_two a b) digits.Two) t rest after e))
+long_number_shorter (a ∷ b ∷ rest) t after e =
+    omega (arith, ap length (if_found (is_digit a && is_digit b) (Number (number_of_two a b) digits.Two) t rest after e))
 long_number_shorter text t after e = absurd cc
 
 short_number_shorter : (text : List ℕ) → Shorter short_number_at text

@@ -255,7 +255,8 @@ not_days t e = refl
 
 days_made : (ts : List Token) (is : List DayItem) → IsDays ts is → Made (belongs parts.Days) ts
 days_made ts is grammar.none = tt
-days_made ts is (grammar.some h) = joined_made (belongs parts.Days) IsItem Comma refl (item_made (belongs parts.Days) refl (λ _. refl) refl refl refl (λ _ _. refl) refl) h
+days_made ts is (grammar.some h) =
+    joined_made (belongs parts.Days) IsItem Comma refl (item_made (belongs parts.Days) refl (λ _. refl) refl refl refl (λ _ _. refl) refl) h
 
 spans_made : (ts : List Token) (ss : List TimeSpan) → IsSpans ts ss → Made (belongs parts.Spans) ts
 spans_made ts is grammar.none = tt

@@ -13,7 +13,8 @@ keys-preserved c =
     let vehicle = c.args.vehicle.now in
     let area = c.area_of-area.result in
     let there = key_there c.keys.k (Some c.in-Some.key) c.class.ensures c.chain_at.ensures c.in-Some.is in
-    let later : Option Access = last_given (given_at c.args.network.now (area_at c.args.network.now area) vehicle c.args.t) (places_of_key area c.args.a.0 c.in-Some.key) in
+    let later : Option Access =
+    last_given (given_at c.args.network.now (area_at c.args.network.now area) vehicle c.args.t) (places_of_key area c.args.a.0 c.in-Some.key) in
     record {
       upto = omega (arith, slice_get_within (keys_of vehicle.class) c.keys.k c.in-Some.key there);
       access = c.unwrap_or-access.ensures
