@@ -15,7 +15,7 @@ ghost use Rattle.route_base.specs.declared.limits.TheConstants.{HIGHEST_COST, LA
 ghost use Rattle.route_base.specs.declared.limits.TheConstants.{LONGEST_FOLDER, LONGEST_FILE, LONGEST_CERTIFICATE};
 ghost use Rattle.route_base.specs.declared.limits.TheConstants.{MOST_ZONE_ROWS, MOST_AREAS, MOST_ROAD_ROWS, MOST_VEHICLES};
 ghost use Rattle.route_base.specs.declared.limits.TheConstants.{MOST_RULES, MOST_CLOSURES, MOST_RATINGS, MOST_PARKING_ROWS};
-ghost use Rattle.route_base.specs.declared.limits.TheConstants.{MOST_HOLIDAYS, MOST_NET_NODES, HIGHEST_TOLL, DEAREST_MINUTE};
+ghost use Rattle.route_base.specs.declared.limits.TheConstants.{MOST_HOLIDAYS, MOST_TOLLS, MOST_NET_NODES, HIGHEST_TOLL, DEAREST_MINUTE};
 
 /// The law of the limits: the definitions of the law take each from a constant of the code, and the constants have these numbers. They are
 /// those of `docs/LIMITS.md`. The call does nothing.
@@ -45,6 +45,7 @@ pub fn limits_are_these()
     ensures ratings { MOST_RATINGS ≡ 1000 }
     ensures parking { MOST_PARKING_ROWS ≡ 500000 }
     ensures holidays { MOST_HOLIDAYS ≡ 100000 }
+    ensures tolls { MOST_TOLLS ≡ 1000000 }
     ensures jobs { MOST_JOBS ≡ 10000 }
 {}
 

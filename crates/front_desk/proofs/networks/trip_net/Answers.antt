@@ -31,8 +31,8 @@ returns c =
         until = c.requires.timed.until.1;
       };
       fit = (c.settings_agree.ensures.fit (setting_of net) road (trip_window trip) request stands within).1
-          (fits road request (cheap network vehicle c.requires.network) good.in_order good.short);
-      cheap = (c.certificates_agree.ensures.cheap (setting_of net) road (trip_window trip) stands).1 (cheap_roads network vehicle graph);
+          (fits road request (cheap network vehicle c.requires.network graph) good.in_order good.short);
+      cheap = (c.certificates_agree.ensures.cheap (setting_of net) road (trip_window trip) stands).1 (cheap_roads network vehicle c.requires.network graph);
       nodes = omega (arith, nodes, graph.nodes);
       arcs = omega (arith, stands.arcs, graph.arcs);
     }
