@@ -48,6 +48,12 @@ module _ {A : Type 0} (read : Reading A) where
   taken_gone lines None others takes is = takes
   taken_gone lines (Some y) others takes is = absurd (cc)
 
+  -- all that is read, where the next answer is none and takes no lines
+  pub taken_end : (lines : List Tokens) (items : List A) (others left : List Tokens) (o : Option A) → AreTaken read lines items others
+      → Takes read others o left → o ≡ None → left ≡ others → (items, left) ≡ items_in read lines
+  taken_end lines items others left o taken takes is kept = subst (λ ls. (items, ls) ≡ items_in read lines) (sym kept)
+      (taken_all lines items others taken (taken_gone others o left takes is))
+
   -- no lines come
   module _ (shorter : (lines : List Tokens) (x : A) (others : List Tokens) → read lines ≡ Some (x, others) → length others < length lines) where
     left_of : (k : ℕ) (lines : List Tokens) → length (items_up_to read k lines).1 ≤ length lines

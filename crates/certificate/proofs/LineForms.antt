@@ -54,6 +54,15 @@ number_found least most token n is =
       high = omega (arith, le_true parts.0 most limits.1, same);
     }
 
+-- two numbers from 0 on, of which something is made
+both_found : {A : Type 0} (make : ℕ → ℕ → A) (most more : ℕ) (one two : List ℕ) (P : A → Type 0) (x : A)
+    → option_and_then (λ a. option_map (λ c. make a c) (number_within 0 more two)) (number_within 0 most one) ≡ Some x
+    → ((a c : ℕ) → IsNumberOf 0 most one a → IsNumberOf 0 more two c → P (make a c)) → P x
+both_found make most more one two P x is each =
+    let first = then_some (number_within 0 most one) (λ a. option_map (λ c. make a c) (number_within 0 more two)) x is in
+    let second = map_some (number_within 0 more two) (λ c. make first.0 c) x first.2 in
+    subst P second.2 (each first.0 second.0 (number_found 0 most one first.0 first.1) (number_found 0 more two second.0 second.1))
+
 pub node_again : (v : NodeId) → IsWritableNode v → node_from (decimal v.0) ≡ Some v
 node_again v writable = ap (λ o. option_map (λ n. record { 0 = n }) o) (number_again 1 MOST_NODES v.0 writable.0 writable.1 (omega arith))
 
@@ -119,14 +128,9 @@ pair_again p legs writable =
 
 pair_from_found : (arrival cost : List ℕ) (p : Pair) → pair_from arrival cost ≡ Some p
     → (arrival ≡ decimal p.arrival) × (cost ≡ decimal p.cost) × IsWritablePair p
-pair_from_found arrival cost p is =
-    let first = then_some (number_within 0 LAST_INSTANT arrival)
-    (λ a. option_map (λ c. record { arrival = a; cost = c }) (number_within 0 HIGHEST_PIECE_COST cost)) p is in
-    let second = map_some (number_within 0 HIGHEST_PIECE_COST cost) (λ c. record { arrival = first.0; cost = c }) p first.2 in
-    let a = number_found 0 LAST_INSTANT arrival first.0 first.1 in
-    let c = number_found 0 HIGHEST_PIECE_COST cost second.0 second.1 in
-    subst (λ (q : Pair). (arrival ≡ decimal q.arrival) × (cost ≡ decimal q.cost) × IsWritablePair q) second.2
-    (a.token_is, c.token_is, record { arrival = a.high; cost = c.high })
+pair_from_found arrival cost p is = both_found {A = Pair} (λ a c. record { arrival = a; cost = c }) LAST_INSTANT HIGHEST_PIECE_COST arrival cost
+    (λ q. (arrival ≡ decimal q.arrival) × (cost ≡ decimal q.cost) × IsWritablePair q) p is
+    (λ a c first second. (first.token_is, second.token_is, record { arrival = first.high; cost = second.high }))
 
 pub pair_found : (tokens : Tokens) (p : Pair) (legs : List ℕ) → pair_in tokens ≡ Some (p, legs)
     → (tokens ≡ codes "pair" ∷ decimal p.arrival ∷ decimal p.cost ∷ legs ∷ []) × IsWritablePair p
@@ -164,14 +168,9 @@ bound_again e node bound =
 
 bound_from_found : (minutes cost : List ℕ) (b : Bound) → bound_from minutes cost ≡ Some b
     → (minutes ≡ decimal b.minutes) × (cost ≡ decimal b.cost) × IsWritableBound b
-bound_from_found minutes cost b is =
-    let first = then_some (number_within 0 LONGEST_BOUND minutes)
-    (λ m. option_map (λ c. record { minutes = m; cost = c }) (number_within 0 HIGHEST_PIECE_COST cost)) b is in
-    let second = map_some (number_within 0 HIGHEST_PIECE_COST cost) (λ c. record { minutes = first.0; cost = c }) b first.2 in
-    let m = number_found 0 LONGEST_BOUND minutes first.0 first.1 in
-    let c = number_found 0 HIGHEST_PIECE_COST cost second.0 second.1 in
-    subst (λ (q : Bound). (minutes ≡ decimal q.minutes) × (cost ≡ decimal q.cost) × IsWritableBound q) second.2
-    (m.token_is, c.token_is, record { minutes = m.high; cost = c.high })
+bound_from_found minutes cost b is = both_found {A = Bound} (λ m c. record { minutes = m; cost = c }) LONGEST_BOUND HIGHEST_PIECE_COST minutes cost
+    (λ q. (minutes ≡ decimal q.minutes) × (cost ≡ decimal q.cost) × IsWritableBound q) b is
+    (λ m c first second. (first.token_is, second.token_is, record { minutes = first.high; cost = second.high }))
 
 pub bound_found : (tokens : Tokens) (e : NodeId × Bound) → bound_in tokens ≡ Some e → (tokens ≡ bound_line e) × IsWritableNode e.0 × IsWritableBound e.1
 bound_found [] e is = absurd (cc)

@@ -3,8 +3,8 @@ ghost use Rattle.std.specs.Prelude.{◌↔◌, ◌≤◌, ℕ, IsTrue, All};
 ghost use Rattle.route_base.specs.Net.{setting_of};
 ghost use Rattle.route_base.specs.Front.{RiseAndFall};
 ghost use Rattle.certificate.specs.ByNode.{item_at};
-ghost use Rattle.certificate_check.specs.Conditions.{IsInRange, AreFunctionsRelaxed, AreBoundsInRange, value_of};
-ghost use Rattle.certificate_check.specs.Inside.Steps.{AreDrivesRelaxed, AreWaitsRelaxed};
+ghost use Rattle.certificate_check.specs.Conditions.{IsInRange, AreFunctionsRelaxed, AreBoundsInRange};
+ghost use Rattle.certificate_check.specs.Inside.Steps.{IsGoodTrial, AreDrivesRelaxedIn, AreWaitsRelaxedIn};
 
 use crate::bounds::is_node;
 use crate::lookup::{bound_of, pieces_of};
@@ -30,10 +30,16 @@ pub fn are_functions_relaxed(
     if !are_in_range(net, request, &certificate.functions) {
         return false;
     }
-    if !are_drives_relaxed(net, request.until, pairs, certificate) {
+    let trial = Trial {
+        net,
+        until: request.until,
+        pairs,
+        certificate,
+    };
+    if !are_drives_relaxed(trial) {
         return false;
     }
-    are_waits_relaxed(net, request.until, pairs, certificate)
+    are_waits_relaxed(trial)
 }
 
 // Whether the functions are of nodes of the net and at minutes of the request. Linear in the number of pieces.
@@ -56,20 +62,22 @@ fn are_within(request: Request, pieces: &[Piece]) -> bool
     pieces.iter().all(|piece| request.depart <= piece.lo && piece.hi <= request.until)
 }
 
-// Whether the drives over all arcs are relaxed.
-fn are_drives_relaxed(
-    net: &TimedNet,
+// What the steps from the values of a certificate are held against.
+#[derive(Clone, Copy)]
+pub struct Trial<'a> {
+    net: &'a TimedNet,
     until: Minute,
-    pairs: &[Pair],
-    certificate: &Certificate,
-) -> bool
-    requires pairs { RiseAndFall pairs.now }
-    requires bounds { AreBoundsInRange certificate.now.bounds }
-    ensures { IsTrue result ↔ ((a : ℕ) → AreDrivesRelaxed (setting_of net.now) until pairs.now
-        (item_at certificate.now.bounds) (value_of certificate.now.functions) a) }
+    pairs: &'a [Pair],
+    certificate: &'a Certificate,
+}
+
+// Whether the drives over all arcs are relaxed.
+fn are_drives_relaxed(trial: Trial<'_>) -> bool
+    requires { IsGoodTrial trial }
+    ensures { IsTrue result ↔ ((a : ℕ) → AreDrivesRelaxedIn trial.entry a) }
 {
-    for k in 0..net.arc_count() {
-        if !are_drives_over_relaxed(net, until, pairs, certificate, ArcId(k + 1)) {
+    for k in 0..trial.net.arc_count() {
+        if !are_drives_over_relaxed(trial, ArcId(k + 1)) {
             return false;
         }
     }
@@ -77,49 +85,38 @@ fn are_drives_relaxed(
 }
 
 // Whether the drives over one arc are relaxed.
-fn are_drives_over_relaxed(
-    net: &TimedNet,
-    until: Minute,
-    pairs: &[Pair],
-    certificate: &Certificate,
-    a: ArcId,
-) -> bool
-    requires pairs { RiseAndFall pairs.now }
-    requires bounds { AreBoundsInRange certificate.now.bounds }
-    ensures { IsTrue result ↔ AreDrivesRelaxed (setting_of net.now) until pairs.now
-        (item_at certificate.now.bounds) (value_of certificate.now.functions) a.0 }
+fn are_drives_over_relaxed(trial: Trial<'_>, a: ArcId) -> bool
+    requires { IsGoodTrial trial }
+    ensures { IsTrue result ↔ AreDrivesRelaxedIn trial.entry a.0 }
 {
-    let Some(arc) = net.arc(a) else { return true };
+    let Some(arc) = trial.net.arc(a) else {
+        return true;
+    };
+    let bounds = &trial.certificate.bounds;
+    let functions = &trial.certificate.functions;
     let passage = Passage {
         minutes: arc.minutes,
         cost: arc.cost,
-        closed: net.closed_runs(a),
-        from: bound_of(&certificate.bounds, arc.tail),
-        to: bound_of(&certificate.bounds, arc.head),
-        values: pieces_of(&certificate.functions, arc.head),
+        closed: trial.net.closed_runs(a),
+        from: bound_of(bounds, arc.tail),
+        to: bound_of(bounds, arc.head),
+        values: pieces_of(functions, arc.head),
     };
     pieces_pass(
-        until,
-        pairs,
+        trial.until,
+        trial.pairs,
         passage,
-        pieces_of(&certificate.functions, arc.tail),
+        pieces_of(functions, arc.tail),
     )
 }
 
 // Whether the waits at all nodes are relaxed.
-fn are_waits_relaxed(
-    net: &TimedNet,
-    until: Minute,
-    pairs: &[Pair],
-    certificate: &Certificate,
-) -> bool
-    requires pairs { RiseAndFall pairs.now }
-    requires bounds { AreBoundsInRange certificate.now.bounds }
-    ensures { IsTrue result ↔ ((v : ℕ) → AreWaitsRelaxed (setting_of net.now) until pairs.now
-        (item_at certificate.now.bounds) (value_of certificate.now.functions) v) }
+fn are_waits_relaxed(trial: Trial<'_>) -> bool
+    requires { IsGoodTrial trial }
+    ensures { IsTrue result ↔ ((v : ℕ) → AreWaitsRelaxedIn trial.entry v) }
 {
-    for k in 0..net.node_count() {
-        if !are_waits_at_relaxed(net, until, pairs, certificate, NodeId(k + 1)) {
+    for k in 0..trial.net.node_count() {
+        if !are_waits_at_relaxed(trial, NodeId(k + 1)) {
             return false;
         }
     }
@@ -127,32 +124,24 @@ fn are_waits_relaxed(
 }
 
 // Whether the waits at one node are relaxed.
-fn are_waits_at_relaxed(
-    net: &TimedNet,
-    until: Minute,
-    pairs: &[Pair],
-    certificate: &Certificate,
-    v: NodeId,
-) -> bool
-    requires pairs { RiseAndFall pairs.now }
-    requires bounds { AreBoundsInRange certificate.now.bounds }
+fn are_waits_at_relaxed(trial: Trial<'_>, v: NodeId) -> bool
+    requires trial { IsGoodTrial trial }
     requires low { 1 ≤ v.0 }
-    requires high { v.0 ≤ net.now.nodes }
-    ensures { IsTrue result ↔ AreWaitsRelaxed (setting_of net.now) until pairs.now
-        (item_at certificate.now.bounds) (value_of certificate.now.functions) v.0 }
+    requires high { v.0 ≤ trial.net.now.nodes }
+    ensures { IsTrue result ↔ AreWaitsRelaxedIn trial.entry v.0 }
 {
-    let Some(weight) = net.weight(v) else {
+    let Some(weight) = trial.net.weight(v) else {
         return true;
     };
-    let bound = bound_of(&certificate.bounds, v);
-    let pieces = pieces_of(&certificate.functions, v);
+    let bound = bound_of(&trial.certificate.bounds, v);
+    let pieces = pieces_of(&trial.certificate.functions, v);
     let passage = Passage {
         minutes: 1,
         cost: weight,
-        closed: net.shut_runs(v),
+        closed: trial.net.shut_runs(v),
         from: bound,
         to: bound,
         values: pieces,
     };
-    pieces_pass(until, pairs, passage, pieces)
+    pieces_pass(trial.until, trial.pairs, passage, pieces)
 }

@@ -5,6 +5,7 @@ use Rattle.route_base.specs.Net.{at_number}
 use Rattle.route_base.specs.Setting.{Road}
 use Rattle.route_base.proofs.Numbered.{at_number-all}
 use Rattle.route_base.proofs.Costs.{IsCheap}
+use Rattle.dimacs_reader.specs.GraphModel.{IsGoodGraph, IsGoodGraphArc}
 use Rattle.dimacs_reader.specs.declared.graph.GraphArc.{GraphArc}
 use Rattle.vehicle_classes.specs.VehicleModel.{VehicleModel}
 use Rattle.network_tables.specs.NetworkModel.{NetworkModel, IsGoodNetwork, IsSmallWeight}
@@ -32,12 +33,13 @@ cheap net vehicle good = record {
         let same : road_over arc ≡ road = cc in
         subst (λ (r : Road). r.cost ≤ 110000 * r.minutes) same (omega arith)
 
--- no road costs more than its minutes of driving and a toll
-pub cheap_roads : (net : NetworkModel) (vehicle : VehicleModel) → HasCheapRoads (road_setting net vehicle)
-cheap_roads net vehicle a road is = at (at_number net.graph.arcs a) is
+-- no road costs more than the longest drive and a toll
+pub cheap_roads : (net : NetworkModel) (vehicle : VehicleModel) → IsGoodGraph net.graph → HasCheapRoads (road_setting net vehicle)
+cheap_roads net vehicle good a road is = at (at_number net.graph.arcs a) refl is
   where
-    at : (o : Option GraphArc) → option_map road_over o ≡ Some road → road.cost ≤ 1000 * road.minutes + 100000
-    at None is = absurd (cc)
-    at (Some arc) is =
+    at : (o : Option GraphArc) → at_number net.graph.arcs a ≡ o → option_map road_over o ≡ Some road → road.cost ≤ 10180000
+    at None there is = absurd (cc)
+    at (Some arc) there is =
+        let fine = at_number-all (IsGoodGraphArc net.graph.nodes) net.graph.arcs a arc good.each_arc there in
         let same : road_over arc ≡ road = cc in
-        subst (λ (r : Road). r.cost ≤ 1000 * r.minutes + 100000) same (omega arith)
+        subst (λ (r : Road). r.cost ≤ 10180000) same (omega (arith, fine.minutes.1))

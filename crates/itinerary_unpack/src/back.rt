@@ -1,11 +1,11 @@
 // Back from a pair to the start.
-ghost use Rattle.std.specs.Prelude.{◌≤◌, ◌<◌, length, reverse, Contains, IfOk, slice_index_or};
-ghost use Rattle.route_base.specs.Net.{IsGoodRequest, setting_of};
+ghost use Rattle.std.specs.Prelude.{◌<◌, length, reverse, Contains, IfOk, slice_index_or};
+ghost use Rattle.route_base.specs.Net.{setting_of};
 ghost use Rattle.route_base.specs.Itinerary.{Walks};
-ghost use Rattle.route_base.specs.Legs.{steps_of, start_of, end_of, Achieves, HasNoNeighbouringWaits, CostsFit};
+ghost use Rattle.route_base.specs.Legs.{steps_of, start_of, end_of, Achieves, HasNoNeighbouringWaits};
 ghost use Rattle.route_base.specs.declared.types.Pair.{Pair};
 ghost use Rattle.node_arcs.specs.Stars.{AreIncoming};
-ghost use Rattle.propagation.specs.Found.{IsFoundFor};
+ghost use Rattle.itinerary_unpack.specs.Answered.{IsAnswered};
 ghost use Rattle.itinerary_unpack.specs.Inside.Requests.{IsSolved, setting_in};
 ghost use Rattle.itinerary_unpack.specs.Inside.Ways.{IsTidyBack};
 
@@ -26,10 +26,7 @@ pub fn unpack(
     found: &Found,
     k: usize,
 ) -> Result<Legs, OutOfMemory>
-    requires good { IsGoodRequest net.now request }
-    requires in_time { request.depart ≤ request.until }
-    requires fit { CostsFit (setting_of net.now) request }
-    requires found { IsFoundFor net.now request found.now }
+    requires found { IsAnswered net.now request found.now }
     requires one { k < length found.now.pairs }
     ensures achieves { IfOk result (λ legs. (d : Pair)
         → Achieves (setting_of net.now) request legs (slice_index_or found.now.pairs k d)) }
@@ -49,10 +46,7 @@ pub fn unpack_over(
     k: usize,
 ) -> Result<Legs, OutOfMemory>
     requires incoming { AreIncoming net.now incoming.now }
-    requires good { IsGoodRequest net.now request }
-    requires in_time { request.depart ≤ request.until }
-    requires fit { CostsFit (setting_of net.now) request }
-    requires found { IsFoundFor net.now request found.now }
+    requires found { IsAnswered net.now request found.now }
     requires one { k < length found.now.pairs }
     ensures achieves { IfOk result (λ legs. (d : Pair)
         → Achieves (setting_of net.now) request legs (slice_index_or found.now.pairs k d)) }

@@ -1,10 +1,9 @@
 // The engine over cost functions.
-ghost use Rattle.std.specs.Prelude.{◌≡◌, ◌≤◌, IfOk};
+ghost use Rattle.std.specs.Prelude.{◌≡◌, IfOk};
 ghost use Rattle.node_arcs.specs.Stars.{AreIncoming};
-ghost use Rattle.propagation.specs.Found.{IsFoundFor};
 ghost use Rattle.route_base.specs.Front.{IsRight, pairs_of};
-ghost use Rattle.route_base.specs.Legs.{CostsFit};
-ghost use Rattle.route_base.specs.Net.{IsGoodRequest, setting_of};
+ghost use Rattle.route_base.specs.Net.{setting_of};
+ghost use Rattle.itinerary_unpack.specs.Answered.{IsAnswered};
 
 use crate::back::unpack_over;
 use node_arcs::NodeArcs;
@@ -40,10 +39,7 @@ pub fn routes_of(
     found: &Found,
 ) -> Result<Routes, OutOfMemory>
     requires incoming { AreIncoming net.now incoming.now }
-    requires good { IsGoodRequest net.now request }
-    requires in_time { request.depart ≤ request.until }
-    requires fit { CostsFit (setting_of net.now) request }
-    requires found { IsFoundFor net.now request found.now }
+    requires found { IsAnswered net.now request found.now }
     ensures right { IfOk result (IsRight (setting_of net.now) request) }
     ensures pairs { IfOk result (λ routes. pairs_of routes ≡ found.now.pairs) }
 {

@@ -2,3 +2,4 @@ pub mod Chaining
 pub mod Placing
 pub mod Counting
 pub mod DriveEnds
+pub mod StarPlaces

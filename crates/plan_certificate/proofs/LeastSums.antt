@@ -148,29 +148,32 @@ module _ (net : Net) (good : IsGoodNet net) (goal : ℕ) (bounds : ℕ → Optio
       let long = few (suc x) v x (ap (option_map (λ (w : Bound). w.minutes)) is) (omega arith) in
       omega (arith, long, nodes_at_most x)
 
-  -- the walk of the least minutes costs no more than these, and a toll for each of its roads
+  -- the walk of the least minutes has at most one road for each node, and none is dear
   module _ (cheap : HasCheapRoads s) where
+    abbrev dearest : ℕ
+    dearest = COST_OF_MINUTE * LONGEST_DRIVE + HIGHEST_TOLL
+
     abbrev CostsAtMost : ℕ → ℕ → Type 0
     CostsAtMost v most = (arcs : List ℕ) × (y : ℕ) × Leads s.road (λ w. w.cost) goal arcs v y × (y ≤ most)
 
-    cheap_walk : (n v x : ℕ) → minutes_at v ≡ Some x → x < n → CostsAtMost v (COST_OF_MINUTE * x + HIGHEST_TOLL * nodes_before x)
+    cheap_walk : (n v x : ℕ) → minutes_at v ≡ Some x → x < n → CostsAtMost v (dearest * nodes_before x)
     cheap_walk zero v x at less = absurd (omega (arith, less))
     cheap_walk (suc n) v x at less =
         ⊎_elim
         (λ (none : (v ≡ goal) × (x ≡ 0)).
-        let stays : CostsAtMost v (COST_OF_MINUTE * x + HIGHEST_TOLL * nodes_before x) = ([], 0, (none.0, refl), omega arith) in stays)
+        let stays : CostsAtMost v (dearest * nodes_before x) = ([], 0, (none.0, refl), omega arith) in stays)
         (λ (one : IsNext v x).
         let rest = cheap_walk n one.road.head one.rest one.known (omega (arith, fewer v x one, less)) in
-        let goes : CostsAtMost v (COST_OF_MINUTE * x + HIGHEST_TOLL * nodes_before x) = (
+        let goes : CostsAtMost v (dearest * nodes_before x) = (
           one.arc ∷ rest.0,
           one.road.cost + rest.1,
           (one.road, rest.1, one.is, one.tail, rest.2, refl),
-          omega (arith, cheap one.arc one.road one.is, rest.3, one.sum, before_next v x one),
+          omega (arith, cheap one.arc one.road one.is, rest.3, before_next v x one),
         ) in
         goes)
         (next_from v x at)
 
-    pub least_cost : (v : ℕ) (b : Bound) → bounds v ≡ Some b → b.cost ≤ COST_OF_MINUTE * b.minutes + HIGHEST_TOLL * net.nodes
+    pub least_cost : (v : ℕ) (b : Bound) → bounds v ≡ Some b → b.cost ≤ dearest * net.nodes
     least_cost v b is =
         let costs : IsLeastSum s.road (λ w. w.cost) goal v (Some b.cost) =
         subst (λ o. IsLeastSum s.road (λ w. w.cost) goal v (option_map (λ (w : Bound). w.cost) o)) is (least v).1 in

@@ -44,10 +44,8 @@ module _ (net : Net) (r : Request) (found : Finding) (answers : IsFoundFor net r
         omega (arith, long, few_nodes)
 
     bound_cost : HasCheapRoads s → b.1.cost ≤ HIGHEST_PIECE_COST
-    bound_cost cheap =
-        let long = least_minutes net answers.good r.goal.0 (bound_at found.bounds) answers.optimal.least b.0.0 b.1 of_bound in
-        let dear = least_cost net answers.good r.goal.0 (bound_at found.bounds) answers.optimal.least cheap b.0.0 b.1 of_bound in
-        omega (arith, long, dear, few_nodes)
+    bound_cost cheap = let dear = least_cost net answers.good r.goal.0 (bound_at found.bounds) answers.optimal.least cheap b.0.0 b.1 of_bound in
+        omega (arith, dear, few_nodes)
 
   -- a node of the net is within the range of the format
   few : {A : Type 0} (n : ℕ) (entries : List (NodeId × A)) → n ≡ net.nodes → All (λ e. (1 ≤ e.0.0) × (e.0.0 ≤ n)) entries

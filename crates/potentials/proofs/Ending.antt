@@ -1,18 +1,15 @@
 -- Arcs of a net, and where they end.
-use Rattle.std.proofs.Common.{◌≡◌, inl, ⊎_elim, ℕ, zero, suc, ◌+◌, ◌≤◌, ◌<◌, Option, Some, None, List, [], length, sym, ◌∙◌, ap, subst, arith}
-use Rattle.std.specs.Prelude.{Contains, slice_get}
+use Rattle.std.proofs.Common.{◌≡◌, inl, ⊎_elim, ℕ, zero, suc, ◌+◌, ◌≤◌, ◌<◌, Option, Some, None, List, [], length, sym, ◌∙◌, ap, arith}
 use Rattle.std.specs.Option.{option_map}
 use Rattle.std.proofs.lemmas.Bool.{cases_eq}
 use Rattle.std.proofs.Math.Nat.{mul-le-mul_left}
-use Rattle.std.proofs.lemmas.Option.{slice_get-get_or, slice_get_within, get_or_from_slice_get}
 use Rattle.route_base.specs.Setting.{Road}
 use Rattle.route_base.specs.Net.{Net, IsGoodNet, IsGoodArc, road_of, setting_of, at_number}
-use Rattle.route_base.specs.declared.types.ArcId.{ArcId}
 use Rattle.route_base.specs.declared.types.TimedArc.{TimedArc}
 use Rattle.label_queue.specs.Keys.{key_at, IsLeastTaken}
 use Rattle.potentials.specs.Inside.Summing.{IsSumming, IsSummed, unsettled, counted_on, WorksAt, unsettled_at}
 use Rattle.potentials.specs.Inside.Totals.{total}
-use Rattle.node_arcs.specs.Stars.{Star, arcs_of, EndsAt, AreIncoming}
+use Rattle.node_arcs.specs.Stars.{EndsAt}
 use Rattle.node_arcs.specs.declared.links.End.TheVariants.{Head}
 use Rattle.route_base.specs.declared.limits.TheConstants.{HIGHEST_COST}
 use Rattle.route_base.proofs.Logic.{map_some}
@@ -41,18 +38,6 @@ pub no_zero : (net : Net) → IsGoodNet net → (a : ℕ) (road : Road) → (set
 no_zero net good a road is none =
     let arc = map_some (at_number net.arcs a) road_of road is in
     omega (arith, (good_arc net good a arc.0 arc.1).head, none, ap (λ (z : Road). z.head) arc.2)
-
-pub place_ends : (net : Net) (star : Star) (v : ℕ) (arcs : List ArcId) (i : ℕ) (a : ArcId) → AreIncoming net star → arcs ≡ arcs_of star v
-    → slice_get arcs i ≡ Some a → EndsAt net Head v a.0
-place_ends net star v arcs i a all is there =
-    (all v).each a (subst (λ o. Contains o a) is (i, slice_get_within arcs i a there, get_or_from_slice_get arcs i a a there))
-
-pub ends_place : (net : Net) (star : Star) (v : ℕ) (arcs : List ArcId) (a : ℕ) → AreIncoming net star → arcs ≡ arcs_of star v → EndsAt net Head v a
-    → (i : ℕ) × (i < length arcs) × (slice_get arcs i ≡ Some (record { 0 = a }))
-ends_place net star v arcs a all is ends =
-    let one : Contains arcs (record { 0 = a }) = subst (λ o. Contains o (record { 0 = a })) (sym is) ((all v).all a ends) in
-    let x : ArcId = record { 0 = a } in
-    (one.0, one.1, slice_get-get_or arcs one.0 x one.1 ∙ ap (λ y. Some y) one.2)
 
 pub few_by : (n : ℕ) (f : ℕ → ℕ) → ((v : ℕ) → f v ≤ 1) → total n f ≤ n
 unfolding total

@@ -8,7 +8,7 @@ use Rattle.potentials.specs.Inside.Summing.{HasSum, unsettled, unsettled_count, 
 use Rattle.potentials.proofs.Totals.{total_le, total_one}
 
 module _ (roads : ℕ → Option Road) (count : Road → ℕ) (goal nodes most : ℕ) where
-  sum_kept : (u sum : ℕ) (old new old_keys new_keys : ℕ → Option ℕ) (v x : ℕ) → GetsSum u sum old new old_keys new_keys → HasSum old v x → HasSum new v x
+  pub sum_kept : (u sum : ℕ) (old new old_keys new_keys : ℕ → Option ℕ) (v x : ℕ) → GetsSum u sum old new old_keys new_keys → HasSum old v x → HasSum new v x
   sum_kept u sum old new old_keys new_keys v x reached h = ⊎_elim
       (λ (here : v ≡ u). ⊎_elim
       (λ (same : HasSum old u sum × (new u ≡ old u) × (new_keys u ≡ old_keys u)).

@@ -1,8 +1,9 @@
 -- Least sums over walks of arcs to a goal (source: Dijkstra 1959; bounds of two criteria: SEA 2020).
-use Rattle.std.specs.Prelude.{◌≡◌, ℕ, ◌+◌, ◌≤◌, Option, Some, None, List, [], ◌∷◌}
+use Rattle.std.specs.Prelude.{◌≡◌, ℕ, ◌+◌, ◌≤◌, Option, Some, None, List, [], ◌∷◌, length}
 use Rattle.std.specs.Option.{option_map, option_flatten}
 use Rattle.route_base.specs.Setting.{Setting, Road}
-use Rattle.route_base.specs.Net.{at_number}
+use Rattle.route_base.specs.Net.{Net, at_number, setting_of}
+use Rattle.route_base.specs.Relaxing.{AreBounds}
 use Rattle.route_base.specs.declared.types.Bound.{Bound}
 
 -- these arcs lead from node v to the goal, and what is counted of them sums up to this
@@ -22,3 +23,9 @@ AreLeastBounds s goal bounds = (v : ℕ) → IsLeastSum s.road (λ r. r.minutes)
 -- the bound of a node in a list with a place for each node
 abbrev pub bound_at : List (Option Bound) → ℕ → Option Bound
 bound_at bounds v = option_flatten (at_number bounds v)
+
+-- for each node of the net its least bounds to the goal, which hold along each arc
+pub record AreBoundsTo (net : Net) (goal : ℕ) (list : List (Option Bound)) : Type 0 where
+  pub least : AreLeastBounds (setting_of net) goal (bound_at list)
+  pub bounds : AreBounds (setting_of net) goal (bound_at list)
+  pub nodes : length list ≡ net.nodes

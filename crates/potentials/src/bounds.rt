@@ -1,9 +1,8 @@
 // The least minutes and, by itself, the least cost from each node to a goal.
 ghost use Rattle.std.specs.Prelude.{◌≡◌, ◌≤◌, ◌<◌, length, IfOk, OnOk};
-ghost use Rattle.route_base.specs.Relaxing.{AreBounds};
-ghost use Rattle.route_base.specs.Net.{IsGoodNet, setting_of};
+ghost use Rattle.route_base.specs.Net.{IsGoodNet};
 ghost use Rattle.node_arcs.specs.Stars.{AreIncoming};
-ghost use Rattle.potentials.specs.Sums.{AreLeastBounds, bound_at};
+ghost use Rattle.potentials.specs.Sums.{AreBoundsTo};
 ghost use Rattle.potentials.specs.Inside.Summing.{AreLeastSums, bound_of_sums};
 ghost use Rattle.potentials.specs.declared.sums.Counted.TheVariants.{Minutes, Cost};
 
@@ -19,11 +18,7 @@ use std::alloc::Global;
 pub fn to_goal(alloc: Global, net: &TimedNet, goal: NodeId) -> Result<Bounds, OutOfMemory>
     requires low { 1 ≤ goal.0 }
     requires high { goal.0 ≤ net.now.nodes }
-    ensures least { IfOk result
-        (λ bounds. AreLeastBounds (setting_of net.now) goal.0 (bound_at bounds)) }
-    ensures bounds { IfOk result
-        (λ bounds. AreBounds (setting_of net.now) goal.0 (bound_at bounds)) }
-    ensures nodes { IfOk result (λ bounds. length bounds ≡ net.now.nodes) }
+    ensures bounds { IfOk result (AreBoundsTo net.now goal.0) }
     ensures good { OnOk result (IsGoodNet net.now) }
 {
     let incoming = NodeArcs::incoming(alloc, net)?;
@@ -40,11 +35,7 @@ pub fn to_goal_over(
     requires incoming { AreIncoming net.now incoming.now }
     requires low { 1 ≤ goal.0 }
     requires high { goal.0 ≤ net.now.nodes }
-    ensures least { IfOk result
-        (λ bounds. AreLeastBounds (setting_of net.now) goal.0 (bound_at bounds)) }
-    ensures bounds { IfOk result
-        (λ bounds. AreBounds (setting_of net.now) goal.0 (bound_at bounds)) }
-    ensures nodes { IfOk result (λ bounds. length bounds ≡ net.now.nodes) }
+    ensures bounds { IfOk result (AreBoundsTo net.now goal.0) }
     ensures good { OnOk result (IsGoodNet net.now) }
 {
     let costs = least_sums(alloc, net, incoming, Counted::Cost, goal)?;

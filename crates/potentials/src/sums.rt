@@ -2,12 +2,11 @@
 ghost use Rattle.std.specs.Prelude.{◌≡◌, ◌≤◌, ◌<◌, ◌+◌, ℕ, Option, Some, None, true, false, length, IfOk};
 ghost use Rattle.std.specs.Option.{IsSomeAnd};
 ghost use Rattle.route_base.specs.Net.{IsGoodNet, road_of, setting_of};
-ghost use Rattle.route_base.specs.Setting.{Road};
 ghost use Rattle.label_queue.specs.Keys.{key_at};
 ghost use Rattle.node_arcs.specs.Stars.{EndsAt, AreIncoming};
 ghost use Rattle.node_arcs.specs.declared.links.End.TheVariants.{Head};
 ghost use Rattle.potentials.specs.Sums.{IsLeastSum};
-ghost use Rattle.potentials.specs.Inside.Summing.{HasSum, GetsSum, IsSummed, WorksAt, unsettled_at, counted_on};
+ghost use Rattle.potentials.specs.Inside.Summing.{GetsSum, IsSummed, IsArcRelaxed, WorksAt, unsettled_at, counted_on};
 
 use label_queue::LabelQueue;
 use node_arcs::NodeArcs;
@@ -110,17 +109,8 @@ fn relax(
     requires room { length queue.old ≡ plan.net.now.nodes }
     requires facts { IsSummed plan.net.now plan.counted plan.goal.0 v.0 known.old.items queue.old }
     requires work { WorksAt plan.net.now v.0 x known.old.items queue.old }
-    ensures nodes { length known.new.items ≡ plan.entry.net.now.nodes }
-    ensures room { length queue.new ≡ plan.entry.net.now.nodes }
-    ensures facts { IsSummed plan.entry.net.now plan.entry.counted plan.entry.goal.0 v.0
-        known.new.items queue.new }
-    ensures work { WorksAt plan.entry.net.now v.0 x known.new.items queue.new }
-    ensures less { unsettled_at plan.entry.net.now known.new.items queue.new
-        ≤ unsettled_at plan.entry.net.now known.old.items queue.old }
-    ensures kept { (u sum : ℕ) → HasSum (key_at known.old.items) u sum
-        → HasSum (key_at known.new.items) u sum }
-    ensures relaxed { (road : Road) → (setting_of plan.entry.net.now).road a.0 ≡ Some road
-        → HasSum (key_at known.new.items) road.tail (counted_on plan.entry.counted road + x) }
+    ensures { IsArcRelaxed plan.entry.net.now plan.entry.counted plan.entry.goal.0 v.0 x a.0
+        known.old.items known.new.items queue.old queue.new }
 {
     let Some(arc) = plan.net.arc(a) else {
         return;

@@ -8,7 +8,7 @@ use Rattle.std.proofs.lemmas.List.{get_or_append_left, get_or-append_right}
 use Rattle.std.proofs.lemmas.Option.{slice_get_within, slice_get-get_or, get_or_from_slice_get}
 use Rattle.route_base.specs.Net.{Net}
 use Rattle.route_base.specs.declared.types.Run.{Run}
-use Rattle.propagation.specs.Inside.EntrySets.{AreEntries, IsEntrySet, AreEntrySets}
+use Rattle.propagation.specs.Inside.EntrySets.{AreEntries, IsEntrySet, AreEntrySets, HasEntriesAt}
 use Rattle.propagation.specs.declared.entry_sets.EntrySet.{EntrySet}
 use Rattle.propagation.specs.declared.entry_sets.EntrySets.{EntrySets}
 
@@ -69,13 +69,11 @@ sets_kept net until old new i closed own are is within wrote made = record {
       (cases_eq j i);
 }
 
--- the set at a place of a list
-pub set_at : (closed : List Run) (until place minutes : ℕ) (list own : Vec EntrySet Global) (made : EntrySet) → All (IsEntrySet closed until) list.items
-    → place < length list.items
-    → ((d : EntrySet) → (get_or list.items place d).minutes ≡ minutes) → own ≡ list → made ≡ get_or own.items place made
+-- the set that is read at its place
+pub set_read : (closed : List Run) (until minutes : ℕ) (sets : EntrySets) (i k : ℕ) (own : Vec EntrySet Global) (made : EntrySet)
+    → HasEntriesAt closed until minutes sets i k → own ≡ get_or sets.lists.items i own → made ≡ get_or own.items k made
     → AreEntries closed until minutes made.set
-set_at closed until place minutes list own made all within length_is same at =
-    let here : made ≡ get_or list.items place made = at ∙ ap (λ (w : Vec EntrySet Global). get_or w.items place made) same in
-    let fine : IsEntrySet closed until made = subst (IsEntrySet closed until) (sym here) (all place made within) in
-    let minutes_is : made.minutes ≡ minutes = ap (λ (w : EntrySet). w.minutes) here ∙ length_is made in
-    subst (λ n. AreEntries closed until n made.set) minutes_is fine
+set_read closed until minutes sets i k own made has at here =
+    let read : AreEntries closed until minutes (get_or own.items k made).set =
+    subst (λ (w : Vec EntrySet Global). AreEntries closed until minutes (get_or w.items k made).set) (sym at) (has.entries own made) in
+    subst (λ (w : EntrySet). AreEntries closed until minutes w.set) (sym here) read

@@ -35,17 +35,15 @@ module _ (k : Task) where
       (λ (e : IsPrunable k old.pairs p). inr (prunable_kept k old.pairs new.pairs p better.pairs e))
       landed
 
+  -- what comes by a step still does, where the cost that it comes from is still known
+  pub comes_within : (old new : Progress) (p : Position) → ((q : Position) → HasWithin old.cost q → HasWithin new.cost q) → ComesBy k old.cost p
+      → ComesBy k new.cost p
+  comes_within old new p kept h =
+      let known = kept h.source h.known in
+      record { step = h.step; source = h.source; end = h.end; move = h.move; node = h.node; minute = h.minute; within = h.within; known = known }
+
   pub comes_kept : (old new : Progress) (p : Position) → Improves k old new → ComesBy k old.cost p → ComesBy k new.cost p
-  comes_kept old new p better h = record {
-    step = h.step;
-    source = h.source;
-    end = h.end;
-    move = h.move;
-    node = h.node;
-    minute = h.minute;
-    within = h.within;
-    known = within_kept old new h.source better h.known;
-  }
+  comes_kept old new p better h = comes_within old new p (λ q. within_kept old new q better) h
 
   pub improves_same : (now : Progress) → Improves k now now
   improves_same now = record {

@@ -12,6 +12,7 @@ use Rattle.propagation.specs.Inside.Offers.{IsKnownPart}
 use Rattle.propagation.specs.Inside.Invariants.{ComesBy, DrivesRelaxed, InPart, IsLabel, IsPrunable, IsRelaxedIn, IsResting, IsSearching, Progress, TakesPart}
 use Rattle.propagation.specs.Inside.Invariants.{Task, no_part, point}
 use Rattle.propagation.specs.Found.{IsStart}
+use Rattle.propagation.proofs.Keeping.{comes_within}
 
 module _ (k : Task) where
   -- what is pending is excused, in the part, or pending still
@@ -21,16 +22,7 @@ module _ (k : Task) where
       reached = λ p is. facts.sound.reached p (was p is);
       comes = λ p is. ⊎_elim
           (λ (start : IsStart k.request p). inl start)
-          (λ (from : ComesBy k old.cost p). inr (record {
-            step = from.step;
-            source = from.source;
-            end = from.end;
-            move = from.move;
-            node = from.node;
-            minute = from.minute;
-            within = from.within;
-            known = same_within from.source from.known;
-          }))
+          (λ (from : ComesBy k old.cost p). inr (comes_within k old new p same_within from))
           (facts.sound.comes p (was p is));
     };
     start = same_lands (start_of k.request) facts.start;

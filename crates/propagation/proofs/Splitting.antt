@@ -113,6 +113,24 @@ parts_are k v b taken next whole part old new bound same pairs split cuts prunes
   some = split.some;
 }
 
+-- node v gets a key, and each other node has the one that it had
+module _ (keys new_keys : List (Option ℕ)) where
+  key_put : (v put u : ℕ) → IsSet keys new_keys v (Some put) → ((u ≡ v → ⊥) → (key : ℕ) × (key_at keys u ≡ Some key))
+      → (key : ℕ) × (key_at new_keys u ≡ Some key)
+  key_put v put u is_put had = ⊎_elim
+      (λ (here : u ≡ v). (put, ap (key_at new_keys) here ∙ is_put.here))
+      (λ (other : u ≡ v → ⊥). let q = had other in (q.0, is_put.others u other ∙ q.1))
+      (cases_eq u v)
+
+  -- a node with a key has pending minutes, if node v has some
+  pending_put : (old new : ℕ → ℕ → Bool) (v put u key : ℕ) → IsSet keys new_keys v (Some put) → ((w t : ℕ) → (w ≡ v → ⊥) → new w t ≡ old w t)
+      → (t : ℕ) × (new v t ≡ true) → ((w k : ℕ) → key_at keys w ≡ Some k → (t : ℕ) × (old w t ≡ true)) → key_at new_keys u ≡ Some key
+      → (t : ℕ) × (new u t ≡ true)
+  pending_put old new v put u key is_put others some waiting is = ⊎_elim
+      (λ (here : u ≡ v). (some.0, subst (λ w. new w some.0 ≡ true) (sym here) some.1))
+      (λ (other : u ≡ v → ⊥). let w = waiting u key (sym (is_put.others u other) ∙ is) in (w.0, others u w.0 other ∙ w.1))
+      (cases_eq u v)
+
 pub shaped_again : (nodes v : ℕ) (taken : ℕ → Bool) (next : Option ℕ) (old new : ProgressHeld) → IsShaped nodes v old → key_at old.queue v ≡ None
     → IsSplit v taken next (is_pending old.pending.items) (is_pending new.pending.items) → IsRequeued v next old.queue new.queue
     → new.functions ≡ old.functions → length new.pending.items ≡ length old.pending.items → IsShaped nodes 0 new
@@ -139,14 +157,9 @@ shaped_again nodes v taken next old new shape absent split requeued functions pe
       built = subst (λ w. All AreBuilt w.items) (sym functions) shape.built;
       pending = pending ∙ shape.pending;
       queue = put.1.room ∙ shape.queue;
-      queued = λ u s is work. ⊎_elim
-          (λ (here : u ≡ v). (put.0, ap (key_at new.queue) here ∙ put.1.here))
-          (λ (other : u ≡ v → ⊥). let q = shape.queued u s (sym (cut.others u s other) ∙ is) other in (q.0, put.1.others u other ∙ q.1))
-          (cases_eq u v);
-      waiting = λ u key is. ⊎_elim
-          (λ (here : u ≡ v). (t, subst (λ w. is_pending new.pending.items w t ≡ true) (sym here) cut.left))
-          (λ (other : u ≡ v → ⊥). let w = shape.waiting u key (sym (put.1.others u other) ∙ is) in (w.0, cut.others u w.0 other ∙ w.1))
-          (cases_eq u v);
+      queued = λ u s is work. key_put old.queue new.queue v put.0 u put.1 (λ other. shape.queued u s (sym (cut.others u s other) ∙ is) other);
+      waiting = λ u key is. pending_put old.queue new.queue (is_pending old.pending.items) (is_pending new.pending.items) v put.0 u key put.1 cut.others
+          (t, cut.left) shape.waiting is;
     }
 
 -- a node with more pending minutes is in the queue
@@ -159,16 +172,7 @@ shaped_awaited nodes h more old new shape functions built pending awaits queue s
   built = built;
   pending = pending ∙ shape.pending;
   queue = queue.1.room ∙ shape.queue;
-  queued = λ u t is work. ⊎_elim
-      (λ (here : u ≡ h). (queue.0, ap (key_at new.queue) here ∙ queue.1.here))
-      (λ (other : u ≡ h → ⊥). let q = shape.queued u t (sym (awaits.others u t other) ∙ is) work in (q.0, queue.1.others u other ∙ q.1))
-      (cases_eq u h);
-  waiting = λ u key is. ⊎_elim
-      (λ (here : u ≡ h). (
-        some.0,
-        subst (λ w. is_pending new.pending.items w some.0 ≡ true) (sym here)
-            (awaits.here some.0 ∙ or_right (is_pending old.pending.items h some.0) (more some.0) some.1),
-      ))
-      (λ (other : u ≡ h → ⊥). let w = shape.waiting u key (sym (queue.1.others u other) ∙ is) in (w.0, awaits.others u w.0 other ∙ w.1))
-      (cases_eq u h);
+  queued = λ u t is work. key_put old.queue new.queue h queue.0 u queue.1 (λ other. shape.queued u t (sym (awaits.others u t other) ∙ is) work);
+  waiting = λ u key is. pending_put old.queue new.queue (is_pending old.pending.items) (is_pending new.pending.items) h queue.0 u key queue.1 awaits.others
+      (some.0, awaits.here some.0 ∙ or_right (is_pending old.pending.items h some.0) (more some.0) some.1) shape.waiting is;
 }

@@ -6,11 +6,11 @@ ghost use Rattle.cost_functions.specs.Pieces.{value_at, AreSmallPieces};
 ghost use Rattle.cost_functions.specs.Building.{AreBuilt};
 ghost use Rattle.potentials.specs.Sums.{bound_at};
 ghost use Rattle.propagation.specs.Inside.Invariants.{IsOffer, Reaches, point};
-ghost use Rattle.propagation.specs.Inside.Offers.{IsKnownPart, AreClearDrives, IsClearSource, IsSource, IsCleared, IsWaited, Covers, CoversDrives};
+ghost use Rattle.propagation.specs.Inside.Offers.{IsKnownPart, AreClearDrives, IsClearSource, IsCleared, IsWaited, Covers, CoversDrives};
 ghost use Rattle.propagation.specs.Inside.EntrySets.{AreEntrySets};
 ghost use Rattle.propagation.specs.Inside.States.{progress_of, task_of, IsGoodTask};
 
-use crate::entry_sets::{EntrySets, make_room, place_of};
+use crate::entry_sets::{EntrySets, ready_set};
 use crate::progress::Progress;
 use crate::spares::Spares;
 use crate::task::Task;
@@ -48,11 +48,9 @@ fn driven(
     ensures entries { OnOk result
         (AreEntrySets task.entry.net.now task.entry.request.until sets.new) }
 {
-    let until = task.request.until;
     let closed = task.net.closed_runs(a);
     let list = arc.closed as usize;
-    make_room(alloc, sets, list)?;
-    let place = place_of(alloc, &mut sets.lists[list], closed, until, arc.minutes)?;
+    let place = ready_set(alloc, task, sets, list, closed, arc.minutes)?;
     let starts = &sets.lists[list][place].set;
     let clear = shift_and_prune(
         spares.take(alloc),
@@ -60,7 +58,7 @@ fn driven(
         starts,
         arc.minutes,
         arc.cost,
-        until,
+        task.request.until,
         pairs,
         bound,
     )?;
@@ -68,7 +66,7 @@ fn driven(
 }
 
 // The costs at a node from which the goal is still worth reaching.
-fn cleared(task: Task<'_>, pairs: &[Pair], h: NodeId, bound: Bound, costs: CostFn) -> CostFn
+pub fn cleared(task: Task<'_>, pairs: &[Pair], h: NodeId, bound: Bound, costs: CostFn) -> CostFn
     requires is { bound_at task.bounds.now h.0 ≡ Some bound }
     requires trade { RiseAndFall pairs.now }
     requires small { AreSmallPieces costs }
@@ -104,51 +102,16 @@ fn waited(
     ensures entries { OnOk result
         (AreEntrySets task.entry.net.now task.entry.request.until sets.new) }
 {
-    let until = task.request.until;
     let shut = task.net.shut_runs(h);
     let list = park.shut as usize;
-    make_room(alloc, sets, list)?;
-    let place = place_of(alloc, &mut sets.lists[list], shut, until, 1)?;
+    let place = ready_set(alloc, task, sets, list, shut, 1)?;
     let allowed = &sets.lists[list][place].set;
     let with_waits = wait_with_spare(spares.take(alloc), costs, park.weight, allowed, last)?;
     Ok(with_waits)
 }
 
-// These costs, and where the node is rated those of waiting there.
-pub fn closed(
-    alloc: Global,
-    task: Task<'_>,
-    sets: &mut EntrySets,
-    spares: &mut Spares,
-    progress: &Progress,
-    h: NodeId,
-    bound: Bound,
-    costs: CostFn,
-) -> Result<CostFn, OutOfMemory>
-    requires asked { IsGoodTask task }
-    requires low { 1 ≤ h.0 }
-    requires high { h.0 ≤ task.net.now.nodes }
-    requires bound { bound_at task.bounds.now h.0 ≡ Some bound }
-    requires trade { RiseAndFall progress.now.pairs.items }
-    requires small { AreSmallPieces costs }
-    requires entries { AreEntrySets task.net.now task.request.until sets.old }
-    requires source { IsSource (task_of task) (progress_of progress.now) h.0 (value_at costs) }
-    ensures offer { IfOk result
-        (λ g. IsOffer (task_of task.entry) (progress_of progress.now) h.0 (value_at g)) }
-    ensures covers { IfOk result
-        (λ g. Covers (task_of task.entry) progress.now.pairs.items h.0 (value_at costs)
-        (value_at g)) }
-    ensures small { IfOk result AreSmallPieces }
-    ensures entries { OnOk result
-        (AreEntrySets task.entry.net.now task.entry.request.until sets.new) }
-{
-    let clear = cleared(task, &progress.pairs, h, bound, costs);
-    let offer = with_waits(alloc, task, sets, spares, progress, h, bound, clear)?;
-    Ok(offer)
-}
-
 // Clear costs, and where the node is rated those of waiting there.
-fn with_waits(
+pub fn with_waits(
     alloc: Global,
     task: Task<'_>,
     sets: &mut EntrySets,

@@ -1,8 +1,9 @@
 // The minutes at which drives can begin, made when they are first needed.
-ghost use Rattle.std.specs.Prelude.{◌≡◌, ◌≤◌, ◌<◌, ℕ, IsTrue, [], All, length, IfOk, OnOk, slice_index_or};
+ghost use Rattle.std.specs.Prelude.{◌≡◌, ◌≤◌, ◌<◌, ℕ, IsTrue, [], All, length, IfOk, OnOk, slice_get, slice_index_or, unwrap_or};
 ghost use Rattle.route_base.specs.Net.{Net};
-ghost use Rattle.propagation.specs.Inside.EntrySets.{AreEntries, IsEntrySet, AreEntrySets};
+ghost use Rattle.propagation.specs.Inside.EntrySets.{AreEntries, IsEntrySet, AreEntrySets, HasEntriesAt};
 
+use crate::task::Task;
 use minute_sets::MinuteSet;
 use route_base::{Minute, OutOfMemory, Run};
 use std::alloc::Global;
@@ -29,8 +30,33 @@ pub fn no_entry_sets(alloc: Global) -> EntrySets
     }
 }
 
+// The place of the set for drives of this length that avoid the list of closed runs at a place of the net; it is made if it isn't
+// there.
+pub fn ready_set(
+    alloc: Global,
+    task: Task<'_>,
+    sets: &mut EntrySets,
+    list: usize,
+    closed: &[Run],
+    minutes: u64,
+) -> Result<usize, OutOfMemory>
+    requires some { 1 ≤ minutes }
+    requires own { unwrap_or (slice_get task.net.now.closed list) [] ≡ closed.now }
+    requires entries { AreEntrySets task.net.now task.request.until sets.old }
+    ensures entries { OnOk result
+        (AreEntrySets task.entry.net.now task.entry.request.until sets.new) }
+    ensures list { OnOk result (list < length sets.new.lists.items) }
+    ensures set { IfOk result
+        (HasEntriesAt closed.now task.entry.request.until minutes sets.new list) }
+{
+    make_room(alloc, sets, list)?;
+    let until = task.request.until;
+    let place = place_of(alloc, &mut sets.lists[list], closed, until, minutes)?;
+    Ok(place)
+}
+
 // Makes room for the sets that avoid the list of closed runs at this place.
-pub fn make_room(alloc: Global, sets: &mut EntrySets, list: usize) -> Result<(), OutOfMemory>
+fn make_room(alloc: Global, sets: &mut EntrySets, list: usize) -> Result<(), OutOfMemory>
     ensures within { OnOk result (list < length sets.new.lists.items) }
     ensures kept { OnOk result ((net : Net) (until : ℕ) → AreEntrySets net until sets.old
         → AreEntrySets net until sets.new) }
@@ -42,7 +68,7 @@ pub fn make_room(alloc: Global, sets: &mut EntrySets, list: usize) -> Result<(),
 }
 
 // The place of the set for drives of this length that avoid these runs, which is made if it isn't there.
-pub fn place_of(
+fn place_of(
     alloc: Global,
     list: &mut Vec<EntrySet>,
     closed: &[Run],

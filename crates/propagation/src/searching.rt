@@ -9,7 +9,7 @@ ghost use Rattle.propagation.specs.Inside.Invariants.{IsBlank, IsResting};
 ghost use Rattle.propagation.specs.Inside.EntrySets.{AreEntrySets};
 ghost use Rattle.propagation.specs.Inside.States.{progress_of, task_of, is_pending, IsGoodTask, IsShaped};
 
-use crate::drives::closed;
+use crate::drives::{cleared, with_waits};
 use crate::entry_sets::{EntrySets, no_entry_sets};
 use crate::found::Found;
 use crate::progress::Progress;
@@ -105,7 +105,8 @@ fn begun(
         return Ok(progress);
     };
     let first = CostFn::single(alloc, task.request.depart, 0)?;
-    let offer = closed(alloc, task, sets, spares, &progress, origin, bound, first)?;
+    let clear = cleared(task, &progress.pairs, origin, bound, first);
+    let offer = with_waits(alloc, task, sets, spares, &progress, origin, bound, clear)?;
     take_at(alloc, task, spares, &mut progress, origin, bound, &offer)?;
     Ok(progress)
 }

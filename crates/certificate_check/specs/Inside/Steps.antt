@@ -2,9 +2,14 @@
 use Rattle.std.specs.Prelude.{◌≡◌, ◌⊎◌, ℕ, Option, Some, List}
 use Rattle.route_base.specs.Setting.{Setting, Road}
 use Rattle.route_base.specs.Itinerary.{Position, Drives, Waits}
+use Rattle.route_base.specs.Front.{RiseAndFall}
+use Rattle.route_base.specs.Net.{setting_of}
 use Rattle.route_base.specs.Relaxing.{IsDominatedOrLate, IsRelaxed, IsBoundThrough}
 use Rattle.route_base.specs.declared.types.Bound.{Bound}
 use Rattle.route_base.specs.declared.types.Pair.{Pair}
+use Rattle.certificate.specs.ByNode.{item_at}
+use Rattle.certificate_check.specs.Conditions.{AreBoundsInRange, value_of}
+use Rattle.certificate_check.specs.declared.steps.Trial.{Trial}
 
 -- where the head of the arc has bounds, so has its tail, and those are no larger than the way over the arc
 abbrev pub IsBoundedArc : Setting → (ℕ → Option Bound) → ℕ → Type 0
@@ -20,3 +25,24 @@ AreDrivesRelaxed s until pairs bounds value a = (p q : Position) → value p.nod
 abbrev pub AreWaitsRelaxed : Setting → ℕ → List Pair → (ℕ → Option Bound) → (ℕ → ℕ → Option ℕ) → ℕ → Type 0
 AreWaitsRelaxed s until pairs bounds value v = (p q : Position) → p.node ≡ v → value p.node p.minute ≡ Some p.cost → Waits s until p q
     → IsDominatedOrLate until pairs (bounds p.node) p ⊎ IsRelaxed until pairs bounds value q
+
+-- the pairs trade time for cost, and the bounds are in their range
+pub record IsGoodTrial (trial : Trial) : Type 0 where
+  pub pairs : RiseAndFall trial.pairs.now
+  pub bounds : AreBoundsInRange trial.certificate.now.bounds
+
+-- the setting, the bounds and the values of a trial
+abbrev pub setting_in : Trial → Setting
+setting_in trial = setting_of trial.net.now
+
+abbrev pub bounds_in : Trial → ℕ → Option Bound
+bounds_in trial = item_at trial.certificate.now.bounds
+
+abbrev pub values_in : Trial → ℕ → ℕ → Option ℕ
+values_in trial = value_of trial.certificate.now.functions
+
+abbrev pub AreDrivesRelaxedIn : Trial → ℕ → Type 0
+AreDrivesRelaxedIn trial a = AreDrivesRelaxed (setting_in trial) trial.until trial.pairs.now (bounds_in trial) (values_in trial) a
+
+abbrev pub AreWaitsRelaxedIn : Trial → ℕ → Type 0
+AreWaitsRelaxedIn trial v = AreWaitsRelaxed (setting_in trial) trial.until trial.pairs.now (bounds_in trial) (values_in trial) v

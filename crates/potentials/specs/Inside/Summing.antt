@@ -1,5 +1,5 @@
 -- What a search for least sums keeps (source: own; no law).
-use Rattle.std.specs.Prelude.{◌≡◌, ◌⊎◌, ℕ, suc, ◌+◌, ◌*◌, ◌≤◌, Option, Some, None, List}
+use Rattle.std.specs.Prelude.{◌≡◌, ◌⊎◌, ℕ, suc, ◌+◌, ◌*◌, ◌≤◌, Option, Some, None, List, length}
 use Rattle.route_base.specs.Setting.{Road}
 use Rattle.route_base.specs.Net.{Net, setting_of}
 use Rattle.route_base.specs.declared.limits.TheConstants.{HIGHEST_COST}
@@ -61,6 +61,16 @@ WorksAt net v x known keys = IsAtWork net.nodes HIGHEST_COST v x (key_at known) 
 
 abbrev pub unsettled_at : Net → List (Option ℕ) → List (Option ℕ) → ℕ
 unsettled_at net known keys = unsettled_count net.nodes (key_at known) (key_at keys)
+
+-- arc a, which ends at node v at work, was relaxed
+pub record IsArcRelaxed (net : Net) (counted : Counted) (goal v x a : ℕ) (known new keys new_keys : List (Option ℕ)) : Type 0 where
+  pub nodes : length new ≡ net.nodes
+  pub room : length new_keys ≡ net.nodes
+  pub facts : IsSummed net counted goal v new new_keys
+  pub work : WorksAt net v x new new_keys
+  pub less : unsettled_at net new new_keys ≤ unsettled_at net known keys
+  pub kept : (u sum : ℕ) → HasSum (key_at known) u sum → HasSum (key_at new) u sum
+  pub relaxed : (road : Road) → (setting_of net).road a ≡ Some road → HasSum (key_at new) road.tail (counted_on counted road + x)
 
 -- both bounds, where there are both
 abbrev pub bound_of_sums : Option ℕ → Option ℕ → Option Bound

@@ -1,5 +1,5 @@
 -- The entry sets that have been made: the minutes at which drives can begin (source: own; no law).
-use Rattle.std.specs.Prelude.{◌≡◌, ◌↔◌, ℕ, IsTrue, Some, List, [], All, slice_get, unwrap_or, Vec}
+use Rattle.std.specs.Prelude.{◌≡◌, ◌↔◌, ℕ, ◌<◌, IsTrue, Some, List, [], All, length, get_or, slice_get, unwrap_or, Vec}
 use Rattle.std.specs.declared.alloc.Global.{Global}
 use Rattle.route_base.specs.Net.{Net}
 use Rattle.route_base.specs.Runs.{any_has}
@@ -19,3 +19,8 @@ IsEntrySet closed until made = AreEntries closed until made.minutes made.set
 pub record AreEntrySets (net : Net) (until : ℕ) (sets : EntrySets) : Type 0 where
   pub each : (i : ℕ) (list : Vec EntrySet Global) → slice_get sets.lists.items i ≡ Some list
       → All (IsEntrySet (unwrap_or (slice_get net.closed i) []) until) list.items
+
+-- the set at a place of list i has the minutes at which drives of this length can begin
+pub record HasEntriesAt (closed : List Run) (until minutes : ℕ) (sets : EntrySets) (i k : ℕ) : Type 0 where
+  pub within : (d : Vec EntrySet Global) → k < length (get_or sets.lists.items i d).items
+  pub entries : (d : Vec EntrySet Global) (e : EntrySet) → AreEntries closed until minutes (get_or (get_or sets.lists.items i d).items k e).set

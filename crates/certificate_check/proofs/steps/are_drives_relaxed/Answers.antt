@@ -1,8 +1,5 @@
 use Rattle.std.proofs.Common.{◌+◌, arith, rules}
-use Rattle.route_base.specs.Net.{setting_of}
-use Rattle.certificate.specs.ByNode.{item_at}
-use Rattle.certificate_check.specs.Conditions.{value_of}
-use Rattle.certificate_check.specs.Inside.Steps.{AreDrivesRelaxed}
+use Rattle.certificate_check.specs.Inside.Steps.{AreDrivesRelaxedIn}
 use Rattle.certificate_check.proofs.Arcs.{road_within}
 use Rattle.certificate_check.proofs.PieceValues.{next_too}
 use Rattle.certificate_check.proofs.steps.are_drives_relaxed.Goals as goal
@@ -11,16 +8,12 @@ pub returns-then-not-are_drives_over_relaxed : goal.returns-then-not-are_drives_
 returns-then-not-are_drives_over_relaxed c = ((λ h. search rules), (λ all. c.if-not-are_drives_over_relaxed.ensures.1 (all (c.loop-k.k + 1))))
 
 pub loop-k-preserved : goal.loop-k-preserved
-loop-k-preserved c =
-    let bounds = item_at c.args.certificate.now.bounds in
-    let value = value_of c.args.certificate.now.functions in
-    next_too (AreDrivesRelaxed (setting_of c.args.net.now) c.args.until c.args.pairs.now bounds value) c.loop-k.k c.loop-k.invariant
-    (c.if-not-are_drives_over_relaxed.ensures.0 (search rules))
+loop-k-preserved c = next_too (AreDrivesRelaxedIn c.args.trial) c.loop-k.k c.loop-k.invariant (c.if-not-are_drives_over_relaxed.ensures.0 (search rules))
 
 pub returns : goal.returns
 returns c = (
   (λ _ a p q stands drives.
-      (let within = road_within c.args.net.now.arcs a drives.road drives.is in
+      (let within = road_within c.args.trial.net.now.arcs a drives.road drives.is in
       c.loop-k.invariant a within.0 (omega (arith, within.1, c.loop-k-test.false, c.arc_count-k-end.ensures.value)) p q stands drives)),
   (λ _. search rules),
 )

@@ -32,7 +32,7 @@ returns c =
       };
       fit = (c.settings_agree.ensures.fit (setting_of net) road (trip_window trip) request stands within).1
           (fits road request (cheap network vehicle c.requires.network) good.in_order good.short);
-      cheap = (c.certificates_agree.ensures.cheap (setting_of net) road (trip_window trip) stands).1 (cheap_roads network vehicle);
+      cheap = (c.certificates_agree.ensures.cheap (setting_of net) road (trip_window trip) stands).1 (cheap_roads network vehicle graph);
       nodes = omega (arith, nodes, graph.nodes);
       arcs = omega (arith, stands.arcs, graph.arcs);
     }

@@ -43,7 +43,7 @@ returns c =
     let same : map (λ (x : Route). x.pair) c.from_vec.result ≡ pairs = ap (map (λ (x : Route). x.pair)) items ∙ c.loop-k.invariant.pairs ∙ all in
     record {
       right = record {
-        front = subst (IsFront s c.args.request) (sym same) c.requires.found.optimal.front;
+        front = subst (IsFront s c.args.request) (sym same) c.requires.found.found.optimal.front;
         legs = subst (All (λ (x : Route). Achieves s c.args.request x.legs x.pair × HasNoNeighbouringWaits x.legs)) (sym items) c.loop-k.invariant.legs;
       };
       pairs = same;

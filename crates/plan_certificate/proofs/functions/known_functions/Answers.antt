@@ -36,15 +36,14 @@ loop-function-preserved-in-Continue-1 c =
     let l = c.loop-function in
     let items = c.args.functions.items in
     let f = c.in-Some.function in
-    let step = c.in-Some.ensures.steps in
-    let t = turn items l.yielded (into_iter_items c.next.new.self) (into_iter_items l.function-iterator) f l.node l.invariant.count l.invariant.whole step.0 in
+    let t = turn items l.yielded _ (into_iter_items l.function-iterator) f l.node l.invariant.count l.invariant.whole c.in-Some.ensures.steps.0 in
     let node : NodeId = record { 0 = l.node + 1 } in
     let some : 1 ≤ length f = filled c.pieces.result.now f c.pieces.ensures.items c.is_empty.result c.is_empty.ensures c.if-not-is_empty.true in
     record {
       can = tt;
       finite = tt;
       count = t.count;
-      left = omega (arith, l.invariant.left, step.1);
+      left = omega (arith, l.invariant.left, c.in-Some.ensures.steps.1);
       whole = t.whole;
       chosen = subst (λ (es : List (NodeId × List Piece)). AreChosen (pieces_of items) (l.node + 1) es) (sym c.in_ok-push.ensures.ok)
           (choose (pieces_of items) l.node l.known l.invariant.chosen (node, f) refl (t.pieces ∙ pieces_there f some));
@@ -53,19 +52,18 @@ loop-function-preserved-in-Continue-1 c =
 pub loop-function-preserved : goal.loop-function-preserved
 loop-function-preserved c =
     let l = c.loop-function in
-    let items = c.args.functions.items in
     let f = c.in-Some.function in
-    let step = c.in-Some.ensures.steps in
-    let t = turn items l.yielded (into_iter_items c.next.new.self) (into_iter_items l.function-iterator) f l.node l.invariant.count l.invariant.whole step.0 in
+    let steps = c.in-Some.ensures.steps in
+    let t = turn c.args.functions.items l.yielded _ (into_iter_items l.function-iterator) f l.node l.invariant.count l.invariant.whole steps.0 in
     let none : length f ≡ 0 = ap (λ (w : List Piece). length w) (sym c.pieces.ensures.items)
     ∙ eqb-true (length c.pieces.result.now) 0 (sym c.is_empty.ensures ∙ c.if-not-is_empty.false) in
     record {
       can = tt;
       finite = tt;
       count = t.count;
-      left = omega (arith, l.invariant.left, step.1);
+      left = omega (arith, l.invariant.left, steps.1);
       whole = t.whole;
-      chosen = choose_none (pieces_of items) l.node l.known l.invariant.chosen (t.pieces ∙ pieces_missing f none);
+      chosen = choose_none (pieces_of c.args.functions.items) l.node l.known l.invariant.chosen (t.pieces ∙ pieces_missing f none);
     }
 
 pub returns : goal.returns

@@ -33,17 +33,18 @@ loop-place-preserved c =
           c.loop-place.invariant.each new k lt);
     }
 
-pub returns-clause-least : goal.returns-clause-least
-returns-clause-least c = least_all (setting_of c.args.net.now) c.args.goal.0 c.loop-place.bounds c.in_ok-minutes.minutes.items c.in_ok-costs.costs.items
-    (bound_all c.loop-place.bounds c.in_ok-minutes.minutes.items c.in_ok-costs.costs.items c.loop-place.place c.loop-place.invariant.long
-    (omega (arith, c.in_ok-minutes.ensures.nodes, c.node_count-place-end.ensures.value, c.loop-place-test.false, c.loop-place.auto.place-end))
-    c.loop-place.invariant.each)
-    c.in_ok-minutes.ensures.least c.in_ok-costs.ensures.least
-
 pub returns-clause-bounds : goal.returns-clause-bounds
-returns-clause-bounds c = bounds_hold (setting_of c.args.net.now) c.args.goal.0 (bound_at c.loop-place.bounds)
-    (least_all (setting_of c.args.net.now) c.args.goal.0 c.loop-place.bounds c.in_ok-minutes.minutes.items c.in_ok-costs.costs.items
-    (bound_all c.loop-place.bounds c.in_ok-minutes.minutes.items c.in_ok-costs.costs.items c.loop-place.place c.loop-place.invariant.long
-    (omega (arith, c.in_ok-minutes.ensures.nodes, c.node_count-place-end.ensures.value, c.loop-place-test.false, c.loop-place.auto.place-end))
-    c.loop-place.invariant.each)
-    c.in_ok-minutes.ensures.least c.in_ok-costs.ensures.least)
+returns-clause-bounds c =
+    let s = setting_of c.args.net.now in
+    let made = c.loop-place.invariant in
+    let costs = c.in_ok-costs.costs.items in
+    let minutes = c.in_ok-minutes.minutes.items in
+    let most = c.node_count-place-end.ensures.value in
+    let past : length minutes ≡ c.loop-place.place = omega (arith, c.in_ok-minutes.ensures.nodes, most, c.loop-place-test.false, c.loop-place.auto.place-end) in
+    let each = bound_all c.loop-place.bounds minutes costs c.loop-place.place made.long past made.each in
+    let least = least_all s c.args.goal.0 c.loop-place.bounds minutes costs each c.in_ok-minutes.ensures.least c.in_ok-costs.ensures.least in
+    record {
+      least = least;
+      bounds = bounds_hold s c.args.goal.0 (bound_at c.loop-place.bounds) least;
+      nodes = omega (arith, made.long, most, c.loop-place-test.false, c.loop-place.auto.place-end);
+    }

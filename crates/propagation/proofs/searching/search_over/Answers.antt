@@ -16,8 +16,8 @@ returns c =
     subst (λ (found : Finding). IsFoundFor c.args.net.now c.args.request found) (sym c.new.ensures) (record {
       good = c.in_ok-bounds.ensures.good;
       nodes = c.in_ok-progress.ensures.nodes;
-      bounded = c.in_ok-bounds.ensures.nodes;
+      bounded = c.in_ok-bounds.ensures.bounds.nodes;
       reduced = c.in_ok-progress.ensures.built;
-      optimal = optimal_at_end k now facts done c.requires.in_time c.in_ok-bounds.ensures.bounds c.in_ok-bounds.ensures.least;
+      optimal = optimal_at_end k now facts done c.requires.in_time c.in_ok-bounds.ensures.bounds.bounds c.in_ok-bounds.ensures.bounds.least;
       justified = justified_at_end k now facts done;
     })

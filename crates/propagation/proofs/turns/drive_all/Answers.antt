@@ -1,12 +1,11 @@
-use Rattle.std.proofs.Common.{◌≡◌, ⊎_elim, ◌≤◌, ◌<◌, Some, length, get_or, sym, ◌∙◌, ap, subst, arith, rules}
-use Rattle.std.specs.Prelude.{slice_get}
-use Rattle.std.proofs.lemmas.Bool.{cases_lt}
-use Rattle.std.proofs.lemmas.Option.{slice_get-get_or}
+use Rattle.std.proofs.Common.{◌≡◌, ⊎_elim, ◌<◌, Some, length, get_or, sym, subst, arith, rules}
+use Rattle.node_arcs.specs.declared.links.End.TheVariants.{Tail}
 use Rattle.node_arcs.proofs.DriveEnds.{drives_tail}
+use Rattle.node_arcs.proofs.StarPlaces.{place_ends, ends_place, earlier_or_next}
 use Rattle.route_base.specs.Itinerary.{Drives}
 use Rattle.route_base.specs.Net.{setting_of}
 use Rattle.route_base.specs.declared.types.ArcId.{ArcId}
-use Rattle.propagation.proofs.Fitting.{part_kept, place_begins, begins_place}
+use Rattle.propagation.proofs.Fitting.{part_kept}
 use Rattle.propagation.proofs.Keeping.{relaxed_kept, improves-append}
 use Rattle.propagation.proofs.Parting.{settle}
 use Rattle.propagation.proofs.PieceStarts.{piece_of}
@@ -15,12 +14,12 @@ use Rattle.cost_functions.specs.Pieces.{value_at}
 use Rattle.propagation.specs.Inside.Invariants.{point}
 use Rattle.propagation.specs.Inside.States.{progress_of, task_of}
 
+abbrev no_arc : ArcId
+no_arc = record { 0 = 0 }
+
 pub drive_one-requires-clause-begins : goal.drive_one-requires-clause-begins
-drive_one-requires-clause-begins c =
-    let none : ArcId = record { 0 = 0 } in
-    place_begins c.args.task.net.now c.args.task.outgoing.now c.args.v.0 c.of-a-items.result.now c.loop-a.a-index _ c.requires.asked.outgoing
-    c.of-a-items.ensures
-    (slice_get-get_or c.of-a-items.result.now c.loop-a.a-index none c.loop-a-test.true)
+drive_one-requires-clause-begins c = place_ends c.args.task.net.now Tail c.args.task.outgoing.now c.requires.asked.outgoing c.args.v.0
+    c.of-a-items.result.now c.of-a-items.ensures c.loop-a.a-index no_arc c.loop-a-test.true
 
 pub drive_one-requires-clause-part : goal.drive_one-requires-clause-part
 drive_one-requires-clause-part c = part_kept (task_of c.args.task) (progress_of c.args.progress.now) (progress_of c.loop-a.progress) c.args.v.0
@@ -30,7 +29,6 @@ pub loop-a-preserved : goal.loop-a-preserved
 loop-a-preserved c =
     let k = task_of c.args.task in
     let arcs = c.of-a-items.result.now in
-    let none : ArcId = record { 0 = 0 } in
     record {
       entries = c.in_ok-drive_one.ensures.entries;
       shape = c.in_ok-drive_one.ensures.shape;
@@ -40,14 +38,9 @@ loop-a-preserved c =
       relaxed = λ i a below is t x q there step. ⊎_elim
           (λ (before : i < c.loop-a.a-index). relaxed_kept k (progress_of c.loop-a.progress)
           (progress_of c.drive_one.new.progress) q c.in_ok-drive_one.ensures.better (c.loop-a.invariant.relaxed i a before is t x q there step))
-          (λ (here : c.loop-a.a-index ≤ i).
-          let same : i ≡ c.loop-a.a-index = omega (arith, here, below) in
-          let at : Some a ≡ slice_get arcs c.loop-a.a-index = sym is ∙ ap (λ n. slice_get arcs n) same in
-          let e = at ∙ slice_get-get_or arcs c.loop-a.a-index none c.loop-a-test.true in
-          let arc : a ≡ get_or arcs c.loop-a.a-index none = cc in
-          c.in_ok-drive_one.ensures.relaxed t x q there
-          (subst (λ (w : ArcId). Drives (setting_of c.args.task.net.now) c.args.task.request.until w.0 (point c.args.v.0 t x) q) arc step))
-          (cases_lt i c.loop-a.a-index);
+          (λ (here : get_or arcs c.loop-a.a-index no_arc ≡ a). c.in_ok-drive_one.ensures.relaxed t x q there
+          (subst (λ (w : ArcId). Drives (setting_of c.args.task.net.now) c.args.task.request.until w.0 (point c.args.v.0 t x) q) (sym here) step))
+          (earlier_or_next arcs c.loop-a.a-index i a no_arc below is);
     }
 
 pub returns-then-is_empty-clause-facts : goal.returns-then-is_empty-clause-facts
@@ -63,6 +56,6 @@ returns-clause-facts c =
     let k = task_of c.args.task in
     settle k (progress_of c.loop-a.progress) c.args.v.0 (value_at c.args.part.now) c.loop-a.invariant.facts
     (λ t x there a q step.
-    let place = begins_place c.args.task.net.now c.args.task.outgoing.now c.args.v.0 c.of-a-items.result.now a c.requires.asked.outgoing c.of-a-items.ensures
-    (drives_tail c.args.task.net.now c.args.task.request.until a (point c.args.v.0 t x) q step) in
+    let place = ends_place c.args.task.net.now Tail c.args.task.outgoing.now c.requires.asked.outgoing c.args.v.0 c.of-a-items.result.now
+    c.of-a-items.ensures a (drives_tail c.args.task.net.now c.args.task.request.until a (point c.args.v.0 t x) q step) in
     c.loop-a.invariant.relaxed place.0 (record { 0 = a }) (omega (arith, place.1, c.loop-a-test.false)) place.2 t x q there step)

@@ -1,7 +1,7 @@
-use Rattle.std.proofs.Common.{◌≡◌, sym, subst}
-use Rattle.certificate.specs.Inside.Reading.{function_in, items_in, AreTaken}
+use Rattle.std.proofs.Common.{sym, subst}
+use Rattle.certificate.specs.Inside.Reading.{function_in, AreTaken}
 use Rattle.certificate.proofs.Blocks.{function_found}
-use Rattle.certificate.proofs.Items.{taken_more, taken_all, taken_some, taken_gone}
+use Rattle.certificate.proofs.Items.{taken_more, taken_some, taken_end}
 use Rattle.certificate.proofs.line_reader.LineReader.take_functions.Goals as goal
 
 pub functions-smaller : goal.functions-smaller
@@ -20,8 +20,5 @@ functions-preserved c =
     c.in-Some.function c.take_function.new.self c.functions.invariant some fewer)
 
 pub returns : goal.returns
-returns c =
-    let end = taken_gone function_in c.functions.self c.in_ok-function.field-0 c.take_function.new.self c.in_ok-function.ensures.function c.in_default.is in
-    let kept = rw c.in_default.is at c.in_ok-function.ensures.kept in
-    subst (λ lines. (c.functions.functions.items, lines) ≡ items_in function_in c.args.self.now) (sym kept)
-    (taken_all function_in c.args.self.now c.functions.functions.items c.functions.self c.functions.invariant end)
+returns c = taken_end function_in c.args.self.now c.functions.functions.items c.functions.self c.take_function.new.self c.in_ok-function.field-0 c.functions.invariant
+    c.in_ok-function.ensures.function c.in_default.is (rw c.in_default.is at c.in_ok-function.ensures.kept)

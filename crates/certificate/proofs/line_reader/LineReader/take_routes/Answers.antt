@@ -1,7 +1,7 @@
-use Rattle.std.proofs.Common.{◌≡◌, sym, subst}
-use Rattle.certificate.specs.Inside.Reading.{route_in, items_in, AreTaken}
+use Rattle.std.proofs.Common.{sym, subst}
+use Rattle.certificate.specs.Inside.Reading.{route_in, AreTaken}
 use Rattle.certificate.proofs.Blocks.{route_found}
-use Rattle.certificate.proofs.Items.{taken_more, taken_all, taken_some, taken_gone}
+use Rattle.certificate.proofs.Items.{taken_more, taken_some, taken_end}
 use Rattle.certificate.proofs.line_reader.LineReader.take_routes.Goals as goal
 
 pub routes-smaller : goal.routes-smaller
@@ -17,8 +17,5 @@ routes-preserved c =
     (taken_more route_in c.args.self.now c.routes.routes.items c.routes.self c.in-Some.route c.take_route.new.self c.routes.invariant some fewer)
 
 pub returns : goal.returns
-returns c =
-    let end = taken_gone route_in c.routes.self c.in_ok-route.field-0 c.take_route.new.self c.in_ok-route.ensures.route c.in_default.is in
-    let kept = rw c.in_default.is at c.in_ok-route.ensures.kept in
-    subst (λ lines. (c.routes.routes.items, lines) ≡ items_in route_in c.args.self.now) (sym kept)
-    (taken_all route_in c.args.self.now c.routes.routes.items c.routes.self c.routes.invariant end)
+returns c = taken_end route_in c.args.self.now c.routes.routes.items c.routes.self c.take_route.new.self c.in_ok-route.field-0 c.routes.invariant
+    c.in_ok-route.ensures.route c.in_default.is (rw c.in_default.is at c.in_ok-route.ensures.kept)

@@ -17,19 +17,18 @@ relax_arc-requires-clause-tail c = place_ends c.args.self.now.net.now Tail c.arg
 
 pub loop-a-preserved : goal.loop-a-preserved
 loop-a-preserved c =
-    let s = setting_of c.args.self.now.net.now in
-    let until = c.args.self.now.request.until in
-    let v = c.args.node.0 in
-    let t = c.args.minute in
     let arcs = c.of-a-items.result.now in
+    let until = c.args.self.now.request.until in
+    let table = cost_of c.relax_arc.new.table in
     record {
       sound = c.relax_arc.ensures.sound;
-      later = changes-append _ _ _ t c.loop-a.invariant.later c.relax_arc.ensures.later;
+      later = changes-append _ _ _ c.args.minute c.loop-a.invariant.later c.relax_arc.ensures.later;
       driven = λ i below. ⊎_elim
-          (λ (before : i < c.loop-a.a-index). lands_kept s until (cost_of c.loop-a.table) (cost_of c.relax_arc.new.table) t
-          (drive (arc_at arcs i)) v t c.relax_arc.ensures.later (omega arith) (c.loop-a.invariant.driven i before))
+          (λ (before : i < c.loop-a.a-index). lands_kept (setting_of c.args.self.now.net.now) until (cost_of c.loop-a.table) table c.args.minute
+          (drive (arc_at arcs i)) c.args.node.0 c.args.minute c.relax_arc.ensures.later (omega arith) (c.loop-a.invariant.driven i before))
           (λ (here : c.loop-a.a-index ≤ i). let same : c.loop-a.a-index ≡ i = omega (arith, here, below) in
-          subst (λ (n : ℕ). IsRelaxedFrom s until (cost_of c.relax_arc.new.table) (drive (arc_at arcs n)) v t) same c.relax_arc.ensures.lands)
+          subst (λ (n : ℕ). IsRelaxedFrom (setting_of c.args.self.now.net.now) until table (drive (arc_at arcs n)) c.args.node.0 c.args.minute) same
+          c.relax_arc.ensures.lands)
           (cases_lt i c.loop-a.a-index);
     }
 

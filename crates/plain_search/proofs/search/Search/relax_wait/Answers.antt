@@ -2,18 +2,15 @@ use Rattle.std.proofs.Common.{◌≡◌, ◌+◌, ◌≤◌, Some, refl, sym, �
 use Rattle.route_base.specs.Itinerary.{wait}
 use Rattle.route_base.specs.Net.{setting_of}
 use Rattle.route_base.proofs.Parks.{weight_small}
-use Rattle.route_base.proofs.Arcs.{takes_time}
 use Rattle.plain_search.specs.Inside.CostTable.{cost_of}
-use Rattle.plain_search.proofs.Founding.{cost_fits, later_of}
-use Rattle.plain_search.proofs.Sounding.{sound_lower}
+use Rattle.plain_search.proofs.Founding.{later_of}
+use Rattle.plain_search.proofs.Sounding.{label_fits, sound_lower}
 use Rattle.plain_search.proofs.search.Search.relax_wait.Goals as goal
 
 pub overflow_add-cost : goal.overflow_add-cost
 overflow_add-cost c =
-    let small : cost_of c.args.table.now c.args.node.0 c.args.minute ≤ 10000000000 =
-    cost_fits (setting_of c.args.self.now.net.now) c.args.self.now.request
-    (takes_time c.args.self.now.net.now c.args.self.now.good) c.args.self.now.asked.fit (cost_of c.args.table.now)
-    (c.args.minute + 1) c.requires.label.sound.founded c.args.node.0 c.args.minute c.requires.label.reached.known in
+    let small = label_fits c.args.self.now.net.now c.args.self.now.request (c.args.minute + 1) c.args.table.now c.args.node.0 c.args.minute
+    c.args.self.now.good c.args.self.now.asked c.requires.label in
     let here : (setting_of c.args.self.now.net.now).weight c.args.node.0 ≡ Some c.in-Some.weight = sym
     c.weight_to_wait.ensures.value ∙ c.in-Some.is in
     let cheap = weight_small c.args.self.now.net.now c.args.self.now.good c.args.node.0 c.in-Some.weight here in
