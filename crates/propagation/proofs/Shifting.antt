@@ -46,16 +46,9 @@ module _ (net : Net) (r : Request) (bounds : ℕ → Option Bound) where
   module _ (a v : ℕ) (arc : TimedArc) (is : at_number net.arcs a ≡ Some arc) (begins : arc.tail.0 ≡ v) where
     drive_of : (t x : ℕ) → IsOpen (setting_of net) a t arc.minutes → t + arc.minutes ≤ r.until → (u y : ℕ) → u ≡ t + arc.minutes → y ≡ x + arc.cost
         → Drives (setting_of net) r.until a (point v t x) (point arc.head.0 u y)
-    drive_of t x free in_time u y minute cost = record {
-      road = road_of arc;
-      is = ap (option_map road_of) is;
-      tail = begins;
-      is_open = free;
-      in_time = in_time;
-      node = refl;
-      minute = minute;
-      cost = cost;
-    }
+    drive_of t x free in_time u y minute cost =
+        let road = ap (option_map road_of) is in
+        record { road = road_of arc; is = road; tail = begins; is_open = free; in_time = in_time; node = refl; minute = minute; cost = cost }
 
     pub driven_is : (part g : ℕ → Option ℕ) (free : ℕ → Bool) → ((t : ℕ) → free t ≡ true → IsOpen (setting_of net) a t arc.minutes)
         → ((t : ℕ) → free t ≡ true → t + arc.minutes ≤ r.until)
