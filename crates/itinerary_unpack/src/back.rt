@@ -54,9 +54,9 @@ pub fn unpack_over(
 {
     let solved = Solved {
         net,
+        request,
         incoming,
         found,
-        request,
     };
     let mut legs = legs_back(alloc, solved, found.pairs()[k])?;
     legs.reverse();

@@ -7,7 +7,7 @@ use route_base::{Request, TimedNet};
 #[derive(Clone, Copy)]
 pub struct Solved<'a> {
     pub net: &'a TimedNet,
+    pub request: Request,
     pub incoming: &'a NodeArcs,
     pub found: &'a Found,
-    pub request: Request,
 }

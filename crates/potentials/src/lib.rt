@@ -1,8 +1,8 @@
 //! The least minutes and, by itself, the least cost from each node of a net to a goal: the bounds of a search.
 //!
 //! The law is `AreLeastBounds` of `specs/Sums`: a node has bounds exactly where some walk of arcs leads from it to the goal, and
-//! then they are the least sum of minutes and the least sum of costs of such walks. It is proved at `to_goal`, which also says
-//! that such bounds are `AreBounds` of `route_base`, as a search needs them.
+//! then they are the least sum of minutes and the least sum of costs of such walks. It is proved at `to_goal`, whose clause
+//! `AreBoundsTo` also says that such bounds are `AreBounds` of `route_base`, as a search needs them.
 //!
 //! The least costs are found by a search from the goal over the arcs backwards, in the order of rising sums (`sums`; Dijkstra's
 //! algorithm). Where every cost is in proportion to the minutes of its arc (`proportion`), the least minutes are those of the least

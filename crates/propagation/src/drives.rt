@@ -1,14 +1,14 @@
 // The offer that drives over an arc make to its head.
 ghost use Rattle.std.specs.Prelude.{◌≡◌, ◌≤◌, ℕ, Option, Some, IfOk, OnOk};
 ghost use Rattle.route_base.specs.Front.{RiseAndFall};
-ghost use Rattle.route_base.specs.Net.{at_number, park_at, setting_of, IsGoodArc, IsGoodPark};
+ghost use Rattle.route_base.specs.Net.{park_at, setting_of, IsGoodPark};
 ghost use Rattle.cost_functions.specs.Pieces.{value_at, AreSmallPieces};
 ghost use Rattle.cost_functions.specs.Building.{AreBuilt};
 ghost use Rattle.potentials.specs.Sums.{bound_at};
 ghost use Rattle.propagation.specs.Inside.Invariants.{IsOffer, Reaches, point};
 ghost use Rattle.propagation.specs.Inside.Offers.{IsKnownPart, AreClearDrives, IsClearSource, IsCleared, IsWaited, Covers, CoversDrives};
 ghost use Rattle.propagation.specs.Inside.EntrySets.{AreEntrySets};
-ghost use Rattle.propagation.specs.Inside.States.{progress_of, task_of, IsGoodTask};
+ghost use Rattle.propagation.specs.Inside.States.{progress_of, task_of, IsGoodTask, IsOutgoingArc};
 
 use crate::entry_sets::{EntrySets, ready_set};
 use crate::progress::Progress;
@@ -19,6 +19,14 @@ use function_merge::{into_pruned, shift_and_prune, wait_with_spare};
 use route_base::{ArcId, Bound, Minute, NodeId, OutOfMemory, Pair, Park, TimedArc};
 use std::alloc::Global;
 
+/// An arc that leaves a node, with its number, and the bound of its head.
+#[derive(Clone, Copy)]
+pub struct OutgoingArc {
+    pub id: ArcId,
+    pub arc: TimedArc,
+    pub bound: Bound,
+}
+
 // The costs with which drives of the part over the arc end, where the goal is still worth reaching from there.
 fn driven(
     alloc: Global,
@@ -28,39 +36,34 @@ fn driven(
     pairs: &[Pair],
     v: NodeId,
     part: &CostFn,
-    a: ArcId,
-    arc: TimedArc,
-    bound: Bound,
+    way: OutgoingArc,
 ) -> Result<CostFn, OutOfMemory>
     requires asked { IsGoodTask task }
-    requires is { at_number task.net.now.arcs a.0 ≡ Some arc }
-    requires good { IsGoodArc task.net.now arc }
-    requires begins { arc.tail.0 ≡ v.0 }
-    requires bound { bound_at task.bounds.now arc.head.0 ≡ Some bound }
+    requires way { IsOutgoingArc task v.0 way }
     requires trade { RiseAndFall pairs.now }
     requires entries { AreEntrySets task.net.now task.request.until sets.old }
     requires reached { (t x : ℕ) → value_at part.now t ≡ Some x
         → Reaches (task_of task) (point v.0 t x) }
     ensures driven { IfOk result
-        (λ g. AreClearDrives (task_of task.entry) pairs.now a.0 v.0 (value_at part.now) arc.head.0
-        (value_at g)) }
+        (λ g. AreClearDrives (task_of task.entry) pairs.now way.id.0 v.0 (value_at part.now)
+        way.arc.head.0 (value_at g)) }
     ensures built { IfOk result AreBuilt }
     ensures entries { OnOk result
         (AreEntrySets task.entry.net.now task.entry.request.until sets.new) }
 {
-    let closed = task.net.closed_runs(a);
-    let list = arc.closed as usize;
-    let place = ready_set(alloc, task, sets, list, closed, arc.minutes)?;
+    let closed = task.net.closed_runs(way.id);
+    let list = way.arc.closed as usize;
+    let place = ready_set(alloc, task, sets, list, closed, way.arc.minutes)?;
     let starts = &sets.lists[list][place].set;
     let clear = shift_and_prune(
         spares.take(alloc),
         part,
         starts,
-        arc.minutes,
-        arc.cost,
+        way.arc.minutes,
+        way.arc.cost,
         task.request.until,
         pairs,
-        bound,
+        way.bound,
     )?;
     Ok(clear)
 }
@@ -157,39 +160,23 @@ pub fn offered(
     progress: &Progress,
     v: NodeId,
     part: &CostFn,
-    a: ArcId,
-    arc: TimedArc,
-    bound: Bound,
+    way: OutgoingArc,
 ) -> Result<CostFn, OutOfMemory>
     requires asked { IsGoodTask task }
-    requires is { at_number task.net.now.arcs a.0 ≡ Some arc }
-    requires good { IsGoodArc task.net.now arc }
-    requires begins { arc.tail.0 ≡ v.0 }
-    requires bound { bound_at task.bounds.now arc.head.0 ≡ Some bound }
     requires trade { RiseAndFall progress.now.pairs.items }
+    requires way { IsOutgoingArc task v.0 way }
     requires entries { AreEntrySets task.net.now task.request.until sets.old }
     requires part { IsKnownPart (task_of task) (progress_of progress.now) v.0 (value_at part.now) }
     ensures offer { IfOk result
-        (λ g. IsOffer (task_of task.entry) (progress_of progress.now) arc.head.0 (value_at g)) }
+        (λ g. IsOffer (task_of task.entry) (progress_of progress.now) way.arc.head.0 (value_at g)) }
     ensures covers { IfOk result
-        (λ g. CoversDrives (task_of task.entry) progress.now.pairs.items a.0 v.0
-        (value_at part.now) arc.head.0 (value_at g)) }
+        (λ g. CoversDrives (task_of task.entry) progress.now.pairs.items way.id.0 v.0
+        (value_at part.now) way.arc.head.0 (value_at g)) }
     ensures small { IfOk result AreSmallPieces }
     ensures entries { OnOk result
         (AreEntrySets task.entry.net.now task.entry.request.until sets.new) }
 {
-    let clear = driven(
-        alloc,
-        task,
-        sets,
-        spares,
-        &progress.pairs,
-        v,
-        part,
-        a,
-        arc,
-        bound,
-    )?;
-    let offer = with_waits(alloc, task, sets, spares, progress, arc.head, bound, clear)?;
+    let clear = driven(alloc, task, sets, spares, &progress.pairs, v, part, way)?;
+    let offer = with_waits(alloc, task, sets, spares, progress, way.arc.head, way.bound, clear)?;
     Ok(offer)
 }

@@ -13,7 +13,7 @@ ghost use Rattle.propagation.specs.Inside.Offers.{IsKnownPart};
 ghost use Rattle.propagation.specs.Inside.EntrySets.{AreEntrySets};
 ghost use Rattle.propagation.specs.Inside.States.{progress_of, task_of, is_pending, IsGoodTask, IsShaped};
 
-use crate::drives::offered;
+use crate::drives::{OutgoingArc, offered};
 use crate::entry_sets::EntrySets;
 use crate::pairs::add_pairs;
 use crate::parts::part_of;
@@ -128,7 +128,8 @@ fn drive_one(
     let Some(bound) = task.bounds.get(arc.head) else {
         return Ok(());
     };
-    let offer = offered(alloc, task, sets, spares, progress, v, part, a, arc, bound)?;
+    let way = OutgoingArc { id: a, arc, bound };
+    let offer = offered(alloc, task, sets, spares, progress, v, part, way)?;
     take_at(alloc, task, spares, progress, arc.head, bound, &offer)?;
     spares.put(offer)?;
     Ok(())

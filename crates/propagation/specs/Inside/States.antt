@@ -1,6 +1,6 @@
 -- The task and the progress that the code holds, and what its parts keep of each other (source: own; no law).
 use Rattle.std.specs.Prelude.{◌≡◌, ◌⊎◌, ℕ, ◌≤◌, Bool, true, false, ◌||◌, Option, Some, None, List, length, All, IfSome, IsNone}
-use Rattle.route_base.specs.Net.{IsGoodRequest, at_number, setting_of}
+use Rattle.route_base.specs.Net.{IsGoodArc, IsGoodRequest, at_number, setting_of}
 use Rattle.route_base.specs.Legs.{CostsFit}
 use Rattle.route_base.specs.Relaxing.{AreBounds}
 use Rattle.route_base.specs.Runs.{any_has}
@@ -13,6 +13,7 @@ use Rattle.node_arcs.specs.Stars.{AreOutgoing}
 use Rattle.potentials.specs.Sums.{bound_at}
 use Rattle.propagation.specs.Found.{cost_at}
 use Rattle.propagation.specs.Inside.Invariants.{Task, Progress}
+use Rattle.propagation.specs.declared.drives.OutgoingArc.{OutgoingArc}
 use Rattle.propagation.specs.declared.task.Task.{Task as TaskHeld}
 use Rattle.propagation.specs.declared.progress.Progress.{Progress as ProgressHeld}
 
@@ -37,6 +38,13 @@ pub record IsGoodTask (task : TaskHeld) : Type 0 where
   pub fit : CostsFit (setting_of task.net.now) task.request
   pub bound : AreBounds (setting_of task.net.now) task.request.goal.0 (bound_at task.bounds.now)
   pub outgoing : AreOutgoing task.net.now task.outgoing.now
+
+-- the arc is one of the net, it leaves node v, and its head has this bound
+pub record IsOutgoingArc (task : TaskHeld) (v : ℕ) (way : OutgoingArc) : Type 0 where
+  pub is : at_number task.net.now.arcs way.id.0 ≡ Some way.arc
+  pub good : IsGoodArc task.net.now way.arc
+  pub begins : way.arc.tail.0 ≡ v
+  pub bound : bound_at task.bounds.now way.arc.head.0 ≡ Some way.bound
 
 -- a place for each node, and a key for each node with pending minutes but the one at work
 pub record IsShaped (nodes at_work : ℕ) (progress : ProgressHeld) : Type 0 where

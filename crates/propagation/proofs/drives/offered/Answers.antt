@@ -11,17 +11,17 @@ with_waits-requires-clause-clear c =
     let drives = c.in_ok-clear.ensures.driven in
     record {
       costs = drives.ends;
-      source = source_of (task_of c.args.task) (progress_of c.args.progress.now) c.args.a.0 c.args.v.0 c.args.arc.head.0
+      source = source_of (task_of c.args.task) (progress_of c.args.progress.now) c.args.way.id.0 c.args.v.0 c.args.way.arc.head.0
           (value_at c.args.part.now) drives.ends c.requires.part drives.driven;
-      cleared = subst (λ (w : List Pair). IsCleared (task_of c.args.task) w c.args.arc.head.0 drives.ends (value_at c.in_ok-clear.clear))
+      cleared = subst (λ (w : List Pair). IsCleared (task_of c.args.task) w c.args.way.arc.head.0 drives.ends (value_at c.in_ok-clear.clear))
           c.deref.ensures.value drives.cleared;
     }
 
 pub returns-clause-covers : goal.returns-clause-covers
 returns-clause-covers c =
     let drives = c.in_ok-clear.ensures.driven in
-    covers_drives (task_of c.args.task) (progress_of c.args.progress.now) c.args.a.0 c.args.v.0 c.args.arc.head.0
+    covers_drives (task_of c.args.task) (progress_of c.args.progress.now) c.args.way.id.0 c.args.v.0 c.args.way.arc.head.0
     (value_at c.args.part.now) drives.ends (value_at c.in_ok-offer.offer) drives.driven
     (c.in_ok-offer.ensures.covers drives.ends
-    (subst (λ (w : List Pair). IsCleared (task_of c.args.task) w c.args.arc.head.0 drives.ends (value_at c.in_ok-clear.clear))
+    (subst (λ (w : List Pair). IsCleared (task_of c.args.task) w c.args.way.arc.head.0 drives.ends (value_at c.in_ok-clear.clear))
     c.deref.ensures.value drives.cleared))
