@@ -177,6 +177,15 @@ pub fn offered(
         (AreEntrySets task.entry.net.now task.entry.request.until sets.new) }
 {
     let clear = driven(alloc, task, sets, spares, &progress.pairs, v, part, way)?;
-    let offer = with_waits(alloc, task, sets, spares, progress, way.arc.head, way.bound, clear)?;
+    let offer = with_waits(
+        alloc,
+        task,
+        sets,
+        spares,
+        progress,
+        way.arc.head,
+        way.bound,
+        clear,
+    )?;
     Ok(offer)
 }
