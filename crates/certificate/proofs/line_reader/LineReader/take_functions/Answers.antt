@@ -20,5 +20,5 @@ functions-preserved c =
     c.in-Some.function c.take_function.new.self c.functions.invariant some fewer)
 
 pub returns : goal.returns
-returns c = taken_end function_in c.args.self.now c.functions.functions.items c.functions.self c.take_function.new.self c.in_ok-function.field-0 c.functions.invariant
-    c.in_ok-function.ensures.function c.in_default.is (rw c.in_default.is at c.in_ok-function.ensures.kept)
+returns c = taken_end function_in c.args.self.now c.functions.functions.items c.functions.self c.take_function.new.self c.in_ok-function.field-0
+    c.functions.invariant c.in_ok-function.ensures.function c.in_default.is (rw c.in_default.is at c.in_ok-function.ensures.kept)
