@@ -1,5 +1,5 @@
 -- What costs fit, and what stays of a part.
-use Rattle.std.proofs.Common.{◌≡◌, ℕ, Option, Some}
+use Rattle.std.proofs.Common.{ℕ, Option}
 use Rattle.route_base.specs.Legs.{CostsFit}
 use Rattle.propagation.proofs.Keeping.{within_kept}
 use Rattle.propagation.specs.Inside.Invariants.{Improves, IsSound, Progress, Task, point}

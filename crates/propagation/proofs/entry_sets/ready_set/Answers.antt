@@ -1,4 +1,4 @@
-use Rattle.std.proofs.Common.{◌≡◌, ◌<◌, get_or, length, sym, refl, subst, get_or-set_same}
+use Rattle.std.proofs.Common.{◌<◌, get_or, length, sym, refl, subst, get_or-set_same}
 use Rattle.std.specs.Prelude.{Vec}
 use Rattle.std.specs.declared.alloc.Global.{Global}
 use Rattle.propagation.specs.Inside.EntrySets.{AreEntries}

@@ -1,7 +1,7 @@
 use Rattle.std.proofs.Common.{◌≡◌, ◌+◌, ◌≤◌, Some, IsTrue, refl, sym, ◌∙◌, ap, rules, arith}
 use Rattle.std.specs.Option.{option_map}
 use Rattle.route_base.specs.Itinerary.{drive}
-use Rattle.route_base.specs.Net.{setting_of, road_of, at_number}
+use Rattle.route_base.specs.Net.{road_of, at_number}
 use Rattle.node_arcs.specs.Stars.{node_at}
 use Rattle.plain_search.specs.Inside.CostTable.{cost_of}
 use Rattle.node_arcs.specs.declared.links.End.TheVariants.{Tail}
