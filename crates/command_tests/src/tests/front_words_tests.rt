@@ -2,7 +2,7 @@
 use front_words::{Command, WordsFault, read_words};
 use route_base::{Form, OutOfMemory, Text};
 use std::alloc::Global;
-use std::test::Fail;
+use std::process::Abort;
 
 // Words with `|` between them, and the command that they are.
 const CASES: &[(&str, &str)] = &[
@@ -244,16 +244,21 @@ const NETWORKS: &[(&str, &str)] = &[
     ("Gen|d|7|1|2", "no"),
 ];
 
-// The words of a line.
-fn words_of(alloc: Global, line: &str) -> Result<Vec<Text>, Fail> {
+// The words of a line; an empty line has none.
+fn words_of(alloc: Global, line: &str) -> Result<Vec<Text>, OutOfMemory> {
     let mut words = Vec::new(alloc);
-    if line.is_empty() {
-        return Ok(words);
+    if !line.is_empty() {
+        push_words(alloc, &mut words, line)?;
     }
+    Ok(words)
+}
+
+// Pushes the words of a line.
+fn push_words(alloc: Global, words: &mut Vec<Text>, line: &str) -> Result<(), OutOfMemory> {
     for word in line.split('|') {
         words.push(Text::of(alloc, word)?)?;
     }
-    Ok(words)
+    Ok(())
 }
 
 // The word for a form.
@@ -331,73 +336,54 @@ fn line_of(alloc: Global, command: &Command) -> Result<String, OutOfMemory> {
 }
 
 // Whether a command has this line.
-fn has_line(alloc: Global, command: &Command, wanted: &str) -> Result<bool, OutOfMemory> {
-    let line = line_of(alloc, command)?;
-    Ok(line.as_str() == wanted)
+fn has_line(alloc: Global, command: &Command, wanted: &str) -> bool {
+    match line_of(alloc, command) {
+        Ok(line) => line.as_str() == wanted,
+        Err(_) => false,
+    }
 }
 
 // Whether the words are the command of this line; `no` is the line of words that are none.
-fn are_read(alloc: Global, words: &[Text], wanted: &str) -> Result<bool, OutOfMemory> {
+fn are_read(alloc: Global, words: &[Text], wanted: &str) -> bool {
     match read_words(alloc, words) {
         Ok(command) => has_line(alloc, &command, wanted),
-        Err(WordsFault::NotACommand) => Ok(wanted == "no"),
-        Err(WordsFault::OutOfMemory) => Err(OutOfMemory),
+        Err(fault) => fault == WordsFault::NotACommand && wanted == "no",
     }
 }
 
-// The first words that are read as something else.
-fn first_misread<'a>(alloc: Global, cases: &[(&'a str, &str)]) -> Result<Option<&'a str>, Fail> {
+// Reads the words of each row, and compares the command.
+fn expect_read<R: Abort + AllocGlobal>(rt: &R, cases: &[(&str, &str)]) {
     for (line, wanted) in cases {
-        let words = words_of(alloc, line)?;
-        if !are_read(alloc, words.as_slice(), wanted)? {
-            return Ok(Some(*line));
-        }
+        let words = words_of(rt.alloc(), line).expect(rt, "memory");
+        assert!(rt; are_read(rt.alloc(), words.as_slice(), wanted), "{line}");
     }
-    Ok(None)
 }
 
 #[test]
-fn reads_commands(rt: HostRuntime) -> Result<(), Fail> {
-    let misread = first_misread(rt.alloc(), CASES)?;
-    assert_eq!(rt; misread, None);
-    Ok(())
+fn reads_commands(rt: HostRuntime) {
+    expect_read(&rt, CASES);
+    expect_read(&rt, BATCHES);
+    expect_read(&rt, NETWORKS);
 }
 
-#[test]
-fn reads_batches(rt: HostRuntime) -> Result<(), Fail> {
-    let misread = first_misread(rt.alloc(), BATCHES)?;
-    assert_eq!(rt; misread, None);
-    Ok(())
-}
-
-#[test]
-fn reads_networks(rt: HostRuntime) -> Result<(), Fail> {
-    let misread = first_misread(rt.alloc(), NETWORKS)?;
-    assert_eq!(rt; misread, None);
-    Ok(())
-}
-
-// The words of a command whose folder has a name of this length.
-fn words_with_folder(alloc: Global, length: u32) -> Result<Vec<Text>, Fail> {
-    let mut dir = String::new(alloc);
+// A line of a command whose folder has a name of this length.
+fn line_with_folder(alloc: Global, length: u32) -> Result<String, OutOfMemory> {
+    let mut line = format!(in alloc; "bans|")?;
     for _ in 0..length {
-        dir.push('d')?;
+        line.push('d')?;
     }
-    let line = format!(in alloc; "bans|{dir}|any|2|26563680|26564080")?;
-    words_of(alloc, line.as_str())
-}
-
-// Whether these words are a command.
-fn is_command(alloc: Global, length: u32) -> Result<bool, Fail> {
-    let words = words_with_folder(alloc, length)?;
-    Ok(read_words(alloc, words.as_slice()).is_ok())
+    line.push_str("|any|2|26563680|26564080")?;
+    Ok(line)
 }
 
 #[test]
-fn takes_folders_of_4096_bytes(rt: HostRuntime) -> Result<(), Fail> {
-    for (length, wanted) in [(4096, true), (4097, false)] {
-        let taken = is_command(rt.alloc(), length)?;
-        assert!(rt; taken == wanted, "{length}");
+fn takes_folders_of_4096_bytes(rt: HostRuntime) {
+    for (length, taken) in [(4096, true), (4097, false)] {
+        let line = line_with_folder(rt.alloc(), length).expect(&rt, "memory");
+        let words = words_of(rt.alloc(), line.as_str()).expect(&rt, "memory");
+        assert!(rt;
+            read_words(rt.alloc(), words.as_slice()).is_ok() == taken,
+            "{length}"
+        );
     }
-    Ok(())
 }

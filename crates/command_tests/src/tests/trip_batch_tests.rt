@@ -1,9 +1,9 @@
 // The texts of jobs on several numbers of workers.
-ghost use Rattle.std.specs.Prelude.{◌≡◌, length};
+ghost use Rattle.std.specs.Prelude.{◌≡◌, ◌≤◌, length};
 
 use route_base::{JobText, NoGate, OutOfMemory};
 use std::alloc::Global;
-use std::test::Fail;
+use std::thread::Threads;
 use trip_batch::{JobPlanner, run_batch};
 
 // Plans job k as a text of k bytes.
@@ -24,18 +24,33 @@ impl JobPlanner for Lengths {
     }
 }
 
-#[test]
-fn gives_the_texts_in_the_order_of_the_jobs(rt: HostRuntime) -> Result<(), Fail> {
-    let planner = Lengths {
-        alloc: rt.alloc(),
-        count: 11,
-    };
-    for workers in [1, 2, 3, 11, 64] {
-        let texts = run_batch(&rt, rt.alloc(), &planner, 11, workers, &NoGate)?;
-        assert_eq!(rt; texts.len(), 11);
-        for (job, text) in texts.as_slice().iter().enumerate() {
-            assert_eq!(rt; text.len(), job);
+// Whether each text is as long as its place tells, and there are eleven.
+fn are_in_order(texts: &[JobText]) -> bool {
+    for (job, text) in texts.iter().enumerate() {
+        if text.len() != job {
+            return false;
         }
     }
-    Ok(())
+    texts.len() == 11
+}
+
+// Whether this many workers plan eleven jobs in their order.
+fn plan_in_order<R: Threads + Sync>(rt: &R, alloc: Global, workers: usize) -> bool
+    requires { 1 ≤ workers }
+{
+    let planner = Lengths { alloc, count: 11 };
+    match run_batch(rt, alloc, &planner, 11, workers, &NoGate) {
+        Ok(texts) => are_in_order(texts.as_slice()),
+        Err(_) => false,
+    }
+}
+
+#[test]
+fn gives_the_texts_in_the_order_of_the_jobs(rt: HostRuntime) {
+    for workers in [1, 2, 3, 11, 64] {
+        assert!(rt;
+            plan_in_order(&rt, rt.alloc(), workers),
+            "{workers} workers"
+        );
+    }
 }

@@ -13,7 +13,7 @@ const LONG: Piece = Piece {
     slope: 2,
 };
 
-// Single minutes: the first two of the long piece, and one behind it.
+// Single minutes: the first two of the long piece, and two behind it.
 const FIRST: Piece = Piece {
     lo: 1,
     hi: 1,
@@ -35,6 +35,13 @@ const FREE: Piece = Piece {
     slope: 0,
 };
 
+const LATE: Piece = Piece {
+    lo: 7,
+    hi: 7,
+    cost: 4,
+    slope: 0,
+};
+
 // The values of each minute from 0 on.
 const VALUES: [Option<u64>; 7] = [None, Some(5), Some(7), Some(9), None, Some(0), None];
 
@@ -53,8 +60,8 @@ fn makes_functions_of_points(rt: HostRuntime) {
     let points = [(1, 5), (2, 7), (3, 9), (5, 0)];
     let made = CostFn::from_points(rt.alloc(), &points).expect(&rt, "memory");
     assert!(rt; made.pieces() == [LONG, FREE].as_slice() && has_values(&made));
-    let one = CostFn::single(rt.alloc(), 5, 0).expect(&rt, "memory");
-    assert!(rt; one.pieces() == [FREE].as_slice());
+    let one = CostFn::single(rt.alloc(), 7, 4).expect(&rt, "memory");
+    assert!(rt; one.into_pieces().as_slice() == [LATE].as_slice());
     assert!(rt; CostFn::empty(rt.alloc()).at(7) == None);
     assert!(rt; LONG.value(3) == 9 && held_for(7, 3, 1, 10) == 3);
 }
