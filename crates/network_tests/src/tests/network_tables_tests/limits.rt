@@ -1,6 +1,6 @@
 // When arcs are closed and where one may wait: closures, ratings and parking.
-use crate::tests::network_tables_tests::{found, read};
-use network_tables::{Network, NetworkFault};
+use crate::tests::network_tables_tests::read;
+use network_tables::Network;
 use route_base::{ArcId, FileKind, NodeId, Run};
 
 // Whether one may wait at the second node and not at the first one.
@@ -27,25 +27,18 @@ fn closes_the_second_arc(network: &Network) -> bool {
         && network.closure(ArcId(2), 1) == second
 }
 
+const TEXTS: &[(FileKind, &str)] = &[
+    (
+        FileKind::Closures,
+        "\u{FEFF}arc,from,to\r\n\"2\",2020-07-04T00:00Z,26563860\r\n\r\n02,26563600,26563700",
+    ),
+    (FileKind::Ratings, "rating,weight\nr,2.000\n"),
+    (FileKind::Parking, "node,rating\n2,r\n"),
+];
+
 #[test]
-fn reads_closures_ratings_and_parking(rt: HostRuntime) -> Result<(), NetworkFault> {
-    let closures =
-        "\u{FEFF}arc,from,to\r\n\"2\",2020-07-04T00:00Z,26563860\r\n\r\n02,26563600,26563700";
-    let network = read(
-        rt.alloc(),
-        &[
-            (FileKind::Closures, closures),
-            (FileKind::Ratings, "rating,weight\nr,2.000\n"),
-            (FileKind::Parking, "node,rating\n2,r\n"),
-        ],
-    );
-    let (parks, closes) = found(network, |network| {
-        (
-            parks_at_the_second_node(network),
-            closes_the_second_arc(network),
-        )
-    })?;
-    assert!(rt; parks);
-    assert!(rt; closes);
-    Ok(())
+fn reads_closures_ratings_and_parking(rt: HostRuntime) {
+    let network = read(rt.alloc(), TEXTS).expect(&rt, "a network");
+    assert!(rt; parks_at_the_second_node(&network));
+    assert!(rt; closes_the_second_arc(&network));
 }

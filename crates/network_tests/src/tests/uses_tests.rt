@@ -1,12 +1,15 @@
-// One worked case for each caller.
+// The callers of the libraries: one worked case for each.
 ghost use Rattle.route_base.specs.Time.{IsInstant};
 
-use crate::{Codes, access_given, clock_shows, is_banned, read_lockers};
+mod judgements;
+mod plans;
+
 use conditional_rules::{Access, ConditionalFault};
 use opening_hours::{Holidays, HoursFault};
 use route_base::{Cause, Minute, TableFault};
 use std::alloc::Global;
 use table_reader::NameIndex;
+use uses::{Codes, access_given, clock_shows, is_banned, read_lockers};
 use vehicle_classes::Vehicle;
 use zone_rules::{Wall, Zone, ZoneRow};
 
@@ -28,8 +31,7 @@ fn is_banned_at(alloc: Global, hours: &[u8], minute: Minute) -> Result<bool, Hou
 }
 
 #[test]
-fn bans_trucks_on_sundays_in_local_time(rt: HostRuntime) -> Result<(), HoursFault> {
-    let alloc = rt.alloc();
+fn bans_trucks_on_sundays_in_local_time(rt: HostRuntime) {
     // 2020-07-04T20:00Z is Saturday 22:00 in this zone, when the ban begins.
     for (minute, banned) in [
         (26_564_879, false),
@@ -37,12 +39,11 @@ fn bans_trucks_on_sundays_in_local_time(rt: HostRuntime) -> Result<(), HoursFaul
         (26_566_319, true),
         (26_566_320, false),
     ] {
-        let answer = is_banned_at(alloc, b"Sa 22:00-Su 22:00", minute)?;
-        assert!(rt; answer == banned, "at {minute}");
+        let answer = is_banned_at(rt.alloc(), b"Sa 22:00-Su 22:00", minute);
+        assert!(rt; answer == Ok(banned), "at {minute}");
     }
-    let fault = is_banned_at(alloc, b"Sa 25:00", 26_564_880).err();
-    assert!(rt; fault == Some(HoursFault::NotHours));
-    Ok(())
+    let fault = is_banned_at(rt.alloc(), b"Sa 25:00", 26_564_880);
+    assert!(rt; fault == Err(HoursFault::NotHours));
 }
 
 // The access that a value gives any vehicle in that zone at a minute, where there are no holidays.
@@ -57,15 +58,13 @@ fn given_at(alloc: Global, value: &[u8], minute: Minute) -> Result<Option<Access
 }
 
 #[test]
-fn gives_the_access_of_a_rule_in_local_time(rt: HostRuntime) -> Result<(), ConditionalFault> {
-    let alloc = rt.alloc();
+fn gives_the_access_of_a_rule_in_local_time(rt: HostRuntime) {
     for (minute, due) in [(26_564_879, None), (26_564_880, Some(Access::Barred))] {
-        let given = given_at(alloc, b"no @ (Sa 22:00-Su 22:00)", minute)?;
-        assert!(rt; given == due, "at {minute}");
+        let given = given_at(rt.alloc(), b"no @ (Sa 22:00-Su 22:00)", minute);
+        assert!(rt; given == Ok(due), "at {minute}");
     }
-    let fault = given_at(alloc, b"no @ Saturday", 26_564_880).err();
-    assert!(rt; fault == Some(ConditionalFault::NotConditional));
-    Ok(())
+    let fault = given_at(rt.alloc(), b"no @ Saturday", 26_564_880);
+    assert!(rt; fault == Err(ConditionalFault::NotConditional));
 }
 
 #[test]
@@ -79,23 +78,23 @@ fn shows_local_time(rt: HostRuntime) {
 }
 
 // The codes of three lockers, of which the second one is red, by these codes of colours.
-fn codes_of(alloc: Global, by_name: NameIndex<u64>) -> Result<Vec<Option<u64>>, TableFault> {
+fn codes_of(alloc: Global, colours: &[(&str, u64)]) -> Result<Vec<Option<u64>>, TableFault> {
+    let mut by_name = NameIndex::new(alloc);
+    for (colour, code) in colours {
+        if by_name.add(alloc, colour.as_bytes(), *code).is_err() {
+            return Err(TableFault::OutOfMemory);
+        }
+    }
     read_lockers(alloc, b"locker,colour\n2,red\n", 3, Codes { by_name })
 }
 
 #[test]
-fn reads_codes_of_lockers(rt: HostRuntime) -> Result<(), TableFault> {
-    let alloc = rt.alloc();
-    let mut by_name = NameIndex::new(alloc);
-    assert!(rt; by_name.add(alloc, b"red", 7).is_ok());
-    let codes = codes_of(alloc, by_name);
-    let same = codes.map(|codes| codes.as_slice() == [None, Some(7), None].as_slice())?;
-    assert!(rt; same);
+fn reads_codes_of_lockers(rt: HostRuntime) {
+    let codes = codes_of(rt.alloc(), &[("red", 7)]).expect(&rt, "codes");
+    assert!(rt; codes.as_slice() == [None, Some(7), None].as_slice());
     let unknown = TableFault::BadRow {
         row: 2,
         cause: Cause::Unknown,
     };
-    let read = codes_of(alloc, NameIndex::new(alloc));
-    assert!(rt; read.err() == Some(unknown));
-    Ok(())
+    assert!(rt; codes_of(rt.alloc(), &[]).err() == Some(unknown));
 }
