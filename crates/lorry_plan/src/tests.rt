@@ -229,14 +229,14 @@ fn run_over_both<R: Threads + Sync + AllocGlobal>(
     run_to(rt, &mut folder, line, text)
 }
 
-// Runs the words over the files of the base and of the case, and compares the status and the whole text.
-fn expect<R: Abort + Threads + Sync + AllocGlobal>(rt: &R, base: Texts<'_>, case: Case<'_>) {
-    let Case {
-        more,
-        words,
-        status,
-        text,
-    } = case;
+// Runs the words over the files of both lists, and compares the status and the whole text.
+fn expect_run<R: Abort + Threads + Sync + AllocGlobal>(
+    rt: &R,
+    base: Texts<'_>,
+    more: Texts<'_>,
+    words: &str,
+    (status, text): (Status, &str),
+) {
     let got = run_over_both(rt, base, more, words, text);
     assert!(rt;
         got == Ok((status, true)),
@@ -251,7 +251,7 @@ fn expect_cases<R: Abort + Threads + Sync + AllocGlobal>(
     cases: &[Case<'_>],
 ) {
     for case in cases {
-        expect(rt, base, *case);
+        expect_run(rt, base, case.more, case.words, (case.status, case.text));
     }
 }
 
@@ -263,50 +263,34 @@ fn expect_texts<R: Abort + Threads + Sync + AllocGlobal>(
     cases: &[(&str, &str)],
 ) {
     for (words, text) in cases {
-        let case = Case {
-            more: &[],
-            words: *words,
-            status,
-            text: *text,
-        };
-        expect(rt, files, case);
+        expect_run(rt, files, &[], words, (status, *text));
     }
 }
 
 // Runs each of these words over the files of both lists, and compares the status and the whole text, which are the same for all.
-fn expect_alike<'a, R: Abort + Threads + Sync + AllocGlobal>(
+fn expect_alike<R: Abort + Threads + Sync + AllocGlobal>(
     rt: &R,
     base: Texts<'_>,
-    more: Texts<'a>,
-    lines: &[&'a str],
-    (status, text): (Status, &'a str),
+    more: Texts<'_>,
+    lines: &[&str],
+    due: (Status, &str),
 ) {
     for line in lines {
-        let case = Case {
-            more,
-            words: *line,
-            status,
-            text,
-        };
-        expect(rt, base, case);
+        expect_run(rt, base, more, line, due);
     }
 }
 
-// Runs the words over the base and this file, and compares the status and the whole text.
-fn expect_beside<R: Abort + Threads + Sync + AllocGlobal>(
+// Runs the words over the base and each of these lists of files, and compares the status and the whole text of each row.
+fn expect_over_each<R: Abort + Threads + Sync + AllocGlobal>(
     rt: &R,
     base: Texts<'_>,
-    file: (&str, &str),
     words: &str,
-    (status, text): (Status, &str),
+    status: Status,
+    rows: &[(Texts<'_>, &str)],
 ) {
-    let case = Case {
-        more: &[file],
-        words,
-        status,
-        text,
-    };
-    expect(rt, base, case);
+    for (more, text) in rows {
+        expect_run(rt, base, more, words, (status, *text));
+    }
 }
 
 // Runs the trip over the base with this text of the file, and compares the status and the whole text.
@@ -318,7 +302,7 @@ fn expect_trip<R: Abort + Threads + Sync + AllocGlobal>(
     report: &str,
 ) {
     let path = format!(in rt.alloc(); "d/{file}").expect(rt, "memory");
-    expect_beside(rt, base, (path.as_str(), text), TRIP, (status, report));
+    expect_run(rt, base, &[(path.as_str(), text)], TRIP, (status, report));
 }
 
 // Runs the trip over the base with each text of this file, and compares the report.

@@ -24,6 +24,3 @@ pub use open_roads::is_banned;
 pub use plans::plan_trip;
 pub use rules::access_given;
 pub use trips::is_lawful;
-
-#[cfg(test)]
-mod tests;

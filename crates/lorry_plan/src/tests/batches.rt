@@ -1,6 +1,8 @@
 // Tables of jobs, planned on several workers.
-use super::{Case, GRAPH, NETWORK, Texts, expect, expect_alike, expect_cases};
+use super::{GRAPH, NETWORK, Texts, expect_alike, expect_over_each};
 use route_base::Status;
+
+const BATCH: &str = "batch d jobs.csv";
 
 // Three jobs: one that is planned, one of an unknown vehicle, and one without a way.
 const JOBS: &str =
@@ -25,19 +27,17 @@ fn answers_jobs_in_their_order(rt: HostRuntime) {
     expect_alike(&rt, NETWORK, THREE_JOBS, WORKERS, (Status::Done, ANSWERS));
 }
 
-const FAILING: Case<'static> = Case {
-    more: &[(
+const FAILING: &[(Texts<'static>, &str)] = &[(
+    &[(
         "d/jobs.csv",
         "vehicle,from,to,depart,until\nx,0,4,26563680,26563679\nany,0,4,26563680,26563679\nany,1,4,26563680,26563679\nany,1,3,26563680,26563679\nany,1,3,26563680,26650081\nany,1,1,26563680,26563680\n",
     )],
-    words: "batch d jobs.csv",
-    status: Status::Done,
-    text: "job 1\nrefused request UnknownVehicle\njob 2\nrefused request OriginRange\njob 3\nrefused request GoalRange\njob 4\nrefused request UntilBeforeDepart\njob 5\nrefused request HorizonTooLong\njob 6\npairs 1\npair 26563680 0.000\n",
-};
+    "job 1\nrefused request UnknownVehicle\njob 2\nrefused request OriginRange\njob 3\nrefused request GoalRange\njob 4\nrefused request UntilBeforeDepart\njob 5\nrefused request HorizonTooLong\njob 6\npairs 1\npair 26563680 0.000\n",
+)];
 
 #[test]
 fn answers_each_check_that_a_job_fails(rt: HostRuntime) {
-    expect(&rt, GRAPH, FAILING);
+    expect_over_each(&rt, GRAPH, BATCH, Status::Done, FAILING);
 }
 
 // An arc that is closed to the heavy one of two vehicles, and three jobs of theirs.
@@ -71,95 +71,65 @@ fn plans_each_job_for_its_own_vehicle(rt: HostRuntime) {
 }
 
 // Tables of jobs that are refused.
-const REFUSED: &[Case<'static>] = &[
-    Case {
-        more: &[("d/jobs.csv", "from,to,depart,until\n")],
-        words: "batch d jobs.csv",
-        status: Status::BadInput,
-        text: "refused input jobs 1 BadHeader\n",
-    },
-    Case {
-        more: &[(
+const REFUSED: &[(Texts<'static>, &str)] = &[
+    (
+        &[("d/jobs.csv", "from,to,depart,until\n")],
+        "refused input jobs 1 BadHeader\n",
+    ),
+    (
+        &[(
             "d/jobs.csv",
             "vehicle,from,to,depart,until\nany,1,3,26563680\n",
         )],
-        words: "batch d jobs.csv",
-        status: Status::BadInput,
-        text: "refused input jobs 2 FieldCount\n",
-    },
-    Case {
-        more: &[(
+        "refused input jobs 2 FieldCount\n",
+    ),
+    (
+        &[(
             "d/jobs.csv",
             "vehicle,from,to,depart,until\n,1,3,26563680,26564080\n",
         )],
-        words: "batch d jobs.csv",
-        status: Status::BadInput,
-        text: "refused input jobs 2 BadField\n",
-    },
-    Case {
-        more: &[(
+        "refused input jobs 2 BadField\n",
+    ),
+    (
+        &[(
             "d/jobs.csv",
             "vehicle,from,to,depart,until\nany,1,4294967296,26563680,26564080\n",
         )],
-        words: "batch d jobs.csv",
-        status: Status::BadInput,
-        text: "refused input jobs 2 BadField\n",
-    },
-    Case {
-        more: &[(
+        "refused input jobs 2 BadField\n",
+    ),
+    (
+        &[(
             "d/jobs.csv",
             "vehicle,from,to,depart,until\nany,1,3,26563680,26564080\nany,1,3,026563680,26564080\n",
         )],
-        words: "batch d jobs.csv",
-        status: Status::BadInput,
-        text: "refused input jobs 3 BadField\n",
-    },
+        "refused input jobs 3 BadField\n",
+    ),
 ];
 
 #[test]
 fn refuses_a_table_of_jobs_by_its_first_fault(rt: HostRuntime) {
-    expect_cases(&rt, NETWORK, REFUSED);
+    expect_over_each(&rt, NETWORK, BATCH, Status::BadInput, REFUSED);
 }
 
 const MISSING: &str = "refused input jobs 0 Missing\n";
 
 const HEADER: &str = "refused input closures.csv 1 BadHeader\n";
 
-// Runs over the graph.
-const NO_JOBS: &[Case<'static>] = &[
-    Case {
-        more: &[("d/jobs.csv", "vehicle,from,to,depart,until\n")],
-        words: "batch d jobs.csv",
-        status: Status::Done,
-        text: "",
-    },
-    Case {
-        more: &[("d/jobs.csv", "")],
-        words: "batch d jobs.csv",
-        status: Status::Done,
-        text: "",
-    },
-    Case {
-        more: &[],
-        words: "batch d jobs.csv",
-        status: Status::BadInput,
-        text: MISSING,
-    },
-    Case {
-        more: &[("d/closures.csv", "x")],
-        words: "batch d jobs.csv",
-        status: Status::BadInput,
-        text: MISSING,
-    },
-    Case {
-        more: &[("d/closures.csv", "x"), ("d/jobs.csv", "x")],
-        words: "batch d jobs.csv",
-        status: Status::BadInput,
-        text: HEADER,
-    },
+// Tables without jobs, over the graph.
+const NO_JOBS: &[(Texts<'static>, &str)] = &[
+    (&[("d/jobs.csv", "vehicle,from,to,depart,until\n")], ""),
+    (&[("d/jobs.csv", "")], ""),
+];
+
+// No table of jobs, and a table that has a fault itself.
+const NO_TABLE: &[(Texts<'static>, &str)] = &[
+    (&[], MISSING),
+    (&[("d/closures.csv", "x")], MISSING),
+    (&[("d/closures.csv", "x"), ("d/jobs.csv", "x")], HEADER),
 ];
 
 #[test]
 fn takes_no_jobs_and_finds_the_networks_faults_first(rt: HostRuntime) {
-    expect_cases(&rt, GRAPH, NO_JOBS);
+    expect_over_each(&rt, GRAPH, BATCH, Status::Done, NO_JOBS);
+    expect_over_each(&rt, GRAPH, BATCH, Status::BadInput, NO_TABLE);
 }

@@ -1,5 +1,5 @@
 // Certificates: written by a plan, and judged.
-use super::{NETWORK, TWO_PAIRS, expect_beside, expect_over, sure_folder};
+use super::{NETWORK, TWO_PAIRS, expect_over, expect_run, sure_folder};
 use route_base::{Status, SureFolder};
 use std::process::Abort;
 use std::thread::Threads;
@@ -110,10 +110,10 @@ fn expect_verdict<R: Abort + Threads + Sync + AllocGlobal>(rt: &R, certificate: 
     } else {
         Status::Rejected
     };
-    expect_beside(
+    expect_run(
         rt,
         NETWORK,
-        ("d/c.cert", certificate),
+        &[("d/c.cert", certificate)],
         CHECK,
         (status, text),
     );

@@ -1,6 +1,6 @@
 // The graph file: its lawful forms, and each cause for which it is refused.
 use super::{
-    Case, NETWORK, ONE_PAIR, TRIP, TWO_PAIRS, expect_cases, expect_refusals, expect_reports,
+    NETWORK, ONE_PAIR, TRIP, TWO_PAIRS, Texts, expect_over_each, expect_refusals, expect_reports,
 };
 use route_base::Status;
 
@@ -92,29 +92,23 @@ const CUT: &[(&str, &str)] = &[
 ];
 
 // Graphs that are cut within the last number or behind it.
-const SHORTER: &[Case<'static>] = &[
-    Case {
-        more: &[("d/graph.gr", "p sp 3 3\na 1 2 60\na 2 3 60\na 1 3 3")],
-        words: TRIP,
-        status: Status::Done,
-        text: "pairs 1\npair 26563683 3.000\ndrive 3\n",
-    },
-    Case {
-        more: &[("d/graph.gr", "p sp 3 3\na 1 2 60\na 2 3 60\na 1 3 30")],
-        words: TRIP,
-        status: Status::Done,
-        text: "pairs 1\npair 26563710 30.000\ndrive 3\n",
-    },
-    Case {
-        more: &[("d/graph.gr", "p sp 3 3\na 1 2 60\na 2 3 60\na 1 3 300")],
-        words: TRIP,
-        status: Status::Done,
-        text: TWO_PAIRS,
-    },
+const SHORTER: &[(Texts<'static>, &str)] = &[
+    (
+        &[("d/graph.gr", "p sp 3 3\na 1 2 60\na 2 3 60\na 1 3 3")],
+        "pairs 1\npair 26563683 3.000\ndrive 3\n",
+    ),
+    (
+        &[("d/graph.gr", "p sp 3 3\na 1 2 60\na 2 3 60\na 1 3 30")],
+        "pairs 1\npair 26563710 30.000\ndrive 3\n",
+    ),
+    (
+        &[("d/graph.gr", "p sp 3 3\na 1 2 60\na 2 3 60\na 1 3 300")],
+        TWO_PAIRS,
+    ),
 ];
 
 #[test]
 fn answers_as_far_as_a_graph_is_cut(rt: HostRuntime) {
-    expect_cases(&rt, NETWORK, SHORTER);
+    expect_over_each(&rt, NETWORK, TRIP, Status::Done, SHORTER);
     expect_refusals(&rt, NETWORK, "graph.gr", CUT);
 }

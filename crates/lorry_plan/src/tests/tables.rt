@@ -12,7 +12,7 @@ mod zones;
 
 use super::{
     CLOSED, Case, NETWORK, ONE_PAIR, PARKED, RATED, TRIANGLE, TRIP, Texts, expect_cases,
-    expect_reports,
+    expect_over_each, expect_reports,
 };
 use route_base::Status;
 
@@ -27,67 +27,57 @@ const ROADS: &str = "arc,area\n3,sea\n1,acores\n";
 
 const UNKNOWN: &str = "arc,from,to\n4,26563740,26563860\n";
 
-// Runs over faulty files, of which the first fault is told.
-const FIRST: &[Case<'static>] = &[
-    Case {
-        more: &[
+// Faulty files, of which the first fault is told.
+const FIRST: &[(Texts<'static>, &str)] = &[
+    (
+        &[
             ("d/graph.gr", "x"),
             ("d/closures.csv", UNKNOWN),
             ("d/ratings.csv", "x"),
             ("d/parking.csv", "x"),
             ("d/holidays.csv", "x"),
         ],
-        words: TRIP,
-        status: Status::BadInput,
-        text: "refused input graph.gr 1 BadForm\n",
-    },
-    Case {
-        more: &[
+        "refused input graph.gr 1 BadForm\n",
+    ),
+    (
+        &[
             ("d/graph.gr", "p sp 3 3\n"),
             ("d/closures.csv", UNKNOWN),
             ("d/ratings.csv", "x"),
             ("d/parking.csv", "x"),
             ("d/holidays.csv", "x"),
         ],
-        words: TRIP,
-        status: Status::BadInput,
-        text: "refused input graph.gr 2 ArcCount\n",
-    },
-    Case {
-        more: &[
+        "refused input graph.gr 2 ArcCount\n",
+    ),
+    (
+        &[
             ("d/graph.gr", TRIANGLE),
             ("d/closures.csv", UNKNOWN),
             ("d/ratings.csv", "x"),
             ("d/parking.csv", "x"),
         ],
-        words: TRIP,
-        status: Status::BadInput,
-        text: "refused input closures.csv 2 Unknown\n",
-    },
-    Case {
-        more: &[
+        "refused input closures.csv 2 Unknown\n",
+    ),
+    (
+        &[
             ("d/graph.gr", TRIANGLE),
             ("d/closures.csv", CLOSED),
             ("d/ratings.csv", "rating,weight\nr,2\nr,2\n"),
             ("d/parking.csv", "x"),
         ],
-        words: TRIP,
-        status: Status::BadInput,
-        text: "refused input ratings.csv 3 Duplicate\n",
-    },
-    Case {
-        more: &[
+        "refused input ratings.csv 3 Duplicate\n",
+    ),
+    (
+        &[
             ("d/graph.gr", TRIANGLE),
             ("d/ratings.csv", RATED),
             ("d/parking.csv", "x"),
             ("d/holidays.csv", "x"),
         ],
-        words: TRIP,
-        status: Status::BadInput,
-        text: "refused input parking.csv 1 BadHeader\n",
-    },
-    Case {
-        more: &[
+        "refused input parking.csv 1 BadHeader\n",
+    ),
+    (
+        &[
             ("d/graph.gr", TRIANGLE),
             ("d/holidays.csv", "x"),
             ("d/tolls.csv", "x"),
@@ -103,15 +93,13 @@ const FIRST: &[Case<'static>] = &[
             ("d/ratings.csv", ""),
             ("d/parking.csv", PARKED),
         ],
-        words: TRIP,
-        status: Status::BadInput,
-        text: "refused input parking.csv 2 Unknown\n",
-    },
+        "refused input parking.csv 2 Unknown\n",
+    ),
 ];
 
 #[test]
 fn tells_the_first_fault_of_all_files(rt: HostRuntime) {
-    expect_cases(&rt, &[], FIRST);
+    expect_over_each(&rt, &[], TRIP, Status::BadInput, FIRST);
 }
 
 // Runs in which a file has a fault, and the request or a later file has one too.

@@ -27,20 +27,19 @@ fn are_both_zones(zones: &[Zone]) -> bool {
     }
 }
 
-#[test]
-fn places_areas_among_zones(rt: HostRuntime) -> Result<(), TableFault> {
-    let alloc = rt.alloc();
-    let zones = zones_of(alloc)?;
-    let places = areas_in(alloc, &zones)?.into_zone_places(alloc)?;
-    assert!(rt; places.as_slice() == [zones.utc(), 0].as_slice());
-    let zones = zones.into_list(alloc)?;
-    assert!(rt; are_both_zones(&zones));
-    Ok(())
+// Whether `town` is in the first zone, and `port` in UTC.
+fn are_places(zones: &Zones, places: &[usize]) -> bool {
+    places == [zones.utc(), 0].as_slice()
 }
 
-// The places of the areas of three arcs, of which the second is in `town`.
-fn roads_among(alloc: Global, areas: &Areas) -> Result<Vec<u32>, TableFault> {
-    read_roads(alloc, b"arc,area\n2,town\n", 3, areas)
+#[test]
+fn places_areas_among_zones(rt: HostRuntime) {
+    let zones = zones_of(rt.alloc()).expect(&rt, "zones");
+    let areas = areas_in(rt.alloc(), &zones).expect(&rt, "areas");
+    let places = areas.into_zone_places(rt.alloc()).expect(&rt, "memory");
+    assert!(rt; are_places(&zones, &places));
+    let list = zones.into_list(rt.alloc()).expect(&rt, "memory");
+    assert!(rt; are_both_zones(&list));
 }
 
 // Whether the first of two areas has no holiday on 2020-07-06, and the second one for schools.
@@ -52,12 +51,13 @@ fn are_of_schools(holidays: &[Holidays]) -> bool {
 }
 
 #[test]
-fn reads_roads_and_holidays_of_areas(rt: HostRuntime) -> Result<(), TableFault> {
-    let alloc = rt.alloc();
-    let areas = areas_in(alloc, &zones_of(alloc)?)?;
-    let roads = roads_among(alloc, &areas)?;
+fn reads_roads_and_holidays_of_areas(rt: HostRuntime) {
+    let zones = zones_of(rt.alloc()).expect(&rt, "zones");
+    let areas = areas_in(rt.alloc(), &zones).expect(&rt, "areas");
+    // Of three arcs the second is in `town`.
+    let roads = read_roads(rt.alloc(), b"arc,area\n2,town\n", 3, &areas).expect(&rt, "roads");
     assert!(rt; roads.as_slice() == [0, 1, 0].as_slice());
-    let holidays = read_holidays(alloc, b"area,kind,date\ntown,SH,2020-07-06\n", &areas)?;
+    let text = b"area,kind,date\ntown,SH,2020-07-06\n";
+    let holidays = read_holidays(rt.alloc(), text, &areas).expect(&rt, "holidays");
     assert!(rt; are_of_schools(&holidays));
-    Ok(())
 }

@@ -1,16 +1,14 @@
 // Worked cases of covered minutes and of layers.
-ghost use Rattle.std.specs.Prelude.{◌≤◌};
-
 mod networks;
 mod weekends;
 
 use ban_expansion::{Layer, closed_by, common, overlaid};
 use covered_minutes::covered_minutes;
 use minute_sets::MinuteSet;
-use opening_hours::{Holidays, parse};
+use opening_hours::{Holidays, Hours, parse};
+use route_base::limits::{FIRST_INSTANT, LAST_INSTANT};
 use route_base::{OutOfMemory, Run};
 use std::alloc::Global;
-use std::test::Fail;
 use zone_rules::{Zone, ZoneRow};
 
 // The rows of central Europe for 2020: clocks go ahead on 2020-03-29 and back on 2020-10-25, both at 01:00Z.
@@ -29,48 +27,63 @@ const CENTRAL_EUROPE: [ZoneRow; 3] = [
     },
 ];
 
-// The runs of the minutes from `lo` to `hi` that hours cover in central Europe.
-fn covered_runs(alloc: Global, text: &[u8], lo: u64, hi: u64) -> Result<Vec<Run>, Fail>
-    requires from { 525600 ≤ lo }
-    requires to { hi ≤ 120968640 }
-{
-    let hours = parse(alloc, text)?;
-    let zone = Zone::from_rows(alloc, &CENTRAL_EUROPE)?;
+// Hours, a window, and the minutes of it that they cover in central Europe.
+const COVERED: &[(&str, Run, &[Run])] = &[
+    // From 2020-10-24T12:00Z to 2020-10-25T12:00Z an hour is repeated.
+    (
+        "02:00-03:00",
+        Run {
+            lo: 26_725_680,
+            hi: 26_727_120,
+        },
+        &[Run {
+            lo: 26_726_400,
+            hi: 26_726_520,
+        }],
+    ),
+    // From 2020-03-28T12:00Z to 2020-03-29T12:00Z clocks skip an hour.
+    (
+        "02:00-03:00",
+        Run {
+            lo: 26_423_280,
+            hi: 26_424_720,
+        },
+        &[],
+    ),
+    // The span began before this window, from 2020-07-05T10:00Z to 2020-07-06T00:00Z, and ends on Sunday at 20:00Z.
+    (
+        "Sa 22:00-Su 22:00",
+        Run {
+            lo: 26_565_720,
+            hi: 26_566_560,
+        },
+        &[Run {
+            lo: 26_565_720,
+            hi: 26_566_320,
+        }],
+    ),
+];
+
+// Whether hours cover just these runs of a window in a zone without holidays.
+fn cover(alloc: Global, hours: &Hours, zone: &Zone, window: Run, runs: &[Run]) -> bool {
+    if window.lo < FIRST_INSTANT || window.hi > LAST_INSTANT {
+        return false;
+    }
     let none = Holidays::from_days(Vec::new(alloc), Vec::new(alloc));
-    let set = covered_minutes(alloc, &hours, &zone, &none, Run { lo, hi })?;
-    Ok(set.into_runs())
+    match covered_minutes(alloc, hours, zone, &none, window) {
+        Ok(set) => set.runs() == runs,
+        Err(_) => false,
+    }
 }
 
 #[test]
-fn covers_a_repeated_hour_twice(rt: HostRuntime) -> Result<(), Fail> {
-    // The window is 2020-10-24T12:00Z to 2020-10-25T12:00Z.
-    let runs = covered_runs(rt.alloc(), b"02:00-03:00", 26_725_680, 26_727_120)?;
-    let twice = Run {
-        lo: 26_726_400,
-        hi: 26_726_520,
-    };
-    assert!(rt; runs.as_slice() == [twice].as_slice());
-    Ok(())
-}
-
-#[test]
-fn leaves_out_an_hour_that_clocks_skip(rt: HostRuntime) -> Result<(), Fail> {
-    // The window is 2020-03-28T12:00Z to 2020-03-29T12:00Z.
-    let runs = covered_runs(rt.alloc(), b"02:00-03:00", 26_423_280, 26_424_720)?;
-    assert!(rt; runs.is_empty());
-    Ok(())
-}
-
-#[test]
-fn covers_a_span_that_began_before_the_window(rt: HostRuntime) -> Result<(), Fail> {
-    // The window is 2020-07-05T10:00Z to 2020-07-06T00:00Z, and the span ends on Sunday at 20:00Z.
-    let runs = covered_runs(rt.alloc(), b"Sa 22:00-Su 22:00", 26_565_720, 26_566_560)?;
-    let sunday = Run {
-        lo: 26_565_720,
-        hi: 26_566_320,
-    };
-    assert!(rt; runs.as_slice() == [sunday].as_slice());
-    Ok(())
+fn covers_minutes_across_changes_of_clocks(rt: HostRuntime) {
+    let zone = Zone::from_rows(rt.alloc(), &CENTRAL_EUROPE).expect(&rt, "a zone");
+    for (text, window, runs) in COVERED {
+        let hours = parse(rt.alloc(), text.as_bytes()).expect(&rt, "hours");
+        let covered = cover(rt.alloc(), &hours, &zone, *window, runs);
+        assert!(rt; covered, "{text} in {window:?}");
+    }
 }
 
 const WINDOW: Run = Run { lo: 0, hi: 60 };
@@ -103,13 +116,11 @@ fn common_with(alloc: Global, set: MinuteSet) -> Result<MinuteSet, OutOfMemory> 
 }
 
 #[test]
-fn lays_layers_over_one_another(rt: HostRuntime) -> Result<(), Fail> {
-    let alloc = rt.alloc();
-    let closed = closed_by_layers(alloc)?;
+fn lays_layers_over_one_another(rt: HostRuntime) {
+    let closed = closed_by_layers(rt.alloc()).expect(&rt, "memory");
     assert!(rt; closed.runs() == [Run { lo: 0, hi: 20 }, Run { lo: 30, hi: 60 }].as_slice());
-    let freed = freed_late(alloc, &closed)?;
+    let freed = freed_late(rt.alloc(), &closed).expect(&rt, "memory");
     assert!(rt; freed.runs() == [Run { lo: 0, hi: 20 }, Run { lo: 30, hi: 40 }].as_slice());
-    let both = common_with(alloc, closed)?;
+    let both = common_with(rt.alloc(), closed).expect(&rt, "memory");
     assert!(rt; both.runs() == [Run { lo: 10, hi: 20 }].as_slice());
-    Ok(())
 }

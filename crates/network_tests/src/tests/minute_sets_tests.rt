@@ -2,58 +2,64 @@
 use minute_sets::MinuteSet;
 use route_base::{OutOfMemory, Run};
 use std::alloc::Global;
-use std::test::Fail;
+
+// Runs in no order, of which two overlap and one is empty.
+const GIVEN: &[Run] = &[
+    Run { lo: 40, hi: 50 },
+    Run { lo: 15, hi: 30 },
+    Run { lo: 35, hi: 35 },
+    Run { lo: 10, hi: 20 },
+];
+
+const MERGED: &[Run] = &[Run { lo: 10, hi: 30 }, Run { lo: 40, hi: 50 }];
 
 #[test]
-fn merges_runs_that_overlap(rt: HostRuntime) -> Result<(), Fail> {
-    let runs = [
-        Run { lo: 40, hi: 50 },
-        Run { lo: 15, hi: 30 },
-        Run { lo: 35, hi: 35 },
-        Run { lo: 10, hi: 20 },
-    ];
-    let set = MinuteSet::from_runs(rt.alloc(), &runs)?;
-    assert!(rt; set.runs() == [Run { lo: 10, hi: 30 }, Run { lo: 40, hi: 50 }].as_slice());
-    assert!(rt; set.contains(29));
-    assert!(rt; !set.contains(30));
-    assert!(rt; !set.contains(u64::MAX));
+fn merges_runs_that_overlap(rt: HostRuntime) {
+    let set = MinuteSet::from_runs(rt.alloc(), GIVEN).expect(&rt, "memory");
+    assert!(rt; set.runs() == MERGED);
+    assert!(rt; set.contains(29) && !set.contains(30) && !set.contains(u64::MAX));
     assert_eq!(rt; set.into_runs().len(), 2);
-    Ok(())
 }
 
+const WINDOW: Run = Run { lo: 0, hi: 60 };
+
+// The minutes of the window between the merged runs, and the first minutes of ten of these on end.
+const GAPS: &[Run] = &[
+    Run { lo: 0, hi: 10 },
+    Run { lo: 30, hi: 40 },
+    Run { lo: 50, hi: 60 },
+];
+
+const ENTRIES: &[Run] = &[
+    Run { lo: 0, hi: 1 },
+    Run { lo: 30, hi: 31 },
+    Run { lo: 50, hi: 51 },
+];
+
 #[test]
-fn combines_sets(rt: HostRuntime) -> Result<(), Fail> {
-    let alloc = rt.alloc();
-    let runs = [
-        Run { lo: 10, hi: 20 },
-        Run { lo: 15, hi: 30 },
-        Run { lo: 40, hi: 50 },
-    ];
-    let set = MinuteSet::from_runs(alloc, &runs)?;
-    let window = Run { lo: 0, hi: 60 };
-    let gaps = set.complement(alloc, window)?;
-    let gap_runs = [
-        Run { lo: 0, hi: 10 },
-        Run { lo: 30, hi: 40 },
-        Run { lo: 50, hi: 60 },
-    ];
-    assert!(rt; gaps.runs() == gap_runs.as_slice());
-    let entries = set.entries(alloc, window, 10)?;
-    let entry_runs = [
-        Run { lo: 0, hi: 1 },
-        Run { lo: 30, hi: 31 },
-        Run { lo: 50, hi: 51 },
-    ];
-    assert!(rt; entries.runs() == entry_runs.as_slice());
-    let between = MinuteSet::whole(alloc, Run { lo: 30, hi: 40 })?;
-    let joined = set.union(alloc, &between)?;
-    let mut grown = MinuteSet::from_runs(alloc, set.runs())?;
-    grown.add_all(alloc, &between)?;
-    assert!(rt; grown.runs() == joined.runs());
-    assert!(rt; joined.runs() == [Run { lo: 10, hi: 50 }].as_slice());
-    assert!(rt; joined.intersection(alloc, &gaps)?.runs() == between.runs());
-    assert!(rt; joined.minus(alloc, &between)?.runs() == set.runs());
-    Ok(())
+fn finds_gaps_and_entries(rt: HostRuntime) {
+    let set = MinuteSet::from_runs(rt.alloc(), GIVEN).expect(&rt, "memory");
+    let gaps = set.complement(rt.alloc(), WINDOW).expect(&rt, "memory");
+    assert!(rt; gaps.runs() == GAPS);
+    let entries = set.entries(rt.alloc(), WINDOW, 10).expect(&rt, "memory");
+    assert!(rt; entries.runs() == ENTRIES);
+}
+
+const BETWEEN: &[Run] = &[Run { lo: 30, hi: 40 }];
+
+const JOINED: &[Run] = &[Run { lo: 10, hi: 50 }];
+
+#[test]
+fn combines_sets(rt: HostRuntime) {
+    let set = MinuteSet::from_runs(rt.alloc(), GIVEN).expect(&rt, "memory");
+    let between = MinuteSet::from_runs(rt.alloc(), BETWEEN).expect(&rt, "memory");
+    let joined = set.union(rt.alloc(), &between).expect(&rt, "memory");
+    assert!(rt; joined.runs() == JOINED);
+    let less = joined.minus(rt.alloc(), &between).expect(&rt, "memory");
+    assert!(rt; less.runs() == MERGED);
+    let gaps = MinuteSet::from_runs(rt.alloc(), GAPS).expect(&rt, "memory");
+    let common = joined.intersection(rt.alloc(), &gaps).expect(&rt, "memory");
+    assert!(rt; common.runs() == BETWEEN);
 }
 
 // The minutes of three runs, of which the second touches the first and the third is empty.
@@ -66,8 +72,20 @@ fn appended(alloc: Global) -> Result<MinuteSet, OutOfMemory> {
 }
 
 #[test]
-fn appends_runs(rt: HostRuntime) -> Result<(), OutOfMemory> {
-    let set = appended(rt.alloc())?;
+fn appends_runs(rt: HostRuntime) {
+    let set = appended(rt.alloc()).expect(&rt, "memory");
     assert!(rt; set.runs() == [Run { lo: 10, hi: 30 }].as_slice());
-    Ok(())
+}
+
+// The merged runs and the one between them, as one set to which the other was added.
+fn grown(alloc: Global) -> Result<MinuteSet, OutOfMemory> {
+    let mut set = MinuteSet::from_runs(alloc, GIVEN)?;
+    set.add_all(alloc, &MinuteSet::from_runs(alloc, BETWEEN)?)?;
+    Ok(set)
+}
+
+#[test]
+fn adds_sets(rt: HostRuntime) {
+    let set = grown(rt.alloc()).expect(&rt, "memory");
+    assert!(rt; set.runs() == JOINED);
 }

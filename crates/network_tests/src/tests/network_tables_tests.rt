@@ -7,7 +7,7 @@ mod rules;
 mod vehicles;
 
 use network_tables::{Files, Network, NetworkFault, read_network};
-use route_base::{FileBytes, FileKind, OutOfMemory, read_number};
+use route_base::{BadInput, Cause, FileBytes, FileKind, OutOfMemory};
 use std::alloc::Global;
 
 const TRIANGLE: &str = "p sp 3 3\na 1 2 60\na 2 3 60\na 1 3 300\n";
@@ -42,25 +42,8 @@ pub fn read(alloc: Global, texts: &[(FileKind, &str)]) -> Result<Network, Networ
     read_network(alloc, &files)
 }
 
-// The answer of this function to the network, where one is read.
-pub fn found<T, F: FnOnce(&Network) -> T>(
-    network: Result<Network, NetworkFault>,
-    find: F,
-) -> Result<T, NetworkFault>
-    requires { F.IsAlwaysCallable find }
-{
-    match network {
-        Ok(network) => Ok(find(&network)),
-        Err(fault) => Err(fault),
-    }
-}
-
 // The network of these vehicles and rules over the triangle, with arc 2 in the second area.
-pub fn ruled<'a>(
-    alloc: Global,
-    vehicles: &'a str,
-    rules: &'a str,
-) -> Result<Network, NetworkFault> {
+pub fn ruled(alloc: Global, vehicles: &str, rules: &str) -> Result<Network, NetworkFault> {
     let texts = [
         (FileKind::Areas, AREAS),
         (FileKind::Roads, "arc,area\n2,town\n"),
@@ -70,34 +53,12 @@ pub fn ruled<'a>(
     read(alloc, &texts)
 }
 
-// Whether a file is refused at this record for the cause of this name.
-pub fn is_refused(
-    network: Result<Network, NetworkFault>,
-    file: FileKind,
-    row: u64,
-    cause: &str,
-) -> bool {
-    match network.err() {
-        Some(NetworkFault::Bad(fault)) => {
-            fault.file == file && fault.row == row && fault.cause.name() == cause
-        }
-        _ => false,
-    }
-}
-
-// The header and the data rows of a table, which stand with `|` between them.
+// The text of a table with this header and these rows.
 pub fn table(alloc: Global, header: &str, rows: &str) -> Result<String, OutOfMemory> {
-    let mut text = format!(in alloc; "{header}")?;
-    for row in rows.split('|') {
-        text.push_str(row)?;
-        text.push('\n')?;
-    }
-    Ok(text)
+    Ok(format!(in alloc; "{header}{rows}")?)
 }
 
-// The record, the cause and the data rows.
-pub fn refusal_of(case: &str) -> Option<(u64, &str, &str)> {
-    let (row, case) = case.split_once(' ')?;
-    let (cause, rows) = case.split_once(' ')?;
-    Some((read_number(row.as_bytes())?, cause, rows))
+// The refusal of a file at this record.
+pub fn refusal(file: FileKind, row: u64, cause: Cause) -> Option<NetworkFault> {
+    Some(NetworkFault::Bad(BadInput { file, row, cause }))
 }

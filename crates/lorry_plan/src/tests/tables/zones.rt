@@ -1,8 +1,6 @@
 // zones.csv: each cause for which it is refused, and zones that change no answer.
 use super::{AREAS, ROADS, ZONES};
-use crate::tests::{
-    Case, NETWORK, TRIANGLE, TRIP, TWO_PAIRS, Texts, expect_cases, expect_refusals,
-};
+use crate::tests::{NETWORK, TRIANGLE, TRIP, TWO_PAIRS, Texts, expect_over_each, expect_refusals};
 use route_base::Status;
 
 // Texts, and the line and the cause of each refusal.
@@ -51,60 +49,50 @@ fn refuses_zones_with_their_first_fault(rt: HostRuntime) {
     expect_refusals(&rt, BASE, "zones.csv", REFUSED);
 }
 
-// Runs over tables of zones, areas and roads that change no answer.
-const UNUSED: &[Case<'static>] = &[
-    Case {
-        more: &[
+// Tables of zones, areas and roads that change no answer.
+const UNUSED: &[(Texts<'static>, &str)] = &[
+    (
+        &[
             ("d/zones.csv", ZONES),
             ("d/areas.csv", AREAS),
             ("d/roads.csv", ROADS),
         ],
-        words: TRIP,
-        status: Status::Done,
-        text: TWO_PAIRS,
-    },
-    Case {
-        more: &[
+        TWO_PAIRS,
+    ),
+    (
+        &[
             ("d/zones.csv", ZONES),
             ("d/areas.csv", ""),
             ("d/roads.csv", ""),
         ],
-        words: TRIP,
-        status: Status::Done,
-        text: TWO_PAIRS,
-    },
-    Case {
-        more: &[
+        TWO_PAIRS,
+    ),
+    (
+        &[
             ("d/zones.csv", ZONES),
             ("d/areas.csv", ""),
             ("d/roads.csv", "arc,area\n2,default\n"),
         ],
-        words: TRIP,
-        status: Status::Done,
-        text: TWO_PAIRS,
-    },
-    Case {
-        more: &[
+        TWO_PAIRS,
+    ),
+    (
+        &[
             ("d/zones.csv", ""),
             ("d/areas.csv", "area,zone\nsea,UTC\n"),
             ("d/roads.csv", "arc,area\n1,sea\n"),
         ],
-        words: TRIP,
-        status: Status::Done,
-        text: TWO_PAIRS,
-    },
-    Case {
-        more: &[
+        TWO_PAIRS,
+    ),
+    (
+        &[
             ("d/zones.csv", "zone,from,offset\nUTC,525600,+18:00\n"),
             ("d/areas.csv", ""),
             ("d/roads.csv", ""),
         ],
-        words: TRIP,
-        status: Status::Done,
-        text: TWO_PAIRS,
-    },
-    Case {
-        more: &[
+        TWO_PAIRS,
+    ),
+    (
+        &[
             (
                 "d/zones.csv",
                 "zone,from,offset\na,525600,-18:00\nb,525600,+00:59\na,525601,-00:00\n",
@@ -112,13 +100,11 @@ const UNUSED: &[Case<'static>] = &[
             ("d/areas.csv", "area,zone\nx,b\ny,a\n"),
             ("d/roads.csv", ""),
         ],
-        words: TRIP,
-        status: Status::Done,
-        text: TWO_PAIRS,
-    },
+        TWO_PAIRS,
+    ),
 ];
 
 #[test]
 fn plans_the_same_trip_in_any_zone(rt: HostRuntime) {
-    expect_cases(&rt, NETWORK, UNUSED);
+    expect_over_each(&rt, NETWORK, TRIP, Status::Done, UNUSED);
 }

@@ -1,6 +1,6 @@
 // The holidays of arcs.
-use crate::tests::network_tables_tests::{AREAS, found, read};
-use network_tables::{Network, NetworkFault};
+use crate::tests::network_tables_tests::{AREAS, read};
+use network_tables::Network;
 use route_base::{ArcId, FileKind};
 
 // Whether a day is a public holiday and whether it is a school holiday, at an arc; none where the triangle has no such arc.
@@ -12,39 +12,33 @@ fn holidays_on(network: &Network, a: u32, day: u32) -> Option<(bool, bool)> {
     Some((holidays.is_public(day), holidays.is_school(day)))
 }
 
-// The first arc and day on which the network has other holidays.
-fn wrong_holidays(network: &Network) -> Option<(u32, u32)> {
-    for (a, day, public, school) in [
-        (2, 18_261, false, false),
-        (2, 18_262, true, false),
-        (2, 18_263, false, false),
-        (2, 18_449, false, true),
-        (2, 18_620, false, false),
-        (2, 18_621, true, false),
-        (2, 18_622, false, false),
-        (1, 18_621, false, false),
-        (1, 18_449, false, false),
-    ] {
-        if holidays_on(network, a, day) != Some((public, school)) {
-            return Some((a, day));
-        }
-    }
-    None
-}
+// Arcs and days, and whether each is a public holiday and a school holiday there.
+const DAYS: &[(u32, u32, bool, bool)] = &[
+    (2, 18_261, false, false),
+    (2, 18_262, true, false),
+    (2, 18_263, false, false),
+    (2, 18_449, false, true),
+    (2, 18_620, false, false),
+    (2, 18_621, true, false),
+    (2, 18_622, false, false),
+    (1, 18_621, false, false),
+    (1, 18_449, false, false),
+];
+
+const TEXTS: &[(FileKind, &str)] = &[
+    (FileKind::Areas, AREAS),
+    (FileKind::Roads, "arc,area\n2,town\n"),
+    (
+        FileKind::Holidays,
+        "area,kind,date\ntown,PH,2020-12-25\ntown,SH,2020-07-06\ntown,PH,2020-01-01\ntown,PH,2020-12-25\n",
+    ),
+];
 
 #[test]
-fn reads_holidays_of_both_kinds(rt: HostRuntime) -> Result<(), NetworkFault> {
-    let holidays =
-        "area,kind,date\ntown,PH,2020-12-25\ntown,SH,2020-07-06\ntown,PH,2020-01-01\ntown,PH,2020-12-25\n";
-    let network = read(
-        rt.alloc(),
-        &[
-            (FileKind::Areas, AREAS),
-            (FileKind::Roads, "arc,area\n2,town\n"),
-            (FileKind::Holidays, holidays),
-        ],
-    );
-    let wrong = found(network, |network| wrong_holidays(network))?;
-    assert_eq!(rt; wrong, None);
-    Ok(())
+fn reads_holidays_of_both_kinds(rt: HostRuntime) {
+    let network = read(rt.alloc(), TEXTS).expect(&rt, "a network");
+    for (a, day, public, school) in DAYS {
+        let found = holidays_on(&network, *a, *day);
+        assert!(rt; found == Some((*public, *school)), "arc {a} on {day}");
+    }
 }

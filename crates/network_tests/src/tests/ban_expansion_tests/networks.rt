@@ -1,11 +1,11 @@
 // When arcs of a small network are closed to two vehicles.
 ghost use Rattle.std.specs.Prelude.{◌≡◌, ◌≤◌, ◌<◌, true, length};
 
-use crate::tests::network_tables_tests::{found, read};
+use crate::tests::network_tables_tests::read;
 use ban_expansion::{closed_at, closed_set, expand_plain, group_arcs};
-use network_tables::{Network, NetworkFault};
+use network_tables::Network;
 use route_base::limits::{FIRST_INSTANT, LAST_INSTANT};
-use route_base::{ArcId, FileKind, Minute, OutOfMemory, Run, TimedNet};
+use route_base::{ArcId, FileKind, Minute, Run, TimedNet};
 use std::alloc::Global;
 
 const RULES: &str =
@@ -33,36 +33,22 @@ const WITHOUT_DELIVERY: [Run; 2] = [
     },
 ];
 
-// Arcs in the areas `port` and `town`, in this zone. Those that no road names are in the first.
-fn network_of<'a>(
-    alloc: Global,
-    graph: &'a str,
-    roads: &'a str,
-    rules: &'a str,
-    closures: &'a str,
-) -> Result<Network, NetworkFault> {
-    let texts = [
-        (FileKind::Graph, graph),
-        (FileKind::Zones, "zone,from,offset\nHere,525600,+01:00\n"),
-        (FileKind::Areas, "area,zone\nport,Here\ntown,Here\n"),
-        (FileKind::Roads, roads),
-        (FileKind::Vehicles, VEHICLES),
-        (FileKind::Rules, rules),
-        (FileKind::Closures, closures),
-    ];
-    read(alloc, &texts)
-}
+const ZONES: &str = "zone,from,offset\nHere,525600,+01:00\n";
+
+const AREAS: &str = "area,zone\nport,Here\ntown,Here\n";
 
 // Four arcs in one area. The third has a closure that ends after the day.
-fn port(alloc: Global) -> Result<Network, NetworkFault> {
-    network_of(
-        alloc,
+const PORT: &[(FileKind, &str)] = &[
+    (
+        FileKind::Graph,
         "p sp 3 4\na 1 2 60\na 2 3 60\na 1 3 300\na 3 1 300\n",
-        "arc,area\n",
-        RULES,
-        "arc,from,to\n3,26565100,26565200\n",
-    )
-}
+    ),
+    (FileKind::Zones, ZONES),
+    (FileKind::Areas, AREAS),
+    (FileKind::Vehicles, VEHICLES),
+    (FileKind::Rules, RULES),
+    (FileKind::Closures, "arc,from,to\n3,26565100,26565200\n"),
+];
 
 // Whether the network has a vehicle of this place and an arc of this number.
 fn has(network: &Network, place: usize, arc: u32) -> bool
@@ -74,59 +60,41 @@ fn has(network: &Network, place: usize, arc: u32) -> bool
 }
 
 // Whether these are the minutes of the day at which an arc is closed to a vehicle; no where either is missing.
-fn are_closed(
-    alloc: Global,
-    network: &Network,
-    place: usize,
-    arc: u32,
-    runs: &[Run],
-) -> Result<bool, OutOfMemory> {
+fn are_closed(alloc: Global, network: &Network, place: usize, arc: u32, runs: &[Run]) -> bool {
     if !has(network, place, arc) {
-        return Ok(false);
+        return false;
     }
     let vehicle = network.vehicles().vehicle(place);
-    let closed = closed_set(alloc, network, vehicle, ArcId(arc), DAY)?;
-    Ok(closed.runs() == runs)
-}
-
-// Whether the network has four arcs and two vehicles.
-fn has_four_arcs_and_two_vehicles(network: &Network) -> bool {
-    network.graph().arc_count() == 4 && network.vehicles().len() == 2
-}
-
-// The first vehicle and arc at which other minutes of the day are closed. A value for a more general key stands before those of the
-// area for `hgv`.
-fn wrong_minutes(alloc: Global, network: &Network) -> Result<Option<(usize, u32)>, OutOfMemory> {
-    let closure = Run {
-        lo: 26_565_100,
-        hi: 26_565_120,
-    };
-    for (place, arc, runs) in [
-        (0, 1, [DAY].as_slice()),
-        (1, 1, WITHOUT_DELIVERY.as_slice()),
-        (1, 2, WITHOUT_DELIVERY.as_slice()),
-        (0, 3, [closure].as_slice()),
-    ] {
-        if !are_closed(alloc, network, place, arc, runs)? {
-            return Ok(Some((place, arc)));
-        }
+    match closed_set(alloc, network, vehicle, ArcId(arc), DAY) {
+        Ok(closed) => closed.runs() == runs,
+        Err(_) => false,
     }
-    Ok(None)
 }
+
+// Vehicles, arcs, and the minutes of the day at which they are closed. A value for a more general key stands before those of the area
+// for `hgv`.
+const CLOSED: &[(usize, u32, &[Run])] = &[
+    (0, 1, &[DAY]),
+    (1, 1, &WITHOUT_DELIVERY),
+    (1, 2, &WITHOUT_DELIVERY),
+    (
+        0,
+        3,
+        &[Run {
+            lo: 26_565_100,
+            hi: 26_565_120,
+        }],
+    ),
+];
 
 #[test]
-fn closes_arcs_by_the_last_value_that_is_given(rt: HostRuntime) -> Result<(), NetworkFault> {
-    let alloc = rt.alloc();
-    let (whole, wrong) = found(
-        port(alloc),
-        |network| (
-            has_four_arcs_and_two_vehicles(network),
-            wrong_minutes(alloc, network),
-        ),
-    )?;
-    assert!(rt; whole);
-    assert_eq!(rt; wrong?, None);
-    Ok(())
+fn closes_arcs_by_the_last_value_that_is_given(rt: HostRuntime) {
+    let network = read(rt.alloc(), PORT).expect(&rt, "a network");
+    assert!(rt; network.graph().arc_count() == 4 && network.vehicles().len() == 2);
+    for (place, arc, runs) in CLOSED {
+        let closed = are_closed(rt.alloc(), &network, *place, *arc, runs);
+        assert!(rt; closed, "vehicle {place}, arc {arc}");
+    }
 }
 
 // Whether an arc is closed to a vehicle at an instant; none where one of the three is missing.
@@ -138,27 +106,22 @@ fn is_closed(network: &Network, place: usize, arc: u32, minute: Minute) -> Optio
     Some(closed_at(network, vehicle, ArcId(arc), minute))
 }
 
-// The first arc and instant at which the network has another answer.
-fn wrong_instant(network: &Network) -> Option<(u32, Minute)> {
-    for (place, arc, minute, closed) in [
-        (1, 1, 26_563_979, true),
-        (1, 1, 26_563_980, false),
-        (0, 1, 26_563_980, true),
-        (0, 3, 26_565_199, true),
-        (0, 3, 26_565_200, false),
-    ] {
-        if is_closed(network, place, arc, minute) != Some(closed) {
-            return Some((arc, minute));
-        }
-    }
-    None
-}
+// Vehicles, arcs and instants, and whether the arc is closed.
+const INSTANTS: &[(usize, u32, Minute, bool)] = &[
+    (1, 1, 26_563_979, true),
+    (1, 1, 26_563_980, false),
+    (0, 1, 26_563_980, true),
+    (0, 3, 26_565_199, true),
+    (0, 3, 26_565_200, false),
+];
 
 #[test]
-fn closes_arcs_at_the_same_instants(rt: HostRuntime) -> Result<(), NetworkFault> {
-    let wrong = found(port(rt.alloc()), |network| wrong_instant(network))?;
-    assert_eq!(rt; wrong, None);
-    Ok(())
+fn closes_arcs_at_the_same_instants(rt: HostRuntime) {
+    let network = read(rt.alloc(), PORT).expect(&rt, "a network");
+    for (place, arc, minute, closed) in INSTANTS {
+        let found = is_closed(&network, *place, *arc, *minute);
+        assert!(rt; found == Some(*closed), "arc {arc} at {minute}");
+    }
 }
 
 // The place of the closed minutes of an arc.
@@ -180,53 +143,35 @@ fn has_shared_sets(net: &TimedNet) -> bool {
 }
 
 // Whether this is so after the expansion for the second of two vehicles.
-fn shares_sets(alloc: Global, network: &Network) -> Result<bool, OutOfMemory> {
+fn shares_sets(alloc: Global, network: &Network) -> bool {
     if network.vehicles().len() != 2 {
-        return Ok(false);
+        return false;
     }
-    let net = expand_plain(alloc, network, network.vehicles().vehicle(1), DAY)?;
-    Ok(has_shared_sets(&net))
+    match expand_plain(alloc, network, network.vehicles().vehicle(1), DAY) {
+        Ok(net) => has_shared_sets(&net),
+        Err(_) => false,
+    }
 }
 
 #[test]
-fn shares_sets_within_an_area(rt: HostRuntime) -> Result<(), NetworkFault> {
-    let alloc = rt.alloc();
-    let shared = found(port(alloc), |network| shares_sets(alloc, network))??;
-    assert!(rt; shared);
-    Ok(())
-}
-
-// Whether the arcs are in these groups, with these first arcs.
-fn are_grouped(
-    alloc: Global,
-    network: &Network,
-    groups: &[u32],
-    firsts: &[ArcId],
-) -> Result<bool, OutOfMemory> {
-    let grouped = group_arcs(alloc, network)?;
-    Ok(grouped.groups() == groups && grouped.firsts() == firsts)
-}
-
-#[test]
-fn groups_arcs_that_have_nothing_of_their_own(rt: HostRuntime) -> Result<(), NetworkFault> {
-    let alloc = rt.alloc();
-    let groups = [0, 1, 2, 0];
-    let firsts = [ArcId(1), ArcId(2), ArcId(3)];
-    let grouped = found(
-        port(alloc),
-        |network| are_grouped(alloc, network, &groups, &firsts),
-    )??;
-    assert!(rt; grouped);
-    Ok(())
+fn shares_sets_within_an_area(rt: HostRuntime) {
+    let network = read(rt.alloc(), PORT).expect(&rt, "a network");
+    assert!(rt; shares_sets(rt.alloc(), &network));
 }
 
 // Seven arcs with a conditional value of their own: the fourth has another value, the fifth is in another area, and the last two
 // have a closure.
-fn port_with_rules_of_arcs(alloc: Global) -> Result<Network, NetworkFault> {
-    network_of(
-        alloc,
+const OWN: &[(FileKind, &str)] = &[
+    (
+        FileKind::Graph,
         "p sp 2 7\na 1 2 60\na 1 2 60\na 1 2 60\na 1 2 60\na 1 2 60\na 1 2 60\na 1 2 60\n",
-        "arc,area\n5,town\n",
+    ),
+    (FileKind::Zones, ZONES),
+    (FileKind::Areas, AREAS),
+    (FileKind::Roads, "arc,area\n5,town\n"),
+    (FileKind::Vehicles, VEHICLES),
+    (
+        FileKind::Rules,
         "scope,key,value\n\
         arc:1,hgv:conditional,no @ (22:00-06:00)\n\
         arc:2,hgv:conditional,no @ (22:00-06:00)\n\
@@ -235,19 +180,29 @@ fn port_with_rules_of_arcs(alloc: Global) -> Result<Network, NetworkFault> {
         arc:5,hgv:conditional,no @ (22:00-06:00)\n\
         arc:6,hgv:conditional,no @ (22:00-06:00)\n\
         arc:7,hgv:conditional,no @ (22:00-06:00)\n",
+    ),
+    (
+        FileKind::Closures,
         "arc,from,to\n6,26565100,26565200\n7,26565100,26565200\n",
-    )
-}
+    ),
+];
+
+// Networks, the group of each arc, and the first arc of each group.
+const GROUPED: &[(&[(FileKind, &str)], &[u32], &[ArcId])] = &[
+    (PORT, &[0, 1, 2, 0], &[ArcId(1), ArcId(2), ArcId(3)]),
+    (
+        OWN,
+        &[0, 0, 0, 1, 2, 3, 3],
+        &[ArcId(1), ArcId(4), ArcId(5), ArcId(6)],
+    ),
+];
 
 #[test]
-fn groups_arcs_that_have_the_same_of_their_own(rt: HostRuntime) -> Result<(), NetworkFault> {
-    let alloc = rt.alloc();
-    let groups = [0, 0, 0, 1, 2, 3, 3];
-    let firsts = [ArcId(1), ArcId(4), ArcId(5), ArcId(6)];
-    let grouped = found(
-        port_with_rules_of_arcs(alloc),
-        |network| are_grouped(alloc, network, &groups, &firsts),
-    )??;
-    assert!(rt; grouped);
-    Ok(())
+fn groups_arcs_that_have_the_same_of_their_own(rt: HostRuntime) {
+    for (texts, groups, firsts) in GROUPED {
+        let network = read(rt.alloc(), texts).expect(&rt, "a network");
+        let grouped = group_arcs(rt.alloc(), &network).expect(&rt, "memory");
+        assert!(rt; grouped.groups() == *groups, "{groups:?}");
+        assert!(rt; grouped.firsts() == *firsts, "{groups:?}");
+    }
 }

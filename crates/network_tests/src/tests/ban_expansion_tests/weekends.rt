@@ -1,7 +1,7 @@
 // A road that is closed from Saturday to Sunday, by each call that makes its closed minutes.
-use crate::tests::network_tables_tests::{found, read};
+use crate::tests::network_tables_tests::read;
 use ban_expansion::{closed_set, expand, expand_groups, expand_plain, group_arcs};
-use network_tables::{Network, NetworkFault};
+use network_tables::Network;
 use route_base::{ArcId, FileKind, NoGate, OutOfMemory, Run, TimedNet};
 use std::alloc::Global;
 use std::thread::Threads;
@@ -19,21 +19,18 @@ const BANNED: Run = Run {
 };
 
 // The network of the road.
-fn road(alloc: Global) -> Result<Network, NetworkFault> {
-    let texts = [
-        (FileKind::Graph, "p sp 2 1\na 1 2 60\n"),
-        (
-            FileKind::Zones,
-            "zone,from,offset\nberlin,2020-03-29T01:00Z,+02:00\n",
-        ),
-        (FileKind::Areas, "area,zone\nde,berlin\n"),
-        (
-            FileKind::Rules,
-            "scope,key,value\narea:de,hgv:conditional,no @ (Sa 22:00-Su 22:00)\n",
-        ),
-    ];
-    read(alloc, &texts)
-}
+const ROAD: &[(FileKind, &str)] = &[
+    (FileKind::Graph, "p sp 2 1\na 1 2 60\n"),
+    (
+        FileKind::Zones,
+        "zone,from,offset\nberlin,2020-03-29T01:00Z,+02:00\n",
+    ),
+    (FileKind::Areas, "area,zone\nde,berlin\n"),
+    (
+        FileKind::Rules,
+        "scope,key,value\narea:de,hgv:conditional,no @ (Sa 22:00-Su 22:00)\n",
+    ),
+];
 
 // Whether the road of a net is closed at these minutes.
 fn is_banned(net: &TimedNet) -> bool {
@@ -44,64 +41,51 @@ fn is_banned(net: &TimedNet) -> bool {
 }
 
 // Whether the closed minutes of the road are these.
-fn is_closed(alloc: Global, network: &Network) -> Result<bool, OutOfMemory> {
+fn is_closed(alloc: Global, network: &Network) -> bool {
     if network.graph().arc_count() == 0 || network.vehicles().len() == 0 {
-        return Ok(false);
+        return false;
     }
     let any = network.vehicles().vehicle(0);
-    let closed = closed_set(alloc, network, any, ArcId(1), WEEKEND)?;
-    Ok(closed.runs() == [BANNED].as_slice())
+    match closed_set(alloc, network, any, ArcId(1), WEEKEND) {
+        Ok(closed) => closed.runs() == [BANNED].as_slice(),
+        Err(_) => false,
+    }
 }
 
 // Whether the road is closed in the net.
-fn is_closed_plainly(alloc: Global, network: &Network) -> Result<bool, OutOfMemory> {
-    if network.vehicles().len() == 0 {
-        return Ok(false);
+fn is_closed_in(net: Result<TimedNet, OutOfMemory>) -> bool {
+    match net {
+        Ok(net) => is_banned(&net),
+        Err(_) => false,
     }
-    let net = expand_plain(alloc, network, network.vehicles().vehicle(0), WEEKEND)?;
-    Ok(is_banned(&net))
+}
+
+// Whether the road is closed in the nets that one worker makes and that several make.
+fn is_closed_in_both<R: Threads + Sync>(rt: &R, alloc: Global, network: &Network) -> bool {
+    if network.vehicles().len() == 0 {
+        return false;
+    }
+    let any = network.vehicles().vehicle(0);
+    is_closed_in(expand_plain(alloc, network, any, WEEKEND))
+        && is_closed_in(expand(rt, alloc, network, any, WEEKEND, &NoGate))
 }
 
 // Whether it is in the net over groups that were found before.
-fn is_closed_by_groups(alloc: Global, network: &Network) -> Result<bool, OutOfMemory> {
+fn is_closed_by_groups(alloc: Global, network: &Network) -> bool {
     if network.vehicles().len() == 0 {
-        return Ok(false);
+        return false;
     }
     let any = network.vehicles().vehicle(0);
-    let groups = group_arcs(alloc, network)?;
-    let net = expand_groups(alloc, network, &groups, any, WEEKEND)?;
-    Ok(is_banned(&net))
-}
-
-// Whether it is in the net that several workers make.
-fn is_closed_at_once<R: Threads + Sync>(
-    rt: &R,
-    alloc: Global,
-    network: &Network,
-) -> Result<bool, OutOfMemory> {
-    if network.vehicles().len() == 0 {
-        return Ok(false);
+    match group_arcs(alloc, network) {
+        Ok(groups) => is_closed_in(expand_groups(alloc, network, &groups, any, WEEKEND)),
+        Err(_) => false,
     }
-    let any = network.vehicles().vehicle(0);
-    let net = expand(rt, alloc, network, any, WEEKEND, &NoGate)?;
-    Ok(is_banned(&net))
 }
 
 #[test]
-fn closes_the_road_by_each_call(rt: HostRuntime) -> Result<(), NetworkFault> {
-    let alloc = rt.alloc();
-    let (closed, plainly, by_groups, at_once) = found(
-        road(alloc),
-        |network| (
-            is_closed(alloc, network),
-            is_closed_plainly(alloc, network),
-            is_closed_by_groups(alloc, network),
-            is_closed_at_once(&rt, alloc, network),
-        ),
-    )?;
-    assert!(rt; closed?);
-    assert!(rt; plainly?);
-    assert!(rt; by_groups?);
-    assert!(rt; at_once?);
-    Ok(())
+fn closes_the_road_by_each_call(rt: HostRuntime) {
+    let network = read(rt.alloc(), ROAD).expect(&rt, "a network");
+    assert!(rt; is_closed(rt.alloc(), &network));
+    assert!(rt; is_closed_in_both(&rt, rt.alloc(), &network));
+    assert!(rt; is_closed_by_groups(rt.alloc(), &network));
 }

@@ -1,6 +1,6 @@
 // When arcs are closed, where one may wait, and what arcs cost: closures, ratings, parking and tolls.
-use crate::tests::network_tables_tests::{found, read};
-use network_tables::{Network, NetworkFault};
+use crate::tests::network_tables_tests::read;
+use network_tables::Network;
 use route_base::{ArcId, FileKind, NodeId, Run};
 
 // Whether one may wait at the second node and not at the first one.
@@ -27,6 +27,22 @@ fn closes_the_second_arc(network: &Network) -> bool {
         && network.closure(ArcId(2), 1) == second
 }
 
+const TEXTS: &[(FileKind, &str)] = &[
+    (
+        FileKind::Closures,
+        "\u{FEFF}arc,from,to\r\n\"2\",2020-07-04T00:00Z,26563860\r\n\r\n02,26563600,26563700",
+    ),
+    (FileKind::Ratings, "rating,weight\nr,2.000\n"),
+    (FileKind::Parking, "node,rating\n2,r\n"),
+];
+
+#[test]
+fn reads_closures_ratings_and_parking(rt: HostRuntime) {
+    let network = read(rt.alloc(), TEXTS).expect(&rt, "a network");
+    assert!(rt; parks_at_the_second_node(&network));
+    assert!(rt; closes_the_second_arc(&network));
+}
+
 // Whether the first and the third arc have these tolls, and the second one none.
 fn has_two_tolls(network: &Network) -> bool {
     network.toll(ArcId(1)) == 100_000
@@ -34,33 +50,13 @@ fn has_two_tolls(network: &Network) -> bool {
         && network.toll(ArcId(3)) == 59_999
 }
 
-#[test]
-fn reads_tolls(rt: HostRuntime) -> Result<(), NetworkFault> {
-    let tolls = "\u{FEFF}arc,toll\r\n3,59.999\r\n0000000001,100\r\n";
-    let network = read(rt.alloc(), &[(FileKind::Tolls, tolls)]);
-    assert!(rt; found(network, |network| has_two_tolls(network))?);
-    Ok(())
-}
+const TOLLS: &[(FileKind, &str)] = &[(
+    FileKind::Tolls,
+    "\u{FEFF}arc,toll\r\n3,59.999\r\n0000000001,100\r\n",
+)];
 
 #[test]
-fn reads_closures_ratings_and_parking(rt: HostRuntime) -> Result<(), NetworkFault> {
-    let closures =
-        "\u{FEFF}arc,from,to\r\n\"2\",2020-07-04T00:00Z,26563860\r\n\r\n02,26563600,26563700";
-    let network = read(
-        rt.alloc(),
-        &[
-            (FileKind::Closures, closures),
-            (FileKind::Ratings, "rating,weight\nr,2.000\n"),
-            (FileKind::Parking, "node,rating\n2,r\n"),
-        ],
-    );
-    let (parks, closes) = found(network, |network| {
-        (
-            parks_at_the_second_node(network),
-            closes_the_second_arc(network),
-        )
-    })?;
-    assert!(rt; parks);
-    assert!(rt; closes);
-    Ok(())
+fn reads_tolls(rt: HostRuntime) {
+    let network = read(rt.alloc(), TOLLS).expect(&rt, "a network");
+    assert!(rt; has_two_tolls(&network));
 }

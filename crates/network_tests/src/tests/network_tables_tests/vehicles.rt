@@ -1,9 +1,7 @@
 // The vehicles of a network.
-use crate::tests::network_tables_tests::{
-    VEHICLE_HEADER, found, is_refused, refusal_of, ruled, table,
-};
+use crate::tests::network_tables_tests::{VEHICLE_HEADER, refusal, ruled, table};
 use network_tables::{Network, NetworkFault};
-use route_base::FileKind;
+use route_base::{Cause, FileKind};
 use std::alloc::Global;
 use vehicle_classes::{Purpose, Quantity, Vehicles};
 
@@ -29,15 +27,10 @@ fn has_the_truck(vehicles: &Vehicles) -> bool {
 }
 
 #[test]
-fn reads_vehicles(rt: HostRuntime) -> Result<(), NetworkFault> {
-    let network = ruled(rt.alloc(), TRUCK, "");
-    let (has_truck, passed) = found(
-        network,
-        |network| (has_the_truck(network.vehicles()), network.passed_over()),
-    )?;
-    assert!(rt; has_truck);
-    assert_eq!(rt; passed, 0);
-    Ok(())
+fn reads_vehicles(rt: HostRuntime) {
+    let network = ruled(rt.alloc(), TRUCK, "").expect(&rt, "a network");
+    assert!(rt; has_the_truck(network.vehicles()));
+    assert_eq!(rt; network.passed_over(), 0);
 }
 
 // The network of the vehicles in these rows.
@@ -47,30 +40,30 @@ fn with_vehicles(alloc: Global, rows: &str) -> Result<Network, NetworkFault> {
 }
 
 // Vehicles that are refused: the record, the cause and the data rows.
-const BAD_VEHICLES: &str = "\
-2 FieldCount truck,hgv,,,,,,,\n\
-2 BadField truck,lorry,,,,,,,,\n\
-2 BadField truck,hgv,1000001,,,,,,,\n\
-2 BadField truck,hgv,,,,,,1000001,,\n\
-2 BadField truck,hgv,,,,,,,,hazmat \n\
-2 BadField truck,hgv,,,,,,,, hazmat\n\
-2 BadField truck,hgv,,,,,,,,Hazmat\n\
-2 BadField truck,hgv,,,,,,,,hazmat2\n\
-2 BadField truck,hgv,,,,,,,passage,\n\
-2 Duplicate any,hgv,,,,,,,,\n\
-3 Duplicate a,hgv,,,,,,,,|a,bus,,,,,,,,\n\
-3 BadField a,hgv,,,,,,,,|a,lorry,,,,,,,,\n\
-";
+const BAD_VEHICLES: &[(u64, Cause, &str)] = &[
+    (2, Cause::FieldCount, "truck,hgv,,,,,,,\n"),
+    (2, Cause::BadField, "truck,lorry,,,,,,,,\n"),
+    (2, Cause::BadField, "truck,hgv,1000001,,,,,,,\n"),
+    (2, Cause::BadField, "truck,hgv,,,,,,1000001,,\n"),
+    (2, Cause::BadField, "truck,hgv,,,,,,,,hazmat \n"),
+    (2, Cause::BadField, "truck,hgv,,,,,,,, hazmat\n"),
+    (2, Cause::BadField, "truck,hgv,,,,,,,,Hazmat\n"),
+    (2, Cause::BadField, "truck,hgv,,,,,,,,hazmat2\n"),
+    (2, Cause::BadField, "truck,hgv,,,,,,,passage,\n"),
+    (2, Cause::Duplicate, "any,hgv,,,,,,,,\n"),
+    (3, Cause::Duplicate, "a,hgv,,,,,,,,\na,bus,,,,,,,,\n"),
+    (3, Cause::BadField, "a,hgv,,,,,,,,\na,lorry,,,,,,,,\n"),
+];
 
 #[test]
 fn refuses_vehicles_with_their_first_fault(rt: HostRuntime) {
-    let alloc = rt.alloc();
-    for case in BAD_VEHICLES.lines() {
-        let refused = refusal_of(case).is_some_and(|(row, cause, rows)| {
-            is_refused(with_vehicles(alloc, rows), FileKind::Vehicles, row, cause)
-        });
-        assert!(rt; refused, "{case}");
+    for (row, cause, rows) in BAD_VEHICLES {
+        let fault = with_vehicles(rt.alloc(), rows).err();
+        assert!(rt;
+            fault == refusal(FileKind::Vehicles, *row, *cause),
+            "{rows}"
+        );
     }
-    let network = ruled(alloc, "name,class\n", "");
-    assert!(rt; is_refused(network, FileKind::Vehicles, 1, "BadHeader"));
+    let fault = ruled(rt.alloc(), "name,class\n", "").err();
+    assert!(rt; fault == refusal(FileKind::Vehicles, 1, Cause::BadHeader));
 }

@@ -1,0 +1,84 @@
+// A trip and a drive over a network of three nodes, asked by callers of the libraries.
+ghost use Rattle.std.specs.Prelude.{◌≤◌};
+
+use crate::tests::network_tables_tests::read;
+use network_tables::Network;
+use route_base::{ArcId, FileKind, Minute, NodeId, OutOfMemory, Pair, Request, Route};
+use std::alloc::Global;
+use uses::{is_open_for, plan_trip};
+
+// The second road is closed from 2020-07-04T01:00Z to 03:00Z, and a lorry may wait at its beginning.
+const PASS: &[(FileKind, &str)] = &[
+    (FileKind::Closures, "arc,from,to\n2,26563740,26563860\n"),
+    (FileKind::Ratings, "rating,weight\nyard,2.000\n"),
+    (FileKind::Parking, "node,rating\n2,yard\n"),
+];
+
+// Whether the routes have these pairs, in this order.
+fn have_pairs(routes: &[Route], due: &[Pair]) -> bool {
+    routes.len() == due.len()
+        && routes
+            .iter()
+            .zip(due)
+            .all(|(route, due)| route.pair == *due)
+}
+
+// Whether the trip from the first node to the third one has these options, for any vehicle.
+fn has_options(alloc: Global, network: &Network, due: &[Pair]) -> bool {
+    if network.graph().node_count() != 3 || network.vehicles().len() != 1 {
+        return false;
+    }
+    let request = Request {
+        origin: NodeId(1),
+        goal: NodeId(3),
+        depart: 26_563_680,
+        until: 26_564_080,
+    };
+    match plan_trip(alloc, network, network.vehicles().vehicle(0), request) {
+        Ok(routes) => have_pairs(routes.as_slice(), due),
+        Err(_) => false,
+    }
+}
+
+const OPTIONS: &[Pair] = &[
+    Pair {
+        arrival: 26_563_920,
+        cost: 360_000,
+    },
+    Pair {
+        arrival: 26_563_980,
+        cost: 300_000,
+    },
+];
+
+#[test]
+fn waits_for_the_pass_or_drives_around_it(rt: HostRuntime) {
+    let network = read(rt.alloc(), PASS).expect(&rt, "a network");
+    assert!(rt; has_options(rt.alloc(), &network, OPTIONS));
+}
+
+// Whether the second road is open for an hour from a minute on, to any vehicle; none where there is no such road or vehicle.
+fn is_pass_open(alloc: Global, network: &Network, from: Minute) -> Result<Option<bool>, OutOfMemory>
+    requires low { 26563680 ≤ from }
+    requires high { from ≤ 26564080 }
+{
+    if network.graph().arc_count() != 3 || network.vehicles().len() != 1 {
+        return Ok(None);
+    }
+    let vehicle = network.vehicles().vehicle(0);
+    Ok(Some(is_open_for(alloc, network, vehicle, ArcId(2), from, 60)?))
+}
+
+#[test]
+fn drives_over_the_pass_before_and_after_it_is_closed(rt: HostRuntime) {
+    let network = read(rt.alloc(), PASS).expect(&rt, "a network");
+    for (from, due) in [
+        (26_563_680, true),
+        (26_563_681, false),
+        (26_563_859, false),
+        (26_563_860, true),
+    ] {
+        let open = is_pass_open(rt.alloc(), &network, from);
+        assert!(rt; open == Ok(Some(due)), "from {from}");
+    }
+}
