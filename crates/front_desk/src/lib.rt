@@ -1,6 +1,7 @@
 //! The program itself: from command-line words and files to the printed answer.
 //!
-//! `networks` makes the net of a trip over a network that `network_folder` has loaded, and `requests` checks a request and finds its vehicle.
+//! `requests` checks a request and finds its vehicle, and `networks` makes the net of a trip over a network that `network_folder` has loaded:
+//! `net_for` does both.
 //! Each command has a module of its own, `plan`, `judgement` (of certificates), `bans`, `batch` and `generation` (of networks); `commands` has
 //! one case for each. `desk` has the top call, `run`, and `run_gated`, whose workers go through a gate; `outcome` says how a command may end;
 //! `laws` has the numbers of the limits, and the law that `check` accepts what `plan` writes. The commands are those of `front_words`; reports
