@@ -29,7 +29,7 @@ module _ (net : NetworkModel) (vehicle : VehicleModel) (good : IsGoodNetwork net
       let found = map_some (at_number net.graph.arcs a) (road_over (toll_at net a)) road is in
       let arc = at_number-all (IsGoodGraphArc net.graph.nodes) net.graph.arcs a found.0 graph.each_arc found.1 in
       subst (λ (r : Road). (1 ≤ r.minutes) × (r.minutes ≤ 10080) × (r.cost ≤ 1000 * r.minutes + 100000)) found.2
-          (arc.minutes.0, arc.minutes.1, omega (arith, good.tolls a))
+      (arc.minutes.0, arc.minutes.1, omega (arith, good.tolls a))
 
   -- no road costs more than the longest drive and a toll
   pub cheap_roads : HasCheapRoads (road_setting net vehicle)
