@@ -5,6 +5,7 @@ mod engines;
 mod function_merge_tests;
 mod label_queue_tests;
 mod nets;
+mod other_nets;
 mod plain_search_tests;
 mod plan_certificate_tests;
 mod plan_report_tests;
