@@ -11,9 +11,9 @@
 //! of it is the front (`rested_trips`), and `sources` turns its legs into legs of the net.
 //!
 //! `specs/Inside` is no law. `WithinRule` has the rule in the form that the proof keeps, since the start or *some* break: it is the
-//! same by `proofs/LastBreak`. `StateSearch` and `StateNet` say what the search for states and the net keep. In `proofs/`,
-//! `SoundBreaks` reads a walk over states as one of the net, `FoundBreaks` goes the other way, and `BreakFronts` puts them together,
-//! by `front_transport`.
+//! same by `proofs/LastBreak`. `StateSearch` and `StateNet` say what the search for states and the net keep, and `Unpacking` what its
+//! steps, legs and routes are in the net below. In `proofs/`, `SoundBreaks` reads a walk over states as one of that net,
+//! `FoundBreaks` goes the other way, and `BreakFronts` puts them together, by `front_transport`.
 #![tactic(auto)]
 
 mod exploration;

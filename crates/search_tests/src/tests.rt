@@ -6,6 +6,7 @@ mod function_merge_tests;
 mod itinerary_unpack_tests;
 mod label_queue_tests;
 mod nets;
+mod other_nets;
 mod plain_search_tests;
 mod plan_certificate_tests;
 mod plan_report_tests;

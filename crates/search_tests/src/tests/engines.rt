@@ -1,5 +1,5 @@
 // Both engines on worked nets and on random ones.
-mod fronts;
-mod nets;
-mod random_nets;
+pub mod fronts;
+pub mod nets;
+pub mod random_nets;
 mod worked;

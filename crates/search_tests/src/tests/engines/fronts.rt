@@ -82,8 +82,8 @@ fn unpacks(
     Ok(true)
 }
 
-// Whether the request is one over the net, of at most 60 days.
-fn is_over(net: &TimedNet, request: Request) -> bool
+/// Whether the request is one over the net, of at most 60 days.
+pub fn is_over(net: &TimedNet, request: Request) -> bool
     ensures over { IsTrue result → IsRequestOver net.now request }
     ensures good { IsGoodNet net.now }
 {

@@ -13,12 +13,12 @@ const SEED: u64 = 20201207;
 const NETS: u64 = 100_000;
 
 // The lists of closed runs of a net.
-const LISTS: u32 = 3;
+pub const LISTS: u32 = 3;
 
 // Numbers that look random: the high bits of a linear congruential generator (source: Knuth, MMIX).
 #[derive(Drop)]
-struct Random {
-    state: u64,
+pub struct Random {
+    pub state: u64,
 }
 
 impl Random {
@@ -30,14 +30,14 @@ impl Random {
         self.state >> 33
     }
 
-    fn below(&mut self, n: u64) -> u64
+    pub fn below(&mut self, n: u64) -> u64
         requires { 1 ≤ n }
         ensures { result < n }
     {
         self.next() % n
     }
 
-    fn node(&mut self, nodes: u32) -> NodeId
+    pub fn node(&mut self, nodes: u32) -> NodeId
         requires { 1 ≤ nodes }
     {
         NodeId(self.below(nodes as u64) as u32 + 1)
@@ -46,29 +46,29 @@ impl Random {
 
 // A net and a request.
 #[derive(Drop)]
-struct Case {
-    nodes: u32,
-    arcs: Vec<TimedArc>,
-    closed: Vec<(u32, Run)>,
-    parks: Vec<Option<Park>>,
-    request: Request,
+pub struct Case {
+    pub nodes: u32,
+    pub arcs: Vec<TimedArc>,
+    pub closed: Vec<(u32, Run)>,
+    pub parks: Vec<Option<Park>>,
+    pub request: Request,
 }
 
-fn random_case<R: Abort + AllocGlobal>(rt: &R, random: &mut Random) -> Case {
+pub fn random_case(alloc: Global, random: &mut Random) -> Result<Case, OutOfMemory> {
     let nodes = random.below(4) as u32 + 3;
     let depart = random.below(10);
-    Case {
+    Ok(Case {
         nodes,
-        arcs: random_arcs(rt.alloc(), random, nodes).expect(rt, "memory"),
-        closed: random_runs(rt.alloc(), random).expect(rt, "memory"),
-        parks: random_parks(rt.alloc(), random, nodes).expect(rt, "memory"),
+        arcs: random_arcs(alloc, random, nodes)?,
+        closed: random_runs(alloc, random)?,
+        parks: random_parks(alloc, random, nodes)?,
         request: Request {
             origin: random.node(nodes),
             goal: random.node(nodes),
             depart,
             until: depart + random.below(31),
         },
-    }
+    })
 }
 
 // Up to 12 arcs, of which the shorter ones are mostly dearer.
@@ -127,7 +127,7 @@ fn random_parks(
 
 // The number of pairs that both engines find in a random net; none where they don't agree, or the net isn't well-formed.
 fn agreed_pairs<R: Abort + AllocGlobal>(rt: &R, random: &mut Random) -> Option<usize> {
-    let case = random_case(rt, random);
+    let case = random_case(rt.alloc(), random).expect(rt, "memory");
     let lists = NetLists {
         nodes: case.nodes,
         arcs: &case.arcs,

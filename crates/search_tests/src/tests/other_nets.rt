@@ -1,0 +1,6 @@
+// Latest departures, tours with stops and trips with driver breaks, over the table engine: worked nets, and random ones against a slow
+// search straight from the rules.
+mod calls;
+mod random_trips;
+mod slow_search;
+mod worked_trips;
