@@ -39,7 +39,7 @@ AreOthers (file ∷ files) = (is_certificate_name file.name ≡ false) × AreOth
 
 others_named : AreOthers network_files
 unfolding is_certificate_name
-others_named = (refl, (refl, (refl, (refl, (refl, (refl, (refl, (refl, (refl, (refl, tt))))))))))
+others_named = (refl, (refl, (refl, (refl, (refl, (refl, (refl, (refl, (refl, (refl, (refl, tt)))))))))))
 
 module _ (dir name : List ℕ) (held after : Contents) (named : is_certificate_name name ≡ true)
     (others : (other : List ℕ) → other ≢ path_of dir name → after other ≡ held other) where
