@@ -1,3 +1,4 @@
 pub mod Inside
 pub mod LateFront
+pub mod LateText
 pub mod Words

@@ -2,7 +2,7 @@
 //!
 //! The law is `AreRightLate` of `specs/LateFront`, a clause of `latest`: the pairs of departure and cost are the late front, that is
 //! the Pareto front of all lawful itineraries that leave at or after the earliest departure, and each has legs that leave then. The
-//! itineraries are those of `route_base`, with another departure.
+//! itineraries are those of `route_base`, with another departure. `late_text` writes them as `specs/LateText` says.
 //!
 //! `mirror` builds a net that is mirrored in time: minute t becomes a fixed sum less t, each arc is turned round, and a further
 //! node, at which waiting is free, leads to the goal by an arc of one minute, the gate. An itinerary from that node to the origin is
@@ -16,6 +16,8 @@
 mod departures;
 mod mirror;
 mod routes;
+mod text;
 
 pub use departures::latest;
 pub use routes::{LateRoute, LateRoutes};
+pub use text::late_text;

@@ -14,11 +14,15 @@ use Rattle.stop_tour.specs.declared.stops.TourLeg.{TourLeg}
 use Rattle.stop_tour.specs.declared.stops.TourLeg.TheVariants.{Drive, Wait, Serve}
 use Rattle.stop_tour.specs.declared.stops.TourRoute.{TourRoute}
 
--- a stop at a node of the net, with a service of at most a day and a window
-pub record IsGoodStop (net : Net) (stop : Stop) : Type 0 where
-  pub node : (1 ≤ stop.node.0) × (stop.node.0 ≤ net.nodes)
+-- a stop at one of the nodes from 1 to `nodes`, with a service of at most a day and a window
+pub record IsStopAmong (nodes : ℕ) (stop : Stop) : Type 0 where
+  pub node : (1 ≤ stop.node.0) × (stop.node.0 ≤ nodes)
   pub service : (1 ≤ stop.service) × (stop.service ≤ DAY_MINUTES)
   pub window : stop.from < stop.to
+
+-- a stop at a node of the net
+abbrev pub IsGoodStop : Net → Stop → Type 0
+IsGoodStop net stop = IsStopAmong net.nodes stop
 
 -- the nodes and arcs of the net, once for each number of served stops
 abbrev pub size_of : Net → List Stop → ℕ

@@ -3,7 +3,8 @@
 //! The law is `AreRightTours` of `specs/Tours`, a clause of `tour`: the pairs are the Pareto front of all lawful tours, which drive
 //! and wait as an itinerary of `route_base` does and serve the stops one after another, and each pair has the legs of such a tour.
 //! There are too many states exactly where the number of stops plus one, times the number of nodes and arcs, is above
-//! `MOST_STATES` of `front_transport`.
+//! `MOST_STATES` of `front_transport`. `read_stops` reads the stops of a table, whose rows and causes `specs/StopTable` has, and
+//! `tour_text` writes tours as `specs/TourText` says.
 //!
 //! `layers` builds a net with one layer for each number of served stops. A service is an arc from a layer to the next, closed outside
 //! the stop's window. So an engine's front over the layers is that of the tours (`tours`), and an arc's number tells which arc is
@@ -15,8 +16,14 @@
 #![tactic(auto)]
 
 mod layers;
+mod limits;
+mod stop_table;
 mod stops;
+mod text;
 mod tours;
 
-pub use stops::{Stop, TourFault, TourLeg, TourLegs, TourRoute, TourRoutes};
+pub use limits::MOST_STOPS;
+pub use stop_table::read_stops;
+pub use stops::{Stop, Stops, TourFault, TourLeg, TourLegs, TourRoute, TourRoutes};
+pub use text::tour_text;
 pub use tours::tour;

@@ -10,6 +10,9 @@ pub struct Stop {
     pub to: Minute,
 }
 
+/// Stops in the order in which they are served.
+pub type Stops = Listing<Stop>;
+
 /// A part of a tour: an arc to drive, a number of minutes to wait, or the number from 1 of a stop to serve.
 #[derive(Clone, Copy, Debug, PartialEq, Eq)]
 pub enum TourLeg {

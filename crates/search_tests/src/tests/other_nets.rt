@@ -3,4 +3,8 @@
 mod calls;
 mod random_trips;
 mod slow_search;
-mod worked_trips;
+mod stop_tables;
+mod worked_arcs;
+mod worked_breaks;
+mod worked_late;
+mod worked_tours;
