@@ -82,12 +82,10 @@ const FIRST: &[(Texts<'static>, &str)] = &[
             ("d/holidays.csv", "x"),
             ("d/tolls.csv", "x"),
         ],
-        words: TRIP,
-        status: Status::BadInput,
-        text: "refused input holidays.csv 1 BadHeader\n",
-    },
-    Case {
-        more: &[
+        "refused input holidays.csv 1 BadHeader\n",
+    ),
+    (
+        &[
             ("d/graph.gr", TRIANGLE),
             ("d/closures.csv", CLOSED),
             ("d/ratings.csv", ""),
