@@ -5,6 +5,7 @@ use Rattle.std.specs.Option.{option_and_then}
 use Rattle.route_base.specs.Net.{at_number}
 use Rattle.route_base.specs.Runs.{any_has}
 use Rattle.opening_hours.specs.Holidays.{HolidayLists}
+use Rattle.opening_hours.specs.declared.types.HoursRule.{HoursRule}
 use Rattle.zone_rules.specs.Zones.{wall_at}
 use Rattle.zone_rules.specs.declared.rows.ZoneRow.{ZoneRow}
 use Rattle.vehicle_classes.specs.Classes.{keys_of}
@@ -15,7 +16,9 @@ use Rattle.conditional_rules.specs.Decisions.{decision, last_given}
 use Rattle.conditional_rules.specs.declared.access.Access.{Access}
 use Rattle.conditional_rules.specs.declared.access.Access.TheVariants.{Free}
 use Rattle.conditional_rules.specs.declared.conditional.Clause.{Clause}
+use Rattle.covered_minutes.specs.Coverage.{covered_at}
 use Rattle.network_tables.specs.NetworkModel.{Area, NetworkModel, closures_of}
+use Rattle.network_tables.specs.Parking.{ParkRow}
 use Rattle.network_tables.specs.Rules.{plain_at, conditional_at}
 use Rattle.network_tables.specs.declared.rules.place.RulePlace.{RulePlace}
 use Rattle.network_tables.specs.declared.rules.place.Scope.TheVariants as scopes
@@ -69,3 +72,13 @@ is_let_in net vehicle a t = lets_purpose_in (access_at net vehicle a t) vehicle.
 -- whether the arc is closed to the vehicle: its access doesn't let it in, or one of its closures has the minute
 abbrev pub is_closed : NetworkModel → VehicleModel → ℕ → ℕ → Bool
 is_closed net vehicle a t = not (is_let_in net vehicle a t) || any_has (closures_of net a) t
+
+-- whether the hours, if there are any, cover the instant by the clocks and the holidays of the area
+abbrev pub is_open_by : Option (List HoursRule) → Area → ℕ → Bool
+is_open_by None area t = true
+is_open_by (Some rules) area t = covered_at rules area.holidays area.zone t
+
+-- whether one may wait at the node at this instant
+abbrev pub is_park_open : NetworkModel → Option ParkRow → ℕ → Bool
+is_park_open net None t = false
+is_park_open net (Some park) t = is_open_by park.hours (area_at net park.area) t

@@ -1,26 +1,26 @@
 -- The road setting: trips are planned over the arcs of a network and its rated nodes (source: SEA 2020).
-use Rattle.std.specs.Prelude.{ℕ, ◌+◌, ◌*◌, false, length}
-use Rattle.std.specs.Option.{option_map, option_flatten}
+use Rattle.std.specs.Prelude.{ℕ, ◌+◌, ◌*◌, not, length}
+use Rattle.std.specs.Option.{option_map}
 use Rattle.route_base.specs.Net.{at_number}
 use Rattle.route_base.specs.Setting.{Setting, Road}
 use Rattle.route_base.specs.declared.limits.TheConstants.{COST_OF_MINUTE}
 use Rattle.dimacs_reader.specs.declared.graph.GraphArc.{GraphArc}
 use Rattle.vehicle_classes.specs.VehicleModel.{VehicleModel}
-use Rattle.network_tables.specs.Access.{is_closed}
-use Rattle.network_tables.specs.NetworkModel.{NetworkModel, toll_at}
+use Rattle.network_tables.specs.Access.{is_closed, is_park_open}
+use Rattle.network_tables.specs.NetworkModel.{NetworkModel, park_of, toll_at, weight_at}
 
 -- a minute of driving costs 1,000 thousandths, and each drive over an arc its toll
 abbrev pub road_over : ℕ → GraphArc → Road
 road_over toll arc = record { tail = arc.tail.0; head = arc.head.0; minutes = arc.minutes; cost = COST_OF_MINUTE * arc.minutes + toll }
 
--- the network's arcs, shut at the minutes at which they are closed to the vehicle; one may wait at the nodes with a weight, at
--- every minute
+-- the network's arcs, shut at the minutes at which they are closed to the vehicle; one may wait at the nodes with a weight, at the
+-- minutes at which they are open
 abbrev pub road_setting : NetworkModel → VehicleModel → Setting
 road_setting net vehicle = record {
   nodes = net.graph.nodes;
   arcs = length net.graph.arcs;
   road = λ a. option_map (road_over (toll_at net a)) (at_number net.graph.arcs a);
   shut = is_closed net vehicle;
-  weight = λ v. option_flatten (at_number net.weights v);
-  wait_shut = λ v t. false;
+  weight = weight_at net;
+  wait_shut = λ v t. not (is_park_open net (park_of net v) t);
 }
