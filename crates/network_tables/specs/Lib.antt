@@ -7,6 +7,8 @@ pub mod NetworkFiles
 pub mod NetworkModel
 pub mod NetworkParts
 pub mod Parking
+pub mod ParkRows
+pub mod Parks
 pub mod Ratings
 pub mod Refusals
 pub mod RoadSetting

@@ -18,7 +18,7 @@ use Rattle.area_tables.specs.Areas.{AreaEntry, areas_schema, areas_in, areas_or_
 use Rattle.network_tables.specs.Closures.{closures_schema, closures_in, runs_by_arc}
 use Rattle.area_tables.specs.Holidays.{HolidayEntry, holidays_schema, holidays_in, holidays_named}
 use Rattle.network_tables.specs.NetworkModel.{Area, NetworkModel}
-use Rattle.network_tables.specs.Parking.{parking_schema, weights_by_node}
+use Rattle.network_tables.specs.Parking.{Parked, parked_in, parking_schema}
 use Rattle.network_tables.specs.Ratings.{Rating, ratings_schema, ratings_in}
 use Rattle.vehicle_classes.specs.Vehicles.{VehicleEntry, vehicles_in, vehicles_schema}
 use Rattle.network_tables.specs.Rules.{rules_schema}
@@ -71,9 +71,9 @@ closed_runs_of files = runs_by_arc (arc_count_of files) (closures_in (rows_of fi
 abbrev pub ratings_of : Files → List Rating
 ratings_of files = ratings_in (rows_of files.ratings)
 
--- the weight of each node
-abbrev pub weights_of : Files → List (Option ℕ)
-weights_of files = weights_by_node (node_count_of files) (ratings_of files) (numbered_in is_name (rows_of files.parking))
+-- the nodes where one may wait
+abbrev pub parks_of : Files → List Parked
+parks_of files = parked_in (node_count_of files) (ratings_of files) (names_of (areas_of files)) (rows_of files.parking)
 
 -- the rows of holidays
 abbrev pub holidays_of : Files → List HolidayEntry
@@ -117,7 +117,7 @@ abbrev pub ratings_fault : Files → Option BadInput
 ratings_fault files = table_fault file.Ratings ratings_schema files.ratings
 
 abbrev pub parking_fault : Files → Option BadInput
-parking_fault files = table_fault file.Parking (parking_schema (node_count_of files) (ratings_of files)) files.parking
+parking_fault files = table_fault file.Parking (parking_schema (node_count_of files) (ratings_of files) (names_of (areas_of files))) files.parking
 
 abbrev pub holidays_fault : Files → Option BadInput
 holidays_fault files = table_fault file.Holidays (holidays_schema (names_of (areas_of files))) files.holidays
@@ -146,6 +146,6 @@ network_in_files files = record {
   rules = (rules_of files).rules;
   passed_over = (rules_of files).passed_over;
   closures = closed_runs_of files;
-  weights = weights_of files;
+  parks = parks_of files;
   tolls = tolls_of files;
 }

@@ -1,9 +1,10 @@
 -- How a network is held: each zone once, and areas by the places of their zones (source: own).
-use Rattle.std.specs.Prelude.{◌≡◌, ℕ, List, [], length, map, unwrap_or, slice_get}
+use Rattle.std.specs.Prelude.{◌≡◌, ℕ, List, [], length, map, All, unwrap_or, slice_get}
 use Rattle.std.specs.List.{zip}
 use Rattle.opening_hours.specs.Holidays.{HolidayLists}
 use Rattle.zone_rules.specs.declared.rows.ZoneRow.{ZoneRow}
 use Rattle.network_tables.specs.NetworkModel.{Area, NetworkModel, AreBelow, IsGoodNetwork}
+use Rattle.network_tables.specs.Parks.{parks_with, IsTimedIn}
 use Rattle.network_tables.specs.declared.network.NetworkParts.{NetworkParts}
 
 -- the zones at these places
@@ -24,12 +25,14 @@ network_with parts = record {
   rules = parts.rules.rules;
   passed_over = parts.rules.passed_over;
   closures = map (λ v. v.items) parts.closures.items;
-  weights = parts.weights.items;
+  parks = parks_with parts.parks;
   tolls = parts.tolls;
 }
 
--- a well-formed network: each area's zone is the one at its place in `zones`, and there is one entry of holidays per area
+-- a well-formed network: each area's zone is the one at its place in `zones`, there is one entry of holidays per area, and timetables
+-- are those of areas
 pub record HoldsNetwork (parts : NetworkParts) : Type 0 where
   pub good : IsGoodNetwork (network_with parts)
   pub zoned : AreBelow (length parts.zones.items) parts.zone_places.items
   pub dated : length parts.holidays.items ≡ length parts.zone_places.items
+  pub timed : All (IsTimedIn (length (network_with parts).areas)) parts.parks.timetables

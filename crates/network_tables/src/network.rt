@@ -1,21 +1,22 @@
 // The network that files state.
-ghost use Rattle.std.specs.Prelude.{◌≡◌, ◌≤◌, ◌<◌, Some, length, option_map, slice_get};
+ghost use Rattle.std.specs.Prelude.{◌≡◌, ◌≤◌, ◌<◌, All, IsSome, Some, length, option_map, slice_get};
 ghost use Rattle.route_base.specs.declared.limits.TheConstants.{HIGHEST_TOLL};
-ghost use Rattle.network_tables.specs.Words.{option_flatten, at_number, closures_of, toll_at, IsGoodNetwork, network_with};
-ghost use Rattle.network_tables.specs.Words.{HoldsNetwork, plain_at, conditional_at, has_arc_rules};
+ghost use Rattle.network_tables.specs.Words.{at_number, closures_of, park_of, toll_at, weight_at, IsGoodNetwork, network_with};
+ghost use Rattle.network_tables.specs.Words.{HoldsNetwork, plain_at, conditional_at, has_arc_rules, parks_with, IsTimedIn};
 
+use crate::parks::Parks;
 use crate::rules::{Rules, Scope};
 use crate::tolls::Tolls;
 use conditional_rules::{Access, Conditional};
 use dimacs_reader::Graph;
-use opening_hours::Holidays;
+use opening_hours::{Holidays, Hours};
 use route_base::{ArcId, Cost, NodeId, Run};
 use std::marker::Model;
 use vehicle_classes::{Key, Vehicles};
 use zone_rules::Zone;
 
 /// The parts of a network: a graph, zones, for each area the place of its zone and its holidays, for each arc the place of its
-/// area and its closed minutes, vehicles, rules, for each node its weight where one may wait, and the tolls of arcs.
+/// area and its closed minutes, vehicles, rules, the nodes where one may wait, and the tolls of arcs.
 #[derive(Drop)]
 pub struct NetworkParts {
     pub graph: Graph,
@@ -26,12 +27,13 @@ pub struct NetworkParts {
     pub vehicles: Vehicles,
     pub rules: Rules,
     pub closures: Vec<Vec<Run>>,
-    pub weights: Vec<Option<Cost>>,
+    pub parks: Parks,
     pub tolls: Tolls,
 }
 
 /// A road network: a graph, the area of each arc with its zone and its holidays, vehicles by name, access rules of areas and
-/// arcs, the closed minutes and the toll of each arc, and the weights of the nodes where one may wait. Each zone is held once.
+/// arcs, the closed minutes and the toll of each arc, and the nodes where one may wait, with their weights and hours. Each zone and
+/// each text of hours is held once.
 #[derive(Drop)]
 pub struct Network {
     parts: NetworkParts,
@@ -154,14 +156,43 @@ impl Network {
         self.parts.rules.passed_over()
     }
 
-    /// The cost in thousandths of a minute of waiting at the node; `None` exactly where one may not wait. In constant time.
+    /// The nodes where one may wait, with the timetables that they share, at no cost.
+    pub fn parks(&self) -> &Parks
+        ensures value { parks_with result.now ≡ self.now.parks }
+        ensures placed { All (IsTimedIn (length self.now.areas)) result.now.timetables }
+    {
+        &self.parts.parks
+    }
+
+    /// The cost in thousandths of a minute of waiting at the node; `None` exactly where one may not wait. In constant time on average.
     pub fn weight(&self, v: NodeId) -> Option<Cost>
         requires low { 1 ≤ v.0 }
         requires high { v.0 ≤ self.now.graph.nodes }
-        ensures value { result ≡ option_flatten (at_number self.now.weights v.0) }
+        ensures value { result ≡ weight_at self.now v.0 }
         ensures good { IsGoodNetwork self.now }
     {
-        self.parts.weights[v.0 as usize - 1]
+        self.parts.parks.rated(v).map(|node| node.weight)
+    }
+
+    /// The place from 0 of the area whose clocks and holidays count where one waits at the node. In constant time on average.
+    pub fn park_area(&self, v: NodeId) -> usize
+        requires rated { IsSome (park_of self.now v.0) }
+        ensures value { option_map (λ park. park.area) (park_of self.now v.0) ≡ Some result }
+        ensures there { result < length self.now.areas }
+    {
+        let node = self.parts.parks.rated(v).unwrap();
+        self.parts.parks.area(node.timetable)
+    }
+
+    /// The hours in which one may wait at the node; `None` exactly where it has none, so that waiting is always open. In constant time
+    /// on average.
+    pub fn park_hours(&self, v: NodeId) -> Option<&Hours>
+        requires rated { IsSome (park_of self.now v.0) }
+        ensures { option_map (λ park. park.hours) (park_of self.now v.0)
+            ≡ Some (option_map (λ hours. hours.now) result) }
+    {
+        let node = self.parts.parks.rated(v).unwrap();
+        self.parts.parks.hours(node.timetable)
     }
 
     /// The toll of the arc in thousandths, which is 0 without a row. In constant time on average.

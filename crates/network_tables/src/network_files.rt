@@ -1,15 +1,17 @@
 // A whole network, file by file.
-ghost use Rattle.std.specs.Prelude.{◌≡◌, map};
+ghost use Rattle.std.specs.Prelude.{◌≡◌, ◌<◌, All, IfOk, length, map};
 ghost use Rattle.dimacs_reader.specs.GraphModel.{graph_of};
-ghost use Rattle.network_tables.specs.NetworkFiles.{closed_runs_of, contents_fault, graph_fault, network_in_files, node_count_of, weights_of};
+ghost use Rattle.network_tables.specs.NetworkFiles.{closed_runs_of, contents_fault, graph_fault, network_in_files, node_count_of, parks_of};
 ghost use Rattle.network_tables.specs.Inside.{places_fault, access_fault, limits_fault, HavePlaces, IsCalendar};
 ghost use Rattle.network_tables.specs.Words.{arc_count_of, areas_of, holidays_fault, names_of, rules_of, vehicles_of};
+ghost use Rattle.network_tables.specs.Parks.{parks_with, IsTimedIn};
 ghost use Rattle.network_tables.specs.Refusals.{Reads};
 
 use crate::area_files::{read_area_file, read_holiday_file, read_road_file, read_zone_file};
 use crate::closures::read_closures;
 use crate::network::NetworkParts;
 use crate::parking::read_parking;
+use crate::parks::Parks;
 use crate::ratings::read_ratings;
 use crate::rules::{Rules, read_rules};
 use crate::tolls::read_tolls;
@@ -18,7 +20,7 @@ use crate::{Files, Network, NetworkFault};
 use area_tables::{Areas, Zones};
 use dimacs_reader::{Graph, GraphFault, read_graph};
 use opening_hours::Holidays;
-use route_base::{BadInput, Cost, FileKind, Run};
+use route_base::{BadInput, FileKind, Run};
 use std::alloc::Global;
 use vehicle_classes::Vehicles;
 use zone_rules::Zone;
@@ -71,23 +73,28 @@ fn read_access(
     Ok((vehicles, rules))
 }
 
-// The closed minutes of the arcs, and the weights of the nodes by their ratings. Linear in the bytes, the arcs and the nodes.
+// The closed minutes of the arcs, and the nodes where one may wait, by these areas. Linear in the bytes and the arcs.
 fn read_limits(
     alloc: Global,
     files: &Files,
     arcs: u32,
     nodes: u32,
-) -> Result<(Vec<Vec<Run>>, Vec<Option<Cost>>), NetworkFault>
+    areas: &Areas,
+) -> Result<(Vec<Vec<Run>>, Parks), NetworkFault>
     requires arcs { arcs ≡ arc_count_of files.now }
     requires nodes { nodes ≡ node_count_of files.now }
-    ensures { Reads result (limits_fault files.now)
+    requires areas { names_of areas.now ≡ names_of (areas_of files.now) }
+    requires some { 0 < length areas.now }
+    ensures value { Reads result (limits_fault files.now)
         (λ read. (map (λ runs. runs.items) read.0.items ≡ closed_runs_of files.now)
-        × (read.1.items ≡ weights_of files.now)) }
+        × (parks_with read.1 ≡ parks_of files.now)) }
+    ensures placed { IfOk result (λ read.
+        All (IsTimedIn (length areas.now)) read.1.timetables) }
 {
     let closures = read_closures(alloc, files, arcs)?;
     let ratings = read_ratings(alloc, files)?;
-    let weights = read_parking(alloc, files, nodes, ratings)?;
-    Ok((closures, weights))
+    let parks = read_parking(alloc, files, nodes, ratings, areas)?;
+    Ok((closures, parks))
 }
 
 // The zones by number, and for each area the place of its zone and its holidays. Linear in the bytes and the areas, beside n log n
@@ -122,7 +129,7 @@ pub fn read_network(alloc: Global, files: &Files) -> Result<Network, NetworkFaul
     let arcs = graph.arc_count();
     let (zones, areas, roads) = read_places(alloc, files, arcs)?;
     let (vehicles, rules) = read_access(alloc, files, arcs, &areas)?;
-    let (closures, weights) = read_limits(alloc, files, arcs, graph.node_count())?;
+    let (closures, parks) = read_limits(alloc, files, arcs, graph.node_count(), &areas)?;
     let (zones, zone_places, holidays) = read_calendar(alloc, files, zones, areas)?;
     let tolls = read_tolls(alloc, files, arcs)?;
     Ok(Network::new(NetworkParts {
@@ -134,7 +141,7 @@ pub fn read_network(alloc: Global, files: &Files) -> Result<Network, NetworkFaul
         vehicles,
         rules,
         closures,
-        weights,
+        parks,
         tolls,
     }))
 }
