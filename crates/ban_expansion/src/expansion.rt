@@ -63,7 +63,7 @@ fn timed_arcs(
 }
 
 // The net over these groups, where the lists have the closed minutes of the groups within the window, for some vehicle. The shut
-// minutes of the timetables are added to the lists.
+// minutes of the timetables are added to the lists, of which a net can have as many as a u32 can name.
 fn net_over(
     alloc: Global,
     network: &Network,
@@ -82,6 +82,9 @@ fn net_over(
     let nodes = network.graph().node_count();
     let arcs = timed_arcs(alloc, network, groups)?;
     let parks = network.parks();
+    if parks.timetable_count() > u32::MAX as usize - lists.len() {
+        return Err(OutOfMemory);
+    }
     let held = parks_at(alloc, parks, nodes, lists.len() as u32)?;
     let mut shut = shut_lists(alloc, network, parks, window)?;
     let mut closed = lists;

@@ -31,15 +31,17 @@ fn is_open_at(network: &Network, area: usize, hours: Option<&Hours>, t: Minute) 
 /// area show. The clock is read in time logarithmic in the zone's rows, and `covers` is linear in the rules of the hours. It takes no
 /// memory.
 pub fn wait_open_at(network: &Network, v: NodeId, t: Minute) -> bool
-    requires low { 1 ≤ v.0 }
-    requires high { v.0 ≤ network.now.graph.nodes }
-    requires instant { IsInstant t }
+    requires { IsInstant t }
     ensures { result ≡ is_park_open network.now (park_of network.now v.0) t }
 {
-    if network.weight(v).is_none() {
-        return false;
+    let parks = network.parks();
+    match parks.rated(v) {
+        None => false,
+        Some(node) => {
+            let hours = parks.hours(node.timetable);
+            is_open_at(network, parks.area(node.timetable), hours, t)
+        }
     }
-    is_open_at(network, network.park_area(v), network.park_hours(v), t)
 }
 
 // The minutes of the window at which the hours, if there are any, don't cover the clocks of the area.

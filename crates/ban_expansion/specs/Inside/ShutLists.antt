@@ -1,8 +1,8 @@
 -- The parks of a network's nodes, and the shut minutes of their timetables (source: own).
-use Rattle.std.specs.Prelude.{◌≡◌, ℕ, ◌+◌, not, nat_eq, Option, Some, List, length, slice_get}
+use Rattle.std.specs.Prelude.{◌≡◌, ℕ, ◌+◌, not, nat_eq, IfSome, Option, Some, List, length, slice_get}
 use Rattle.std.specs.List.{AllZip}
 use Rattle.std.specs.Map.{lookup}
-use Rattle.std.specs.Option.{option_map, ForSome}
+use Rattle.std.specs.Option.{option_map}
 use Rattle.route_base.specs.Runs.{AreRuns}
 use Rattle.route_base.specs.declared.types.Park.{Park}
 use Rattle.route_base.specs.declared.types.Run.{Run}
@@ -25,12 +25,12 @@ AreShutLists net window timetables lists = AllZip (HasShut net window) timetable
 abbrev pub park_over : ℕ → RatedNode → Park
 park_over first node = record { weight = node.weight; shut = first + node.timetable }
 
--- the park at place k from 0 is that of node k + 1, whose timetable is there
-pub record IsParkAt (parks : ParkLists) (first k : ℕ) (park : Option Park) : Type 0 where
-  pub is : park ≡ option_map (park_over first) (lookup (nat_eq (k + 1)) parks.rated)
-  pub there : ForSome (lookup (nat_eq (k + 1)) parks.rated) (HasTimetable parks.timetables)
+-- the park is that of the node of this number, whose timetable is there
+pub record IsParkAt (parks : ParkLists) (first v : ℕ) (park : Option Park) : Type 0 where
+  pub is : park ≡ option_map (park_over first) (lookup (nat_eq v) parks.rated)
+  pub there : IfSome (lookup (nat_eq v) parks.rated) (HasTimetable parks.timetables)
 
 -- the parks of the nodes from 1 to `count`
 pub record AreParks (parks : ParkLists) (first count : ℕ) (held : List (Option Park)) : Type 0 where
   pub counted : length held ≡ count
-  pub each : (k : ℕ) (park : Option Park) → slice_get held k ≡ Some park → IsParkAt parks first k park
+  pub each : (k : ℕ) (park : Option Park) → slice_get held k ≡ Some park → IsParkAt parks first (k + 1) park
