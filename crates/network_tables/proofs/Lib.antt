@@ -13,3 +13,4 @@ pub mod SamePlaces
 mod Rows
 mod WorkedJobs
 pub mod SmallWeights
+pub mod ParkLists

@@ -8,6 +8,7 @@ use Rattle.route_base.specs.declared.types.Run.{Run}
 use Rattle.dimacs_reader.specs.GraphModel.{GraphModel}
 use Rattle.vehicle_classes.specs.Vehicles.{VehicleEntry}
 use Rattle.network_tables.specs.NetworkModel.{Area, NetworkModel}
+use Rattle.network_tables.specs.Parking.{Parked}
 use Rattle.network_tables.specs.RuleLists.{RuleList}
 use Rattle.network_tables.specs.Tolls.{Toll}
 
@@ -26,8 +27,8 @@ list_at items vs a v low high is =
     ∙ ap items (sym is)
 
 -- the network of these parts
-abbrev network_with : GraphModel → List Area → List ℕ → List VehicleEntry → RuleList → List (List Run) → List (Option ℕ) → List Toll → NetworkModel
-network_with graph areas roads vehicles rules closures weights tolls = record {
+abbrev network_with : GraphModel → List Area → List ℕ → List VehicleEntry → RuleList → List (List Run) → List Parked → List Toll → NetworkModel
+network_with graph areas roads vehicles rules closures parks tolls = record {
   graph = graph;
   areas = areas;
   roads = roads;
@@ -35,13 +36,13 @@ network_with graph areas roads vehicles rules closures weights tolls = record {
   rules = rules.rules;
   passed_over = rules.passed_over;
   closures = closures;
-  weights = weights;
+  parks = parks;
   tolls = tolls;
 }
 
 -- networks with the same parts
 pub same_network : {g h : GraphModel} {areas areas2 : List Area} {roads roads2 : List ℕ} {vehicles vehicles2 : List VehicleEntry}
-    {rules rules2 : RuleList} {closures closures2 : List (List Run)} {weights weights2 : List (Option ℕ)} {tolls tolls2 : List Toll}
-    → g ≡ h → areas ≡ areas2 → roads ≡ roads2 → vehicles ≡ vehicles2 → rules ≡ rules2 → closures ≡ closures2 → weights ≡ weights2 → tolls ≡ tolls2
-    → network_with g areas roads vehicles rules closures weights tolls ≡ network_with h areas2 roads2 vehicles2 rules2 closures2 weights2 tolls2
+    {rules rules2 : RuleList} {closures closures2 : List (List Run)} {parks parks2 : List Parked} {tolls tolls2 : List Toll}
+    → g ≡ h → areas ≡ areas2 → roads ≡ roads2 → vehicles ≡ vehicles2 → rules ≡ rules2 → closures ≡ closures2 → parks ≡ parks2 → tolls ≡ tolls2
+    → network_with g areas roads vehicles rules closures parks tolls ≡ network_with h areas2 roads2 vehicles2 rules2 closures2 parks2 tolls2
 same_network p q r v u s t w = λ i. network_with (p i) (q i) (r i) (v i) (u i) (s i) (t i) (w i)

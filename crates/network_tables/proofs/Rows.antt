@@ -1,15 +1,13 @@
 -- Worked records: what the definitions say of them, by computing.
 use Rattle.std.proofs.Common.{◌≡◌, ℕ, List, [], ◌∷◌, Some, None, refl}
 use Rattle.std.specs.Prelude.{codes}
-use Rattle.route_base.specs.Forms.{is_name}
 use Rattle.route_base.specs.declared.faults.Cause.TheVariants.{BadHeader, FieldCount, SizeLimit, BadField, Unknown, Duplicate, NotRising}
 use Rattle.calendar_days.specs.Days.{days_of_years, days_of_months}
 use Rattle.calendar_days.specs.Texts.{instant_of, day_of_text, clock_of}
 use Rattle.network_tables.specs.Closures.{closures_schema, closures_in, runs_by_arc}
 use Rattle.table_reader.specs.Schema.{Schema, first_table_fault}
-use Rattle.table_reader.specs.ByNumber.{given_by_number, numbered_in}
 use Rattle.table_reader.proofs.WorkedTables.{HaveFaults, two_fields, three_fields}
-use Rattle.network_tables.specs.Parking.{parking_schema, weights_by_node}
+use Rattle.network_tables.specs.Parking.{parked_in, parking_schema}
 use Rattle.network_tables.specs.Ratings.{Rating, ratings_schema, ratings_in}
 use Rattle.table_reader.specs.Records.{Record, rows_in}
 
@@ -102,20 +100,35 @@ rating_faults = refl
 abbrev two_ratings : List Rating
 two_ratings = (codes "r", 2000) ∷ (codes "s", 0) ∷ []
 
-weights_stated : weights_by_node 4 two_ratings (numbered_in is_name (two_fields (codes "2") (codes "r") ∷ two_fields (codes "4") (codes "s") ∷ [])) ≡ None
-    ∷ Some 2000 ∷ None ∷ Some 0 ∷ []
-unfolding given_by_number
-weights_stated = refl
+abbrev four_fields : List ℕ → List ℕ → List ℕ → List ℕ → Record
+four_fields a b c d = a ∷ b ∷ c ∷ d ∷ []
+
+-- both headers: without an area the first one, and without hours none
+parks_stated : parked_in 4 two_ratings (codes "x" ∷ codes "y" ∷ [])
+    (two_fields (codes "2") (codes "r") ∷ four_fields (codes "4") (codes "s") (codes "y") (codes "") ∷ [])
+    ≡ (2, record { weight = 2000; area = 0; hours = None }) ∷ (4, record { weight = 0; area = 1; hours = None }) ∷ []
+parks_stated = refl
 
 -- a node after the last; a rating that isn't there; a node that has a row; a rating that isn't there before a node that has one
-parking_faults : HaveFaults (parking_schema 4 two_ratings) (codes "node" ∷ codes "rating" ∷ []) (
+parking_faults : HaveFaults (parking_schema 4 two_ratings (codes "x" ∷ [])) (codes "node" ∷ codes "rating" ∷ []) (
     (two_fields (codes "5") (codes "r") ∷ [], Some (2, Unknown))
     ∷ (two_fields (codes "1") (codes "t") ∷ [], Some (2, Unknown))
     ∷ (two_fields (codes "1") (codes "r") ∷ two_fields (codes "01") (codes "s") ∷ [], Some (3, Duplicate))
     ∷ (two_fields (codes "1") (codes "r") ∷ two_fields (codes "1") (codes "t") ∷ [], Some (3, Unknown))
+    ∷ (four_fields (codes "1") (codes "r") (codes "") (codes "") ∷ [], Some (2, FieldCount))
     ∷ [])
 unfolding first_table_fault
 parking_faults = refl
+
+-- under the longer header: an area that isn't there; one that is no name, before a node that isn't there; two fields
+parking_hours_faults : HaveFaults (parking_schema 4 two_ratings (codes "x" ∷ [])) (four_fields (codes "node") (codes "rating") (codes "area") (codes "hours")) (
+    (four_fields (codes "1") (codes "r") (codes "x") (codes "") ∷ four_fields (codes "1") (codes "r") (codes "") (codes "") ∷ [], Some (3, Duplicate))
+    ∷ (four_fields (codes "1") (codes "r") (codes "z") (codes "") ∷ [], Some (2, Unknown))
+    ∷ (four_fields (codes "5") (codes "r") (codes "-") (codes "") ∷ [], Some (2, BadField))
+    ∷ (two_fields (codes "1") (codes "r") ∷ [], Some (2, FieldCount))
+    ∷ [])
+unfolding first_table_fault
+parking_hours_faults = refl
 
 -- a law with room for one row
 abbrev one_row : Schema

@@ -1,24 +1,28 @@
--- No weight and no toll that the tables state is above 100.000.
-use Rattle.std.proofs.Common.{◌≡◌, ⊎_elim, ℕ, ◌≤◌, true, leb, Some, None, Option, cond, List, [], ◌∷◌, get_or, refl, sym, ◌∙◌, subst, arith}
+-- No weight and no toll that the tables state is above 100.000, and parks are in areas that are there.
+use Rattle.std.proofs.Common.{◌≡◌, ⊎_elim, ℕ, zero, suc, ◌≤◌, ◌<◌, true, leb, Some, None, Option, Result, Ok, Err, cond, List, [], ◌∷◌, length, refl, sym, ◌∙◌, ap, subst, arith}
 use Rattle.std.specs.Prelude.{All, Bool, nat_eq, unwrap_or}
-use Rattle.std.specs.List.{cons_option, filter_map, range_with_len}
+use Rattle.std.specs.List.{cons_option, filter_map}
 use Rattle.std.specs.Map.{lookup}
 use Rattle.std.specs.Option.{option_map}
 use Rattle.std.specs.Str.{bytes_eq}
 use Rattle.std.proofs.lemmas.Bool.{leb-true, cases_Bool, cond-true, cond-false}
-use Rattle.std.proofs.lemmas.List.Elements.{All-map}
 use Rattle.std.proofs.lemmas.Option.{cond_some, option_and_then_some}
 use Rattle.std.specs.List.{slice_split}
 use Rattle.std.specs.Prelude.{◌==◌}
-use Rattle.route_base.specs.Forms.{at_most, is_name, table_number_of, weight_of, thousandths_in}
+use Rattle.route_base.specs.Forms.{at_most, is_from_to, is_name, table_number_of, weight_of, thousandths_in}
 use Rattle.route_base.specs.declared.limits.TheConstants.{HEAVIEST_WEIGHT, HIGHEST_TOLL}
 use Rattle.table_reader.specs.NameIndex.{value_under}
-use Rattle.table_reader.specs.ByNumber.{NumberedRow, field_for, given_to, given_by_number}
-use Rattle.network_tables.specs.Parking.{weights_by_node}
+use Rattle.network_tables.specs.Parking.{Parked, ParkingFields, parked_by, parked_in, parked_of, parked_stated, parked_with, parking_fields_of, place_or_first}
+use Rattle.route_base.specs.declared.faults.Cause.{Cause}
+use Rattle.table_reader.proofs.Lists.{position_within}
 use Rattle.network_tables.specs.Ratings.{Rating, rating_of, ratings_in}
 use Rattle.table_reader.specs.Records.{Record}
-use Rattle.network_tables.specs.NetworkModel.{IsSmallWeight}
+use Rattle.network_tables.specs.NetworkModel.{IsGoodPark}
 use Rattle.network_tables.specs.Tolls.{Toll, toll_of, toll_for, tolls_in}
+
+-- a weight is at most 100 for a minute
+abbrev IsSmallWeight : Option ℕ → Type 0
+IsSmallWeight o = (w : ℕ) → o ≡ Some w → w ≤ HEAVIEST_WEIGHT
 
 at_most-small : (o : Option ℕ) → IsSmallWeight (at_most HEAVIEST_WEIGHT o)
 at_most-small o w is = option_and_then_some (λ n. cond (leb n HEAVIEST_WEIGHT) (Some n) None) o w is (λ n _ within.
@@ -84,12 +88,49 @@ tolls_in-small rows a = by (toll_for (tolls_in rows) a) (found-small (nat_eq a) 
     by None small = omega arith
     by (Some x) small = omega (arith, small x refl)
 
-given_to-small : (rows : List Record) (parked : List NumberedRow) (v : ℕ) → IsSmallWeight (given_to (value_under (ratings_in rows)) parked v)
-given_to-small rows parked v w is = option_and_then_some (value_under (ratings_in rows)) (field_for parked v) w is
-    (λ name _ found. value_under-small rows name w found)
+-- each element of a list, where the first and the others are
+pub all_cons : {X : Type 0} (P : X → Type 0) (x : X) (xs : List X) → P x → All P xs → All P (x ∷ xs)
+all_cons P x xs p all zero d within = p
+all_cons P x xs p all (suc k) d within = all k d (omega (arith, within))
 
-pub weights_by_node-small : (nodes : ℕ) (rows : List Record) (parked : List NumberedRow) → All IsSmallWeight (weights_by_node nodes (ratings_in rows) parked)
-unfolding given_by_number
-weights_by_node-small nodes rows parked =
-    All-map IsSmallWeight (given_to (value_under (ratings_in rows)) parked) (range_with_len 1 nodes)
-    (λ k d _. given_to-small rows parked (get_or (range_with_len 1 nodes) k d))
+-- each of the values that are there
+all_filter_map : {X Y : Type 0} (P : Y → Type 0) (f : X → Option Y) → ((x : X) (y : Y) → f x ≡ Some y → P y) → (xs : List X) → All P (filter_map f xs)
+all_filter_map P f each [] = λ k d within. absurd (omega (arith, within))
+all_filter_map P f each (x ∷ xs) = here (f x) (each x) (all_filter_map P f each xs)
+  where
+    here : (o : Option _) → ((y : _) → o ≡ Some y → P y) → All P (filter_map f xs) → All P (cons_option o (filter_map f xs))
+    here None one more = more
+    here (Some y) one more = all_cons P y (filter_map f xs) (one y refl) more
+
+-- a row of parking has a small weight, and an area that is there
+module _ (nodes : ℕ) (rows : List Record) (areas : List (List ℕ)) (some : 0 < length areas) where
+  within : (name : List ℕ) (i : ℕ) → place_or_first areas name ≡ Some i → i < length areas
+  within [] i is = (let e : 0 ≡ i = ap (λ (o : Option ℕ). unwrap_or o 0) is in omega (arith, e, some))
+  within (b ∷ name) i is = position_within (bytes_eq (b ∷ name)) areas i is
+
+  good_parts : (fields : ParkingFields) (weight area : Option ℕ) (p : Parked) → IsSmallWeight weight → ((i : ℕ) → area ≡ Some i → i < length areas)
+      → parked_stated (parked_with fields weight area) ≡ Some p → IsGoodPark (length areas) p
+  good_parts fields None area p small there is = absurd (cc)
+  good_parts fields (Some w) None p small there is = absurd (cc)
+  good_parts fields (Some w) (Some a) p small there is =
+      let first : Parked = (fields.node, record { weight = w; area = a; hours = fields.hours }) in
+      let same : first ≡ p = ap (λ (o : Option Parked). unwrap_or o first) is in
+      subst (IsGoodPark (length areas)) same (record { small = small w refl; placed = there a refl })
+
+  good_fields : (read : Result ParkingFields Cause) (p : Parked) → parked_stated (parked_by nodes (ratings_in rows) areas read) ≡ Some p
+      → IsGoodPark (length areas) p
+  good_fields (Err cause) p is = absurd (cc)
+  good_fields (Ok fields) p is =
+      ⊎_elim
+      (λ yes. good_parts fields (value_under (ratings_in rows) fields.rating) (place_or_first areas fields.area) p (value_under-small rows fields.rating)
+      (within fields.area) (sym (ap parked_stated (cond-true _ _ _ yes)) ∙ is))
+      (λ no. absurd (none p (sym (ap parked_stated (cond-false _ _ _ no)) ∙ is)))
+      (cases_Bool (is_from_to 1 nodes fields.node))
+    where
+      none : (p : Parked) → None ≡ Some p → ⊥
+      none p same = cc
+
+  pub parked_in-good : (parked : List Record) → All (IsGoodPark (length areas)) (parked_in nodes (ratings_in rows) areas parked)
+  parked_in-good parked =
+      all_filter_map (IsGoodPark (length areas)) (λ r. parked_stated (parked_of nodes (ratings_in rows) areas r))
+      (λ row p is. good_fields (parking_fields_of row) p is) parked

@@ -1,10 +1,9 @@
 -- Parks while their table is being read; this is machinery, and no law (source: own).
-use Rattle.std.specs.Prelude.{◌≡◌, ◌<◌, ℕ, Option, Some, List, [], length, map, All, IfSome, slice_get, option_and_then}
-use Rattle.opening_hours.specs.Reading.{hours_of}
+use Rattle.std.specs.Prelude.{◌≡◌, ◌<◌, ◌⊎◌, ℕ, Option, Some, Result, Ok, List, [], ◌∷◌, ◌++◌, length, map, All, IfSome, slice_get, option_and_then}
 use Rattle.opening_hours.specs.declared.types.HoursRule.{HoursRule}
 use Rattle.table_reader.specs.NameIndex.{names_of}
 use Rattle.table_reader.specs.Records.{Record}
-use Rattle.network_tables.specs.Parking.{ParkingFields, parked_in}
+use Rattle.network_tables.specs.Parking.{ParkingFields, hours_in_field, parked_in}
 use Rattle.network_tables.specs.Parks.{ParkLists, HaveTimetables, parks_with, timetable_with}
 use Rattle.network_tables.specs.Ratings.{Rating}
 use Rattle.network_tables.specs.declared.parking.ParkingRow.{ParkingRow}
@@ -13,7 +12,7 @@ use Rattle.network_tables.specs.declared.parks.TimetablePlace.{TimetablePlace}
 
 -- the hours are those of the text
 abbrev pub IsRead : List ℕ × List HoursRule → Type 0
-IsRead entry = hours_of entry.0 ≡ Some entry.1
+IsRead entry = hours_in_field entry.0 ≡ Ok (Some entry.1)
 
 -- what is at a place stays there
 abbrev pub Keeps : {X : Type 0} → List X → List X → Type 0
@@ -45,6 +44,17 @@ pub record ParkingSoFar : Type 0 where
 abbrev pub park_lists : ParkingSoFar → ParkLists
 park_lists table = record { rated = table.rated; timetables = map (timetable_with table.hours) table.timetables }
 
+-- the node has a row now, with the weight and a timetable of these places
+pub record Puts (old new : ParkingSoFar) (node weight : ℕ) (place : TimetablePlace) : Type 0 where
+  pub timetable : ℕ
+  pub nodes : new.nodes ≡ old.nodes
+  pub ratings : new.ratings ≡ old.ratings
+  pub areas : new.areas ≡ old.areas
+  pub hours : new.hours ≡ old.hours
+  pub timetables : (new.timetables ≡ old.timetables) ⊎ (new.timetables ≡ old.timetables ++ place ∷ [])
+  pub there : slice_get new.timetables timetable ≡ Some place
+  pub rated : new.rated ≡ old.rated ++ (node, record { weight = weight; timetable = timetable }) ∷ []
+
 -- the timetable has hours and an area that are there
 pub record IsTimetable (areas : ℕ) (hours : List (List HoursRule)) (place : TimetablePlace) : Type 0 where
   pub heard : AreThere hours place.hours
@@ -55,6 +65,7 @@ pub record HaveParks (start now : ParkingSoFar) (rows : List Record) : Type 0 wh
   pub nodes : now.nodes ≡ start.nodes
   pub ratings : now.ratings ≡ start.ratings
   pub areas : now.areas ≡ start.areas
+  pub some : 0 < length start.areas
   pub stated : parks_with (park_lists now) ≡ parked_in start.nodes start.ratings (names_of start.areas) rows
   pub timed : HaveTimetables (park_lists now)
   pub timetables : All (IsTimetable (length start.areas) now.hours) now.timetables

@@ -1,10 +1,12 @@
 // parking.csv: the nodes where one may wait, what a minute costs there, and the hours in which one may.
-ghost use Rattle.std.specs.Prelude.{◌≡◌, ◌<◌, ◌⊎◌, ◌++◌, ◌∷◌, [], Ok, Err, Some, All, IfErr, IfOk, IfSome, OnErr, OnOk, length, map, option_map, slice_get};
+ghost use Rattle.std.specs.Prelude.{◌≡◌, ◌<◌, ◌⊎◌, ◌∷◌, [], Ok, Err, Some, None, All, IfErr, IfOk, IfSome, IsSome, OnOk, length, nat_eq};
 ghost use Rattle.network_tables.specs.Words.{fields_of, value_under, names_of, areas_of, IfBadCause, Reads};
+ghost use Rattle.route_base.specs.Causes.{IsOfContents};
 ghost use Rattle.network_tables.specs.NetworkFiles.{node_count_of, ratings_of, parks_of, parking_fault};
 ghost use Rattle.network_tables.specs.Parking.{hours_in_field, four_fields_of, parking_fields_of, parking_schema, place_or_first};
-ghost use Rattle.network_tables.specs.ParkRows.{Keeps, AreThere, HaveParks, IsTimetable, fields_with, hours_at, park_lists};
-ghost use Rattle.network_tables.specs.Parks.{parks_with, IsTimedIn};
+ghost use Rattle.network_tables.specs.ParkRows.{AreThere, HaveParks, Keeps, Puts, fields_with, hours_at, park_lists};
+ghost use Rattle.std.specs.Map.{lookup};
+ghost use Rattle.network_tables.specs.Parks.{parks_with, HaveTimetables, IsTimedIn};
 
 use crate::files::read_file;
 use crate::parks::{Parks, RatedNode, TimetablePlace};
@@ -44,6 +46,7 @@ fn read_hours(alloc: Global, text: &[u8]) -> Result<Hours, RowFault>
     ensures value { IfOk result (λ hours. hours_in_field text.now ≡ Ok (Some hours)) }
     ensures refused { IfErr result (λ e.
         IfBadCause e (λ cause. hours_in_field text.now ≡ Err cause)) }
+    ensures cause { IfErr result (λ e. IfBadCause e IsOfContents) }
 {
     if text.len() > LONGEST_RULE {
         return Err(RowFault::Bad(Cause::SizeLimit));
@@ -73,6 +76,7 @@ impl HoursByText {
             hours_in_field text.now ≡ Ok (hours_at self.new place)) }
         ensures refused { IfErr result (λ e.
             IfBadCause e (λ cause. hours_in_field text.now ≡ Err cause)) }
+        ensures cause { IfErr result (λ e. IfBadCause e IsOfContents) }
     {
         if text.is_empty() {
             return Ok(None);
@@ -118,6 +122,7 @@ fn read_four<'a>(
         four_fields_of node.now rating.now area.now text.now ≡ Ok (fields_with hours.new row)) }
     ensures refused { IfErr result (λ e. IfBadCause e (λ cause.
         four_fields_of node.now rating.now area.now text.now ≡ Err cause)) }
+    ensures cause { IfErr result (λ e. IfBadCause e IsOfContents) }
 {
     if !is_name_field(rating) || !(area.is_empty() || is_name_field(area)) {
         return Err(RowFault::Bad(Cause::BadField));
@@ -134,6 +139,15 @@ fn read_four<'a>(
     })
 }
 
+// The four fields of a row.
+fn four_fields(row: &ByteRecord) -> (&[u8], &[u8], &[u8], &[u8])
+    requires { length (fields_of row.now) ≡ 4 }
+    ensures { fields_of row.now
+        ≡ result.0.now ∷ result.1.now ∷ result.2.now ∷ result.3.now ∷ [] }
+{
+    (field(row, 0), field(row, 1), field(row, 2), field(row, 3))
+}
+
 // Parses a data row, which has two fields under the shorter header.
 fn read_row<'a>(
     alloc: Global,
@@ -147,19 +161,14 @@ fn read_row<'a>(
         parking_fields_of (fields_of row.now) ≡ Ok (fields_with hours.new read)) }
     ensures refused { IfErr result (λ e. IfBadCause e (λ cause.
         parking_fields_of (fields_of row.now) ≡ Err cause)) }
+    ensures cause { IfErr result (λ e. IfBadCause e IsOfContents) }
 {
     if row.len() == 2 {
         let (node, rating) = two_fields(row);
         return read_four(alloc, hours, node, rating, &[], &[]);
     }
-    read_four(
-        alloc,
-        hours,
-        field(row, 0),
-        field(row, 1),
-        field(row, 2),
-        field(row, 3),
-    )
+    let (node, rating, area, text) = four_fields(row);
+    read_four(alloc, hours, node, rating, area, text)
 }
 
 // The place of the area with this name; without a name it is the first.
@@ -212,7 +221,12 @@ impl<'a> ParkingTable<'a> {
     }
 
     // Adds a node with its weight and the places of its area and its hours; `Duplicate` where it has a row.
-    fn put(&mut self, node: u32, weight: Cost, place: TimetablePlace) -> Result<(), RowFault> {
+    fn put(&mut self, node: u32, weight: Cost, place: TimetablePlace) -> Result<(), RowFault>
+        ensures free { OnOk result (lookup (nat_eq node) self.old.rated ≡ None) }
+        ensures put { OnOk result (Puts self.old self.new node weight place) }
+        ensures refused { IfErr result (λ e. IfBadCause e (λ cause.
+            (cause ≡ Cause.Duplicate) × IsSome (lookup (nat_eq node) self.old.rated))) }
+    {
         if self.rated.contains_key(&node) {
             return Err(RowFault::Bad(Cause::Duplicate));
         }
@@ -224,7 +238,7 @@ impl<'a> ParkingTable<'a> {
     // What a network holds of the table. Linear in it.
     fn into_parks(self, alloc: Global) -> Result<Parks, OutOfMemory>
         requires { HaveTimetables (park_lists self) }
-        ensures { IfOk result (λ parks. parks ≡ park_lists self) }
+        ensures { IfOk result (λ parks. parks ≡ park_lists self.entry) }
     {
         let timetables = Vec::from_slice(alloc, self.timetables.as_slice())?;
         let hours = self.hours.into_list(alloc)?;

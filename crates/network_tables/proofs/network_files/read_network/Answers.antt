@@ -12,12 +12,12 @@ use Rattle.table_reader.specs.ByNumber.{numbered_in}
 use Rattle.table_reader.specs.NameIndex.{names_of}
 use Rattle.table_reader.specs.Records.{rows_of}
 use Rattle.table_reader.proofs.Lists.{map-map}
-use Rattle.table_reader.proofs.NumberedRows.{length-given_by_number}
 use Rattle.area_tables.specs.Areas.{AreaEntry, areas_in}
 use Rattle.area_tables.specs.Holidays.{holidays_named}
 use Rattle.network_tables.specs.NetworkFiles.{arc_count_of, node_count_of, zones_of, areas_of, holidays_of, zone_for}
 use Rattle.network_tables.specs.NetworkFiles.{network_in_files}
-use Rattle.network_tables.specs.NetworkModel.{AreBelow, IsSmallWeight}
+use Rattle.network_tables.specs.NetworkModel.{AreBelow, IsGoodPark}
+use Rattle.network_tables.specs.Parks.{parks_with, IsTimedIn}
 use Rattle.network_tables.specs.NetworkParts.{zones_at, areas_with}
 use Rattle.network_tables.specs.Tolls.{Toll, toll_for}
 use Rattle.network_tables.proofs.AreaLists.{areas_each, size_at}
@@ -27,7 +27,7 @@ use Rattle.network_tables.proofs.ClosureRows.{length-runs_by_arc}
 use Rattle.network_tables.proofs.FirstFaults.{later, staged, refused_at, refused_so}
 use Rattle.network_tables.proofs.NetLists.{same_network}
 use Rattle.network_tables.proofs.RoadRows.{length-area_by_arc, area_by_arc-within, some_areas}
-use Rattle.network_tables.proofs.SmallWeights.{tolls_in-small, weights_by_node-small}
+use Rattle.network_tables.proofs.SmallWeights.{parked_in-good, tolls_in-small}
 use Rattle.network_tables.proofs.network_files.read_network.Goals as goal
 
 pub returns-in_err-graph : goal.returns-in_err-graph
@@ -53,13 +53,25 @@ returns-in_err-vehicles c =
     (staged c.args.files.now ∙ later c.in_ok-graph.ensures.faultless ∙ later c.in_ok-zones.ensures.faultless)
     c.in_err-vehicles.ensures)
 
+pub read_limits-requires-clause-areas : goal.read_limits-requires-clause-areas
+read_limits-requires-clause-areas c =
+    names_kept c.in_ok-zones.zones (areas_of c.args.files.now) c.in_ok-zones.areas c.in_ok-zones.ensures.stated.placed
+
+pub read_limits-requires-clause-some : goal.read_limits-requires-clause-some
+read_limits-requires-clause-some c =
+    let placed = c.in_ok-zones.areas in
+    let kept =
+    ap (λ (ns : List (List ℕ)). length ns)
+    (names_kept c.in_ok-zones.zones (areas_of c.args.files.now) placed c.in_ok-zones.ensures.stated.placed) in
+    omega (arith, kept, length-map placed (λ (e : List ℕ × ℕ). e.0), some_areas (areas_in (rows_of c.args.files.now.areas)))
+
 pub returns-in_err-closures : goal.returns-in_err-closures
 returns-in_err-closures c =
     let p = err_from_is_err_and c.from_residual-in_err-closures.result c.from_residual-in_err-closures.ensures.1 in
     rw (p.1, p.2) (refused_at c.in_err-closures.field-0.0 _ _ _ _ _
     (staged c.args.files.now ∙ later c.in_ok-graph.ensures.faultless ∙ later c.in_ok-zones.ensures.faultless
     ∙ later c.in_ok-vehicles.ensures.faultless)
-    c.in_err-closures.ensures)
+    c.in_err-closures.ensures.value)
 
 pub read_calendar-requires : goal.read_calendar-requires
 read_calendar-requires c =
@@ -70,7 +82,7 @@ returns-in_err-zones-2 c =
     let p = err_from_is_err_and c.from_residual-in_err-zones-2.result c.from_residual-in_err-zones-2.ensures.1 in
     rw (p.1, p.2) (refused_at c.in_err-zones-2.field-0.0 _ _ _ _ _
     (staged c.args.files.now ∙ later c.in_ok-graph.ensures.faultless ∙ later c.in_ok-zones.ensures.faultless
-    ∙ later c.in_ok-vehicles.ensures.faultless ∙ later c.in_ok-closures.ensures.faultless)
+    ∙ later c.in_ok-vehicles.ensures.faultless ∙ later c.in_ok-closures.ensures.value.faultless)
     c.in_err-zones-2.ensures)
 
 pub returns-in_err-tolls : goal.returns-in_err-tolls
@@ -78,7 +90,7 @@ returns-in_err-tolls c =
     let p = err_from_is_err_and c.from_residual-in_err-tolls.result c.from_residual-in_err-tolls.ensures.1 in
     rw (p.1, p.2) (refused_so c.in_err-tolls.field-0.0 _ _ _ _
     (staged c.args.files.now ∙ later c.in_ok-graph.ensures.faultless ∙ later c.in_ok-zones.ensures.faultless
-    ∙ later c.in_ok-vehicles.ensures.faultless ∙ later c.in_ok-closures.ensures.faultless ∙ later c.in_ok-zones-2.ensures.faultless)
+    ∙ later c.in_ok-vehicles.ensures.faultless ∙ later c.in_ok-closures.ensures.value.faultless ∙ later c.in_ok-zones-2.ensures.faultless)
     c.in_err-tolls.ensures)
 
 pub new-requires : goal.new-requires
@@ -118,16 +130,13 @@ new-requires c =
             (subst (λ (list : List ℕ). AreBelow (length names) list) (sym on_roads)
             (area_by_arc-within (arc_count_of files) names rows (some_areas (areas_in (rows_of files.areas)))));
         closures =
-            ap (λ (lists : List (List Run)). length lists) c.in_ok-closures.ensures.stated.0
+            ap (λ (lists : List (List Run)). length lists) c.in_ok-closures.ensures.value.stated.0
             ∙ length-runs_by_arc _ _
             ∙ ap (λ (g : GraphModel). length g.arcs) (sym graph);
-        weights =
-            ap (λ (list : List (Option ℕ)). length list) c.in_ok-closures.ensures.stated.1
-            ∙ length-given_by_number _ _ _
-            ∙ ap (λ (g : GraphModel). g.nodes) (sym graph);
-        small =
-            subst (λ (list : List (Option ℕ)). All IsSmallWeight list) (sym c.in_ok-closures.ensures.stated.1)
-            (weights_by_node-small (node_count_of files) (rows_of files.ratings) (numbered_in is_name (rows_of files.parking)));
+        parks =
+            subst (λ (n : ℕ). All (IsGoodPark n) (parks_with c.in_ok-closures.parks)) (sym (size ∙ area_count))
+            (subst (All (IsGoodPark (length names))) (sym c.in_ok-closures.ensures.value.stated.1)
+            (parked_in-good (node_count_of files) (rows_of files.ratings) names (some_areas (areas_in (rows_of files.areas))) (rows_of files.parking)));
         tolls = λ a.
             subst (λ (list : List Toll). unwrap_or (toll_for list a) 0 ≤ HIGHEST_TOLL) (sym c.in_ok-tolls.ensures.stated)
             (tolls_in-small (rows_of files.tolls) a);
@@ -136,6 +145,10 @@ new-requires c =
           subst (λ (list : List ℕ). AreBelow (length c.in_ok-zones-2.zones.items) list) (sym calendar.placed)
           (λ k d there. omega (arith, zone_count, places_within zones (areas_of files) placed have k d there));
       dated = dated;
+      timed =
+          subst (λ (n : ℕ). All (IsTimedIn n) c.in_ok-closures.parks.timetables)
+          (sym (length-map placed (λ (e : List ℕ × ℕ). e.0)) ∙ kept ∙ sym (size ∙ area_count))
+          c.in_ok-closures.ensures.placed;
     }
 
 pub returns : goal.returns
@@ -162,15 +175,15 @@ returns c =
       faultless =
           staged files ∙ later c.in_ok-graph.ensures.faultless ∙ later c.in_ok-zones.ensures.faultless
           ∙ later c.in_ok-vehicles.ensures.faultless
-          ∙ later c.in_ok-closures.ensures.faultless
+          ∙ later c.in_ok-closures.ensures.value.faultless
           ∙ later c.in_ok-zones-2.ensures.faultless
           ∙ c.in_ok-tolls.ensures.faultless;
       stated =
           c.new.ensures
           ∙ same_network c.in_ok-graph.ensures.stated areas c.in_ok-zones.ensures.stated.on_roads c.in_ok-vehicles.ensures.stated.0
           c.in_ok-vehicles.ensures.stated.1
-          c.in_ok-closures.ensures.stated.0
-          c.in_ok-closures.ensures.stated.1
+          c.in_ok-closures.ensures.value.stated.0
+          c.in_ok-closures.ensures.value.stated.1
           c.in_ok-tolls.ensures.stated;
       refused = tt;
       cause = tt;
