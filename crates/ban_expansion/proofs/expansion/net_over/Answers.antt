@@ -29,7 +29,11 @@ parks_at-requires-clause-few c =
     let many = zip_length (HasClosed c.args.network.now some.0 c.args.window) c.args.groups.now.firsts (map (λ v. v.items) c.args.lists.items) some.1 in
     omega (
       arith,
-      many, length-map c.args.lists.items (λ v. v.items), c.requires.groups.few, graph.arcs, c.args.lists.ok.0,
+      many,
+      length-map c.args.lists.items (λ v. v.items),
+      c.requires.groups.few,
+      graph.arcs,
+      c.args.lists.ok.0,
       c.len.ensures,
       c.len-2.ensures,
       c.if-timetable_count-len.false,
@@ -43,7 +47,11 @@ new-requires c =
     let many = zip_length (HasClosed c.args.network.now some.0 c.args.window) c.args.groups.now.firsts (map (λ v. v.items) c.args.lists.items) some.1 in
     let few : length (map (λ v. v.items) c.args.lists.items) + length c.parks-parks.result.now.timetables < 2 ^ 32 = omega (
       arith,
-      many, length-map c.args.lists.items (λ v. v.items), c.requires.groups.few, graph.arcs, c.args.lists.ok.0,
+      many,
+      length-map c.args.lists.items (λ v. v.items),
+      c.requires.groups.few,
+      graph.arcs,
+      c.args.lists.ok.0,
       c.len.ensures,
       c.if-timetable_count-len.false,
       c.timetable_count.ensures,
@@ -64,7 +72,11 @@ returns c = λ vehicle sets.
     let many = zip_length (HasClosed c.args.network.now some.0 c.args.window) c.args.groups.now.firsts (map (λ v. v.items) c.args.lists.items) some.1 in
     let few : length (map (λ v. v.items) c.args.lists.items) + length c.parks-parks.result.now.timetables < 2 ^ 32 = omega (
       arith,
-      many, length-map c.args.lists.items (λ v. v.items), c.requires.groups.few, graph.arcs, c.args.lists.ok.0,
+      many,
+      length-map c.args.lists.items (λ v. v.items),
+      c.requires.groups.few,
+      graph.arcs,
+      c.args.lists.ok.0,
       c.len.ensures,
       c.if-timetable_count-len.false,
       c.timetable_count.ensures,
