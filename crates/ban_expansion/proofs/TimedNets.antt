@@ -1,13 +1,14 @@
 -- The timed net of a network is good and stands for its road setting.
-use Rattle.std.proofs.Common.{◌≡◌, ⊎_elim, ℕ, zero, suc, ◌+◌, ◌*◌, ◌≤◌, ◌<◌, ◌&&◌, Bool, false}
+use Rattle.std.proofs.Common.{◌≡◌, ◌⊎◌, ⊎_elim, All, ℕ, zero, suc, ◌+◌, ◌*◌, ◌^◌, ◌≤◌, ◌<◌, ◌&&◌, Bool, inl, inr}
 use Rattle.std.proofs.Common.{Some, None, Option, List, [], ◌∷◌, ◌++◌, length, map, get_or, slice_get}
 use Rattle.std.proofs.Common.{refl, sym, ◌∙◌, ap, subst, arith, add-one}
-use Rattle.std.specs.Prelude.{IsSome, unwrap_or}
+use Rattle.std.specs.Prelude.{IfSome, IsSome, nat_eq, not}
+use Rattle.std.specs.Map.{lookup}
 use Rattle.std.specs.Option.{option_map, option_flatten, ForSome}
-use Rattle.std.proofs.Math.Bool.{and-false}
-use Rattle.std.proofs.lemmas.Bool.{cases_lt, and_from, le-leb, lt-ltb}
-use Rattle.std.proofs.lemmas.List.{length_push, length-map}
-use Rattle.std.proofs.lemmas.List.Elements.{All-push, All-map, All-weaker}
+use Rattle.std.proofs.lemmas.Bool.{cases_lt, and_from, eqb-true, le-leb, lt-ltb}
+use Rattle.std.proofs.lemmas.List.{length_push, length-append, get_or_append_left, get_or-append-add}
+use Rattle.std.proofs.lemmas.List.Elements.{All-append, All-contains}
+use Rattle.std.proofs.lemmas.Map.Views.{Contains-from_lookup}
 use Rattle.std.proofs.lemmas.Option.{slice_get-get_or, slice_get_past, slice_get_within, unwrap_or-slice_get}
 use Rattle.route_base.specs.Net.{Net, IsGoodNet, IsGoodArc, IsGoodPark, setting_of, at_number, road_of, runs_at, runs_by, shut_by}
 use Rattle.route_base.specs.Runs.{any_has, has_minute, AreRuns}
@@ -19,17 +20,23 @@ use Rattle.route_base.specs.declared.types.Park.{Park}
 use Rattle.route_base.specs.declared.types.Run.{Run}
 use Rattle.route_base.specs.declared.types.TimedArc.{TimedArc}
 use Rattle.route_base.proofs.Logic.{map_some}
-use Rattle.route_base.proofs.Numbered.{at_number-all, at_number-map, within_number}
+use Rattle.route_base.proofs.Numbered.{at_number-all, within_number}
 use Rattle.dimacs_reader.specs.GraphModel.{IsGoodGraph, IsGoodGraphArc}
 use Rattle.dimacs_reader.specs.declared.graph.GraphArc.{GraphArc}
 use Rattle.vehicle_classes.specs.VehicleModel.{VehicleModel}
-use Rattle.network_tables.specs.Access.{is_closed}
-use Rattle.network_tables.specs.NetworkModel.{NetworkModel, IsGoodNetwork, IsSmallWeight, toll_at}
+use Rattle.network_tables.specs.Access.{area_at, is_closed, is_open_by, is_park_open}
+use Rattle.network_tables.specs.NetworkModel.{NetworkModel, IsGoodNetwork, IsNodeOf, park_of, toll_at, weight_at}
+use Rattle.network_tables.specs.NetworkModel.{IsGoodPark as IsGoodRow}
+use Rattle.network_tables.specs.Parking.{ParkRow, Parked, park_for}
+use Rattle.network_tables.specs.Parks.{HasTimetable, ParkLists, Timetable, park_with, parks_with}
 use Rattle.network_tables.specs.RoadSetting.{road_setting, road_over}
+use Rattle.network_tables.specs.declared.parks.RatedNode.{RatedNode}
 use Rattle.ban_expansion.specs.ArcGroups.{GroupsModel, AreGroups}
 use Rattle.ban_expansion.specs.Bans.{HasNoDearMinute, IsNetFor, IsShutWithin}
-use Rattle.ban_expansion.specs.Inside.GroupedNets.{HasClosed, AreClosedLists, IsTimedArc, AreTimed, timed_over, park_over}
+use Rattle.ban_expansion.specs.Inside.GroupedNets.{HasClosed, AreClosedLists, IsTimedArc, AreTimed, timed_over}
+use Rattle.ban_expansion.specs.Inside.ShutLists.{AreParks, AreShutLists, HasShut, park_over}
 use Rattle.ban_expansion.proofs.ItemLists.{got_pushed, zip_all, zip_at, zip_length}
+use Rattle.ban_expansion.proofs.ShutParks.{row_of}
 
 -- an arc that nothing has
 no_timed_arc : TimedArc
@@ -46,73 +53,87 @@ timed_next net groups n arcs arc all timed = record {
       (subst (λ (a : TimedArc). IsTimedArc net groups n a) same timed));
 }
 
--- a list that ends with the default has no other item at any place
-get_or-last : {A : Type 0} (xs : List A) (n : ℕ) (d : A) → get_or (xs ++ d ∷ []) n d ≡ get_or xs n d
-get_or-last [] zero d = refl
-get_or-last [] (suc n) d = refl
-get_or-last (x ∷ xs) zero d = refl
-get_or-last (x ∷ xs) (suc n) d = get_or-last xs n d
+-- a park has the weight of its node's row
+weight_kept : (first : ℕ) (timetables : List Timetable) (o : Option RatedNode) → option_map (λ (park : Park). park.weight) (option_map (park_over first) o)
+    ≡ option_map (λ (row : ParkRow). row.weight) (option_map (park_with timetables) o)
+weight_kept first timetables None = refl
+weight_kept first timetables (Some node) = refl
 
--- a park has the weight of its node
-weight_kept : (place : ℕ) (o : Option (Option ℕ)) → option_map (λ (park : Park). park.weight) (option_flatten (option_map (park_over place) o))
-    ≡ option_flatten o
-weight_kept place None = refl
-weight_kept place (Some None) = refl
-weight_kept place (Some (Some w)) = refl
+-- a row that is found has what holds of each
+found_good : (P : Parked → Type 0) (rows : List Parked) (v : ℕ) (row : ParkRow) → All P rows → park_for rows v ≡ Some row → P (v, row)
+found_good P rows v row all is = All-contains P rows (v, row) all (Contains-from_lookup eqb-true v row rows is)
 
 some_inside : {A B : Type 0} (f : A → B) (o : Option A) → IsSome (option_map f o) → IsSome o
 some_inside f None h = h
 some_inside f (Some x) h = refl
 
-abbrev net_over : NetworkModel → List TimedArc → List (List Run) → Net
-net_over net arcs lists = record {
-  nodes = net.graph.nodes;
-  arcs = arcs;
-  closed = lists ++ [] ∷ [];
-  parks = map (park_over (length lists)) net.weights;
-}
+abbrev net_over : NetworkModel → List TimedArc → List (List Run) → List (List Run) → List (Option Park) → Net
+net_over net arcs lists shut held = record { nodes = net.graph.nodes; arcs = arcs; closed = lists ++ shut; parks = held }
 
 module _ (net : NetworkModel) (vehicle : VehicleModel) (window : Run) (all : GroupsModel) (arcs : List TimedArc) (lists : List (List Run))
+    (parks : ParkLists) (shut : List (List Run)) (held : List (Option Park))
     (good : IsGoodNetwork net) (graph : IsGoodGraph net.graph) (groups : AreGroups net all)
-    (timed : AreTimed net all.groups (length net.graph.arcs) arcs) (sets : AreClosedLists net vehicle window all.firsts lists) where
+    (timed : AreTimed net all.groups (length net.graph.arcs) arcs) (sets : AreClosedLists net vehicle window all.firsts lists)
+    (rows : parks_with parks ≡ net.parks) (few : length lists + length parks.timetables < 2 ^ 32)
+    (shuts : AreShutLists net window parks.timetables shut) (placed : AreParks parks (length lists) net.graph.nodes held) where
   as_many : length lists ≡ length all.firsts
   as_many = zip_length (HasClosed net vehicle window) all.firsts lists sets
 
-  good_arc : (k : ℕ) (arc : TimedArc) → IsTimedArc net all.groups k arc → IsGoodArc (net_over net arcs lists) arc
+  good_arc : (k : ℕ) (arc : TimedArc) → IsTimedArc net all.groups k arc → IsGoodArc (net_over net arcs lists shut held) arc
   good_arc k arc is =
       let found = map_some (slice_get net.graph.arcs k) (timed_over arc.closed (toll_at net (k + 1))) arc is.is in
       let named = at_number-all (IsGoodGraphArc net.graph.nodes) net.graph.arcs (suc k) found.0 graph.each_arc found.1 in
       let group = groups.each k arc.closed is.group in
-      subst (IsGoodArc (net_over net arcs lists)) found.2 (record {
+      subst (IsGoodArc (net_over net arcs lists shut held)) found.2 (record {
         tail = named.tail;
         head = named.head;
         minutes = named.minutes;
         cost = omega (arith, named.minutes.1, good.tolls (k + 1));
-        closed = omega (arith, slice_get_within all.firsts arc.closed group.first group.there, as_many, length_push lists []);
+        closed = omega (arith, slice_get_within all.firsts arc.closed group.first group.there, as_many, length-append lists shut);
       })
 
-  -- the list without runs
-  empty_runs : AreRuns []
-  empty_runs = record { filled = λ k d within. absurd (omega (arith, within)); apart = λ i j d before within. absurd (omega (arith, within)) }
+  as_many_shut : length shut ≡ length parks.timetables
+  as_many_shut = zip_length (HasShut net window) parks.timetables shut shuts
 
-  good_park : (o : Option ℕ) → IsSmallWeight o → ForSome (park_over (length lists) o) (IsGoodPark (net_over net arcs lists))
-  good_park None small park is = absurd (cc)
-  good_park (Some w) small park is =
-      let same : record { weight = w; shut = length lists } ≡ park = cc in
-      let weight = ap (λ (p : Park). p.weight) same in
-      let shut = ap (λ (p : Park). p.shut) same in
-      record { weight = omega (arith, small w refl, weight); shut = omega (arith, shut, length_push lists []) }
+  row_at : (v : ℕ) → park_of net v ≡ option_map (park_with parks.timetables) (lookup (nat_eq v) parks.rated)
+  row_at v = row_of net parks v rows
 
-  pub good_net : IsGoodNet (net_over net arcs lists)
+  -- the park of a node
+  abbrev node_park : ℕ → Option Park
+  node_park v = option_map (park_over (length lists)) (lookup (nat_eq v) parks.rated)
+
+  -- a node has its park
+  park_here : (k : ℕ) → k < net.graph.nodes → slice_get held k ≡ Some (node_park (suc k))
+  park_here k within =
+      let here = slice_get-get_or held k None (omega (arith, within, placed.counted)) in
+      here ∙ ap (λ (o : Option Park). Some o) ((placed.each k (get_or held k None) here).is) ∙ ap (λ (v : ℕ). Some (node_park v)) (add-one k)
+
+  good_park : (v : ℕ) (o : Option RatedNode) → lookup (nat_eq v) parks.rated ≡ o → IfSome o (HasTimetable parks.timetables)
+      → ForSome (option_map (park_over (length lists)) o) (IsGoodPark (net_over net arcs lists shut held))
+  good_park v None is there park same = absurd (cc)
+  good_park v (Some node) is there park same =
+      let found : park_of net v ≡ Some (park_with parks.timetables node) = row_at v ∙ ap (option_map (park_with parks.timetables)) is in
+      let row = found_good (IsGoodRow (length net.areas)) net.parks v (park_with parks.timetables node) good.parks found in
+      let over : park_over (length lists) node ≡ park = cc in
+      subst (IsGoodPark (net_over net arcs lists shut held)) over (record {
+        weight = omega (arith, row.small);
+        shut = omega (arith, there, as_many_shut, length-append lists shut);
+      })
+
+  pub good_net : IsGoodNet (net_over net arcs lists shut held)
   good_net = record {
     nodes = omega (arith, graph.nodes);
     arcs = omega (arith, graph.arcs, timed.counted);
-    closed = omega (arith, graph.arcs, groups.few, as_many, length_push lists []);
-    parks = omega (arith, good.weights, length-map net.weights (park_over (length lists)));
+    closed = omega (arith, few, as_many_shut, length-append lists shut);
+    parks = placed.counted;
     each_arc = λ k d within. good_arc k (get_or arcs k d) (timed.each k (get_or arcs k d) (slice_get-get_or arcs k d within));
-    each_runs = All-push AreRuns lists [] (zip_all (HasClosed net vehicle window) AreRuns (λ first runs has. has.runs) all.firsts lists sets) empty_runs;
-    each_park = All-map (λ o. ForSome o (IsGoodPark (net_over net arcs lists))) (park_over (length lists)) net.weights
-        (All-weaker IsSmallWeight (λ o. ForSome (park_over (length lists) o) (IsGoodPark (net_over net arcs lists))) good_park net.weights good.small);
+    each_runs = All-append AreRuns lists shut
+        (zip_all (HasClosed net vehicle window) AreRuns (λ first runs has. has.runs) all.firsts lists sets)
+        (zip_all (HasShut net window) AreRuns (λ timetable runs has. has.runs) parks.timetables shut shuts);
+    each_park = λ k d within.
+        let at = placed.each k (get_or held k d) (slice_get-get_or held k d within) in
+        subst (λ (o : Option Park). ForSome o (IsGoodPark (net_over net arcs lists shut held))) (sym at.is)
+        (good_park (k + 1) (lookup (nat_eq (k + 1)) parks.rated) refl at.there);
   }
 
   -- the road of an arc's number
@@ -139,7 +160,7 @@ module _ (net : NetworkModel) (vehicle : VehicleModel) (window : Run) (all : Gro
       (cases_lt k (length net.graph.arcs))
 
   closed_minutes : (a t : ℕ) → IsSome (at_number net.graph.arcs a)
-      → any_has (runs_at (net_over net arcs lists) a) t ≡ (has_minute t window && is_closed net vehicle a t)
+      → any_has (runs_at (net_over net arcs lists shut held) a) t ≡ (has_minute t window && is_closed net vehicle a t)
   closed_minutes zero t there = absurd (cc)
   closed_minutes (suc k) t there =
       let within : k < length net.graph.arcs = omega (arith, within_number net.graph.arcs (suc k) there) in
@@ -147,34 +168,73 @@ module _ (net : NetworkModel) (vehicle : VehicleModel) (window : Run) (all : Gro
       let here = slice_get-get_or arcs k no_timed_arc (omega (arith, within, timed.counted)) in
       let group = groups.each k arc.closed (timed.each k arc here).group in
       let set = zip_at (HasClosed net vehicle window) all.firsts lists arc.closed group.first [] sets group.there in
-      ap (λ (o : Option TimedArc). any_has (runs_by (net_over net arcs lists) o) t) here
-      ∙ ap (λ (runs : List Run). any_has runs t) (unwrap_or-slice_get (lists ++ [] ∷ []) arc.closed [] ∙ get_or-last lists arc.closed [])
+      ap (λ (o : Option TimedArc). any_has (runs_by (net_over net arcs lists shut held) o) t) here
+      ∙ ap (λ (runs : List Run). any_has runs t) (unwrap_or-slice_get (lists ++ shut) arc.closed []
+      ∙ get_or_append_left lists shut [] arc.closed (omega (arith, as_many, slice_get_within all.firsts arc.closed group.first group.there)))
       ∙ set.minutes t
       ∙ ap (λ (b : Bool). has_minute t window && b) (sym (group.alike vehicle t))
       ∙ ap (λ (n : ℕ). has_minute t window && is_closed net vehicle n t) (add-one k)
 
-  same_weight : (v : ℕ) → (setting_of (net_over net arcs lists)).weight v ≡ option_flatten (at_number net.weights v)
-  same_weight v =
-      ap (λ o. option_map (λ (park : Park). park.weight) (option_flatten o)) (at_number-map (park_over (length lists)) net.weights v)
-      ∙ weight_kept (length lists) (at_number net.weights v)
+  -- there is no row for a node outside the network
+  no_row : (v : ℕ) (o : Option ParkRow) → park_of net v ≡ o → (v < 1) ⊎ (net.graph.nodes < v) → o ≡ None
+  no_row v None is outside = refl
+  no_row v (Some row) is outside =
+      let here = found_good (IsNodeOf net.graph.nodes) net.parks v row good.rated is in
+      absurd (⊎_elim (λ (low : v < 1). omega (arith, low, here.0)) (λ (high : net.graph.nodes < v). omega (arith, high, here.1)) outside)
 
-  -- no park is shut
-  never_shut : (o : Option (Option ℕ)) (t : ℕ)
-      → any_has (shut_by (net_over net arcs lists) (option_flatten (option_map (park_over (length lists)) o))) t ≡ false
-  never_shut None t = refl
-  never_shut (Some None) t = refl
-  never_shut (Some (Some w)) t =
-      ap (λ (runs : List Run). any_has runs t)
-      (unwrap_or-slice_get (lists ++ [] ∷ []) (length lists) [] ∙ get_or-last lists (length lists) []
-      ∙ sym (unwrap_or-slice_get lists (length lists) [])
-      ∙ ap (λ o. unwrap_or o []) (slice_get_past lists (length lists) (omega arith)))
+  same_weight : (v : ℕ) → (setting_of (net_over net arcs lists shut held)).weight v ≡ weight_at net v
+  same_weight zero =
+      sym (ap (option_map (λ (row : ParkRow). row.weight)) (no_row 0 (park_of net 0) refl (inl (omega arith))))
+  same_weight (suc k) =
+      ⊎_elim
+      (λ (within : k < net.graph.nodes).
+      ap (λ o. option_map (λ (park : Park). park.weight) (option_flatten o)) (park_here k within)
+      ∙ weight_kept (length lists) parks.timetables (lookup (nat_eq (suc k)) parks.rated)
+      ∙ sym (ap (option_map (λ (row : ParkRow). row.weight)) (row_at (suc k))))
+      (λ (past : net.graph.nodes ≤ k).
+      ap (λ o. option_map (λ (park : Park). park.weight) (option_flatten o)) (slice_get_past held k (omega (arith, past, placed.counted)))
+      ∙ sym (ap (option_map (λ (row : ParkRow). row.weight)) (no_row (suc k) (park_of net (suc k)) refl (inr (omega (arith, past))))))
+      (cases_lt k net.graph.nodes)
 
-  always_open : (v t : ℕ) → (setting_of (net_over net arcs lists)).wait_shut v t ≡ false
-  always_open v t =
-      ap (λ o. any_has (shut_by (net_over net arcs lists) (option_flatten o)) t) (at_number-map (park_over (length lists)) net.weights v)
-      ∙ never_shut (at_number net.weights v) t
+  -- the minutes at which a rated node is shut
+  shut_over : (o : Option RatedNode) → IfSome o (HasTimetable parks.timetables) → IsSome o → (t : ℕ)
+      → any_has (shut_by (net_over net arcs lists shut held) (option_map (park_over (length lists)) o)) t
+      ≡ (has_minute t window && not (is_park_open net (option_map (park_with parks.timetables) o) t))
+  shut_over None there some t = absurd (cc)
+  shut_over (Some node) there some t =
+      let none : Timetable = record { area = 0; hours = None } in
+      let k = node.timetable in
+      let set = zip_at (HasShut net window) parks.timetables shut k (get_or parks.timetables k none) [] shuts
+      (slice_get-get_or parks.timetables k none (there)) in
+      ap (λ (runs : List Run). any_has runs t) (unwrap_or-slice_get (lists ++ shut) (length lists + k) [] ∙ get_or-append-add lists shut k [])
+      ∙ set.minutes t
+      ∙ ap (λ (timetable : Timetable). has_minute t window && not (is_open_by timetable.hours (area_at net timetable.area) t))
+      (sym (unwrap_or-slice_get parks.timetables k none))
 
-  pub net_stands : StandsFor (setting_of (net_over net arcs lists)) (road_setting net vehicle) window
+  no_weight : IsSome {T = ℕ} None → ⊥
+  no_weight some = absurd (cc)
+
+  shut_minutes : (v t : ℕ) → IsSome (weight_at net v)
+      → (setting_of (net_over net arcs lists shut held)).wait_shut v t ≡ (has_minute t window && not (is_park_open net (park_of net v) t))
+  shut_minutes zero t rated = absurd (subst (λ (o : Option ParkRow). IsSome (option_map (λ (row : ParkRow). row.weight) o) → ⊥)
+      (sym (no_row 0 (park_of net 0) refl (inl (omega arith)))) no_weight rated)
+  shut_minutes (suc k) t rated =
+      ⊎_elim
+      (λ (within : k < net.graph.nodes).
+      let here = slice_get-get_or held k None (omega (arith, within, placed.counted)) in
+      let at = placed.each k (get_or held k None) here in
+      let there = subst (λ (v : ℕ). IfSome (lookup (nat_eq v) parks.rated) (HasTimetable parks.timetables)) (add-one k) at.there in
+      let some = some_inside (park_with parks.timetables) (lookup (nat_eq (suc k)) parks.rated)
+      (some_inside (λ (row : ParkRow). row.weight) _ (subst (λ (o : Option ParkRow). IsSome (option_map (λ (row : ParkRow). row.weight) o)) (row_at (suc k)) rated)) in
+      ap (λ o. any_has (shut_by (net_over net arcs lists shut held) (option_flatten o)) t) (park_here k within)
+      ∙ shut_over (lookup (nat_eq (suc k)) parks.rated) there some t
+      ∙ sym (ap (λ (o : Option ParkRow). has_minute t window && not (is_park_open net o t)) (row_at (suc k))))
+      (λ (past : net.graph.nodes ≤ k).
+      absurd (subst (λ (o : Option ParkRow). IsSome (option_map (λ (row : ParkRow). row.weight) o) → ⊥)
+      (sym (no_row (suc k) (park_of net (suc k)) refl (inr (omega (arith, past))))) no_weight rated))
+      (cases_lt k net.graph.nodes)
+
+  pub net_stands : StandsFor (setting_of (net_over net arcs lists shut held)) (road_setting net vehicle) window
   net_stands = record {
     nodes = refl;
     arcs = timed.counted;
@@ -183,17 +243,19 @@ module _ (net : NetworkModel) (vehicle : VehicleModel) (window : Run) (all : Gro
     shut = λ a t there from to.
         closed_minutes a t (some_inside (road_with a) (at_number net.graph.arcs a) there)
         ∙ ap (λ (b : Bool). b && is_closed net vehicle a t) (and_from _ _ (le-leb window.lo t from) (lt-ltb t window.hi to));
-    wait_shut = λ v t there from to. always_open v t;
+    wait_shut = λ v t there from to.
+        shut_minutes v t there
+        ∙ ap (λ (b : Bool). b && not (is_park_open net (park_of net v) t)) (and_from _ _ (le-leb window.lo t from) (lt-ltb t window.hi to));
   }
 
-  pub net_shut : IsShutWithin net vehicle window (setting_of (net_over net arcs lists))
+  pub net_shut : IsShutWithin net vehicle window (setting_of (net_over net arcs lists shut held))
   net_shut = record {
     roads = λ a t there. closed_minutes a t (some_inside (road_with a) (at_number net.graph.arcs a) (subst IsSome (same_road a) there));
-    waits = λ v t there. always_open v t ∙ sym (and-false (has_minute t window));
+    waits = λ v t there. shut_minutes v t (subst IsSome (same_weight v) there);
   }
 
   -- a toll is at most 100.000, and each arc has a minute
-  pub net_cheap : HasNoDearMinute (setting_of (net_over net arcs lists))
+  pub net_cheap : HasNoDearMinute (setting_of (net_over net arcs lists shut held))
   net_cheap a road is =
       let found = map_some (at_number net.graph.arcs a) (road_with a) road (sym (same_road a) ∙ is) in
       let arc = at_number-all (IsGoodGraphArc net.graph.nodes) net.graph.arcs a found.0 graph.each_arc found.1 in
@@ -204,20 +266,22 @@ abbrev pub net_with : ℕ → List TimedArc → List (List Run) → List (Option
 net_with n arcs closed parks = record { nodes = n; arcs = arcs; closed = closed; parks = parks }
 
 pub net_made : (net : NetworkModel) (vehicle : VehicleModel) (window : Run) (all : GroupsModel) (arcs : List TimedArc) (lists : List (List Run))
+    (parks : ParkLists) (shut : List (List Run)) (held : List (Option Park))
     → IsGoodNetwork net → IsGoodGraph net.graph → AreGroups net all
     → AreTimed net all.groups (length net.graph.arcs) arcs → AreClosedLists net vehicle window all.firsts lists
-    → {n count : ℕ} {closed : List (List Run)} {parks : List (Option Park)} → n ≡ net.graph.nodes → closed ≡ lists ++ [] ∷ []
-    → length lists ≡ count → parks ≡ map (park_over count) net.weights
-    → IsGoodNet (net_with n arcs closed parks) × IsNetFor net vehicle window (setting_of (net_with n arcs closed parks))
-net_made net vehicle window all arcs lists good graph groups timed sets nodes closed count parks =
-    let placed = parks ∙ ap (λ n. map (park_over n) net.weights) (sym count) in
-    let same : net_over net arcs lists ≡ net_with _ arcs _ _ =
-    λ i. net_with (sym nodes i) arcs (sym closed i) (sym placed i) in (
-      subst IsGoodNet same (good_net net vehicle window all arcs lists good graph groups timed sets),
+    → parks_with parks ≡ net.parks → length lists + length parks.timetables < 2 ^ 32 → AreShutLists net window parks.timetables shut
+    → {n count : ℕ} {closed : List (List Run)} → n ≡ net.graph.nodes → closed ≡ lists ++ shut → count ≡ length lists
+    → AreParks parks count n held
+    → IsGoodNet (net_with n arcs closed held) × IsNetFor net vehicle window (setting_of (net_with n arcs closed held))
+net_made net vehicle window all arcs lists parks shut held good graph groups timed sets rows few shuts nodes closed count placed =
+    let here : AreParks parks (length lists) net.graph.nodes held =
+    subst (λ (p : ℕ × ℕ). AreParks parks p.0 p.1 held) (λ i. (count i, nodes i)) placed in
+    let same : net_over net arcs lists shut held ≡ net_with _ arcs _ held = λ i. net_with (sym nodes i) arcs (sym closed i) held in (
+      subst IsGoodNet same (good_net net vehicle window all arcs lists parks shut held good graph groups timed sets rows few shuts here),
       subst (λ (n : Net). IsNetFor net vehicle window (setting_of n)) same (record {
-        stands = net_stands net vehicle window all arcs lists good graph groups timed sets;
-        exact = net_shut net vehicle window all arcs lists good graph groups timed sets;
-        cheap = net_cheap net vehicle window all arcs lists good graph groups timed sets;
+        stands = net_stands net vehicle window all arcs lists parks shut held good graph groups timed sets rows few shuts here;
+        exact = net_shut net vehicle window all arcs lists parks shut held good graph groups timed sets rows few shuts here;
+        cheap = net_cheap net vehicle window all arcs lists parks shut held good graph groups timed sets rows few shuts here;
       }),
     )
 

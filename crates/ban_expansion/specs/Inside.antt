@@ -1,2 +1,3 @@
 pub mod GroupedNets
 pub mod Grouping
+pub mod ShutLists

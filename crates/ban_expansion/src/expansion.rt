@@ -1,17 +1,18 @@
 // Makes the net of a network for a vehicle, over which trips are planned.
-ghost use Rattle.std.specs.Prelude.{◌≡◌, ◌≤◌, ◌<◌, ◌^◌, ◌++◌, ◌∷◌, [], length, map, IfOk, OnOk};
+ghost use Rattle.std.specs.Prelude.{◌≡◌, ◌≤◌, ◌<◌, length, map, IfOk};
 ghost use Rattle.route_base.specs.declared.limits.TheConstants.{HIGHEST_TOLL, LONGEST_DRIVE};
 ghost use Rattle.ban_expansion.specs.Words.{IsNetFor, setting_of, IsGoodGraph, IsWindow, VehicleModel};
 ghost use Rattle.ban_expansion.specs.Words.{AreClosedLists, AreClosedOnce, AreGroups, AreTimed, IsTimedArc};
-ghost use Rattle.ban_expansion.specs.Words.{timed_over, park_over};
+ghost use Rattle.ban_expansion.specs.Words.{timed_over};
 
 use crate::arc_groups::ArcGroups;
 use crate::closed_lists::{closed_lists, closed_lists_at_once};
 use crate::grouping::group_arcs;
+use crate::shut_lists::{parks_at, shut_lists};
 use dimacs_reader::GraphArc;
 use network_tables::Network;
 use route_base::limits::COST_OF_MINUTE;
-use route_base::{ArcId, Cost, Gate, NodeId, OutOfMemory, Park, Run, TimedArc, TimedNet};
+use route_base::{ArcId, Cost, Gate, OutOfMemory, Run, TimedArc, TimedNet};
 use std::alloc::Global;
 use std::thread::Threads;
 use vehicle_classes::Vehicle;
@@ -61,68 +62,40 @@ fn timed_arcs(
     Ok(arcs)
 }
 
-// The park of a node with this weight, with its shut runs at this place.
-fn park_at(weight: Option<Cost>, shut: u32) -> Option<Park>
-    ensures { result ≡ park_over shut weight }
-{
-    match weight {
-        Some(weight) => Some(Park { weight, shut }),
-        None => None,
-    }
-}
-
-// The park of each node where one may wait, with its shut runs at this place.
-fn parks_at(alloc: Global, network: &Network, shut: u32) -> Result<Vec<Option<Park>>, OutOfMemory>
-    ensures { IfOk result (λ parks. parks.items ≡ map (park_over shut) network.now.weights) }
-{
-    let mut parks = Vec::with_capacity(alloc, network.graph().node_count() as usize)?;
-    for v in 0..network.graph().node_count() {
-        parks.push(park_at(network.weight(NodeId(v + 1)), shut))?;
-    }
-    Ok(parks)
-}
-
-// The park of each node where one may wait, which is open at every minute: a list without runs is added to the others.
-fn open_parks(
-    alloc: Global,
-    network: &Network,
-    closed: &mut Vec<Vec<Run>>,
-) -> Result<Vec<Option<Park>>, OutOfMemory>
-    requires { length closed.old.items < 2 ^ 32 }
-    ensures parks { IfOk result (λ parks.
-        parks.items ≡ map (park_over (length closed.old.items)) network.now.weights) }
-    ensures closed { OnOk result (map (λ v. v.items) closed.new.items
-        ≡ map (λ v. v.items) closed.old.items ++ [] ∷ []) }
-{
-    let parks = parks_at(alloc, network, closed.len() as u32)?;
-    closed.push(Vec::new(alloc))?;
-    Ok(parks)
-}
-
-// The net over these groups, where the lists have the closed minutes of the groups, for some vehicle and window.
+// The net over these groups, where the lists have the closed minutes of the groups within the window, for some vehicle. The shut
+// minutes of the timetables are added to the lists, of which a net can have as many as a u32 can name.
 fn net_over(
     alloc: Global,
     network: &Network,
     groups: &ArcGroups,
     lists: Vec<Vec<Run>>,
+    window: Run,
 ) -> Result<TimedNet, OutOfMemory>
     requires groups { AreGroups network.now groups.now }
-    requires closed { AreClosedOnce network.now groups.now.firsts
+    requires closed { AreClosedOnce network.now window groups.now.firsts
         (map (λ v. v.items) lists.items) }
-    ensures { IfOk result (λ net. (vehicle : VehicleModel) (window : Run) → AreClosedLists
+    requires window { IsWindow window }
+    ensures { IfOk result (λ net. (vehicle : VehicleModel) → AreClosedLists
         network.now vehicle window groups.now.firsts (map (λ v. v.items) lists.items)
         → IsNetFor network.now vehicle window (setting_of net)) }
 {
     let nodes = network.graph().node_count();
     let arcs = timed_arcs(alloc, network, groups)?;
+    let parks = network.parks();
+    if parks.timetable_count() > u32::MAX as usize - lists.len() {
+        return Err(OutOfMemory);
+    }
+    let held = parks_at(alloc, parks, nodes, lists.len() as u32)?;
+    let mut shut = shut_lists(alloc, network, parks, window)?;
     let mut closed = lists;
-    let parks = open_parks(alloc, network, &mut closed)?;
-    Ok(TimedNet::new(nodes, arcs, closed, parks))
+    closed.append(&mut shut)?;
+    Ok(TimedNet::new(nodes, arcs, closed, held))
 }
 
 /// The network as a net for the vehicle, as `expand_plain` makes it, over groups that `group_arcs` found.
 ///
-/// It takes the time and memory of one `closed_set` for each group; beside, it is linear in nodes and arcs, and looks up no rules.
+/// It takes the time and memory of one `closed_set` for each group, and of one `covered_minutes` for each area and hours of parks;
+/// beside, it is linear in nodes and arcs, and looks up no rules.
 pub fn expand_groups(
     alloc: Global,
     network: &Network,
@@ -135,12 +108,13 @@ pub fn expand_groups(
     ensures { IfOk result (λ net. IsNetFor network.now vehicle.now window (setting_of net)) }
 {
     let closed = closed_lists(alloc, network, groups.firsts(), vehicle, window)?;
-    let net = net_over(alloc, network, groups, closed)?;
+    let net = net_over(alloc, network, groups, closed, window)?;
     Ok(net)
 }
 
 /// The network as a net for the vehicle: an arc costs 1,000 thousandths for each of its minutes and its toll, it is closed at exactly
-/// the minutes of the window at which it is closed to the vehicle, and one may wait at the nodes with a weight, at every minute.
+/// the minutes of the window at which it is closed to the vehicle, and one may wait at the nodes with a weight, except for exactly the
+/// minutes of the window at which waiting there isn't open.
 ///
 /// It takes the time and memory of `group_arcs` and then of `expand_groups`; where many nets of one network are made, call these,
 /// and the first once.
@@ -176,6 +150,6 @@ pub fn expand<R: Threads + Sync, G: Gate>(
     let groups = group_arcs(alloc, network)?;
     let firsts = groups.firsts();
     let closed = closed_lists_at_once(rt, alloc, network, firsts, vehicle, window, gate)?;
-    let net = net_over(alloc, network, &groups, closed)?;
+    let net = net_over(alloc, network, &groups, closed, window)?;
     Ok(net)
 }

@@ -34,6 +34,7 @@ mod expansion;
 mod grouping;
 mod laws;
 mod layers;
+mod shut_lists;
 mod threads;
 
 pub use access::closed_at;
@@ -43,3 +44,4 @@ pub use expansion::{expand, expand_groups, expand_plain};
 pub use grouping::group_arcs;
 pub use laws::last_of_all;
 pub use layers::{Layer, closed_by, common, overlaid};
+pub use shut_lists::wait_open_at;

@@ -7,6 +7,7 @@ pub mod FileFaults
 pub mod HeldClosures
 mod JobRows
 pub mod NetLists
+pub mod ParkNodes
 pub mod RoadRows
 pub mod RuleRows
 pub mod SamePlaces

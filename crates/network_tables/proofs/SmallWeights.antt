@@ -94,7 +94,7 @@ all_cons P x xs p all zero d within = p
 all_cons P x xs p all (suc k) d within = all k d (omega (arith, within))
 
 -- each of the values that are there
-all_filter_map : {X Y : Type 0} (P : Y → Type 0) (f : X → Option Y) → ((x : X) (y : Y) → f x ≡ Some y → P y) → (xs : List X) → All P (filter_map f xs)
+pub all_filter_map : {X Y : Type 0} (P : Y → Type 0) (f : X → Option Y) → ((x : X) (y : Y) → f x ≡ Some y → P y) → (xs : List X) → All P (filter_map f xs)
 all_filter_map P f each [] = λ k d within. absurd (omega (arith, within))
 all_filter_map P f each (x ∷ xs) = here (f x) (each x) (all_filter_map P f each xs)
   where

@@ -51,14 +51,19 @@ pub record IsGoodPark (areas : ℕ) (parked : Parked) : Type 0 where
   pub small : parked.1.weight ≤ HEAVIEST_WEIGHT
   pub placed : parked.1.area < areas
 
+-- the node is one of this number of nodes
+abbrev pub IsNodeOf : ℕ → Parked → Type 0
+IsNodeOf nodes parked = (1 ≤ parked.0) × (parked.0 ≤ nodes)
+
 -- each of these places is below n
 abbrev pub AreBelow : ℕ → List ℕ → Type 0
 AreBelow n places = All (λ i. i < n) places
 
--- a well-formed network: each arc has an area and closures, parks are in its areas, and weights and tolls are small
+-- a well-formed network: each arc has an area and closures, parks are at its nodes and in its areas, and weights and tolls are small
 pub record IsGoodNetwork (net : NetworkModel) : Type 0 where
   pub roads : length net.roads ≡ length net.graph.arcs
   pub placed : AreBelow (length net.areas) net.roads
   pub closures : length net.closures ≡ length net.graph.arcs
   pub parks : All (IsGoodPark (length net.areas)) net.parks
+  pub rated : All (IsNodeOf net.graph.nodes) net.parks
   pub tolls : (a : ℕ) → toll_at net a ≤ HIGHEST_TOLL

@@ -159,6 +159,7 @@ impl Network {
     /// The nodes where one may wait, with the timetables that they share, at no cost.
     pub fn parks(&self) -> &Parks
         ensures value { parks_with result.now ≡ self.now.parks }
+        ensures good { IsGoodNetwork self.now }
         ensures placed { All (IsTimedIn (length self.now.areas)) result.now.timetables }
     {
         &self.parts.parks

@@ -5,7 +5,6 @@ use Rattle.std.specs.Option.{option_map}
 use Rattle.route_base.specs.Runs.{AreRuns}
 use Rattle.route_base.specs.declared.limits.TheConstants.{COST_OF_MINUTE}
 use Rattle.route_base.specs.declared.types.ArcId.{ArcId}
-use Rattle.route_base.specs.declared.types.Park.{Park}
 use Rattle.route_base.specs.declared.types.Run.{Run}
 use Rattle.route_base.specs.declared.types.TimedArc.{TimedArc}
 use Rattle.dimacs_reader.specs.declared.graph.GraphArc.{GraphArc}
@@ -23,10 +22,6 @@ timed_over place toll arc = record {
   cost = COST_OF_MINUTE * arc.minutes + toll;
   closed = place;
 }
-
--- the park of a node with this weight, which takes its shut runs from the list at this place
-abbrev pub park_over : ℕ → Option ℕ → Option Park
-park_over place weight = option_map (λ w. record { weight = w; shut = place }) weight
 
 -- the timed arc is the graph's at place k with its toll, and takes its closed runs from the place of its group
 pub record IsTimedArc (net : NetworkModel) (groups : List ℕ) (k : ℕ) (arc : TimedArc) : Type 0 where
@@ -47,6 +42,6 @@ pub record HasClosed (net : NetworkModel) (vehicle : VehicleModel) (window : Run
 abbrev pub AreClosedLists : NetworkModel → VehicleModel → Run → List ArcId → List (List Run) → Type 0
 AreClosedLists net vehicle window arcs lists = AllZip (HasClosed net vehicle window) arcs lists
 
--- the lists are those of some vehicle and window
-abbrev pub AreClosedOnce : NetworkModel → List ArcId → List (List Run) → Type 0
-AreClosedOnce net arcs lists = (vehicle : VehicleModel) × (window : Run) × AreClosedLists net vehicle window arcs lists
+-- the lists are those of some vehicle
+abbrev pub AreClosedOnce : NetworkModel → Run → List ArcId → List (List Run) → Type 0
+AreClosedOnce net window arcs lists = (vehicle : VehicleModel) × AreClosedLists net vehicle window arcs lists

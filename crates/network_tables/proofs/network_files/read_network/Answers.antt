@@ -14,9 +14,9 @@ use Rattle.table_reader.specs.Records.{rows_of}
 use Rattle.table_reader.proofs.Lists.{map-map}
 use Rattle.area_tables.specs.Areas.{AreaEntry, areas_in}
 use Rattle.area_tables.specs.Holidays.{holidays_named}
-use Rattle.network_tables.specs.NetworkFiles.{arc_count_of, node_count_of, zones_of, areas_of, holidays_of, zone_for}
+use Rattle.network_tables.specs.NetworkFiles.{arc_count_of, node_count_of, zones_of, areas_of, holidays_of, ratings_of, zone_for}
 use Rattle.network_tables.specs.NetworkFiles.{network_in_files}
-use Rattle.network_tables.specs.NetworkModel.{AreBelow, IsGoodPark}
+use Rattle.network_tables.specs.NetworkModel.{AreBelow, IsGoodPark, IsNodeOf}
 use Rattle.network_tables.specs.Parks.{parks_with, IsTimedIn}
 use Rattle.network_tables.specs.NetworkParts.{zones_at, areas_with}
 use Rattle.network_tables.specs.Tolls.{Toll, toll_for}
@@ -26,6 +26,7 @@ use Rattle.network_tables.proofs.AreaRows.{zones_seen, places_within}
 use Rattle.network_tables.proofs.ClosureRows.{length-runs_by_arc}
 use Rattle.network_tables.proofs.FirstFaults.{later, staged, refused_at, refused_so}
 use Rattle.network_tables.proofs.NetLists.{same_network}
+use Rattle.network_tables.proofs.ParkNodes.{parked_in-nodes}
 use Rattle.network_tables.proofs.RoadRows.{length-area_by_arc, area_by_arc-within, some_areas}
 use Rattle.network_tables.proofs.SmallWeights.{parked_in-good, tolls_in-small}
 use Rattle.network_tables.proofs.network_files.read_network.Goals as goal
@@ -137,6 +138,10 @@ new-requires c =
             subst (λ (n : ℕ). All (IsGoodPark n) (parks_with c.in_ok-closures.parks)) (sym (size ∙ area_count))
             (subst (All (IsGoodPark (length names))) (sym c.in_ok-closures.ensures.value.stated.1)
             (parked_in-good (node_count_of files) (rows_of files.ratings) names (some_areas (areas_in (rows_of files.areas))) (rows_of files.parking)));
+        rated =
+            subst (λ (n : ℕ). All (IsNodeOf n) (parks_with c.in_ok-closures.parks)) (ap (λ (g : GraphModel). g.nodes) (sym graph))
+            (subst (All (IsNodeOf (node_count_of files))) (sym c.in_ok-closures.ensures.value.stated.1)
+            (parked_in-nodes (node_count_of files) (ratings_of files) names (rows_of files.parking)));
         tolls = λ a.
             subst (λ (list : List Toll). unwrap_or (toll_for list a) 0 ≤ HIGHEST_TOLL) (sym c.in_ok-tolls.ensures.stated)
             (tolls_in-small (rows_of files.tolls) a);
