@@ -1,5 +1,6 @@
 -- Parks after one more row, and what a network says of them.
-use Rattle.std.proofs.Common.{◌≡◌, ◌⊎◌, ⊎_elim, inl, inr, ℕ, ◌<◌, ◌&&◌, ◌==◌, Bool, true, false, Option, Some, None, Result, Ok, Err, List, [], ◌∷◌, ◌++◌, length, map, get_or, cond, ltb, refl, sym, ◌∙◌, ap, subst, ◌≤◌, zero, suc, arith}
+use Rattle.std.proofs.Common.{◌≡◌, ◌⊎◌, ⊎_elim, inl, inr, ℕ, zero, suc, ◌<◌, ◌≤◌, ◌&&◌, ◌==◌, Bool, true, false, Option, Some, None, Result, Ok, Err}
+use Rattle.std.proofs.Common.{List, [], ◌∷◌, ◌++◌, length, map, get_or, cond, ltb, refl, sym, ◌∙◌, ap, subst, arith}
 use Rattle.std.specs.Prelude.{All, IfSome, IsSome, nat_eq, nat_lt, unwrap_or, slice_get, if◌then◌else◌, is_some}
 use Rattle.std.specs.List.{list_any}
 use Rattle.std.specs.Map.{lookup}
@@ -27,7 +28,8 @@ use Rattle.table_reader.specs.Records.{Record}
 use Rattle.table_reader.proofs.Lists.{filter_map-push, position-cons, position_within}
 use Rattle.network_tables.specs.Ratings.{Rating}
 use Rattle.network_tables.specs.contracts.parks.TimetablePlacePartialEq.TheImpl as code_place
-use Rattle.network_tables.specs.Parking.{ParkRow, Parked, ParkingFields, cause_of_parking, hours_in_field, hours_or_cause, park_for, parked_in, parked_of, parked_stated, parking_fields_of, place_or_first}
+use Rattle.network_tables.specs.Parking.{ParkRow, Parked, ParkingFields, cause_of_parking, hours_in_field, hours_or_cause, park_for, parked_in}
+use Rattle.network_tables.specs.Parking.{parked_of, parked_stated, parking_fields_of, place_or_first}
 use Rattle.network_tables.specs.NetworkModel.{NetworkModel, park_of}
 use Rattle.network_tables.specs.Parks.{Timetable, ParkLists, HasTimetable, HaveTimetables, IsTimedIn, park_with, parks_with, timetable_at, timetable_with}
 use Rattle.network_tables.specs.ParkRows.{AreThere, HaveParks, IsRead, IsTimetable, Keeps, ParkingSoFar, Puts, fields_with, hours_at, park_lists}
@@ -45,7 +47,8 @@ pub row_in : (net : NetworkModel) (parks : ParkLists) → parks_with parks ≡ n
 row_in net parks same v node is =
     ap (λ (rows : List Parked). park_for rows v) (sym same) ∙ park_held parks v ∙ ap (option_map (park_with parks.timetables)) (sym is)
 
-pub rated_there : (timetables : List Timetable) (node : Option RatedNode) (row : Option ParkRow) → row ≡ option_map (park_with timetables) node → IsSome row → IsSome node
+pub rated_there : (timetables : List Timetable) (node : Option RatedNode) (row : Option ParkRow) → row ≡ option_map (park_with timetables) node
+    → IsSome row → IsSome node
 rated_there timetables None row is there = absurd (let no : IsSome {T = ParkRow} None = subst IsSome is there in cc)
 rated_there timetables (Some n) row is there = refl
 
@@ -293,7 +296,8 @@ module _ (now : ParkingSoFar) (row : Record) (hours : List (List HoursRule)) (ke
         have_park start now before row h hours kept new read.node weight (record { area = area; hours = read.hours }) put
         (record {
           heard = there;
-          placed = place_within start.areas read.area.now area h.some (ap (λ (areas : List (List ℕ × ℕ)). place_or_first (names_of areas) read.area.now) (sym h.areas) ∙ placed);
+          placed = place_within start.areas read.area.now area h.some
+              (ap (λ (areas : List (List ℕ × ℕ)). place_or_first (names_of areas) read.area.now) (sym h.areas) ∙ placed);
         })
         (sym same_table ∙ stated_now)
       where

@@ -42,4 +42,5 @@ returns-in_err-add-clause-refused c =
     let p = err_from_is_err_and c.from_residual-in_err-add.result c.from_residual-in_err-add.ensures.1 in
     let none : value_under c.self.inside.texts c.args.text.now ≡ None =
     none_from_test _ (sym (place_is_some c.self.inside.texts c.args.text.now) ∙ ap is_some (sym c.place.ensures.place ∙ c.in_default.is)) in
-    rw (p.1, p.2) (weaker_cause c.in_err-add.field-0.0 _ _ (λ cause both. absurd (let no : IsSome {T = Hours} None = subst IsSome none both.1 in cc)) c.in_err-add.ensures.refused)
+    rw (p.1, p.2) (weaker_cause c.in_err-add.field-0.0 _ _
+    (λ cause both. absurd (let no : IsSome {T = Hours} None = subst IsSome none both.1 in cc)) c.in_err-add.ensures.refused)
