@@ -28,7 +28,8 @@ use Rattle.table_reader.proofs.Lists.{filter_map-push, position-cons, position_w
 use Rattle.network_tables.specs.Ratings.{Rating}
 use Rattle.network_tables.specs.contracts.parks.TimetablePlacePartialEq.TheImpl as code_place
 use Rattle.network_tables.specs.Parking.{ParkRow, Parked, ParkingFields, cause_of_parking, hours_in_field, hours_or_cause, park_for, parked_in, parked_of, parked_stated, parking_fields_of, place_or_first}
-use Rattle.network_tables.specs.Parks.{Timetable, ParkLists, HasTimetable, HaveTimetables, park_with, parks_with, timetable_at, timetable_with}
+use Rattle.network_tables.specs.NetworkModel.{NetworkModel, park_of}
+use Rattle.network_tables.specs.Parks.{Timetable, ParkLists, HasTimetable, HaveTimetables, IsTimedIn, park_with, parks_with, timetable_at, timetable_with}
 use Rattle.network_tables.specs.ParkRows.{AreThere, HaveParks, IsRead, IsTimetable, Keeps, ParkingSoFar, Puts, fields_with, hours_at, park_lists}
 use Rattle.network_tables.specs.declared.parks.RatedNode.{RatedNode}
 use Rattle.network_tables.specs.declared.parks.TimetablePlace.{TimetablePlace}
@@ -37,6 +38,25 @@ use Rattle.network_tables.specs.declared.parks.TimetablePlace.{TimetablePlace}
 pub park_held : (parks : ParkLists) (v : ℕ)
     → lookup (nat_eq v) (parks_with parks) ≡ option_map (park_with parks.timetables) (lookup (nat_eq v) parks.rated)
 park_held parks v = lookup-map_values (park_with parks.timetables) (nat_eq v) parks.rated
+
+-- the row of a node of a network that has these parks
+pub row_in : (net : NetworkModel) (parks : ParkLists) → parks_with parks ≡ net.parks → (v : ℕ) (node : Option RatedNode) → node ≡ lookup (nat_eq v) parks.rated
+    → park_of net v ≡ option_map (park_with parks.timetables) node
+row_in net parks same v node is =
+    ap (λ (rows : List Parked). park_for rows v) (sym same) ∙ park_held parks v ∙ ap (option_map (park_with parks.timetables)) (sym is)
+
+pub rated_there : (timetables : List Timetable) (node : Option RatedNode) (row : Option ParkRow) → row ≡ option_map (park_with timetables) node → IsSome row → IsSome node
+rated_there timetables None row is there = absurd (let no : IsSome {T = ParkRow} None = subst IsSome is there in cc)
+rated_there timetables (Some n) row is there = refl
+
+-- the area of a timetable that is there
+pub area_there : (areas : ℕ) (timetables : List Timetable) (k : ℕ) → All (IsTimedIn areas) timetables → k < length timetables
+    → (timetable_at timetables k).area < areas
+area_there areas timetables k all within =
+    let d : Timetable = record { area = 0; hours = None } in
+    let here : timetable_at timetables k ≡ get_or timetables k d =
+    ap (λ (o : Option Timetable). unwrap_or o d) (slice_get-get_or timetables k d within) in
+    subst (IsTimedIn areas) (sym here) (all k d within)
 
 -- what holds of all elements holds of one that is there, and the other way round
 pub all_there : {X : Type 0} (P : X → Type 0) (xs : List X) (i : ℕ) (x : X) → All P xs → slice_get xs i ≡ Some x → P x
@@ -144,7 +164,7 @@ module _ (start now : ParkingSoFar) (before : List Record) (row : Record) (h : H
       let timed : All (λ n. HasTimetable tables n.1) (now.rated ++ (node, rated2) ∷ []) =
       All-append (λ n. HasTimetable tables n.1) now.rated ((node, rated2) ∷ [])
       (λ k d within. let there = h.timed k d within in
-          slice_get_within tables _ _ (keeps _ _ (slice_get-get_or old _ (record { area = 0; hours = None }) there)))
+      slice_get_within tables _ _ (keeps _ _ (slice_get-get_or old _ (record { area = 0; hours = None }) there)))
       (all_one (λ n. HasTimetable tables n.1) (node, rated2) (slice_get_within tables put.timetable _ here)) in
       record {
         nodes = put.nodes ∙ h.nodes;
@@ -163,14 +183,13 @@ module _ (start now : ParkingSoFar) (before : List Record) (row : Record) (h : H
             (⊎_elim
             (λ (same : new.timetables ≡ now.timetables). subst (All (IsTimetable areas hours)) (sym same) all_still)
             (λ (more : new.timetables ≡ now.timetables ++ place ∷ []). subst (All (IsTimetable areas hours)) (sym more)
-                (All-append (IsTimetable areas hours) now.timetables (place ∷ []) all_still (all_one (IsTimetable areas hours) place good)))
+            (All-append (IsTimetable areas hours) now.timetables (place ∷ []) all_still (all_one (IsTimetable areas hours) place good)))
             put.timetables);
       }
     where
       all_one : {X : Type 0} (P : X → Type 0) (x : X) → P x → All P (x ∷ [])
       all_one P x p zero d within = p
       all_one P x p (suc k) d within = absurd (omega (arith, within))
-
 
 -- the four fields of a row by their places
 pub four : (fs : List (List ℕ)) (a b c d : List ℕ) → length fs ≡ 4 → slice_get fs 0 ≡ Some a → slice_get fs 1 ≡ Some b → slice_get fs 2 ≡ Some c

@@ -172,7 +172,10 @@ impl Network {
         ensures value { result ≡ weight_at self.now v.0 }
         ensures good { IsGoodNetwork self.now }
     {
-        self.parts.parks.rated(v).map(|node| node.weight)
+        match self.parts.parks.rated(v) {
+            Some(node) => Some(node.weight),
+            None => None,
+        }
     }
 
     /// The place from 0 of the area whose clocks and holidays count where one waits at the node. In constant time on average.

@@ -198,12 +198,12 @@ impl<'a> Model for ParkingTable<'a> {
     ghost Value = { ParkingSoFar };
 
     ghost view = { λ t. record {
-        nodes = t.nodes;
-        ratings = t.ratings;
-        areas = t.areas.now;
-        hours = t.hours;
-        timetables = t.timetables.keys;
-        rated = t.rated.entries;
+      nodes = t.nodes;
+      ratings = t.ratings;
+      areas = t.areas.now;
+      hours = t.hours;
+      timetables = t.timetables.keys;
+      rated = t.rated.entries;
     } };
 }
 

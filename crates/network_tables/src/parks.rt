@@ -38,13 +38,13 @@ impl Model for Parks {
     ghost Value = { ParkLists };
 
     ghost view = { λ p. record {
-        rated = p.rated.entries;
-        timetables = map (timetable_with p.hours.items) p.timetables.items;
+      rated = p.rated.entries;
+      timetables = map (timetable_with p.hours.items) p.timetables.items;
     } };
 
     ghost invariant = { λ p. HaveTimetables (record {
-        rated = p.rated.entries;
-        timetables = map (timetable_with p.hours.items) p.timetables.items;
+      rated = p.rated.entries;
+      timetables = map (timetable_with p.hours.items) p.timetables.items;
     }) };
 }
 
@@ -55,10 +55,14 @@ impl Parks {
         timetables: Vec<TimetablePlace>,
         hours: Vec<Hours>,
     ) -> Parks
-        requires { HaveTimetables (record { rated = rated.entries;
-            timetables = map (timetable_with hours.items) timetables.items }) }
-        ensures { result ≡ record { rated = rated.entries;
-            timetables = map (timetable_with hours.items) timetables.items } }
+        requires { HaveTimetables (record {
+          rated = rated.entries;
+          timetables = map (timetable_with hours.items) timetables.items;
+        }) }
+        ensures { result ≡ record {
+          rated = rated.entries;
+          timetables = map (timetable_with hours.items) timetables.items;
+        } }
     {
         Parks {
             rated,
