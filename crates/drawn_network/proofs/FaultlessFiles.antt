@@ -2,9 +2,10 @@
 use Rattle.std.proofs.Common.{◌≡◌, ℕ, ◌*◌, None, length, refl, ap, ◌∙◌, arith}
 use Rattle.std.proofs.lemmas.List.{length-map}
 use Rattle.route_base.specs.declared.faults.FileKind.TheVariants as file
+use Rattle.table_reader.specs.NameIndex.{names_of}
 use Rattle.table_reader.specs.Schema.{first_table_fault}
 use Rattle.network_tables.specs.Closures.{closures_schema}
-use Rattle.network_tables.specs.NetworkFiles.{arc_count_of, node_count_of, contents_fault, fault_in, ratings_of, table_fault}
+use Rattle.network_tables.specs.NetworkFiles.{arc_count_of, areas_of, node_count_of, contents_fault, fault_in, ratings_of, table_fault}
 use Rattle.network_tables.specs.NetworkFiles.{graph_fault, closures_fault}
 use Rattle.network_tables.specs.NetworkFiles.{ratings_fault, parking_fault}
 use Rattle.network_tables.specs.Parking.{parking_schema}
@@ -36,8 +37,9 @@ closures_good number rows columns d =
 parking_good : (number rows columns : ℕ) → IsDrawable number rows columns → parking_fault (drawn_files number rows columns) ≡ None
 parking_good number rows columns d =
     let ratings = ratings_of (drawn_files number rows columns) in
-    ap (λ nodes. table_fault file.Parking (parking_schema nodes ratings) (parking_file number rows columns)) (nodes_are number rows columns d)
-    ∙ ap (fault_in file.Parking) (parking_file-faultless number rows columns (omega (arith, d.nodes)))
+    let names = names_of (areas_of (drawn_files number rows columns)) in
+    ap (λ nodes. table_fault file.Parking (parking_schema nodes ratings names) (parking_file number rows columns)) (nodes_are number rows columns d)
+    ∙ ap (fault_in file.Parking) (parking_file-faultless number rows columns names (omega (arith, d.nodes)))
 
 -- no file has a fault
 pub files_faultless : (number rows columns : ℕ) → IsDrawable number rows columns → contents_fault (drawn_files number rows columns) ≡ None

@@ -1,17 +1,18 @@
 -- The table of lawful parking areas at rising nodes has no fault.
-use Rattle.std.proofs.Common.{◌≡◌, inl, inr, ℕ, suc, ◌+◌, ◌≤◌, true, false, eqb, Some, None, List, [], ◌∷◌, ◌++◌, length, map}
+use Rattle.std.proofs.Common.{◌≡◌, inl, inr, ℕ, suc, ◌+◌, ◌≤◌, true, false, eqb, Some, None, Option, Result, Ok, List, [], ◌∷◌, ◌++◌, length, map}
 use Rattle.std.proofs.Common.{refl, sym, ◌∙◌, ap, subst, arith, append_assoc, length-append}
-use Rattle.std.specs.Prelude.{codes, decimal, flat_map, is_some}
-use Rattle.std.specs.List.{AllByRecursion, list_any}
+use Rattle.std.specs.Prelude.{codes, decimal, flat_map, is_some, unwrap_or, if◌then◌else◌}
+use Rattle.std.specs.List.{AllByRecursion, cons_option, list_any}
 use Rattle.std.proofs.lemmas.Bool.{le-leb, ne_eqb, cases_eq}
 use Rattle.route_base.specs.Forms.{is_name}
 use Rattle.route_base.specs.declared.limits.TheConstants.{MOST_PARKING_ROWS}
-use Rattle.table_reader.specs.ByNumber.{NumberedRow, numbered_of, numbered_in, field_for, cause_of_numbered}
 use Rattle.table_reader.specs.NameIndex.{value_under}
 use Rattle.table_reader.specs.Records.{Record, records_of, rows_in, rows_of}
 use Rattle.table_reader.specs.Schema.{row_fault_from, first_table_fault}
 use Rattle.table_reader.proofs.Lists.{lookup-other, filter_map-push}
-use Rattle.network_tables.specs.Parking.{parking_schema}
+use Rattle.route_base.specs.declared.faults.Cause.{Cause}
+use Rattle.route_base.specs.declared.faults.Cause.TheVariants.{Duplicate}
+use Rattle.network_tables.specs.Parking.{ParkRow, Parked, cause_of_parking, park_for, parked_in, parked_of, parked_stated, parking_schema}
 use Rattle.network_tables.specs.Ratings.{Rating, ratings_in}
 use Rattle.net_generator.specs.Generated.{parking_text, parkings_text, ratings_file}
 use Rattle.net_generator.specs.declared.layout.Parking.{Parking}
@@ -45,15 +46,12 @@ each_letter P rating low high a b c = elim (cases_eq rating 97) [
   ]
 ]
 
--- a letter is a plain field, a name, and one of the ratings
+-- a letter is a plain field and a name
 letter-plain : (rating : ℕ) → 97 ≤ rating → rating ≤ 99 → list_any is_mark (rating ∷ []) ≡ false
 letter-plain rating low high = each_letter (λ r. list_any is_mark (r ∷ []) ≡ false) rating low high refl refl refl
 
 letter-name : (rating : ℕ) → 97 ≤ rating → rating ≤ 99 → is_name (rating ∷ []) ≡ true
 letter-name rating low high = each_letter (λ r. is_name (r ∷ []) ≡ true) rating low high refl refl refl
-
-letter-known : (rating : ℕ) → 97 ≤ rating → rating ≤ 99 → is_some (value_under three_ratings (rating ∷ [])) ≡ true
-letter-known rating low high = each_letter (λ r. is_some (value_under three_ratings (r ∷ [])) ≡ true) rating low high refl refl refl
 
 header-plain : IsPlainRecord header
 header-plain = record {
@@ -75,51 +73,64 @@ rows-plain : (first last : ℕ) (areas : List Parking) → last ≤ 4294967295 �
 rows-plain first last [] few h = tt
 rows-plain first last (area ∷ more) few h = (row-plain first last area few h.0, rows-plain (suc area.node) last more few h.1)
 
-row-read : (first last : ℕ) (area : Parking) → last ≤ 4294967295 → IsLawfulParking first last area
-    → numbered_of is_name (parking_record area) ≡ Some (parking_read area)
-row-read first last area few h =
-    rw (letter-name area.rating h.rating_low h.rating_high, table_number-read area.node (omega (arith, h.high, few))) refl
+-- and the weight of a rating
+letter-weight : (rating : ℕ) → 97 ≤ rating → rating ≤ 99
+    → value_under three_ratings (rating ∷ []) ≡ Some (unwrap_or (value_under three_ratings (rating ∷ [])) 0)
+letter-weight rating low high =
+    each_letter (λ r. value_under three_ratings (r ∷ []) ≡ Some (unwrap_or (value_under three_ratings (r ∷ [])) 0)) rating low high refl refl refl
 
-rows-read : (first last : ℕ) (areas : List Parking) → last ≤ 4294967295 → AreRisingRows first last areas
-    → numbered_in is_name (map parking_record areas) ≡ map parking_read areas
-rows-read first last [] few h = refl
-rows-read first last (area ∷ more) few h = rw (row-read first last area few h.0, rows-read (suc area.node) last more few h.1) refl
+-- tables over these ratings, and any areas
+module _ (nodes : ℕ) (few : nodes ≤ 4294967295) (areas : List (List ℕ)) where
+  abbrev read : Record → Result Parked Cause
+  read row = parked_of nodes three_ratings areas row
 
--- no node from `first` on has a row
-abbrev AreBefore : ℕ → List Record → Type 0
-AreBefore first before = (v : ℕ) → first ≤ v → field_for (numbered_in is_name before) v ≡ None
+  abbrev stated : List Record → List Parked
+  stated rows = parked_in nodes three_ratings areas rows
 
-before-more : (first last : ℕ) (before : List Record) (area : Parking) → last ≤ 4294967295 → IsLawfulParking first last area → AreBefore first before
-    → AreBefore (suc area.node) (before ++ parking_record area ∷ [])
-before-more first last before area few h none v above =
-    ap (λ (rows : List NumberedRow). field_for rows v)
-    (filter_map-push (numbered_of is_name) before (parking_record area) (parking_read area) (row-read first last area few h))
-    ∙ lookup-other (λ k. eqb v k) (numbered_in is_name before) (parking_read area) (ne_eqb v area.node (λ e. absurd (omega (arith, e, above))))
-    ∙ none v (omega (arith, above, h.low))
+  row-read : (first : ℕ) (area : Parking) → 1 ≤ first → IsLawfulParking first nodes area → read (parking_record area) ≡ Ok (parking_read area)
+  row-read first area low h =
+      rw (
+        letter-name area.rating h.rating_low h.rating_high,
+        table_number-read area.node (omega (arith, h.high, few)),
+        le-leb 1 area.node (omega (arith, low, h.low)),
+        le-leb area.node nodes h.high,
+        letter-weight area.rating h.rating_low h.rating_high,
+      ) refl
 
-no_cause : (first nodes : ℕ) (ratings : List Rating) (before : List Record) (area : Parking) → ratings ≡ three_ratings → 1 ≤ first → nodes ≤ 4294967295
-    → IsLawfulParking first nodes area → AreBefore first before
-    → cause_of_numbered nodes (value_under ratings) (numbered_in is_name before) (numbered_of is_name (parking_record area)) ≡ None
-no_cause first nodes ratings before area is low few h none =
-    rw (
-      is,
-      row-read first nodes area few h,
-      le-leb 1 area.node (omega (arith, low, h.low)),
-      le-leb area.node nodes h.high,
-      letter-known area.rating h.rating_low h.rating_high,
-      none area.node h.low,
-    ) refl
+  rows-read : (first : ℕ) (parks : List Parking) → 1 ≤ first → AreRisingRows first nodes parks → stated (map parking_record parks) ≡ map parking_read parks
+  rows-read first [] low h = refl
+  rows-read first (area ∷ more) low h =
+      ap (λ (r : Result Parked Cause). cons_option (parked_stated r) (stated (map parking_record more))) (row-read first area low h.0)
+      ∙ ap (λ (parks : List Parked). parking_read area ∷ parks) (rows-read (suc area.node) more (omega arith) h.1)
 
-no_row_fault : (first nodes : ℕ) (ratings : List Rating) (before : List Record) (areas : List Parking) → ratings ≡ three_ratings → 1 ≤ first
-    → nodes ≤ 4294967295 → AreRisingRows first nodes areas → AreBefore first before → length before + length areas ≤ MOST_PARKING_ROWS
-    → row_fault_from (parking_schema nodes ratings) header before (map parking_record areas) ≡ None
-no_row_fault first nodes ratings before [] is low few h none room = refl
-no_row_fault first nodes ratings before (area ∷ more) is low few h none room =
-    let row = parking_record area in
-    row_fault-more (parking_schema nodes ratings) header before row (map parking_record more) refl (omega (arith, room))
-    (no_cause first nodes ratings before area is low few h.0 none)
-    (no_row_fault (suc area.node) nodes ratings (before ++ row ∷ []) more is (omega arith) few h.1 (before-more first nodes before area few h.0 none)
-    (omega (arith, room, length-append before (row ∷ []))))
+  -- no node from `first` on has a row
+  abbrev AreBefore : ℕ → List Record → Type 0
+  AreBefore first before = (v : ℕ) → first ≤ v → park_for (stated before) v ≡ None
+
+  before-more : (first : ℕ) (before : List Record) (area : Parking) → 1 ≤ first → IsLawfulParking first nodes area → AreBefore first before
+      → AreBefore (suc area.node) (before ++ parking_record area ∷ [])
+  before-more first before area low h none v above =
+      ap (λ (parks : List Parked). park_for parks v)
+      (filter_map-push (λ r. parked_stated (read r)) before (parking_record area) (parking_read area) (ap parked_stated (row-read first area low h)))
+      ∙ lookup-other (λ k. eqb v k) (stated before) (parking_read area) (ne_eqb v area.node (λ e. absurd (omega (arith, e, above))))
+      ∙ none v (omega (arith, above, h.low))
+
+  no_cause : (first : ℕ) (before : List Record) (area : Parking) → 1 ≤ first → IsLawfulParking first nodes area → AreBefore first before
+      → cause_of_parking (stated before) (read (parking_record area)) ≡ None
+  no_cause first before area low h none =
+      ap (cause_of_parking (stated before)) (row-read first area low h)
+      ∙ ap (λ (o : Option ParkRow). if is_some o then Some Duplicate else None) (none area.node h.low)
+
+  no_row_fault : (first : ℕ) (before : List Record) (parks : List Parking) → 1 ≤ first → AreRisingRows first nodes parks → AreBefore first before
+      → length before + length parks ≤ MOST_PARKING_ROWS
+      → row_fault_from (parking_schema nodes three_ratings areas) header before (map parking_record parks) ≡ None
+  no_row_fault first before [] low h none room = refl
+  no_row_fault first before (area ∷ more) low h none room =
+      let row = parking_record area in
+      row_fault-more (parking_schema nodes three_ratings areas) header before row (map parking_record more) refl (omega (arith, room))
+      (no_cause first before area low h.0 none)
+      (no_row_fault (suc area.node) (before ++ row ∷ []) more (omega arith) h.1 (before-more first before area low h.0 none)
+      (omega (arith, room, length-append before (row ∷ []))))
 
 table-records : (nodes : ℕ) (areas : List Parking) → nodes ≤ 4294967295 → AreRisingRows 1 nodes areas
     → records_of (parkings_text areas) ≡ header ∷ map parking_record areas
@@ -127,16 +138,19 @@ table-records nodes areas few h =
     ap (λ (text : List ℕ). records_of (codes "node,rating\n" ++ text)) (rows-text areas)
     ∙ plain_text-read (header ∷ map parking_record areas) (header-plain, rows-plain 1 nodes areas few h)
 
-pub parkings_text-faultless : (nodes : ℕ) (areas : List Parking) → nodes ≤ 4294967295 → AreRisingRows 1 nodes areas → length areas ≤ MOST_PARKING_ROWS
-    → first_table_fault (parking_schema nodes (ratings_in (rows_of ratings_file))) (records_of (parkings_text areas)) ≡ None
-parkings_text-faultless nodes areas few h room =
-    let schema = parking_schema nodes (ratings_in (rows_of ratings_file)) in
-    ap (λ (rows : List Record). first_table_fault schema rows) (table-records nodes areas few h)
+pub parkings_text-faultless : (nodes : ℕ) (names : List (List ℕ)) (areas : List Parking) → nodes ≤ 4294967295 → AreRisingRows 1 nodes areas
+    → length areas ≤ MOST_PARKING_ROWS
+    → first_table_fault (parking_schema nodes (ratings_in (rows_of ratings_file)) names) (records_of (parkings_text areas)) ≡ None
+parkings_text-faultless nodes names areas few h room =
+    let schema = parking_schema nodes three_ratings names in
+    ap (λ (ratings : List Rating). first_table_fault (parking_schema nodes ratings names) (records_of (parkings_text areas))) ratings_file-ratings
+    ∙ ap (λ (rows : List Record). first_table_fault schema rows) (table-records nodes areas few h)
     ∙ first_table_fault-none schema header (map parking_record areas) refl
-    (no_row_fault 1 nodes (ratings_in (rows_of ratings_file)) [] areas ratings_file-ratings (omega arith) few h (λ v above. refl) (omega (arith, room)))
+    (no_row_fault nodes few names 1 [] areas (omega arith) h (λ v above. refl) (omega (arith, room)))
 
 -- the table states the parking areas
-pub parkings_text-read : (nodes : ℕ) (areas : List Parking) → nodes ≤ 4294967295 → AreRisingRows 1 nodes areas
-    → numbered_in is_name (rows_of (parkings_text areas)) ≡ map parking_read areas
-parkings_text-read nodes areas few h =
-    ap (λ (rows : List Record). numbered_in is_name (rows_in rows)) (table-records nodes areas few h) ∙ rows-read 1 nodes areas few h
+pub parkings_text-read : (nodes : ℕ) (names : List (List ℕ)) (areas : List Parking) → nodes ≤ 4294967295 → AreRisingRows 1 nodes areas
+    → parked_in nodes three_ratings names (rows_of (parkings_text areas)) ≡ map parking_read areas
+parkings_text-read nodes names areas few h =
+    ap (λ (rows : List Record). parked_in nodes three_ratings names (rows_in rows)) (table-records nodes areas few h)
+    ∙ rows-read nodes few names 1 areas (omega arith) h

@@ -13,9 +13,9 @@ use Rattle.area_tables.specs.Areas.{areas_in, areas_or_default}
 use Rattle.network_tables.specs.Closures.{closures_in, runs_by_arc}
 use Rattle.area_tables.specs.Holidays.{calendar_days, days_listed, holidays_in}
 use Rattle.network_tables.specs.NetworkFiles.{arc_count_of, area_in, areas_of, closed_runs_of, holidays_of, network_in_files}
-use Rattle.network_tables.specs.NetworkFiles.{ratings_of, roads_of, vehicles_of, weights_of, zones_of}
+use Rattle.network_tables.specs.NetworkFiles.{parks_of, ratings_of, roads_of, vehicles_of, zones_of}
 use Rattle.network_tables.specs.NetworkModel.{Area}
-use Rattle.network_tables.specs.Parking.{weights_by_node}
+use Rattle.network_tables.specs.Parking.{parked_in}
 use Rattle.network_tables.specs.Ratings.{Rating}
 use Rattle.area_tables.specs.Roads.{area_by_arc}
 use Rattle.network_tables.specs.Rules.{rules_in, passed_over_in}
@@ -24,7 +24,7 @@ use Rattle.area_tables.specs.Zones.{zone_entries_in, zone_named}
 use Rattle.net_generator.specs.Sizes.{IsDrawable}
 use Rattle.drawn_network.specs.DrawnFiles.{drawn_files}
 use Rattle.drawn_network.specs.DrawnNetwork.{only_area, network_drawn}
-use Rattle.drawn_network.specs.DrawnRows.{drawn_runs, drawn_weights, three_ratings}
+use Rattle.drawn_network.specs.DrawnRows.{drawn_parks, drawn_runs}
 use Rattle.drawn_network.proofs.DrawnRoads.{roads_few}
 use Rattle.drawn_network.proofs.DrawnTables.{arcs_drawn, closures_file-read, parking_file-read}
 use Rattle.drawn_network.proofs.EmptyTables.{empty-rows}
@@ -78,13 +78,13 @@ closures_stated number rows columns d =
     ∙ ap (runs_by_arc (arcs_drawn number rows columns))
     (closures_file-read number rows columns (omega (arith, roads_few number rows columns, d.nodes)))
 
-weights_stated : (number rows columns : ℕ) → IsDrawable number rows columns
-    → weights_of (drawn_files number rows columns) ≡ drawn_weights number rows columns
-weights_stated number rows columns d =
+parks_stated : (number rows columns : ℕ) → IsDrawable number rows columns → parks_of (drawn_files number rows columns) ≡ drawn_parks number rows columns
+parks_stated number rows columns d =
     let files = drawn_files number rows columns in
-    ap (λ n. weights_by_node n (ratings_of files) (numbered_in is_name (rows_of files.parking))) (nodes_are number rows columns d)
-    ∙ ap (λ (ratings : List Rating). weights_by_node (rows * columns) ratings (numbered_in is_name (rows_of files.parking))) ratings_file-ratings
-    ∙ ap (weights_by_node (rows * columns) three_ratings) (parking_file-read number rows columns (omega (arith, d.nodes)))
+    let names = names_of (areas_of files) in
+    ap (λ n. parked_in n (ratings_of files) names (rows_of files.parking)) (nodes_are number rows columns d)
+    ∙ ap (λ (ratings : List Rating). parked_in (rows * columns) ratings names (rows_of files.parking)) ratings_file-ratings
+    ∙ parking_file-read number rows columns names (omega (arith, d.nodes))
 
 pub network_stated : (number rows columns : ℕ) → IsDrawable number rows columns
     → network_in_files (drawn_files number rows columns) ≡ network_drawn number rows columns
@@ -102,6 +102,6 @@ network_stated number rows columns d =
       rules = no_rules i;
       passed_over = none_passed i;
       closures = closures_stated number rows columns d i;
-      weights = weights_stated number rows columns d i;
+      parks = parks_stated number rows columns d i;
       tolls = no_tolls i;
     }

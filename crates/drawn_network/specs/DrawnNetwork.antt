@@ -6,7 +6,7 @@ use Rattle.network_tables.specs.NetworkModel.{Area, NetworkModel}
 use Rattle.area_tables.specs.Zones.{zone_row}
 use Rattle.net_generator.specs.Layout.{roads_drawn}
 use Rattle.drawn_network.specs.DrawnGraph.{drawn_graph}
-use Rattle.drawn_network.specs.DrawnRows.{drawn_runs, drawn_weights}
+use Rattle.drawn_network.specs.DrawnRows.{drawn_parks, drawn_runs}
 
 -- the area of all arcs: it keeps UTC, and has no holidays
 abbrev pub only_area : Area
@@ -22,6 +22,6 @@ network_drawn number rows columns = record {
   rules = [];
   passed_over = 0;
   closures = drawn_runs number rows columns;
-  weights = drawn_weights number rows columns;
+  parks = drawn_parks number rows columns;
   tolls = [];
 }

@@ -1,5 +1,5 @@
 -- The access that an arc gives a vehicle at an instant (source: OpenStreetMap wiki, access keys; the order is own).
-use Rattle.std.specs.Prelude.{ℕ, ◌||◌, Bool, true, false, not, Option, slice_get, unwrap_or, if◌then◌else◌}
+use Rattle.std.specs.Prelude.{ℕ, ◌||◌, Bool, true, false, not, Option, None, Some, slice_get, unwrap_or, if◌then◌else◌}
 use Rattle.std.specs.Prelude.{List, [], ◌∷◌, ◌++◌}
 use Rattle.std.specs.Option.{option_and_then}
 use Rattle.route_base.specs.Net.{at_number}

@@ -3,6 +3,7 @@
 mod faults;
 mod jobs;
 mod limits;
+mod parking;
 mod rules;
 mod vehicles;
 
