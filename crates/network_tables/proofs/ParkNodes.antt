@@ -1,7 +1,7 @@
 -- Each row of parking that states something is that of a node of the graph.
-use Rattle.std.proofs.Common.{◌≡◌, ⊎_elim, ℕ, ◌≤◌, leb, true, Some, None, Option, Result, Ok, Err, List, sym, ◌∙◌, ap, subst, cond-true, cond-false}
+use Rattle.std.proofs.Common.{◌≡◌, ⊎_elim, ℕ, ◌≤◌, leb, true, Some, None, Option, Result, Ok, Err, List, sym, ◌∙◌, ap, subst}
 use Rattle.std.specs.Prelude.{All, unwrap_or}
-use Rattle.std.proofs.lemmas.Bool.{and_parts, cases_Bool, leb-true}
+use Rattle.std.proofs.lemmas.Bool.{and_parts, cases_Bool, cond-false, cond-true, leb-true}
 use Rattle.route_base.specs.Forms.{is_from_to}
 use Rattle.route_base.specs.declared.faults.Cause.{Cause}
 use Rattle.table_reader.specs.NameIndex.{value_under}
