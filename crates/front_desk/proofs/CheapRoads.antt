@@ -1,6 +1,8 @@
 -- The road setting of a vehicle has no dear road and no dear minute.
-use Rattle.std.proofs.Common.{◌≡◌, ℕ, ◌+◌, ◌*◌, ◌≤◌, Some, None, Option, refl, subst, arith}
-use Rattle.std.specs.Option.{option_flatten}
+use Rattle.std.proofs.Common.{◌≡◌, ℕ, ◌+◌, ◌*◌, ◌≤◌, Some, length, subst, arith}
+use Rattle.std.proofs.lemmas.Bool.{eqb-true}
+use Rattle.std.proofs.lemmas.List.Elements.{All-contains}
+use Rattle.std.proofs.lemmas.Map.Views.{Contains-from_lookup}
 use Rattle.route_base.specs.Net.{at_number}
 use Rattle.route_base.specs.Setting.{Road}
 use Rattle.route_base.proofs.Logic.{map_some}
@@ -9,17 +11,17 @@ use Rattle.route_base.proofs.Costs.{IsCheap}
 use Rattle.dimacs_reader.specs.GraphModel.{IsGoodGraph, IsGoodGraphArc}
 use Rattle.dimacs_reader.specs.declared.graph.GraphArc.{GraphArc}
 use Rattle.vehicle_classes.specs.VehicleModel.{VehicleModel}
-use Rattle.network_tables.specs.NetworkModel.{NetworkModel, IsGoodNetwork, IsSmallWeight, toll_at}
+use Rattle.network_tables.specs.NetworkModel.{NetworkModel, IsGoodNetwork, IsGoodPark, park_of, toll_at, weight_at}
+use Rattle.network_tables.specs.Parking.{ParkRow}
 use Rattle.network_tables.specs.RoadSetting.{road_setting, road_over}
 use Rattle.plan_certificate.specs.CheapRoads.{HasCheapRoads}
 
 -- the weight of a node is small
-option_flatten-small : (o : Option (Option ℕ)) (w : ℕ) → ((x : Option ℕ) → o ≡ Some x → IsSmallWeight x) → option_flatten o ≡ Some w → w ≤ 100000
-option_flatten-small None w small is = absurd (cc)
-option_flatten-small (Some x) w small is = small x refl w is
-
-small_weight : (net : NetworkModel) → IsGoodNetwork net → (v w : ℕ) → option_flatten (at_number net.weights v) ≡ Some w → w ≤ 100000
-small_weight net good v w is = option_flatten-small (at_number net.weights v) w (λ x at. at_number-all IsSmallWeight net.weights v x good.small at) is
+small_weight : (net : NetworkModel) → IsGoodNetwork net → (v w : ℕ) → weight_at net v ≡ Some w → w ≤ 100000
+small_weight net good v w is =
+    let found = map_some (park_of net v) (λ (park : ParkRow). park.weight) w is in
+    let parked = Contains-from_lookup eqb-true v found.0 net.parks found.1 in
+    omega (arith, (All-contains (IsGoodPark (length net.areas)) net.parks (v, found.0) good.parks parked).small, found.2)
 
 module _ (net : NetworkModel) (vehicle : VehicleModel) (good : IsGoodNetwork net) (graph : IsGoodGraph net.graph) where
   -- the minutes of a road, and what it costs beside them
