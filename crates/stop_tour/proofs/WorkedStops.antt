@@ -15,9 +15,10 @@ abbrev header : Record
 header = row (codes "node") (codes "service") (codes "from") (codes "to")
 
 -- a node may be served twice
-stops_stated :
-    stops_in (row (codes "2") (codes "30") (codes "26563740") (codes "26563880")
-    ∷ row (codes "02") (codes "1440") (codes "26563740") (codes "26565180") ∷ [])
+stops_stated : stops_in (
+    row (codes "2") (codes "30") (codes "26563740") (codes "26563880")
+    ∷ row (codes "02") (codes "1440") (codes "26563740") (codes "26565180")
+    ∷ [])
     ≡ stop_from 2 30 26563740 26563880 ∷ stop_from 2 1440 26563740 26565180 ∷ []
 unfolding instant_of
 stops_stated = refl
