@@ -83,13 +83,13 @@ fn refuses_rows_of_parking(rt: HostRuntime) -> Result<(), OutOfMemory> {
     Ok(())
 }
 
-// A row with hours of this number of bytes, of which all but the last four are blanks.
+// A row with hours of this number of bytes, of which all but the two words are blanks.
 fn long_hours(alloc: Global, bytes: usize) -> Result<String, OutOfMemory> {
-    let mut text = format!(in alloc; "{LONG_HEADER}1,r,,")?;
-    for _ in 4..bytes {
+    let mut text = format!(in alloc; "{LONG_HEADER}1,r,,24/7")?;
+    for _ in 8..bytes {
         text.push(' ')?;
     }
-    text.push_str("24/7\n")?;
+    text.push_str("open\n")?;
     Ok(text)
 }
 
