@@ -27,7 +27,7 @@ NETWORK = {
     "area:land,maxspeed,80\n",
     "closures.csv": "arc,from,to\n2,2020-07-04T01:00Z,26563860\n",
     "ratings.csv": "rating,weight\ncheap,0.010\nr,2\n",
-    "parking.csv": "node,rating\n2,r\n3,cheap\n",
+    "parking.csv": "node,rating,area,hours\n2,r,,\n3,cheap,town,Mo-Su 00:00-24:00\n",
     "holidays.csv": "area,kind,date\ntown,PH,2020-10-03\nland,SH,2020-07-01\n",
     "tolls.csv": "arc,toll\n5,12.5\n3,0\n",
 }
