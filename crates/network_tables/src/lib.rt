@@ -12,8 +12,10 @@
 //!
 //! `Files` has the bytes of a network's files by their kinds, and is made by `Files::new` and `put`.
 //!
-//! The other modules are machinery: `RuleLists` has rules while they are read, `NetworkParts` is how a network is held, `Refusals` are
-//! words for contracts.
+//! `Parks` says how nodes share timetables, as `Network::parks` hands them out.
+//!
+//! The other modules are machinery: `RuleLists` and `ParkRows` have rules and parks while they are read, `NetworkParts` is how a network
+//! is held, `Refusals` are words for contracts.
 //!
 //! A source file has all of one table: its schema in code, a row, the state, and the call that reads it. `area_files` and `vehicle_file`
 //! call the libraries below. The tests are in the crate `network_tests`.
