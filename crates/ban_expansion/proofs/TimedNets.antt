@@ -224,9 +224,8 @@ module _ (net : NetworkModel) (vehicle : VehicleModel) (window : Run) (all : Gro
       let here = slice_get-get_or held k None (omega (arith, within, placed.counted)) in
       let at = placed.each k (get_or held k None) here in
       let there = subst (λ (v : ℕ). IfSome (lookup (nat_eq v) parks.rated) (HasTimetable parks.timetables)) (add-one k) at.there in
-      let some = some_inside (park_with parks.timetables) (lookup (nat_eq (suc k)) parks.rated)
-      (some_inside (λ (row : ParkRow). row.weight) _
-      (subst (λ (o : Option ParkRow). IsSome (option_map (λ (row : ParkRow). row.weight) o)) (row_at (suc k)) rated)) in
+      let row = subst (λ (o : Option ParkRow). IsSome (option_map (λ (row : ParkRow). row.weight) o)) (row_at (suc k)) rated in
+      let some = some_inside (park_with parks.timetables) (lookup (nat_eq (suc k)) parks.rated) (some_inside (λ (row : ParkRow). row.weight) _ row) in
       ap (λ o. any_has (shut_by (net_over net arcs lists shut held) (option_flatten o)) t) (park_here k within)
       ∙ shut_over (lookup (nat_eq (suc k)) parks.rated) there some t
       ∙ sym (ap (λ (o : Option ParkRow). has_minute t window && not (is_park_open net o t)) (row_at (suc k))))
