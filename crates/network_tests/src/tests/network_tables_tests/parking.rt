@@ -1,14 +1,10 @@
 // Where and when one may wait: both headers of parking, and why a row is refused.
-use crate::tests::network_tables_tests::{AREAS, found, is_refused, read, refusal_of, table};
+use crate::tests::network_tables_tests::{AREAS, read, refusal};
 use network_tables::{Network, NetworkFault};
-use route_base::{FileKind, NodeId, OutOfMemory};
+use route_base::{Cause, FileKind, NodeId, OutOfMemory};
 use std::alloc::Global;
 
-const SHORT_HEADER: &str = "node,rating\n";
-
-const LONG_HEADER: &str = "node,rating,area,hours\n";
-
-// The network of this table of parking, with two areas and a rating.
+// The network of this table of parking, with two areas and two ratings.
 fn parked<'a>(alloc: Global, parking: &'a str) -> Result<Network, NetworkFault> {
     let texts = [
         (FileKind::Areas, AREAS),
@@ -18,74 +14,86 @@ fn parked<'a>(alloc: Global, parking: &'a str) -> Result<Network, NetworkFault> 
     read(alloc, &texts)
 }
 
-// Whether the first two nodes are in these areas, and have hours or none.
-fn has_parks(network: &Network, first: (usize, bool), second: (usize, bool)) -> bool {
-    let parks = [(NodeId(1), first), (NodeId(2), second)];
-    for (node, (area, timed)) in parks {
-        let Some(rated) = network.parks().rated(node) else {
-            return false;
-        };
-        if network.parks().area(rated.timetable) != area {
-            return false;
+// Whether the node has this area, and hours or none.
+fn has_park(network: &Network, node: u32, area: usize, timed: bool) -> bool {
+    let parks = network.parks();
+    match parks.rated(NodeId(node)) {
+        Some(rated) => {
+            parks.area(rated.timetable) == area && parks.hours(rated.timetable).is_some() == timed
         }
-        if network.parks().hours(rated.timetable).is_some() != timed {
-            return false;
-        }
+        None => false,
     }
-    network.weight(NodeId(3)).is_none()
 }
+
+const PARKED: &str = "node,rating,area,hours\n1,r,,\n2,free,town,\"Mo-Fr 06:00-22:00; PH off\"\n";
 
 #[test]
-fn reads_areas_and_hours_of_parking(rt: HostRuntime) -> Result<(), NetworkFault> {
-    let table = "node,rating,area,hours\n1,r,,\n2,free,town,\"Mo-Fr 06:00-22:00; PH off\"\n";
-    let network = parked(rt.alloc(), table);
-    assert!(rt; found(network, |network| has_parks(network, (0, false), (1, true)))?);
-    Ok(())
+fn reads_areas_and_hours_of_parking(rt: HostRuntime) {
+    let network = parked(rt.alloc(), PARKED).expect(&rt, "a network");
+    assert!(rt; has_park(&network, 1, 0, false));
+    assert!(rt; has_park(&network, 2, 1, true));
+    assert!(rt; network.parks().rated(NodeId(3)).is_none());
 }
+
+const SHARED: &str = "node,rating,area,hours\n1,r,town,24/7\n2,free,town,24/7\n3,r,port,24/7\n";
 
 #[test]
-fn shares_timetables(rt: HostRuntime) -> Result<(), NetworkFault> {
-    let table = "node,rating,area,hours\n1,r,town,24/7\n2,free,town,24/7\n3,r,port,24/7\n";
-    let network = parked(rt.alloc(), table);
-    assert!(rt; found(network, |network| network.parks().timetable_count())? == 2);
-    Ok(())
+fn shares_timetables(rt: HostRuntime) {
+    let network = parked(rt.alloc(), SHARED).expect(&rt, "a network");
+    assert!(rt; network.parks().timetable_count() == 2);
 }
 
-// The record, the cause and the data rows.
-const REFUSED: [&str; 12] = [
-    "2 FieldCount 1,r",
-    "2 BadField 1,r,-,",
-    "2 BadField x,r,,Mo 25:00-26:00",
-    "2 BadField 1,-r,,",
-    "2 NotHours 1,r,,Mo 25:00-26:00",
-    "2 NotHours 4,x,y,always",
-    "2 NotHours 1,r,, ",
-    "3 Unknown 1,r,town,|2,r,city,24/7",
-    "2 Unknown 4,r,,24/7",
-    "2 Unknown 1,x,,",
-    "3 Duplicate 1,r,,|01,r,town,24/7",
-    "3 Unknown 1,r,,|1,r,city,",
+// The record and the cause of a refusal, and the table.
+const REFUSED: &[(u64, Cause, &str)] = &[
+    (2, Cause::FieldCount, "node,rating,area,hours\n1,r\n"),
+    (2, Cause::FieldCount, "node,rating\n1,r,,24/7\n"),
+    (2, Cause::BadField, "node,rating,area,hours\n1,r,-,\n"),
+    (
+        2,
+        Cause::BadField,
+        "node,rating,area,hours\nx,r,,Mo 25:00-26:00\n",
+    ),
+    (2, Cause::BadField, "node,rating,area,hours\n1,-r,,\n"),
+    (
+        2,
+        Cause::NotHours,
+        "node,rating,area,hours\n1,r,,Mo 25:00-26:00\n",
+    ),
+    (2, Cause::NotHours, "node,rating,area,hours\n4,x,y,always\n"),
+    (2, Cause::NotHours, "node,rating,area,hours\n1,r,, \n"),
+    (
+        3,
+        Cause::Unknown,
+        "node,rating,area,hours\n1,r,town,\n2,r,city,24/7\n",
+    ),
+    (2, Cause::Unknown, "node,rating,area,hours\n4,r,,24/7\n"),
+    (2, Cause::Unknown, "node,rating,area,hours\n1,x,,\n"),
+    (
+        3,
+        Cause::Duplicate,
+        "node,rating,area,hours\n1,r,,\n01,r,town,24/7\n",
+    ),
+    (
+        3,
+        Cause::Unknown,
+        "node,rating,area,hours\n1,r,,\n1,r,city,\n",
+    ),
 ];
 
 #[test]
-fn refuses_rows_of_parking(rt: HostRuntime) -> Result<(), OutOfMemory> {
-    for case in REFUSED {
-        let Some((row, cause, rows)) = refusal_of(case) else {
-            continue;
-        };
-        let text = table(rt.alloc(), LONG_HEADER, rows)?;
-        let refused = is_refused(parked(rt.alloc(), &text), FileKind::Parking, row, cause);
-        assert!(rt; refused, "{case}");
+fn refuses_rows_of_parking(rt: HostRuntime) {
+    for (row, cause, table) in REFUSED {
+        let fault = parked(rt.alloc(), table).err();
+        assert!(rt;
+            fault == refusal(FileKind::Parking, *row, *cause),
+            "{table}"
+        );
     }
-    let text = table(rt.alloc(), SHORT_HEADER, "1,r,,24/7")?;
-    let network = parked(rt.alloc(), &text);
-    assert!(rt; is_refused(network, FileKind::Parking, 2, "FieldCount"));
-    Ok(())
 }
 
 // A row with hours of this number of bytes, of which all but the two words are blanks.
 fn long_hours(alloc: Global, bytes: usize) -> Result<String, OutOfMemory> {
-    let mut text = format!(in alloc; "{LONG_HEADER}1,r,,24/7")?;
+    let mut text = String::from_str(alloc, "node,rating,area,hours\n1,r,,24/7")?;
     for _ in 8..bytes {
         text.push(' ')?;
     }
@@ -94,11 +102,10 @@ fn long_hours(alloc: Global, bytes: usize) -> Result<String, OutOfMemory> {
 }
 
 #[test]
-fn refuses_longer_hours_than_65536_bytes(rt: HostRuntime) -> Result<(), OutOfMemory> {
-    let text = long_hours(rt.alloc(), 65_536)?;
+fn refuses_longer_hours_than_65536_bytes(rt: HostRuntime) {
+    let text = long_hours(rt.alloc(), 65_536).expect(&rt, "memory");
     assert!(rt; parked(rt.alloc(), &text).is_ok());
-    let text = long_hours(rt.alloc(), 65_537)?;
-    let network = parked(rt.alloc(), &text);
-    assert!(rt; is_refused(network, FileKind::Parking, 2, "SizeLimit"));
-    Ok(())
+    let text = long_hours(rt.alloc(), 65_537).expect(&rt, "memory");
+    let fault = parked(rt.alloc(), &text).err();
+    assert!(rt; fault == refusal(FileKind::Parking, 2, Cause::SizeLimit));
 }
