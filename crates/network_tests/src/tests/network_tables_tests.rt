@@ -44,7 +44,11 @@ pub fn read(alloc: Global, texts: &[(FileKind, &str)]) -> Result<Network, Networ
 }
 
 // The network of these vehicles and rules over the triangle, with arc 2 in the second area.
-pub fn ruled(alloc: Global, vehicles: &str, rules: &str) -> Result<Network, NetworkFault> {
+pub fn ruled<'a>(
+    alloc: Global,
+    vehicles: &'a str,
+    rules: &'a str,
+) -> Result<Network, NetworkFault> {
     let texts = [
         (FileKind::Areas, AREAS),
         (FileKind::Roads, "arc,area\n2,town\n"),
