@@ -12,5 +12,6 @@ pub mod NamedVehicles
 pub mod ReadyPlans
 pub mod RefusalTexts
 pub mod ReportedBans
+pub mod ReportedLate
 pub mod Rows
 pub mod Running

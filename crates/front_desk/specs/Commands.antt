@@ -15,9 +15,11 @@ use Rattle.front_words.specs.declared.commands.Invocation.{Invocation as Command
 use Rattle.front_words.specs.declared.commands.Plan.{Plan}
 use Rattle.front_words.specs.declared.commands.Gen.{Gen}
 use Rattle.front_words.specs.declared.commands.Invocation.TheVariants.{Plan as to_plan, Check as to_check, Bans as to_bans, Batch as to_batch, Gen as to_gen}
+use Rattle.front_words.specs.declared.commands.Invocation.TheVariants.{Latest as to_latest, Tour as to_tour, Breaks as to_breaks}
 use Rattle.network_folder.specs.Files.{IfTold, path_of}
 use Rattle.network_folder.specs.Writing.{HoldsEach, HoldsFirst, SpoilsNext}
 use Rattle.front_desk.specs.Gen.{IsGenReport, files_written}
+use Rattle.front_desk.specs.Latest.{IsLateReport, latest_fault, latest_check}
 use Rattle.front_desk.specs.Plan.{IsPlanReport, IsCertified, plan_fault, plan_check}
 
 -- the first fault of the files that the command reads
@@ -27,6 +29,9 @@ first_fault_for (to_check c) held = check_fault c held
 first_fault_for (to_bans b) held = bans_fault b held
 first_fault_for (to_batch b) held = batch_fault b held
 first_fault_for (to_gen g) held = None
+first_fault_for (to_latest l) held = latest_fault l held
+first_fault_for (to_tour t) held = None
+first_fault_for (to_breaks b) held = None
 
 -- the first check that the command's request fails; a job of a batch that fails one is answered in its place
 abbrev pub failed_check_for : Command → Contents → Option RequestFault
@@ -35,6 +40,9 @@ failed_check_for (to_check c) held = check_check c held
 failed_check_for (to_bans b) held = bans_check b held
 failed_check_for (to_batch b) held = None
 failed_check_for (to_gen g) held = None
+failed_check_for (to_latest l) held = latest_check l held
+failed_check_for (to_tour t) held = None
+failed_check_for (to_breaks b) held = None
 
 -- the text that the command prints where it is done, and what it has written into the folder
 abbrev pub Answers : Command → Contents → Option Contents → List ℕ → Type 0
@@ -43,6 +51,9 @@ Answers (to_check c) held after text = AcceptsCertificate c held text
 Answers (to_bans b) held after text = IsBansReport b held text
 Answers (to_batch b) held after text = IsBatchReport b held text
 Answers (to_gen g) held after text = IsGenReport g held after text
+Answers (to_latest l) held after text = IsLateReport l held text
+Answers (to_tour t) held after text = ⊥
+Answers (to_breaks b) held after text = ⊥
 
 -- the command has a request, which may fail a check; each job of a batch has its own
 abbrev pub HasRequest : Command → Type 0

@@ -6,6 +6,7 @@ use crate::bans::report_bans;
 use crate::batch::report_batch;
 use crate::generation::report_gen;
 use crate::judgement::report_check;
+use crate::latest::report_latest;
 use crate::outcome::{Halt, Report};
 use crate::plan::report_plan;
 use front_words::{Invocation, WordsFault, read_invocation};
@@ -45,6 +46,9 @@ fn report<R: Threads + Sync, F: Folder, G: Gate>(
         Invocation::Bans(bans) => report_bans(alloc, folder, bans),
         Invocation::Batch(batch) => report_batch(rt, alloc, folder, batch, gate),
         Invocation::Gen(grid) => report_gen(rt, alloc, folder, grid, gate),
+        Invocation::Latest(late) => report_latest(rt, alloc, folder, late, gate),
+        Invocation::Tour(_) => Err(Halt::NoMemory),
+        Invocation::Breaks(_) => Err(Halt::NoMemory),
     }
 }
 

@@ -10,6 +10,7 @@ mod gates;
 mod generation;
 mod graph;
 mod itineraries;
+mod latest;
 mod limits;
 mod lists;
 mod requests;

@@ -7,12 +7,14 @@ use Rattle.route_base.specs.Matching.{StandsFor}
 use Rattle.route_base.specs.Net.{Net, IsGoodRequest, setting_of}
 use Rattle.route_base.specs.Setting.{Setting}
 use Rattle.route_base.specs.Time.{IsInstant}
+use Rattle.route_base.specs.declared.faults.RequestFault.{RequestFault}
 use Rattle.route_base.specs.declared.limits.TheConstants.{LONGEST_HORIZON, MOST_NODES, MOST_ARCS}
 use Rattle.route_base.specs.declared.sink.WriteError.{WriteError}
 use Rattle.route_base.specs.declared.types.Request.{Request}
 use Rattle.route_base.specs.declared.types.Route.{Route}
 use Rattle.route_base.specs.declared.types.Run.{Run}
 use Rattle.vehicle_classes.specs.VehicleModel.{VehicleModel}
+use Rattle.front_transport.specs.CheapArcs.{HasCheapArcs}
 use Rattle.network_tables.specs.NetworkModel.{IsGoodNetwork, NetworkModel}
 use Rattle.plan_certificate.specs.CheapRoads.{HasCheapRoads}
 use Rattle.plan_report.specs.Reports.{report_text}
@@ -39,14 +41,18 @@ pub record IsChecked (network : NetworkModel) (trip : Trip) (vehicle : VehicleMo
   pub named : vehicle ≡ vehicle_named network trip.vehicle
   pub good : IsGoodTrip network.graph.nodes trip
 
+-- why there is no net, by the first check that fails, if any: that one, or memory ran out
+abbrev pub StopsAtCheck : Option RequestFault → Halt → Type 0
+StopsAtCheck failed (Refused (RequestRefusal fault)) = failed ≡ Some fault
+StopsAtCheck failed (Refused (Input fault)) = ⊥
+StopsAtCheck failed (Refused Usage) = ⊥
+StopsAtCheck failed ReadFault = ⊥
+StopsAtCheck failed WriteFault = ⊥
+StopsAtCheck failed NoMemory = ⊤
+
 -- why a trip has no net: it fails a check, or memory ran out
 abbrev pub StopsTrip : NetworkModel → Trip → Halt → Type 0
-StopsTrip network trip (Refused (RequestRefusal fault)) = failed_check network trip ≡ Some fault
-StopsTrip network trip (Refused (Input fault)) = ⊥
-StopsTrip network trip (Refused Usage) = ⊥
-StopsTrip network trip ReadFault = ⊥
-StopsTrip network trip WriteFault = ⊥
-StopsTrip network trip NoMemory = ⊤
+StopsTrip network trip halt = StopsAtCheck (failed_check network trip) halt
 
 -- the net stands for the roads of the trip's vehicle in the trip's minutes, none of which is dear, and the trip is a request over it
 pub record IsTripNet (network : NetworkModel) (trip : Trip) (net : Net) : Type 0 where
@@ -54,6 +60,7 @@ pub record IsTripNet (network : NetworkModel) (trip : Trip) (net : Net) : Type 0
   pub good : IsGoodRequest net (request_of trip)
   pub fit : CostsFit (setting_of net) (request_of trip)
   pub cheap : HasCheapRoads (setting_of net)
+  pub cheap_arcs : HasCheapArcs net
   pub nodes : net.nodes ≤ MOST_NODES
   pub arcs : length net.arcs ≤ MOST_ARCS
 
