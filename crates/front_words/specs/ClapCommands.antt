@@ -35,7 +35,7 @@ app_in name places choices = app_with name (map (λ w. w.now) places) (map (λ w
 abbrev pub trip_places : List (List ℕ)
 trip_places = codes "vehicle" ∷ codes "from" ∷ codes "to" ∷ codes "depart" ∷ codes "until" ∷ []
 
--- the positional words of `plan`
+-- the positional words of `plan`, `latest` and `breaks`
 abbrev pub plan_places : List (List ℕ)
 plan_places = codes "dir" ∷ trip_places
 
@@ -47,7 +47,7 @@ plan_choices = codes "form" ∷ codes "certificate" ∷ []
 abbrev pub plan_app : App
 plan_app = app_with (codes "plan") plan_places plan_choices
 
--- the positional words of `check`
+-- the positional words of `check` and `tour`
 abbrev pub check_places : List (List ℕ)
 check_places = codes "dir" ∷ (trip_places ++ codes "name" ∷ [])
 
@@ -83,6 +83,22 @@ gen_places = codes "dir" ∷ codes "number" ∷ codes "rows" ∷ codes "columns"
 abbrev pub gen_app : App
 gen_app = app_with (codes "gen") gen_places []
 
+-- `latest DIR VEHICLE FROM TO DEPART UNTIL`
+abbrev pub latest_app : App
+latest_app = app_with (codes "latest") plan_places []
+
+-- `tour DIR VEHICLE FROM TO DEPART UNTIL STOPS`
+abbrev pub tour_app : App
+tour_app = app_with (codes "tour") check_places []
+
+-- the options of `breaks`
+abbrev pub breaks_choices : List (List ℕ)
+breaks_choices = codes "drive" ∷ codes "rest" ∷ []
+
+-- `breaks DIR VEHICLE FROM TO DEPART UNTIL [--drive B] [--rest L]`
+abbrev pub breaks_app : App
+breaks_app = app_with (codes "breaks") plan_places breaks_choices
+
 -- `clap` refuses the words for want of memory alone
 unfoldable pub IsTaken : App → List (List ℕ) → Type 0
 IsTaken app words = takes app words ≡ true
@@ -99,6 +115,10 @@ option_line name (Some value) = name ∷ value ∷ []
 -- the line of a plan that goes to `clap`
 abbrev pub line_of_plan : Option (List ℕ) → Option (List ℕ) → List (List ℕ) → List (List ℕ)
 line_of_plan form name words = codes "plan" ∷ (option_line (codes "--form") form ++ (option_line (codes "--certificate") name ++ words))
+
+-- the line of a plan with breaks that goes to `clap`
+abbrev pub line_of_breaks : Option (List ℕ) → Option (List ℕ) → List (List ℕ) → List (List ℕ)
+line_of_breaks drive rest words = codes "breaks" ∷ (option_line (codes "--drive") drive ++ (option_line (codes "--rest") rest ++ words))
 
 -- the line of a batch that goes to `clap`
 abbrev pub line_of_batch : Option (List ℕ) → List (List ℕ) → List (List ℕ)

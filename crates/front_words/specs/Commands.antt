@@ -1,10 +1,11 @@
 -- The table of the commands' words; the commands are the types of the code (source: own).
 use Rattle.std.specs.Prelude.{ℕ, ◌*◌, ◌≤◌, nat_le, Option, Some, None, List, [], ◌∷◌, ◌++◌, codes, if◌then◌else◌}
 use Rattle.route_base.specs.Time.{IsInstant}
+use Rattle.route_base.specs.declared.limits.TheConstants.{DAY_MINUTES}
 use Rattle.route_base.specs.declared.types.Form.{Form}
 use Rattle.route_base.specs.declared.types.Form.TheVariants.{Plain}
 use Rattle.front_words.specs.Forms.{Value, WordForm, of_text, of_number, of_report}
-use Rattle.front_words.specs.Forms.{folder, vehicle, number, instant, certificate, report, jobs, count}
+use Rattle.front_words.specs.Forms.{folder, vehicle, number, instant, certificate, report, file, count}
 use Rattle.front_words.specs.Usages.{Usage, made_in}
 pub use Rattle.front_words.specs.declared.commands.Trip.{Trip}
 pub use Rattle.front_words.specs.declared.commands.Plan.{Plan}
@@ -12,12 +13,16 @@ pub use Rattle.front_words.specs.declared.commands.Check.{Check}
 pub use Rattle.front_words.specs.declared.commands.Bans.{Bans}
 pub use Rattle.front_words.specs.declared.commands.Batch.{Batch}
 pub use Rattle.front_words.specs.declared.commands.Gen.{Gen}
+pub use Rattle.front_words.specs.declared.commands.Latest.{Latest}
+pub use Rattle.front_words.specs.declared.commands.Tour.{Tour}
+pub use Rattle.front_words.specs.declared.commands.Breaks.{Breaks}
 pub use Rattle.front_words.specs.declared.commands.Invocation.{Invocation as Command}
 pub use Rattle.front_words.specs.declared.commands.Invocation.TheVariants.{Plan as to_plan, Check as to_check, Bans as to_bans}
 pub use Rattle.front_words.specs.declared.commands.Invocation.TheVariants.{Batch as to_batch, Gen as to_gen}
+pub use Rattle.front_words.specs.declared.commands.Invocation.TheVariants.{Latest as to_latest, Tour as to_tour, Breaks as to_breaks}
 use Rattle.front_words.specs.declared.flat.Command.{Command as FlatCommand}
 use Rattle.front_words.specs.declared.flat.Command.TheVariants as flat
-use Rattle.front_words.specs.declared.limits.TheConstants.{MOST_WORKERS, USUAL_WORKERS}
+use Rattle.front_words.specs.declared.limits.TheConstants.{MOST_WORKERS, USUAL_DRIVE, USUAL_REST, USUAL_WORKERS}
 use Rattle.net_generator.specs.declared.limits.TheConstants.{LAST_NUMBER, MOST_GENERATED_NODES, MOST_LINES}
 use Rattle.net_generator.specs.Sizes.{IsDrawable}
 
@@ -39,10 +44,10 @@ abbrev pub name_in : Option Value → Option (List ℕ)
 name_in (Some (of_text name)) = Some name
 name_in value = None
 
--- the number of workers: the usual one where none is given
-abbrev pub workers_in : Option Value → ℕ
-workers_in (Some (of_number workers)) = workers
-workers_in value = USUAL_WORKERS
+-- the number that is given, or the usual one
+abbrev pub number_in : ℕ → Option Value → ℕ
+number_in usual (Some (of_number n)) = n
+number_in usual value = usual
 
 -- the plan that the values of its words make
 abbrev pub plan_of : List Value → List (Option Value) → Option Command
@@ -64,8 +69,8 @@ bans_of places options = None
 
 -- the batch that the values of its words make
 abbrev pub batch_of : List Value → List (Option Value) → Option Command
-batch_of (of_text dir ∷ of_text file ∷ []) (workers ∷ []) =
-    Some (to_batch (record { dir = dir; jobs = file; workers = workers_in workers }))
+batch_of (of_text dir ∷ of_text name ∷ []) (workers ∷ []) =
+    Some (to_batch (record { dir = dir; jobs = name; workers = number_in USUAL_WORKERS workers }))
 batch_of places options = None
 
 -- the generation that the values of its words make: none where there are more nodes than are drawn
@@ -75,6 +80,26 @@ gen_of (of_text dir ∷ of_number from ∷ of_number rows ∷ of_number columns 
     then Some (to_gen (record { dir = dir; number = from; rows = rows; columns = columns }))
     else None
 gen_of places options = None
+
+-- the latest departure that the values of its words ask for
+abbrev pub latest_of : List Value → List (Option Value) → Option Command
+latest_of (of_text dir ∷ of_text lorry ∷ of_number from ∷ of_number to ∷ of_number start ∷ of_number end ∷ []) [] =
+    Some (to_latest (record { dir = dir; trip = trip_to lorry from to start end }))
+latest_of places options = None
+
+-- the tour that the values of its words make
+abbrev pub tour_of : List Value → List (Option Value) → Option Command
+tour_of (of_text dir ∷ of_text lorry ∷ of_number from ∷ of_number to ∷ of_number start ∷ of_number end ∷ of_text stops ∷ []) [] =
+    Some (to_tour (record { dir = dir; trip = trip_to lorry from to start end; stops = stops }))
+tour_of places options = None
+
+-- the plan with breaks that the values of its words make
+abbrev pub breaks_of : List Value → List (Option Value) → Option Command
+breaks_of (of_text dir ∷ of_text lorry ∷ of_number from ∷ of_number to ∷ of_number start ∷ of_number end ∷ []) (drive ∷ rest ∷ []) =
+    Some (to_breaks (record {
+      dir = dir; trip = trip_to lorry from to start end; drive = number_in USUAL_DRIVE drive; rest = number_in USUAL_REST rest
+    }))
+breaks_of places options = None
 
 -- `plan DIR VEHICLE FROM TO DEPART UNTIL [--form F] [--certificate NAME]`
 abbrev pub plan_usage : Usage Command
@@ -107,7 +132,7 @@ bans_usage = record {
 abbrev pub batch_usage : Usage Command
 batch_usage = record {
   name = codes "batch";
-  places = folder ∷ jobs ∷ [];
+  places = folder ∷ file ∷ [];
   options = record { name = codes "--workers"; form = count MOST_WORKERS } ∷ [];
   make = batch_of;
 }
@@ -121,9 +146,36 @@ gen_usage = record {
   make = gen_of;
 }
 
+-- `latest DIR VEHICLE FROM TO DEPART UNTIL`
+abbrev pub latest_usage : Usage Command
+latest_usage = record {
+  name = codes "latest";
+  places = folder ∷ trip_forms;
+  options = [];
+  make = latest_of;
+}
+
+-- `tour DIR VEHICLE FROM TO DEPART UNTIL STOPS`
+abbrev pub tour_usage : Usage Command
+tour_usage = record {
+  name = codes "tour";
+  places = folder ∷ (trip_forms ++ file ∷ []);
+  options = [];
+  make = tour_of;
+}
+
+-- `breaks DIR VEHICLE FROM TO DEPART UNTIL [--drive B] [--rest L]`
+abbrev pub breaks_usage : Usage Command
+breaks_usage = record {
+  name = codes "breaks";
+  places = folder ∷ trip_forms;
+  options = record { name = codes "--drive"; form = count DAY_MINUTES } ∷ record { name = codes "--rest"; form = count DAY_MINUTES } ∷ [];
+  make = breaks_of;
+}
+
 -- the commands, in the order of their table
 abbrev pub usages : List (Usage Command)
-usages = plan_usage ∷ check_usage ∷ bans_usage ∷ batch_usage ∷ gen_usage ∷ []
+usages = plan_usage ∷ check_usage ∷ bans_usage ∷ batch_usage ∷ gen_usage ∷ latest_usage ∷ tour_usage ∷ breaks_usage ∷ []
 
 -- the command of words: its name and then its own words; nothing for words that are no command
 abbrev pub command_of : List (List ℕ) → Option Command
@@ -136,18 +188,31 @@ command_in (flat.Plan dir lorry from to start end form name) =
     to_plan (record { dir = dir; trip = trip_to lorry from to start end; form = form; certificate = name })
 command_in (flat.Check dir lorry from to start end name) = to_check (record { dir = dir; trip = trip_to lorry from to start end; name = name })
 command_in (flat.Bans dir lorry arc start end) = to_bans (record { dir = dir; vehicle = lorry; arc = arc; depart = start; until = end })
-command_in (flat.Batch dir file workers) = to_batch (record { dir = dir; jobs = file; workers = workers })
+command_in (flat.Batch dir name workers) = to_batch (record { dir = dir; jobs = name; workers = workers })
 command_in (flat.Gen dir from rows columns) = to_gen (record { dir = dir; number = from; rows = rows; columns = columns })
+command_in (flat.Latest dir lorry from to start end) = to_latest (record { dir = dir; trip = trip_to lorry from to start end })
+command_in (flat.Tour dir lorry from to start end stops) = to_tour (record { dir = dir; trip = trip_to lorry from to start end; stops = stops })
+command_in (flat.Breaks dir lorry from to start end drive rest) =
+    to_breaks (record { dir = dir; trip = trip_to lorry from to start end; drive = drive; rest = rest })
 
 -- the trip begins and ends at instants
 pub record IsTimed (trip : Trip) : Type 0 where
   pub depart : IsInstant trip.depart
   pub until : IsInstant trip.until
 
--- all minutes that the command names are instants, the workers are as many as there may be, and the network can be drawn
+-- both numbers of the break rule are from 1 to the minutes of a day
+pub record HasGoodRule (b : Breaks) : Type 0 where
+  pub drive : (1 ≤ b.drive) × (b.drive ≤ DAY_MINUTES)
+  pub rest : (1 ≤ b.rest) × (b.rest ≤ DAY_MINUTES)
+
+-- all minutes that the command names are instants, the workers are as many as there may be, the network can be drawn, and the break
+-- rule is one
 abbrev pub AsksSupported : Command → Type 0
 AsksSupported (to_plan p) = IsTimed p.trip
 AsksSupported (to_check c) = IsTimed c.trip
 AsksSupported (to_bans b) = IsInstant b.depart × IsInstant b.until
 AsksSupported (to_batch b) = (1 ≤ b.workers) × (b.workers ≤ MOST_WORKERS)
 AsksSupported (to_gen g) = IsDrawable g.number g.rows g.columns
+AsksSupported (to_latest l) = IsTimed l.trip
+AsksSupported (to_tour t) = IsTimed t.trip
+AsksSupported (to_breaks b) = IsTimed b.trip × HasGoodRule b

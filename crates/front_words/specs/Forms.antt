@@ -48,9 +48,9 @@ pub data WordForm : Type 0 where
   certificate : WordForm
   -- F
   report : WordForm
-  -- JOBS
-  jobs : WordForm
-  -- N, NUMBER, ROWS, COLUMNS: up to the limit
+  -- JOBS, STOPS
+  file : WordForm
+  -- N, NUMBER, ROWS, COLUMNS, B, L: up to the limit
   count : ℕ → WordForm
 
 -- the value of a word
@@ -71,5 +71,5 @@ value_of_word number word = option_map of_number (node_of word)
 value_of_word instant word = option_map of_number (instant_of word)
 value_of_word certificate word = text_if (is_certificate_name word) word
 value_of_word report word = option_map of_report (report_of word)
-value_of_word jobs word = text_if (is_name word) word
+value_of_word file word = text_if (is_name word) word
 value_of_word (count limit) word = option_map of_number (count_of limit word)

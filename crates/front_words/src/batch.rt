@@ -6,7 +6,7 @@ ghost use Rattle.front_words.specs.Inside.{Answers, IsPlainSplit, split_of_words
 ghost use Rattle.front_words.specs.Usages.{made_of};
 
 use crate::clap_words::{line_of, matches_for, push_option};
-use crate::found::{folder_at, jobs_at, workers_or_usual};
+use crate::found::{file_at, folder_at, workers_or_usual};
 use crate::options::value_of_option;
 use crate::splitting::Given;
 use crate::{Batch, Invocation, WordsFault};
@@ -28,7 +28,7 @@ fn batch_found(alloc: Global, matches: &ArgMatches) -> Result<Invocation, WordsF
 {
     Ok(Invocation::Batch(Batch {
         dir: folder_at(alloc, matches, "dir")?,
-        jobs: jobs_at(alloc, matches, "jobs")?,
+        jobs: file_at(alloc, matches, "jobs")?,
         workers: workers_or_usual(matches, "workers")?,
     }))
 }

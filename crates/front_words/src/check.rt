@@ -4,7 +4,7 @@ ghost use Rattle.front_words.specs.Commands.{check_usage};
 
 use crate::found::{certificate_at, folder_at};
 use crate::positional::PositionalCommand;
-use crate::trip_words::trip_found;
+use crate::trip_words::{NAMED_TRIP_PLACES, trip_found};
 use crate::{Check, Invocation, WordsFault};
 use clap::ArgMatches;
 use std::alloc::Global;
@@ -23,7 +23,7 @@ impl PositionalCommand for CheckWords {
     }
 
     fn places(&self) -> &'static [&'static str] {
-        &["dir", "vehicle", "from", "to", "depart", "until", "name"]
+        NAMED_TRIP_PLACES
     }
 
     fn found(&self, alloc: Global, matches: &ArgMatches) -> Result<Invocation, WordsFault> {

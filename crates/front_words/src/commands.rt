@@ -61,6 +61,31 @@ pub struct Gen {
     pub columns: u32,
 }
 
+/// Finds the latest departures of a trip over the files of the folder `dir`: none before `depart`, each arriving by `until`.
+#[derive(Drop)]
+pub struct Latest {
+    pub dir: Text,
+    pub trip: Trip,
+}
+
+/// Plans a trip that serves each stop of the file `stops` over the files of the folder `dir`.
+#[derive(Drop)]
+pub struct Tour {
+    pub dir: Text,
+    pub trip: Trip,
+    pub stops: Text,
+}
+
+/// Plans a trip over the files of the folder `dir` under a break rule: at most `drive` minutes of driving since the last unbroken wait of
+/// `rest` minutes.
+#[derive(Drop)]
+pub struct Breaks {
+    pub dir: Text,
+    pub trip: Trip,
+    pub drive: u64,
+    pub rest: u64,
+}
+
 /// A command with the values of its words, those of each command in a struct of its own.
 #[derive(Drop)]
 pub enum Invocation {
@@ -69,6 +94,9 @@ pub enum Invocation {
     Bans(Bans),
     Batch(Batch),
     Gen(Gen),
+    Latest(Latest),
+    Tour(Tour),
+    Breaks(Breaks),
 }
 
 /// Why words give no command.

@@ -1,8 +1,8 @@
 // The commands, with the values of all their words side by side.
 ghost use Rattle.std.specs.Prelude.{◌≡◌};
-ghost use Rattle.front_words.specs.Commands.{command_in, to_check, to_plan};
+ghost use Rattle.front_words.specs.Commands.{command_in, to_breaks, to_check, to_latest, to_plan, to_tour};
 
-use crate::{Bans, Batch, Check, Gen, Invocation, Plan, Trip};
+use crate::{Bans, Batch, Breaks, Check, Gen, Invocation, Latest, Plan, Tour, Trip};
 use route_base::{Form, Minute, Text};
 
 /// A command, with the values of its words. Nodes and arcs are numbered from 1; minutes are Unix minutes.
@@ -52,6 +52,37 @@ pub enum Command {
         rows: u32,
         columns: u32,
     },
+    /// Finds the latest departures of a trip over the files of the folder `dir`: none before `depart`, each arriving by `until`.
+    Latest {
+        dir: Text,
+        vehicle: Text,
+        from: u32,
+        to: u32,
+        depart: Minute,
+        until: Minute,
+    },
+    /// Plans a trip that serves each stop of the file `stops` over the files of the folder `dir`.
+    Tour {
+        dir: Text,
+        vehicle: Text,
+        from: u32,
+        to: u32,
+        depart: Minute,
+        until: Minute,
+        stops: Text,
+    },
+    /// Plans a trip over the files of the folder `dir` under a break rule: at most `drive` minutes of driving since the last unbroken wait
+    /// of `rest` minutes.
+    Breaks {
+        dir: Text,
+        vehicle: Text,
+        from: u32,
+        to: u32,
+        depart: Minute,
+        until: Minute,
+        drive: u64,
+        rest: u64,
+    },
 }
 
 // The same command, its words side by side.
@@ -95,6 +126,9 @@ pub fn side_by_side(invocation: Invocation) -> Command
                 columns,
             }
         }
+        Invocation::Latest(latest) => latest_of(latest),
+        Invocation::Tour(tour) => tour_of(tour),
+        Invocation::Breaks(breaks) => breaks_of(breaks),
     }
 }
 
@@ -147,5 +181,79 @@ fn check_of(check: Check) -> Command
         depart,
         until,
         name,
+    }
+}
+
+// The words of a latest departure.
+fn latest_of(latest: Latest) -> Command
+    ensures { command_in result ≡ to_latest latest }
+{
+    let Latest { dir, trip } = latest;
+    let Trip {
+        vehicle,
+        origin,
+        goal,
+        depart,
+        until,
+    } = trip;
+    Command::Latest {
+        dir,
+        vehicle,
+        from: origin,
+        to: goal,
+        depart,
+        until,
+    }
+}
+
+// The words of a tour.
+fn tour_of(tour: Tour) -> Command
+    ensures { command_in result ≡ to_tour tour }
+{
+    let Tour { dir, trip, stops } = tour;
+    let Trip {
+        vehicle,
+        origin,
+        goal,
+        depart,
+        until,
+    } = trip;
+    Command::Tour {
+        dir,
+        vehicle,
+        from: origin,
+        to: goal,
+        depart,
+        until,
+        stops,
+    }
+}
+
+// The words of a plan with breaks.
+fn breaks_of(breaks: Breaks) -> Command
+    ensures { command_in result ≡ to_breaks breaks }
+{
+    let Breaks {
+        dir,
+        trip,
+        drive,
+        rest,
+    } = breaks;
+    let Trip {
+        vehicle,
+        origin,
+        goal,
+        depart,
+        until,
+    } = trip;
+    Command::Breaks {
+        dir,
+        vehicle,
+        from: origin,
+        to: goal,
+        depart,
+        until,
+        drive,
+        rest,
     }
 }

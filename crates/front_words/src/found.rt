@@ -1,11 +1,11 @@
 // The values of the words that `clap` found, each in its form.
 ghost use Rattle.std.specs.Prelude.{IfOk, option_map};
 ghost use Rattle.front_words.specs.ClapCommands.{text_at, value_at};
-ghost use Rattle.front_words.specs.Commands.{name_in, report_in, workers_in};
-ghost use Rattle.front_words.specs.Forms.{certificate, count, folder, instant, jobs, number, of_number, of_text, report, text_if, vehicle};
+ghost use Rattle.front_words.specs.Commands.{name_in, number_in, report_in};
+ghost use Rattle.front_words.specs.Forms.{certificate, count, file, folder, instant, number, of_number, of_text, report, text_if, vehicle};
 ghost use Rattle.front_words.specs.Inside.{Answers, AnswersWith, IsUpTo};
 ghost use Rattle.front_words.specs.Usages.{value_if};
-ghost use Rattle.front_words.specs.declared.limits.TheConstants.{MOST_WORKERS};
+ghost use Rattle.front_words.specs.declared.limits.TheConstants.{MOST_WORKERS, USUAL_WORKERS};
 ghost use Rattle.route_base.specs.Time.{IsInstant};
 
 use crate::WordsFault;
@@ -49,9 +49,9 @@ pub fn vehicle_at(alloc: Global, matches: &ArgMatches, id: &str) -> Result<Text,
     }
 }
 
-// The name of a table of jobs.
-pub fn jobs_at(alloc: Global, matches: &ArgMatches, id: &str) -> Result<Text, WordsFault>
-    ensures { AnswersWith of_text (value_at matches.now jobs id.now) result }
+// The name of a file in the folder.
+pub fn file_at(alloc: Global, matches: &ArgMatches, id: &str) -> Result<Text, WordsFault>
+    ensures { AnswersWith of_text (value_at matches.now file id.now) result }
 {
     match matches.get_str(id) {
         Some(word) => copy_if(alloc, is_name_word(word), word),
@@ -140,12 +140,30 @@ pub fn certificate_if(
 
 // The number of workers, or the usual one where no word says it.
 pub fn workers_or_usual(matches: &ArgMatches, id: &str) -> Result<u32, WordsFault>
-    ensures value { Answers (option_map workers_in
+    ensures value { Answers (option_map (number_in USUAL_WORKERS)
         (value_if (count MOST_WORKERS) (text_at matches.now id.now))) result }
     ensures within { IfOk result (IsUpTo MOST_WORKERS) }
 {
     match matches.get_str(id) {
         Some(word) => small_count_word(word, MOST_WORKERS).ok_or(WordsFault::NotACommand),
         None => Ok(USUAL_WORKERS),
+    }
+}
+
+// A number from 1 to the limit, or the usual one where no word says it.
+pub fn count_or_usual(
+    matches: &ArgMatches,
+    id: &str,
+    limit: u64,
+    usual: u64,
+) -> Result<u64, WordsFault>
+    requires { IsUpTo limit usual }
+    ensures value { Answers (option_map (number_in usual)
+        (value_if (count limit) (text_at matches.now id.now))) result }
+    ensures within { IfOk result (IsUpTo limit) }
+{
+    match matches.get_str(id) {
+        Some(word) => count_word(word, limit).ok_or(WordsFault::NotACommand),
+        None => Ok(usual),
     }
 }

@@ -20,6 +20,7 @@
 
 mod bans;
 mod batch;
+mod breaks;
 mod check;
 mod clap_words;
 mod commands;
@@ -27,15 +28,19 @@ mod flat;
 mod forms;
 mod found;
 mod generate;
+mod latest;
 mod limits;
 mod options;
 mod plan;
 mod positional;
 mod reading;
 mod splitting;
+mod tour;
 mod trip_words;
 
-pub use commands::{Bans, Batch, Check, Gen, Invocation, Plan, Trip, WordsFault};
+pub use commands::{
+    Bans, Batch, Breaks, Check, Gen, Invocation, Latest, Plan, Tour, Trip, WordsFault,
+};
 pub use flat::Command;
-pub use limits::{MOST_WORKERS, USUAL_WORKERS};
+pub use limits::{MOST_WORKERS, USUAL_DRIVE, USUAL_REST, USUAL_WORKERS};
 pub use reading::{read_invocation, read_words};

@@ -5,12 +5,15 @@ ghost use Rattle.front_words.specs.Usages.{options_named};
 
 use crate::bans::BansWords;
 use crate::batch::read_batch;
+use crate::breaks::read_breaks;
 use crate::check::CheckWords;
 use crate::flat::side_by_side;
 use crate::generate::GenWords;
+use crate::latest::LatestWords;
 use crate::plan::read_plan;
 use crate::positional::read_places;
 use crate::splitting::split_words;
+use crate::tour::TourWords;
 use crate::{Command, Invocation, WordsFault};
 use route_base::Text;
 use std::alloc::Global;
@@ -22,6 +25,7 @@ fn options_of(name: &str) -> &'static [&'static str]
     match name {
         "plan" => &["--form", "--certificate"],
         "batch" => &["--workers"],
+        "breaks" => &["--drive", "--rest"],
         _ => &[],
     }
 }
@@ -54,6 +58,9 @@ pub fn read_invocation(alloc: Global, words: &[Text]) -> Result<Invocation, Word
         "bans" => read_places(alloc, &BansWords, places),
         "batch" => read_batch(alloc, places, split.given.as_slice()),
         "gen" => read_places(alloc, &GenWords, places),
+        "latest" => read_places(alloc, &LatestWords, places),
+        "tour" => read_places(alloc, &TourWords, places),
+        "breaks" => read_breaks(alloc, places, split.given.as_slice()),
         _ => Err(WordsFault::NotACommand),
     }
 }

@@ -12,6 +12,9 @@ use std::alloc::Global;
 // The positional words of a command that has a folder and a trip alone, by the names that `clap` has for them.
 pub const TRIP_PLACES: &[&str] = &["dir", "vehicle", "from", "to", "depart", "until"];
 
+// The same of a command that has a name behind them.
+pub const NAMED_TRIP_PLACES: &[&str] = &["dir", "vehicle", "from", "to", "depart", "until", "name"];
+
 // The trip that the words say.
 pub fn trip_found(alloc: Global, matches: &ArgMatches) -> Result<Trip, WordsFault>
     ensures values { AnswersWith trip_values (values_at matches.now trip_places trip_forms) result }
