@@ -1,4 +1,4 @@
-use Rattle.std.proofs.Common.{◌≡◌, ◌≤◌, ◌+◌, None, false, refl, sym, subst, ap, ◌∙◌}
+use Rattle.std.proofs.Common.{◌≡◌, ◌≤◌, ◌+◌, None, refl, sym, subst, ap, ◌∙◌}
 use Rattle.route_base.specs.Net.{setting_of}
 use Rattle.route_base.specs.declared.types.Request.{Request}
 use Rattle.front_words.specs.declared.commands.Invocation.TheVariants.{Latest as to_latest}
@@ -51,5 +51,5 @@ returns g c =
     let right = c.late_texts_agree.ensures network net trip text.items
     (subst (λ (t : Trip). IsTripNet network t net) same c.in_ok-net.ensures.net)
     (subst (λ (r : Request). IsLateText (setting_of net) r text.items) asked c.in_ok-text.ensures) in
-    ends_late c.args.late.now _ _ network e.faultless e.found c.load_network.ensures.kept (record { text = text; rejects = false }) refl
+    ends_late c.args.late.now _ _ network e.faultless e.found c.load_network.ensures.kept _ refl
     (subst (λ (t : Trip). failed_check_within LONGEST_LATE_HORIZON network t ≡ None) same c.in_ok-net.ensures.passed) right
