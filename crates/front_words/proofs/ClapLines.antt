@@ -6,14 +6,15 @@ use Rattle.clap.specs.Simple.{App, built}
 use Rattle.clap.proofs.OnLiterals.{clap_on_literals}
 use Rattle.front_words.specs.ClapCommands.{Passes, app_with, bans_app, bans_places, batch_app, batch_choices, batch_places, check_app, check_places}
 use Rattle.front_words.specs.ClapCommands.{gen_app, gen_places, line_of_batch, line_of_plan, option_line, plan_app, plan_choices, plan_places, written_out}
-use Rattle.front_words.specs.Commands.{bans_usage, check_usage, gen_usage}
+use Rattle.front_words.specs.ClapCommands.{latest_app, tour_app}
+use Rattle.front_words.specs.Commands.{bans_usage, check_usage, gen_usage, latest_usage, tour_usage}
 use Rattle.front_words.specs.Inside.{ArePlain, TakesPlaces}
 use Rattle.front_words.specs.Splitting.{is_dashed}
 use Rattle.front_words.proofs.ClapWalk.{IsLeaf, Opens, WalksOn, due_from, held_behind, met_from, passes_at, passes_line, rule_by_id, texts_in}
 use Rattle.front_words.proofs.ClapWalk.{then_reaches, walk_at, walks_nowhere, walks_option, with_option}
 
 -- the value of an option, where it is given, begins with no dash
-abbrev IsPlainIf : Option Text → Type 0
+abbrev pub IsPlainIf : Option Text → Type 0
 IsPlainIf value = IfSome value (λ word. is_dashed word ≡ false)
 
 -- the line of a command without options, by where the walk over its words ends
@@ -48,6 +49,22 @@ gen_takes = record { counted = refl; alone = refl; passes = passes }
   where
     passes : (words : List Text) → length words ≡ 4 → ArePlain words → Passes gen_app (codes "gen" ∷ words) gen_places words [] []
     passes (a ∷ b ∷ c ∷ d ∷ []) n plain = passes_alone _ _ _ (record { simple = refl; named = refl; alone = refl }) plain refl refl refl
+    passes words n plain = absurd (omega arith)
+
+-- `latest DIR VEHICLE FROM TO DEPART UNTIL`
+pub latest_takes : TakesPlaces latest_usage plan_places
+latest_takes = record { counted = refl; alone = refl; passes = passes }
+  where
+    passes : (words : List Text) → length words ≡ 6 → ArePlain words → Passes latest_app (codes "latest" ∷ words) plan_places words [] []
+    passes (a ∷ b ∷ c ∷ d ∷ e ∷ f ∷ []) n plain = passes_alone _ _ _ (record { simple = refl; named = refl; alone = refl }) plain refl refl refl
+    passes words n plain = absurd (omega arith)
+
+-- `tour DIR VEHICLE FROM TO DEPART UNTIL STOPS`
+pub tour_takes : TakesPlaces tour_usage check_places
+tour_takes = record { counted = refl; alone = refl; passes = passes }
+  where
+    passes : (words : List Text) → length words ≡ 7 → ArePlain words → Passes tour_app (codes "tour" ∷ words) check_places words [] []
+    passes (a ∷ b ∷ c ∷ d ∷ e ∷ f ∷ g ∷ []) n plain = passes_alone _ _ _ (record { simple = refl; named = refl; alone = refl }) plain refl refl refl
     passes words n plain = absurd (omega arith)
 
 -- `batch`, as `clap` builds it

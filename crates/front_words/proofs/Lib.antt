@@ -1,3 +1,4 @@
+pub mod BreaksLine
 pub mod ClapLines
 pub mod ClapWalk
 pub mod Dividing

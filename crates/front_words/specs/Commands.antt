@@ -97,7 +97,10 @@ tour_of places options = None
 abbrev pub breaks_of : List Value → List (Option Value) → Option Command
 breaks_of (of_text dir ∷ of_text lorry ∷ of_number from ∷ of_number to ∷ of_number start ∷ of_number end ∷ []) (drive ∷ rest ∷ []) =
     Some (to_breaks (record {
-      dir = dir; trip = trip_to lorry from to start end; drive = number_in USUAL_DRIVE drive; rest = number_in USUAL_REST rest
+      dir = dir;
+      trip = trip_to lorry from to start end;
+      drive = number_in USUAL_DRIVE drive;
+      rest = number_in USUAL_REST rest;
     }))
 breaks_of places options = None
 

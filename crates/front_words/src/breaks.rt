@@ -52,7 +52,11 @@ fn breaks_line<'a>(
 }
 
 // The plan with breaks of positional words and of the values of options, by `clap`.
-pub fn read_breaks(alloc: Global, places: &[&str], given: &[Given]) -> Result<Invocation, WordsFault>
+pub fn read_breaks(
+    alloc: Global,
+    places: &[&str],
+    given: &[Given],
+) -> Result<Invocation, WordsFault>
     requires plain { IsPlainSplit (split_of_words places.now given.now) }
     ensures made { Answers
         (made_of breaks_usage (split_of_words places.now given.now)) result }

@@ -5,17 +5,18 @@
 //! the commands and their table, and `command_of`, the command that words are.
 //!
 //! `read_invocation` answers exactly this, and `read_words` the same with all words side by side (`flat`). `splitting` divides the words, and
-//! `options` finds the value of an option. `plan`, `check`, `bans`, `batch` and `generate` have one row of the table each: where the words are
-//! as many as its forms, they go to one simple command of `clap` in one order, the options with their values and then the positional words.
-//! `clap` then fails only when it is out of memory (`refused` of `parse_line`). `positional` does this for the commands without options, each
-//! a `PositionalCommand`. `found` reads the values of the words that `clap` gives back, in the forms of `forms`; `trip_words` reads those of
-//! a trip, in all commands that have one.
+//! `options` finds the value of an option. `plan`, `check`, `bans`, `batch`, `generate`, `latest`, `tour` and `breaks` have one row of the
+//! table each: where the words are as many as its forms, they go to one simple command of `clap` in one order, the options with their values
+//! and then the positional words. `clap` then fails only when it is out of memory (`refused` of `parse_line`). `positional` does this for the
+//! commands without options, each a `PositionalCommand`. `found` reads the values of the words that `clap` gives back, in the forms of
+//! `forms`; `trip_words` reads those of a trip, in all commands that have one.
 //!
-//! `limits` bounds the workers of a batch; a number, rows and columns are those from which `net_generator` draws a network (`IsDrawable`).
+//! `limits` bounds the workers of a batch, and has the usual values of options; a number, rows and columns are those from which
+//! `net_generator` draws a network (`IsDrawable`).
 //!
 //! `Inside` and `ClapCommands` are no law: they have what the calls hand to one another, and the commands as `clap` has them.
 //! `proofs/ClapWalk` is the walk of `clap` over words that begin with no dash, `proofs/Plain` shows that those of a split are such, and
-//! `proofs/ClapLines` has the line of each command.
+//! `proofs/ClapLines` has the line of each command, `proofs/BreaksLine` that of `breaks`.
 #![tactic(auto)]
 
 mod bans;
