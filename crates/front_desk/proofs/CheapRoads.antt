@@ -1,13 +1,15 @@
 -- The road setting of a vehicle has no dear road and no dear minute.
-use Rattle.std.proofs.Common.{◌≡◌, ℕ, ◌+◌, ◌*◌, ◌≤◌, Some, length, subst, arith}
+use Rattle.std.proofs.Common.{◌≡◌, ℕ, ◌+◌, ◌*◌, ◌≤◌, Some, get_or, length, ap, sym, subst, ◌∙◌, arith}
+use Rattle.std.specs.Option.{option_map}
 use Rattle.std.proofs.lemmas.Bool.{eqb-true}
 use Rattle.std.proofs.lemmas.List.Elements.{All-contains}
 use Rattle.std.proofs.lemmas.Map.Views.{Contains-from_lookup}
-use Rattle.route_base.specs.Net.{at_number}
+use Rattle.route_base.specs.Net.{Net, at_number, road_of, setting_of}
 use Rattle.route_base.specs.Setting.{Road}
 use Rattle.route_base.proofs.Logic.{map_some}
-use Rattle.route_base.proofs.Numbered.{at_number-all}
+use Rattle.route_base.proofs.Numbered.{at_number-all, at_number-next}
 use Rattle.route_base.proofs.Costs.{IsCheap}
+use Rattle.front_transport.specs.CheapArcs.{HasCheapArcs}
 use Rattle.dimacs_reader.specs.GraphModel.{IsGoodGraph, IsGoodGraphArc}
 use Rattle.dimacs_reader.specs.declared.graph.GraphArc.{GraphArc}
 use Rattle.vehicle_classes.specs.VehicleModel.{VehicleModel}
@@ -43,3 +45,10 @@ module _ (net : NetworkModel) (vehicle : VehicleModel) (good : IsGoodNetwork net
     each_road = λ a road is. omega (arith, road_minutes a road is);
     each_weight = small_weight net good;
   }
+
+  -- nor does an arc of a net that has these roads
+  pub cheap_arcs : (over : Net) → ((a : ℕ) → (setting_of over).road a ≡ (road_setting net vehicle).road a) → HasCheapArcs over
+  cheap_arcs over same k d inside =
+      let is : (setting_of over).road (k + 1) ≡ Some (road_of (get_or over.arcs k d)) = ap (option_map road_of) (at_number-next over.arcs k d inside) in
+      let road = road_minutes (k + 1) (road_of (get_or over.arcs k d)) (sym (same (k + 1)) ∙ is) in
+      omega (arith, road)

@@ -1,6 +1,7 @@
 pub mod AcceptedCertificates
 pub mod Batches
 pub mod CheapRoads
+pub mod Checks
 pub mod ClosedWindows
 pub mod Drawn
 pub mod Ending
@@ -12,5 +13,7 @@ pub mod NamedVehicles
 pub mod ReadyPlans
 pub mod RefusalTexts
 pub mod ReportedBans
+pub mod ReportedBreaks
+pub mod ReportedTours
 pub mod Rows
 pub mod Running

@@ -1,10 +1,12 @@
 pub mod Bans
 pub mod Batch
+pub mod Breaks
 pub mod Check
 pub mod Commands
 pub mod Gen
 pub mod Inside
 pub mod Plan
 pub mod Run
+pub mod Tour
 pub mod Trips
 pub mod Words

@@ -1,5 +1,5 @@
 -- The net of a trip, and what a plan has ready before it writes (source: own).
-use Rattle.std.specs.Prelude.{◌≡◌, ℕ, ◌-◌, ◌≤◌, false, ⊤, Option, Some, None, List, length, Result, Ok, Err}
+use Rattle.std.specs.Prelude.{◌≡◌, ◌⊎◌, ℕ, ◌-◌, ◌≤◌, false, ⊤, Option, Some, None, List, length, Result, Ok, Err}
 use Rattle.route_base.specs.FolderState.{FolderState, CountsRise, KeepsFiles, PutsFile}
 use Rattle.route_base.specs.Front.{IsRight}
 use Rattle.route_base.specs.Legs.{CostsFit}
@@ -7,12 +7,14 @@ use Rattle.route_base.specs.Matching.{StandsFor}
 use Rattle.route_base.specs.Net.{Net, IsGoodRequest, setting_of}
 use Rattle.route_base.specs.Setting.{Setting}
 use Rattle.route_base.specs.Time.{IsInstant}
+use Rattle.route_base.specs.declared.faults.RequestFault.TheVariants.{TooManyStates}
 use Rattle.route_base.specs.declared.limits.TheConstants.{LONGEST_HORIZON, MOST_NODES, MOST_ARCS}
 use Rattle.route_base.specs.declared.sink.WriteError.{WriteError}
 use Rattle.route_base.specs.declared.types.Request.{Request}
 use Rattle.route_base.specs.declared.types.Route.{Route}
 use Rattle.route_base.specs.declared.types.Run.{Run}
 use Rattle.vehicle_classes.specs.VehicleModel.{VehicleModel}
+use Rattle.front_transport.specs.CheapArcs.{HasCheapArcs}
 use Rattle.network_tables.specs.NetworkModel.{IsGoodNetwork, NetworkModel}
 use Rattle.plan_certificate.specs.CheapRoads.{HasCheapRoads}
 use Rattle.plan_report.specs.Reports.{report_text}
@@ -48,12 +50,21 @@ StopsTrip network trip ReadFault = ⊥
 StopsTrip network trip WriteFault = ⊥
 StopsTrip network trip NoMemory = ⊤
 
+-- the halt at a request that has too many states
+abbrev pub too_many : Halt
+too_many = Refused (RequestRefusal TooManyStates)
+
+-- why a trip whose states may be too many has no text: they are, or memory ran out
+abbrev pub StopsAtSize : Type 0 → Halt → Type 0
+StopsAtSize Many halt = (halt ≡ NoMemory) ⊎ ((halt ≡ too_many) × Many)
+
 -- the net stands for the roads of the trip's vehicle in the trip's minutes, none of which is dear, and the trip is a request over it
 pub record IsTripNet (network : NetworkModel) (trip : Trip) (net : Net) : Type 0 where
   pub stands : StandsFor (setting_of net) (trip_setting network trip) (trip_window trip)
   pub good : IsGoodRequest net (request_of trip)
   pub fit : CostsFit (setting_of net) (request_of trip)
   pub cheap : HasCheapRoads (setting_of net)
+  pub cheap_arcs : HasCheapArcs net
   pub nodes : net.nodes ≤ MOST_NODES
   pub arcs : length net.arcs ≤ MOST_ARCS
 

@@ -6,7 +6,7 @@ use Rattle.dimacs_reader.specs.GraphModel.{IsGoodGraph}
 use Rattle.front_desk.specs.Inside.Planning.{trip_window}
 use Rattle.front_desk.specs.Plan.{trip_setting}
 use Rattle.front_desk.specs.Trips.{request_of, trip_in, vehicle_named}
-use Rattle.front_desk.proofs.CheapRoads.{cheap, cheap_roads}
+use Rattle.front_desk.proofs.CheapRoads.{cheap, cheap_arcs, cheap_roads}
 use Rattle.front_desk.proofs.networks.trip_net.Goals as goal
 
 pub returns : goal.returns
@@ -33,6 +33,7 @@ returns c =
       fit = (c.settings_agree.ensures.fit (setting_of net) road (trip_window trip) request stands within).1
           (fits road request (cheap network vehicle c.requires.network graph) good.in_order good.short);
       cheap = (c.certificates_agree.ensures.cheap (setting_of net) road (trip_window trip) stands).1 (cheap_roads network vehicle c.requires.network graph);
+      cheap_arcs = cheap_arcs network vehicle c.requires.network graph net stands.road;
       nodes = omega (arith, nodes, graph.nodes);
       arcs = omega (arith, stands.arcs, graph.arcs);
     }
