@@ -102,6 +102,10 @@ def bans(folder):
     return ["bans", folder] + BANS
 
 
+def latest(folder):
+    return ["latest", folder] + TRIP
+
+
 def batch(folder, workers):
     return ["batch", folder, JOBS, "--workers", str(workers)]
 
@@ -132,6 +136,7 @@ def readers_of(name, folder):
     return [
         (plan(folder), NETWORK_STATUSES),
         (bans(folder), NETWORK_STATUSES),
+        (latest(folder), NETWORK_STATUSES),
         (check(folder), NETWORK_STATUSES | {REJECTED}),
         (batch(folder, 1), {DONE, BAD_INPUT}),
         (tour(folder), NETWORK_STATUSES),

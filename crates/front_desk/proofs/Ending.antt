@@ -32,7 +32,7 @@ kept_rises old new a = record {
 }
 
 -- a command that stops at this halt ends by it
-ends_at : (command : Command) (old new : FolderState) (end : Result Report Halt) (halt : Halt) → IsErrAnd end (λ h. h ≡ halt)
+pub ends_at : (command : Command) (old new : FolderState) (end : Result Report Halt) (halt : Halt) → IsErrAnd end (λ h. h ≡ halt)
     → Ends command old new (Err halt) → Ends command old new end
 ends_at command old new (Ok report) halt at ends = absurd at
 ends_at command old new (Err h) halt at ends = subst (λ (k : Halt). Ends command old new (Err k)) (sym at) ends

@@ -21,7 +21,9 @@ use Rattle.front_words.specs.Commands.{command_of}
 use Rattle.front_words.specs.Forms.{is_folder_name, node_of}
 use Rattle.calendar_days.specs.Days.{days_of_years, days_of_months, date_on}
 use Rattle.calendar_days.specs.Texts.{instant_of, instant_text_of, day_of_text, clock_of}
-use Rattle.front_desk.specs.Trips.{failed_check_over}
+use Rattle.latest_departure.specs.LateText.{late_text_of}
+use Rattle.front_desk.specs.Trips.{failed_check_over, failed_check_over_within}
+use Rattle.front_desk.specs.declared.latest.TheConstants.{LONGEST_LATE_HORIZON}
 use Rattle.network_folder.specs.Files.{first_unreadable}
 use Rattle.network_folder.specs.ReadingOrder.{network_files, first_folder_fault}
 
@@ -158,6 +160,23 @@ sixty_days = refl
 
 pub a_minute_more : failing_of 1 3 26563680 26650081 ≡ Some HorizonTooLong
 a_minute_more = refl
+
+-- the same for a latest departure
+abbrev failing_late : ℕ → Option RequestFault
+failing_late end = failed_check_over_within LONGEST_LATE_HORIZON 3 (record {
+  vehicle = codes "any"; origin = 1; goal = 3; depart = 26563680; until = end
+})
+
+pub a_minute_less : failing_late 26650079 ≡ None
+a_minute_less = refl
+
+pub sixty_days_are_too_long : failing_late 26650080 ≡ Some HorizonTooLong
+sixty_days_are_too_long = refl
+
+pub report_of_one_departure : late_text_of (record { departure = 26563960; cost = 120000; legs = one_route.legs } ∷ [])
+    ≡ codes "pairs 1\nleave 26563960 120.000\ndrive 1\ndrive 2\n"
+unfolding digits
+report_of_one_departure = refl
 
 -- an empty folder lacks its graph
 no_graph : first_folder_fault (λ name. None) (codes "d") ≡ Some (record { file = Graph; row = 0; cause = Missing })

@@ -20,10 +20,9 @@ use Rattle.front_words.specs.declared.commands.Invocation.TheVariants.{Latest as
 use Rattle.network_folder.specs.Files.{IfTold, path_of}
 use Rattle.network_folder.specs.Writing.{HoldsEach, HoldsFirst, SpoilsNext}
 use Rattle.front_desk.specs.Gen.{IsGenReport, files_written}
+use Rattle.front_desk.specs.Latest.{IsLateReport, latest_fault, latest_check}
 use Rattle.front_desk.specs.Plan.{IsPlanReport, IsCertified, plan_fault, plan_check}
 use Rattle.front_desk.specs.Tour.{IsTourReport, tour_fault, tour_check}
-use Rattle.front_desk.specs.Trips.{failed_check}
-use Rattle.network_folder.specs.ReadingOrder.{first_folder_fault, network_held}
 
 -- the first fault of the files that the command reads
 abbrev pub first_fault_for : Command → Contents → Option BadInput
@@ -32,7 +31,7 @@ first_fault_for (to_check c) held = check_fault c held
 first_fault_for (to_bans b) held = bans_fault b held
 first_fault_for (to_batch b) held = batch_fault b held
 first_fault_for (to_gen g) held = None
-first_fault_for (to_latest l) held = first_folder_fault held l.dir
+first_fault_for (to_latest l) held = latest_fault l held
 first_fault_for (to_tour t) held = tour_fault t held
 first_fault_for (to_breaks b) held = breaks_fault b held
 
@@ -44,7 +43,7 @@ failed_check_for (to_check c) held = check_check c held
 failed_check_for (to_bans b) held = bans_check b held
 failed_check_for (to_batch b) held = None
 failed_check_for (to_gen g) held = None
-failed_check_for (to_latest l) held = failed_check (network_held held l.dir) l.trip
+failed_check_for (to_latest l) held = latest_check l held
 failed_check_for (to_tour t) held = tour_check t held
 failed_check_for (to_breaks b) held = breaks_check b held
 
@@ -65,7 +64,7 @@ Answers (to_check c) held after text = AcceptsCertificate c held text
 Answers (to_bans b) held after text = IsBansReport b held text
 Answers (to_batch b) held after text = IsBatchReport b held text
 Answers (to_gen g) held after text = IsGenReport g held after text
-Answers (to_latest l) held after text = ⊥
+Answers (to_latest l) held after text = IsLateReport l held text
 Answers (to_tour t) held after text = IsTourReport t held text
 Answers (to_breaks b) held after text = IsBreaksReport b held text
 

@@ -3,3 +3,4 @@ pub mod Grouping
 pub mod Ending
 pub mod Planning
 pub mod Judging
+pub mod Late

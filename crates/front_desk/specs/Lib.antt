@@ -5,6 +5,7 @@ pub mod Check
 pub mod Commands
 pub mod Gen
 pub mod Inside
+pub mod Latest
 pub mod Plan
 pub mod Run
 pub mod Tour

@@ -15,19 +15,27 @@ use Rattle.front_desk.specs.declared.requests.Trip.{Trip as TripWords}
 abbrev pub is_node : ℕ → ℕ → Bool
 is_node n node = nat_le 1 node && nat_le node n
 
--- the first check that the time from one instant to another fails
-abbrev pub failed_time : ℕ → ℕ → Option RequestFault
-failed_time depart until =
+-- the first check that the time from one instant to another fails, which may have at most `longest` minutes
+abbrev pub failed_time_within : ℕ → ℕ → ℕ → Option RequestFault
+failed_time_within longest depart until =
     if nat_lt until depart then Some UntilBeforeDepart
-    else if nat_lt LONGEST_HORIZON (until - depart) then Some HorizonTooLong
+    else if nat_lt longest (until - depart) then Some HorizonTooLong
     else None
 
--- the first check that a trip over n nodes fails
-abbrev pub failed_check_over : ℕ → Trip → Option RequestFault
-failed_check_over n trip =
+-- the same where it may have 60 days
+abbrev pub failed_time : ℕ → ℕ → Option RequestFault
+failed_time depart until = failed_time_within LONGEST_HORIZON depart until
+
+-- the first check that a trip over n nodes fails, whose time may have at most `longest` minutes
+abbrev pub failed_check_over_within : ℕ → ℕ → Trip → Option RequestFault
+failed_check_over_within longest n trip =
     if not (is_node n trip.origin) then Some OriginRange
     else if not (is_node n trip.goal) then Some GoalRange
-    else failed_time trip.depart trip.until
+    else failed_time_within longest trip.depart trip.until
+
+-- the same where it may have 60 days
+abbrev pub failed_check_over : ℕ → Trip → Option RequestFault
+failed_check_over n trip = failed_check_over_within LONGEST_HORIZON n trip
 
 -- whether the network has a vehicle of this name
 abbrev pub is_vehicle : NetworkModel → List ℕ → Bool
@@ -37,10 +45,14 @@ is_vehicle network name = is_some (place_among (names_of network.vehicles) name)
 abbrev pub vehicle_named : NetworkModel → List ℕ → VehicleModel
 vehicle_named network name = unwrap_or (value_under network.vehicles name) any_vehicle
 
--- the first check that a trip over a network fails
+-- the first check that a trip over a network fails, whose time may have at most `longest` minutes
+abbrev pub failed_check_within : ℕ → NetworkModel → Trip → Option RequestFault
+failed_check_within longest network trip =
+    if is_vehicle network trip.vehicle then failed_check_over_within longest network.graph.nodes trip else Some UnknownVehicle
+
+-- the same where it may have 60 days
 abbrev pub failed_check : NetworkModel → Trip → Option RequestFault
-failed_check network trip =
-    if is_vehicle network trip.vehicle then failed_check_over network.graph.nodes trip else Some UnknownVehicle
+failed_check network trip = failed_check_within LONGEST_HORIZON network trip
 
 -- the trip as a request
 abbrev pub request_of : Trip → Request

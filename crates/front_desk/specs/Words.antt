@@ -17,12 +17,16 @@ pub use Rattle.network_folder.specs.Files.{IfTold}
 pub use Rattle.network_folder.specs.Writing.{written_in}
 pub use Rattle.front_desk.specs.Gen.{drawn_trip, stated_network, files_to_write, files_written, IsSummary}
 pub use Rattle.network_folder.specs.ReadingOrder.{network_held}
+pub use Rattle.front_desk.specs.Latest.{IsLateText}
 pub use Rattle.front_desk.specs.Plan.{trip_setting}
 pub use Rattle.front_desk.specs.Run.{IsAnswer, IsDue, IsRefused, Prints, FailsToWrite, status_of}
 pub use Rattle.front_desk.specs.Run.{RefusesUsage, RefusesBadInput, RefusesBadRequest, Completes, AcceptsGood, Runs}
 pub use Rattle.front_desk.specs.Tour.{stops_held, stops_fault, tour_fault, failed_size, IsTourText}
 pub use Rattle.front_desk.specs.Trips.{is_node, failed_time, failed_check_over, failed_check, request_of, trip_in, IsGoodTrip, is_vehicle, vehicle_named}
+pub use Rattle.front_desk.specs.Trips.{failed_time_within, failed_check_over_within, failed_check_within}
 pub use Rattle.front_desk.specs.Inside.Ending.{Ends, EndsWords, Writes}
 pub use Rattle.network_folder.specs.Faults.{StopsReading, StopsStating}
 pub use Rattle.front_desk.specs.Inside.Planning.{IsChecked, StopsAtSize, StopsTrip, trip_window, IsTripNet, IsPlannable, IsReady, HandsOver, IsWritten, IsUnwritten}
+pub use Rattle.front_desk.specs.Inside.Planning.{StopsAtCheck}
 pub use Rattle.front_desk.specs.Inside.Judging.{Tells, IsJudged}
+pub use Rattle.front_desk.specs.Inside.Late.{IsLateRequest}

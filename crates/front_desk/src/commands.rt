@@ -7,6 +7,7 @@ use crate::batch::report_batch;
 use crate::breaks::report_breaks;
 use crate::generation::report_gen;
 use crate::judgement::report_check;
+use crate::latest::report_latest;
 use crate::outcome::{Halt, Report};
 use crate::plan::report_plan;
 use crate::tour::report_tour;
@@ -47,7 +48,7 @@ fn report<R: Threads + Sync, F: Folder, G: Gate>(
         Invocation::Bans(bans) => report_bans(alloc, folder, bans),
         Invocation::Batch(batch) => report_batch(rt, alloc, folder, batch, gate),
         Invocation::Gen(grid) => report_gen(rt, alloc, folder, grid, gate),
-        Invocation::Latest(_) => Err(Halt::NoMemory),
+        Invocation::Latest(late) => report_latest(rt, alloc, folder, late, gate),
         Invocation::Tour(tour) => report_tour(rt, alloc, folder, tour, gate),
         Invocation::Breaks(breaks) => report_breaks(rt, alloc, folder, breaks, gate),
     }

@@ -40,7 +40,8 @@ fn refuse<S: Sink>(alloc: Global, out: &mut S, refusal: Refusal) -> Status
 /// node TO, by the instant UNTIL at the latest, over the files of the folder DIR, in the form that `--form F` asks for. With
 /// `--certificate NAME` it first writes a certificate of the front into DIR, good and tight. `check DIR VEHICLE FROM TO DEPART UNTIL NAME`
 /// judges the certificate NAME of DIR. `bans DIR VEHICLE ARC DEPART UNTIL` prints the minutes from DEPART up to, but not including, UNTIL at
-/// which the arc is closed to the vehicle. `batch DIR JOBS` prints the plans of the trips of the table JOBS of DIR, planned on four
+/// which the arc is closed to the vehicle. `latest DIR VEHICLE FROM TO DEPART UNTIL` prints how late one may leave, not before DEPART: the
+/// Pareto front of departure and cost. `batch DIR JOBS` prints the plans of the trips of the table JOBS of DIR, planned on four
 /// workers or as many as `--workers N` says. `gen DIR NUMBER ROWS COLUMNS` draws a network from a number, writes its files into DIR, and
 /// prints a summary of them and of a trip over them. `tour DIR VEHICLE FROM TO DEPART UNTIL STOPS` prints the Pareto front of the tours that
 /// serve the stops of the table STOPS of DIR in their order, and `breaks DIR VEHICLE FROM TO DEPART UNTIL` that of the trips with at most

@@ -6,6 +6,7 @@ ghost use Rattle.front_desk.specs.Plan.{IsCertified};
 ghost use Rattle.front_words.specs.Forms.{is_certificate_name};
 ghost use Rattle.route_base.specs.Contents.{Contents};
 ghost use Rattle.certificate.specs.declared.limits.TheConstants.{LONGEST_BOUND};
+ghost use Rattle.front_desk.specs.declared.latest.TheConstants.{LONGEST_LATE_HORIZON};
 ghost use Rattle.front_words.specs.declared.limits.TheConstants.{MOST_WORKERS, USUAL_WORKERS};
 ghost use Rattle.net_generator.specs.declared.limits.TheConstants.{LAST_NUMBER, MOST_GENERATED_NODES, MOST_LINES};
 ghost use Rattle.network_tables.specs.declared.limits.TheConstants.{MOST_JOBS};
@@ -26,6 +27,7 @@ pub fn limits_are_these()
     ensures instants { (FIRST_INSTANT ≡ 525600) × (LAST_INSTANT ≡ 120968639) }
     ensures days { LAST_DAY ≡ 84370 }
     ensures horizon { LONGEST_HORIZON ≡ 86400 }
+    ensures late_horizon { LONGEST_LATE_HORIZON ≡ 86399 }
     ensures costs { (COST_OF_MINUTE ≡ 1000) × (HIGHEST_COST ≡ 10000000000) }
     ensures dearest { (HIGHEST_TOLL ≡ 100000) × (DEAREST_MINUTE ≡ 110000) }
     ensures weight { HEAVIEST_WEIGHT ≡ 100000 }

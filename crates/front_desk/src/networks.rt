@@ -1,18 +1,21 @@
 // Makes the net of a trip over a network.
-ghost use Rattle.std.specs.Prelude.{◌≡◌, None, IfOk, OnOk, IfErr};
+ghost use Rattle.std.specs.Prelude.{◌≡◌, ◌≤◌, ◌+◌, None, IfOk, OnOk, IfErr};
 ghost use Rattle.front_desk.specs.Words.{IsGoodNetwork, failed_check, trip_in, IsChecked, IsGoodTrip, IsTimed, StopsTrip};
+ghost use Rattle.front_desk.specs.Words.{failed_check_within, StopsAtCheck};
 ghost use Rattle.ban_expansion.specs.ArcGroups.{AreGroups};
 ghost use Rattle.front_desk.specs.Words.{IsTripNet, trip_setting, trip_window};
 ghost use Rattle.route_base.specs.Matching.{StandsFor};
 ghost use Rattle.route_base.specs.Net.{setting_of};
+ghost use Rattle.route_base.specs.declared.limits.TheConstants.{LONGEST_HORIZON};
 
 use crate::outcome::Halt;
-use crate::requests::{Trip, vehicle_of_trip};
+use crate::requests::{Trip, vehicle_within};
 use ban_expansion::{ArcGroups, expand, expand_groups};
 use network_tables::Network;
 use plan_certificate::certificates_agree;
 use plan_report::Refusal;
-use route_base::{Gate, OutOfMemory, Run, TimedNet, settings_agree};
+use route_base::limits::LONGEST_HORIZON;
+use route_base::{Gate, Minute, OutOfMemory, Run, TimedNet, settings_agree};
 use std::alloc::Global;
 use std::thread::Threads;
 use vehicle_classes::Vehicle;
@@ -78,7 +81,33 @@ pub fn net_at_once<R: Threads + Sync, G: Gate>(
     Ok(trip_net(network, trip, net))
 }
 
-/// The net of a trip over a network, which is given back, or why there is none: the first check that the trip fails, or no memory.
+/// The net of a trip over a network, which is given back, or why there is none: the first check that the trip fails, whose time may have at
+/// most `longest` minutes, or no memory.
+pub fn net_within<R: Threads + Sync, G: Gate>(
+    rt: &R,
+    alloc: Global,
+    network: Network,
+    trip: Trip<'_>,
+    longest: Minute,
+    gate: &G,
+) -> Result<TimedNet, Halt>
+    requires timed { IsTimed (trip_in trip) }
+    requires longest { longest ≤ LONGEST_HORIZON }
+    ensures passed { OnOk result
+        (failed_check_within longest network (trip_in trip.entry) ≡ None) }
+    ensures good { OnOk result (IsGoodTrip network.graph.nodes (trip_in trip.entry)) }
+    ensures short { OnOk result (trip.entry.until ≤ trip.entry.depart + longest) }
+    ensures net { IfOk result (IsTripNet network (trip_in trip.entry)) }
+    ensures refused { IfErr result
+        (StopsAtCheck (failed_check_within longest network (trip_in trip.entry))) }
+{
+    match vehicle_within(&network, trip, longest) {
+        Ok(vehicle) => Ok(net_at_once(rt, alloc, &network, vehicle, trip, gate)?),
+        Err(fault) => Err(Halt::Refused(Refusal::Request(fault))),
+    }
+}
+
+/// The same for a trip whose time may have 60 days.
 pub fn net_for<R: Threads + Sync, G: Gate>(
     rt: &R,
     alloc: Global,
@@ -92,8 +121,5 @@ pub fn net_for<R: Threads + Sync, G: Gate>(
     ensures net { IfOk result (IsTripNet network (trip_in trip.entry)) }
     ensures refused { IfErr result (StopsTrip network (trip_in trip.entry)) }
 {
-    match vehicle_of_trip(&network, trip) {
-        Ok(vehicle) => Ok(net_at_once(rt, alloc, &network, vehicle, trip, gate)?),
-        Err(fault) => Err(Halt::Refused(Refusal::Request(fault))),
-    }
+    net_within(rt, alloc, network, trip, LONGEST_HORIZON, gate)
 }

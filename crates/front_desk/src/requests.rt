@@ -2,8 +2,9 @@
 ghost use Rattle.std.specs.Prelude.{◌≡◌, ◌+◌, ◌≤◌, Some, None, IfSome, IfOk, OnOk, IfErr, is_some, length};
 ghost use Rattle.std.specs.Result.{result_err};
 ghost use Rattle.route_base.specs.declared.limits.TheConstants.{LONGEST_HORIZON};
-ghost use Rattle.front_desk.specs.Words.{failed_time, failed_bans_check};
-ghost use Rattle.front_desk.specs.Words.{is_node, failed_check_over, failed_check, request_of, trip_in, IsGoodTrip};
+ghost use Rattle.front_desk.specs.Words.{failed_time_within, failed_bans_check};
+ghost use Rattle.front_desk.specs.Words.{failed_check_over_within, failed_check_within};
+ghost use Rattle.front_desk.specs.Words.{is_node, failed_check, request_of, trip_in, IsGoodTrip};
 ghost use Rattle.front_desk.specs.Words.{is_vehicle, vehicle_named, IsChecked};
 
 use front_words::{Bans, Trip as TripWords};
@@ -43,32 +44,34 @@ fn is_known(count: u32, node: u32) -> bool
     1 <= node && node <= count
 }
 
-// The first check that the time from `depart` to `until` fails.
-fn failed_time(depart: Minute, until: Minute) -> Option<RequestFault>
-    ensures first { result ≡ failed_time depart until }
+// The first check that the time from `depart` to `until` fails, which may have at most `longest` minutes.
+fn failed_time(depart: Minute, until: Minute, longest: Minute) -> Option<RequestFault>
+    ensures first { result ≡ failed_time_within longest depart until }
     ensures in_order { result ≡ None → depart ≤ until }
-    ensures short { result ≡ None → until ≤ depart + LONGEST_HORIZON }
+    ensures short { result ≡ None → until ≤ depart + longest }
 {
     if until < depart {
         Some(RequestFault::UntilBeforeDepart)
-    } else if until - depart > LONGEST_HORIZON {
+    } else if until - depart > longest {
         Some(RequestFault::HorizonTooLong)
     } else {
         None
     }
 }
 
-// The first check that the trip fails over a graph of `count` nodes.
-fn failed_over(count: u32, trip: Trip<'_>) -> Option<RequestFault>
-    ensures first { result ≡ failed_check_over count (trip_in trip.entry) }
+// The first check that the trip fails over a graph of `count` nodes. Its time may have at most `longest` minutes.
+fn failed_over(count: u32, trip: Trip<'_>, longest: Minute) -> Option<RequestFault>
+    requires { longest ≤ LONGEST_HORIZON }
+    ensures first { result ≡ failed_check_over_within longest count (trip_in trip.entry) }
     ensures passed { result ≡ None → IsGoodTrip count (trip_in trip.entry) }
+    ensures short { result ≡ None → trip.entry.until ≤ trip.entry.depart + longest }
 {
     if !is_known(count, trip.origin) {
         Some(RequestFault::OriginRange)
     } else if !is_known(count, trip.goal) {
         Some(RequestFault::GoalRange)
     } else {
-        failed_time(trip.depart, trip.until)
+        failed_time(trip.depart, trip.until, longest)
     }
 }
 
@@ -82,7 +85,31 @@ fn vehicle_of<'a>(network: &'a Network, name: &[u8]) -> Option<&'a Vehicle>
 }
 
 /// The vehicle of a trip that passes the checks over the network, or the first check that it fails, in the order of
-/// `RequestFault`. In constant time on average.
+/// `RequestFault`. The trip's time may have at most `longest` minutes. In constant time on average.
+pub fn vehicle_within<'a>(
+    network: &'a Network,
+    trip: Trip<'_>,
+    longest: Minute,
+) -> Result<&'a Vehicle, RequestFault>
+    requires { longest ≤ LONGEST_HORIZON }
+    ensures passed { OnOk result
+        (failed_check_within longest network.now (trip_in trip.entry) ≡ None) }
+    ensures checked { IfOk result (λ vehicle.
+        IsChecked network.now (trip_in trip.entry) vehicle.now) }
+    ensures short { OnOk result (trip.entry.until ≤ trip.entry.depart + longest) }
+    ensures failed { IfErr result (λ fault.
+        failed_check_within longest network.now (trip_in trip.entry) ≡ Some fault) }
+{
+    let Some(vehicle) = vehicle_of(network, trip.vehicle) else {
+        return Err(RequestFault::UnknownVehicle);
+    };
+    match failed_over(network.graph().node_count(), trip, longest) {
+        None => Ok(vehicle),
+        Some(fault) => Err(fault),
+    }
+}
+
+/// The same for a trip whose time may have 60 days.
 pub fn vehicle_of_trip<'a>(
     network: &'a Network,
     trip: Trip<'_>,
@@ -93,13 +120,7 @@ pub fn vehicle_of_trip<'a>(
     ensures failed { IfErr result (λ fault.
         failed_check network.now (trip_in trip.entry) ≡ Some fault) }
 {
-    let Some(vehicle) = vehicle_of(network, trip.vehicle) else {
-        return Err(RequestFault::UnknownVehicle);
-    };
-    match failed_over(network.graph().node_count(), trip) {
-        None => Ok(vehicle),
-        Some(fault) => Err(fault),
-    }
+    vehicle_within(network, trip, LONGEST_HORIZON)
 }
 
 /// The vehicle of the command's name, or the first check that the command fails over the network. In constant time on average.
@@ -115,7 +136,7 @@ pub fn vehicle_of_bans<'a>(network: &'a Network, bans: &Bans) -> Result<&'a Vehi
     if !is_known(network.graph().arc_count(), bans.arc) {
         return Err(RequestFault::UnknownArc);
     }
-    match failed_time(bans.depart, bans.until) {
+    match failed_time(bans.depart, bans.until, LONGEST_HORIZON) {
         Some(fault) => Err(fault),
         None => Ok(vehicle),
     }

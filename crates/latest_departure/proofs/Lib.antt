@@ -1,4 +1,5 @@
 pub mod AfterGate
+pub mod AgreeingLate
 pub mod Gate
 pub mod LateFronts
 pub mod MirroredNet

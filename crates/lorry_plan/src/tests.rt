@@ -11,6 +11,7 @@ mod gates;
 mod generation;
 mod graph;
 mod itineraries;
+mod latest;
 mod limits;
 mod lists;
 mod requests;

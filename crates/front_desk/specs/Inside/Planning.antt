@@ -7,6 +7,7 @@ use Rattle.route_base.specs.Matching.{StandsFor}
 use Rattle.route_base.specs.Net.{Net, IsGoodRequest, setting_of}
 use Rattle.route_base.specs.Setting.{Setting}
 use Rattle.route_base.specs.Time.{IsInstant}
+use Rattle.route_base.specs.declared.faults.RequestFault.{RequestFault}
 use Rattle.route_base.specs.declared.faults.RequestFault.TheVariants.{TooManyStates}
 use Rattle.route_base.specs.declared.limits.TheConstants.{LONGEST_HORIZON, MOST_NODES, MOST_ARCS}
 use Rattle.route_base.specs.declared.sink.WriteError.{WriteError}
@@ -41,14 +42,18 @@ pub record IsChecked (network : NetworkModel) (trip : Trip) (vehicle : VehicleMo
   pub named : vehicle ≡ vehicle_named network trip.vehicle
   pub good : IsGoodTrip network.graph.nodes trip
 
+-- why there is no net, by the first check that fails, if any: that one, or memory ran out
+abbrev pub StopsAtCheck : Option RequestFault → Halt → Type 0
+StopsAtCheck failed (Refused (RequestRefusal fault)) = failed ≡ Some fault
+StopsAtCheck failed (Refused (Input fault)) = ⊥
+StopsAtCheck failed (Refused Usage) = ⊥
+StopsAtCheck failed ReadFault = ⊥
+StopsAtCheck failed WriteFault = ⊥
+StopsAtCheck failed NoMemory = ⊤
+
 -- why a trip has no net: it fails a check, or memory ran out
 abbrev pub StopsTrip : NetworkModel → Trip → Halt → Type 0
-StopsTrip network trip (Refused (RequestRefusal fault)) = failed_check network trip ≡ Some fault
-StopsTrip network trip (Refused (Input fault)) = ⊥
-StopsTrip network trip (Refused Usage) = ⊥
-StopsTrip network trip ReadFault = ⊥
-StopsTrip network trip WriteFault = ⊥
-StopsTrip network trip NoMemory = ⊤
+StopsTrip network trip halt = StopsAtCheck (failed_check network trip) halt
 
 -- the halt at a request that has too many states
 abbrev pub too_many : Halt

@@ -1,0 +1,16 @@
+// Settings of which one stands for the other have the same latest departures.
+ghost use Rattle.std.specs.Prelude.{◌↔◌, List};
+ghost use Rattle.latest_departure.specs.Words.{AreRightLate};
+ghost use Rattle.latest_departure.specs.declared.routes.LateRoute.{LateRoute};
+ghost use Rattle.route_base.specs.Matching.{StandsFor, IsInWindow};
+ghost use Rattle.route_base.specs.Setting.{Setting};
+ghost use Rattle.route_base.specs.declared.types.Request.{Request};
+ghost use Rattle.route_base.specs.declared.types.Run.{Run};
+
+/// The law of two settings of which one stands for the other within a window: for each request of the window both have the same
+/// right late routes. The call does nothing.
+pub fn late_routes_agree()
+    ensures { (s z : Setting) (window : Run) (r : Request) → StandsFor s z window
+        → IsInWindow r window
+        → (routes : List LateRoute) → AreRightLate s r routes ↔ AreRightLate z r routes }
+{}
