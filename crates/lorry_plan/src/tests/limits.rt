@@ -58,7 +58,8 @@ const STOPS: Table<'static> = Table {
 
 const TOUR: &str = "tour d any 1 2 26563680 26564080 s.csv";
 
-const FIFTY: &str = "pairs 1\npair 26563790 60.000\nserve 1\nserve 2\nserve 3\nserve 4\nserve 5\nserve 6\nserve 7\nserve 8\nserve 9\nserve 10\nserve 11\nserve 12\nserve 13\nserve 14\nserve 15\nserve 16\nserve 17\nserve 18\nserve 19\nserve 20\nserve 21\nserve 22\nserve 23\nserve 24\nserve 25\nserve 26\nserve 27\nserve 28\nserve 29\nserve 30\nserve 31\nserve 32\nserve 33\nserve 34\nserve 35\nserve 36\nserve 37\nserve 38\nserve 39\nserve 40\nserve 41\nserve 42\nserve 43\nserve 44\nserve 45\nserve 46\nserve 47\nserve 48\nserve 49\nserve 50\ndrive 1\n";
+const FIFTY: &str =
+    "pairs 1\npair 26563790 60.000\nserve 1\nserve 2\nserve 3\nserve 4\nserve 5\nserve 6\nserve 7\nserve 8\nserve 9\nserve 10\nserve 11\nserve 12\nserve 13\nserve 14\nserve 15\nserve 16\nserve 17\nserve 18\nserve 19\nserve 20\nserve 21\nserve 22\nserve 23\nserve 24\nserve 25\nserve 26\nserve 27\nserve 28\nserve 29\nserve 30\nserve 31\nserve 32\nserve 33\nserve 34\nserve 35\nserve 36\nserve 37\nserve 38\nserve 39\nserve 40\nserve 41\nserve 42\nserve 43\nserve 44\nserve 45\nserve 46\nserve 47\nserve 48\nserve 49\nserve 50\ndrive 1\n";
 
 // A graph of two arcs, and one of whose nodes and arcs 51 layers have just too many.
 const SMALL: Table<'static> = Table {

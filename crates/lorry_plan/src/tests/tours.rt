@@ -44,19 +44,13 @@ fn expect_tours<R: Abort + Threads + Sync + AllocGlobal>(
 
 // Tables of stops, and their answers over the triangle, where nobody can wait.
 const OVER_THE_TRIANGLE: &[(&str, &str)] = &[
-    (
-        "node,service,from,to\n2,30,26563740,26563880\n",
-        SERVED,
-    ),
+    ("node,service,from,to\n2,30,26563740,26563880\n", SERVED),
     (
         "\u{FEFF}node,service,from,to\r\n0000000002,030,2020-07-04T01:00Z,2020-07-04T03:20Z",
         SERVED,
     ),
     // The window just holds the service, it ends too early, and it begins too late.
-    (
-        "node,service,from,to\n2,30,26563740,26563770\n",
-        SERVED,
-    ),
+    ("node,service,from,to\n2,30,26563740,26563770\n", SERVED),
     ("node,service,from,to\n2,31,26563740,26563770\n", NONE),
     ("node,service,from,to\n2,30,26563741,26563880\n", NONE),
     // The window is before the trip, or after it.
@@ -109,10 +103,7 @@ fn waits_beside_the_service(rt: HostRuntime) {
 
 const AT_THE_GOAL: Texts<'static> = &[
     ("d/graph.gr", TRIANGLE),
-    (
-        "d/s.csv",
-        "node,service,from,to\n3,10,26563800,26563900\n",
-    ),
+    ("d/s.csv", "node,service,from,to\n3,10,26563800,26563900\n"),
 ];
 
 // A service that just ends in time, and one that doesn't.
@@ -132,7 +123,10 @@ fn ends_each_service_in_time(rt: HostRuntime) {
 // Tables of stops, and their refusals.
 const REFUSED: &[(Texts<'static>, &str)] = &[
     (&[], "refused input stops 0 Missing\n"),
-    (&[("d/closures.csv", "x")], "refused input stops 0 Missing\n"),
+    (
+        &[("d/closures.csv", "x")],
+        "refused input stops 0 Missing\n",
+    ),
     (
         &[("d/closures.csv", "x"), ("d/s.csv", "x")],
         "refused input closures.csv 1 BadHeader\n",
@@ -151,7 +145,10 @@ const REFUSED: &[(Texts<'static>, &str)] = &[
         "refused input stops 2 BadField\n",
     ),
     (
-        &[("d/s.csv", "node,service,from,to\n2,1441,26563740,26563880\n")],
+        &[(
+            "d/s.csv",
+            "node,service,from,to\n2,1441,26563740,26563880\n",
+        )],
         "refused input stops 2 BadField\n",
     ),
     (
@@ -159,7 +156,10 @@ const REFUSED: &[(Texts<'static>, &str)] = &[
         "refused input stops 2 BadField\n",
     ),
     (
-        &[("d/s.csv", "node,service,from,to\n4294967296,30,26563740,26563880\n")],
+        &[(
+            "d/s.csv",
+            "node,service,from,to\n4294967296,30,26563740,26563880\n",
+        )],
         "refused input stops 2 BadField\n",
     ),
     (
@@ -183,7 +183,10 @@ const REFUSED: &[(Texts<'static>, &str)] = &[
         "refused input stops 2 NotRising\n",
     ),
     (
-        &[("d/s.csv", "node,service,from,to\n2,30,26563740,26563880\n3,30,26563740,26563739\n")],
+        &[(
+            "d/s.csv",
+            "node,service,from,to\n2,30,26563740,26563880\n3,30,26563740,26563739\n",
+        )],
         "refused input stops 3 NotRising\n",
     ),
 ];
