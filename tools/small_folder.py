@@ -9,9 +9,11 @@ from one_run import BAD_INPUT, BAD_REQUEST, DONE, REJECTED
 # A trip of two days: the truck waits at node 2 for the closure's end, at node 3 for the ban's end, or drives the long way.
 TRIP = ["truck", "1", "4", "2020-07-04T00:00Z", "2020-07-05T00:00Z"]
 BANS = ["truck", "4", "2020-07-04T00:00Z", "2020-07-05T00:00Z"]
+TOUR = TRIP[:4] + ["2020-07-06T00:00Z"]
 
 CERTIFICATE = "plan.cert"
 JOBS = "jobs.csv"
+STOPS = "stops.csv"
 
 NETWORK = {
     "graph.gr": "c Five roads.\np sp 4 5\na 1 2 60\na 2 4 60\na 1 3 90\na 3 4 60\na 1 4 300\n",
@@ -40,8 +42,11 @@ JOBS_TEXT = (
     "van,1,4,26563680,26564080\n"
 )
 
+# A stop at the node where the truck waits for the closure's end, and one at the goal.
+STOPS_TEXT = "node,service,from,to\n2,30,2020-07-04T01:00Z,26563860\n4,1440,26563680,2020-07-06T00:00Z\n"
+
 # The kinds of files that a command reads.
-KINDS = [*NETWORK, JOBS, CERTIFICATE]
+KINDS = [*NETWORK, JOBS, STOPS, CERTIFICATE]
 
 # Files that gen replaces, so that a file that was left as it was can be told from one that was written.
 OLD_DRAWING = {
@@ -61,7 +66,7 @@ def write_files(folder, files):
 
 def make(runner, folder):
     """Writes all files into a folder; the certificate is the program's own."""
-    write_files(folder, {**NETWORK, JOBS: JOBS_TEXT})
+    write_files(folder, {**NETWORK, JOBS: JOBS_TEXT, STOPS: STOPS_TEXT})
     run = runner.run(plan(folder, "--certificate", CERTIFICATE))
     if run.status != DONE:
         sys.exit(f"the trip of the small folder ends with status {run.status}, and prints {run.printed!r}")
@@ -105,6 +110,14 @@ def batch(folder, workers):
     return ["batch", folder, JOBS, "--workers", str(workers)]
 
 
+def tour(folder):
+    return ["tour", folder] + TOUR + [STOPS]
+
+
+def breaks(folder, *options):
+    return ["breaks", folder] + TRIP + list(options)
+
+
 def gen(folder):
     return ["gen", folder, "7", "2", "3"]
 
@@ -118,10 +131,14 @@ def readers_of(name, folder):
         return [(check(folder), {DONE, REJECTED})]
     if name == JOBS:
         return [(batch(folder, 2), {DONE, BAD_INPUT})]
+    if name == STOPS:
+        return [(tour(folder), {DONE, BAD_INPUT})]
     return [
         (plan(folder), NETWORK_STATUSES),
         (bans(folder), NETWORK_STATUSES),
         (latest(folder), NETWORK_STATUSES),
         (check(folder), NETWORK_STATUSES | {REJECTED}),
         (batch(folder, 1), {DONE, BAD_INPUT}),
+        (tour(folder), NETWORK_STATUSES),
+        (breaks(folder), NETWORK_STATUSES),
     ]

@@ -17,11 +17,13 @@
 #![tactic(auto)]
 
 mod exploration;
+mod laws;
 mod rested_trips;
 mod rule;
 mod sources;
 mod states;
 mod states_as_net;
 
+pub use laws::rested_trips_agree;
 pub use rested_trips::plan_breaks;
 pub use rule::{BreakFault, BreakRule};

@@ -1,9 +1,10 @@
 -- How a command ends, before it has a report and with it.
-use Rattle.std.proofs.Common.{◌≡◌, false, Bool, cond, None, Some, Result, Ok, Err, refl, sym, subst, ◌∙◌, arith}
+use Rattle.std.proofs.Common.{◌≡◌, ⊎_elim, false, Bool, cond, None, Some, Result, Ok, Err, refl, sym, subst, ◌∙◌, arith}
 use Rattle.std.specs.Result.{IsErrAnd}
 use Rattle.std.proofs.lemmas.Bool.{both_ways}
 use Rattle.route_base.specs.FolderState.{FolderState, CountsRise, KeepsFiles}
 use Rattle.route_base.specs.declared.faults.RequestFault.{RequestFault}
+use Rattle.route_base.specs.declared.faults.RequestFault.TheVariants.{TooManyStates}
 use Rattle.route_base.specs.declared.status.Status.TheVariants.{Done, Rejected}
 use Rattle.network_tables.specs.NetworkModel.{NetworkModel}
 use Rattle.plan_report.specs.declared.outcomes.Refusal.TheVariants.{Usage, Input, Request}
@@ -12,9 +13,10 @@ use Rattle.network_folder.specs.Files.{IfTold}
 use Rattle.network_folder.specs.declared.faults.LoadFault.{LoadFault}
 use Rattle.network_folder.specs.declared.faults.LoadFault.TheVariants.{Bad, Failed, OutOfMemory}
 use Rattle.front_words.specs.declared.commands.Invocation.{Invocation as Command}
-use Rattle.front_desk.specs.Commands.{first_fault_for, failed_check_for, HasRequest, LeavesFiles}
+use Rattle.front_desk.specs.Commands.{first_fault_for, failed_check_for, FailsCheck, HasRequest, LeavesFiles}
 use Rattle.front_desk.specs.Inside.Ending.{Ends, ReportsOn, halt_of_load, status_of_halt, status_of_report}
-use Rattle.front_desk.specs.Inside.Planning.{StopsTrip}
+use Rattle.front_desk.specs.Inside.Planning.{StopsAtSize, StopsTrip}
+use Rattle.front_desk.proofs.Checks.{fails_by}
 use Rattle.front_desk.specs.Run.{IsAnsweredBy}
 use Rattle.front_desk.specs.Trips.{Trip, failed_check}
 use Rattle.front_desk.specs.declared.outcome.Halt.{Halt}
@@ -30,7 +32,7 @@ kept_rises old new a = record {
 }
 
 -- a command that stops at this halt ends by it
-ends_at : (command : Command) (old new : FolderState) (end : Result Report Halt) (halt : Halt) → IsErrAnd end (λ h. h ≡ halt)
+pub ends_at : (command : Command) (old new : FolderState) (end : Result Report Halt) (halt : Halt) → IsErrAnd end (λ h. h ≡ halt)
     → Ends command old new (Err halt) → Ends command old new end
 ends_at command old new (Ok report) halt at ends = absurd at
 ends_at command old new (Err h) halt at ends = subst (λ (k : Halt). Ends command old new (Err k)) (sym at) ends
@@ -53,7 +55,7 @@ module _ (command : Command) {old new : FolderState}
 
   -- the request fails a check
   pub ends_refused : HasRequest command → IfTold old (λ held. first_fault_for command held ≡ None) → (fault : RequestFault)
-      → IfTold old (λ held. failed_check_for command held ≡ Some fault) → Ends command old new (Err (Refused (Request fault)))
+      → IfTold old (λ held. FailsCheck command held fault) → Ends command old new (Err (Refused (Request fault)))
   ends_refused asks faultless fault first = record {
     concludes = record { asks = asks; faultless = faultless; first = first };
     left = left (Refused (Request fault));
@@ -67,19 +69,38 @@ module _ (command : Command) {old new : FolderState}
 
   -- the trip that the command asks for over a network has no net
   module _ (network : NetworkModel) (trip : Trip) (asks : HasRequest command) (faultless : IfTold old (λ held. first_fault_for command held ≡ None))
-      (same : IfTold old (λ held. failed_check network trip ≡ failed_check_for command held)) where
+      (fails : (fault : RequestFault) → failed_check network trip ≡ Some fault → IfTold old (λ held. FailsCheck command held fault)) where
     stopped : (end : Result Report Halt) (halt : Halt) → IsErrAnd end (λ h. h ≡ halt) → StopsTrip network trip halt → Ends command old new end
     stopped end (Refused Usage) at why = absurd why
     stopped end (Refused (Input fault)) at why = absurd why
     stopped end (Refused (Request fault)) at why =
-        ends_at command old new end (Refused (Request fault)) at (ends_refused asks faultless fault (λ held is. sym (same held is) ∙ why))
+        ends_at command old new end (Refused (Request fault)) at (ends_refused asks faultless fault (fails fault why))
     stopped end ReadFault at why = absurd why
     stopped end WriteFault at why = absurd why
     stopped end NoMemory at why = ends_short end at
 
-    pub ends_stopped : (asked : Trip) (end : Result Report Halt) (halt : Halt) → asked ≡ trip → IsErrAnd end (λ h. h ≡ halt)
+    pub ends_stopped_by : (asked : Trip) (end : Result Report Halt) (halt : Halt) → asked ≡ trip → IsErrAnd end (λ h. h ≡ halt)
         → StopsTrip network asked halt → Ends command old new end
-    ends_stopped asked end halt is at why = stopped end halt at (subst (λ (t : Trip). StopsTrip network t halt) is why)
+    ends_stopped_by asked end halt is at why = stopped end halt at (subst (λ (t : Trip). StopsTrip network t halt) is why)
+
+  -- the same where the trip's checks are those of the command
+  pub ends_stopped : (network : NetworkModel) (trip : Trip) → HasRequest command → IfTold old (λ held. first_fault_for command held ≡ None)
+      → IfTold old (λ held. failed_check network trip ≡ failed_check_for command held)
+      → (asked : Trip) (end : Result Report Halt) (halt : Halt) → asked ≡ trip → IsErrAnd end (λ h. h ≡ halt)
+      → StopsTrip network asked halt → Ends command old new end
+  ends_stopped network trip asks faultless same =
+      ends_stopped_by network trip asks faultless (λ fault why held is. fails_by command held fault (sym (same held is) ∙ why))
+
+  -- the states are too many, or memory has run out
+  pub ends_at_size : (Many : Type 0) → HasRequest command → IfTold old (λ held. first_fault_for command held ≡ None)
+      → (Many → IfTold old (λ held. FailsCheck command held TooManyStates)) → (end : Result Report Halt) (halt : Halt) → IsErrAnd end (λ h. h ≡ halt)
+      → StopsAtSize Many halt → Ends command old new end
+  ends_at_size Many asks faultless fails end halt at why = ⊎_elim
+      (λ (short : halt ≡ NoMemory). ends_short end (subst (λ (k : Halt). IsErrAnd end (λ h. h ≡ k)) short at))
+      (λ (many : (halt ≡ Refused (Request TooManyStates)) × Many).
+      ends_at command old new end (Refused (Request TooManyStates)) (subst (λ (k : Halt). IsErrAnd end (λ h. h ≡ k)) many.0 at)
+      (ends_refused asks faultless TooManyStates (fails many.1)))
+      why
 
 -- the status of a report that rejects nothing
 pub status_done : (report : Report) → report.rejects ≡ false → status_of_report report ≡ Done

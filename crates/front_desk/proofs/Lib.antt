@@ -1,6 +1,7 @@
 pub mod AcceptedCertificates
 pub mod Batches
 pub mod CheapRoads
+pub mod Checks
 pub mod ClosedWindows
 pub mod Drawn
 pub mod Ending
@@ -12,6 +13,8 @@ pub mod NamedVehicles
 pub mod ReadyPlans
 pub mod RefusalTexts
 pub mod ReportedBans
+pub mod ReportedBreaks
 pub mod ReportedLate
+pub mod ReportedTours
 pub mod Rows
 pub mod Running

@@ -164,7 +164,11 @@ a_minute_more = refl
 -- the same for a latest departure
 abbrev failing_late : ℕ → Option RequestFault
 failing_late end = failed_check_over_within LONGEST_LATE_HORIZON 3 (record {
-  vehicle = codes "any"; origin = 1; goal = 3; depart = 26563680; until = end
+  vehicle = codes "any";
+  origin = 1;
+  goal = 3;
+  depart = 26563680;
+  until = end;
 })
 
 pub a_minute_less : failing_late 26650079 ≡ None

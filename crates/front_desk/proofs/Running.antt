@@ -21,9 +21,10 @@ use Rattle.front_words.specs.declared.commands.Invocation.{Invocation as Command
 use Rattle.front_words.specs.declared.commands.Invocation.TheVariants.{Plan as to_plan, Check as to_check, Bans as to_bans, Batch as to_batch, Gen as to_gen}
 use Rattle.front_words.specs.declared.commands.Invocation.TheVariants.{Latest as to_latest, Tour as to_tour, Breaks as to_breaks}
 use Rattle.front_words.specs.Commands.{command_of}
-use Rattle.front_desk.specs.Commands.{first_fault_for, failed_check_for, IsFinished, Judges, LeavesFiles, Rejects, ReadsNothing, WritesFiles}
+use Rattle.front_desk.specs.Commands.{first_fault_for, PassesChecks, FailsCheck, IsFinished, Judges, LeavesFiles, Rejects, ReadsNothing, WritesFiles}
 use Rattle.front_desk.specs.Inside.Ending.{Writes}
 use Rattle.front_desk.specs.Run.{Completes, FailsToWrite, IsCause, IsDue, IsRefused, Prints, Runs, HasFailed, StopsWriting, status_of}
+use Rattle.front_desk.proofs.Checks.{never_both}
 use Rattle.front_desk.proofs.Leaving.{still_left}
 
 -- a command comes to its end with Done, and with Rejected where it judges
@@ -80,9 +81,11 @@ module _ (words : List (List ℕ)) (old new : FolderState) where
         → first_fault_for command held ≡ o
     fault_of other o other_is found = subst (λ (k : Command). first_fault_for k held ≡ o) (same_command other other_is) found
 
-    check_of : (other : Command) (o : Option RequestFault) → command_of words ≡ Some other → failed_check_for other held ≡ o
-        → failed_check_for command held ≡ o
-    check_of other o other_is found = subst (λ (k : Command). failed_check_for k held ≡ o) (same_command other other_is) found
+    passes_of : (other : Command) → command_of words ≡ Some other → PassesChecks other held → PassesChecks command held
+    passes_of other other_is passed = subst (λ (k : Command). PassesChecks k held) (same_command other other_is) passed
+
+    fails_of : (other : Command) (fault : RequestFault) → command_of words ≡ Some other → FailsCheck other held fault → FailsCheck command held fault
+    fails_of other fault other_is failed = subst (λ (k : Command). FailsCheck k held fault) (same_command other other_is) failed
 
     -- the files have a fault
     module _ (fault : BadInput) (bad : first_fault_for command held ≡ Some fault) where
@@ -113,9 +116,9 @@ module _ (words : List (List ℕ)) (old new : FolderState) where
           clash here = cc
 
       -- the request fails a check
-      module _ (fault : RequestFault) (bad : failed_check_for command held ≡ Some fault) where
-        no_check : failed_check_for command held ≡ None → ⊥
-        no_check none = cc
+      module _ (fault : RequestFault) (bad : FailsCheck command held fault) where
+        no_check : PassesChecks command held → ⊥
+        no_check passed = never_both command held fault bad passed
 
         refusal_request : (why : Refusal) → IsCause words old new why → status_of why ≡ BadRequest
         refusal_request refusal.Usage cause = absurd (no_command command cause is)
@@ -123,8 +126,8 @@ module _ (words : List (List ℕ)) (old new : FolderState) where
         refusal_request (refusal.Request f) cause = refl
 
         due_request : (status : Status) (text : List ℕ) → IsDue words old new status text → status ≡ BadRequest
-        due_request Done text d = let a = d.answered held told in absurd (no_check (check_of d.command None d.is_command a.good))
-        due_request Rejected text d = let a = d.rejected held told in absurd (no_check (check_of d.command None d.is_command a.good))
+        due_request Done text d = let a = d.answered held told in absurd (no_check (passes_of d.command d.is_command a.good))
+        due_request Rejected text d = let a = d.rejected held told in absurd (no_check (passes_of d.command d.is_command a.good))
         due_request Usage text d = sym d.has_status ∙ refusal_request d.refusal d.cause
         due_request BadInputStatus text d = sym d.has_status ∙ refusal_request d.refusal d.cause
         due_request BadRequest text d = refl
@@ -133,14 +136,12 @@ module _ (words : List (List ℕ)) (old new : FolderState) where
         due_request NoMemory text d = absurd d
 
       -- the request passes all checks
-      module _ (passed : failed_check_for command held ≡ None) where
+      module _ (passed : PassesChecks command held) where
         no_refusal : (why : Refusal) → IsCause words old new why → ⊥
         no_refusal refusal.Usage cause = no_command command cause is
         no_refusal (refusal.Input f) cause = no_input cause.command f cause.is_command (cause.cause.first held told)
-        no_refusal (refusal.Request f) cause = clash (check_of cause.command (Some f) cause.is_command (cause.cause.first held told))
-          where
-            clash : failed_check_for command held ≡ Some f → ⊥
-            clash here = cc
+        no_refusal (refusal.Request f) cause =
+            never_both command held f (fails_of cause.command f cause.is_command (cause.cause.first held told)) passed
 
         due_finished : (status : Status) (text : List ℕ) → IsDue words old new status text → IsFinished command status
         due_finished Done text d = (finishes command).0

@@ -10,6 +10,7 @@ use Rattle.route_base.specs.declared.status.Status.TheVariants.{Done, Rejected, 
 use Rattle.route_base.specs.declared.status.Status.TheVariants.{WriteFault, NoMemory, BadRequest}
 use Rattle.front_desk.specs.Bans.{IsBansReport, bans_fault, bans_check}
 use Rattle.front_desk.specs.Batch.{IsBatchReport, batch_fault}
+use Rattle.front_desk.specs.Breaks.{IsBreaksReport, PassesBreaks, FailsBreaks, breaks_fault, breaks_check}
 use Rattle.front_desk.specs.Check.{AcceptsCertificate, RejectsCertificate, check_fault, check_check}
 use Rattle.front_words.specs.declared.commands.Invocation.{Invocation as Command}
 use Rattle.front_words.specs.declared.commands.Plan.{Plan}
@@ -21,6 +22,7 @@ use Rattle.network_folder.specs.Writing.{HoldsEach, HoldsFirst, SpoilsNext}
 use Rattle.front_desk.specs.Gen.{IsGenReport, files_written}
 use Rattle.front_desk.specs.Latest.{IsLateReport, latest_fault, latest_check}
 use Rattle.front_desk.specs.Plan.{IsPlanReport, IsCertified, plan_fault, plan_check}
+use Rattle.front_desk.specs.Tour.{IsTourReport, tour_fault, tour_check}
 
 -- the first fault of the files that the command reads
 abbrev pub first_fault_for : Command → Contents → Option BadInput
@@ -30,10 +32,11 @@ first_fault_for (to_bans b) held = bans_fault b held
 first_fault_for (to_batch b) held = batch_fault b held
 first_fault_for (to_gen g) held = None
 first_fault_for (to_latest l) held = latest_fault l held
-first_fault_for (to_tour t) held = None
-first_fault_for (to_breaks b) held = None
+first_fault_for (to_tour t) held = tour_fault t held
+first_fault_for (to_breaks b) held = breaks_fault b held
 
--- the first check that the command's request fails; a job of a batch that fails one is answered in its place
+-- the first check that the command's request fails, but for the states of `breaks`; a job of a batch that fails one is answered in its
+-- place
 abbrev pub failed_check_for : Command → Contents → Option RequestFault
 failed_check_for (to_plan p) held = plan_check p held
 failed_check_for (to_check c) held = check_check c held
@@ -41,8 +44,18 @@ failed_check_for (to_bans b) held = bans_check b held
 failed_check_for (to_batch b) held = None
 failed_check_for (to_gen g) held = None
 failed_check_for (to_latest l) held = latest_check l held
-failed_check_for (to_tour t) held = None
-failed_check_for (to_breaks b) held = None
+failed_check_for (to_tour t) held = tour_check t held
+failed_check_for (to_breaks b) held = breaks_check b held
+
+-- the command's request passes all checks
+abbrev pub PassesChecks : Command → Contents → Type 0
+PassesChecks (to_breaks b) held = PassesBreaks b held
+PassesChecks command held = failed_check_for command held ≡ None
+
+-- the command's request fails a check, of which this is the first
+abbrev pub FailsCheck : Command → Contents → RequestFault → Type 0
+FailsCheck (to_breaks b) held fault = FailsBreaks b held fault
+FailsCheck command held fault = failed_check_for command held ≡ Some fault
 
 -- the text that the command prints where it is done, and what it has written into the folder
 abbrev pub Answers : Command → Contents → Option Contents → List ℕ → Type 0
@@ -52,8 +65,8 @@ Answers (to_bans b) held after text = IsBansReport b held text
 Answers (to_batch b) held after text = IsBatchReport b held text
 Answers (to_gen g) held after text = IsGenReport g held after text
 Answers (to_latest l) held after text = IsLateReport l held text
-Answers (to_tour t) held after text = ⊥
-Answers (to_breaks b) held after text = ⊥
+Answers (to_tour t) held after text = IsTourReport t held text
+Answers (to_breaks b) held after text = IsBreaksReport b held text
 
 -- the command has a request, which may fail a check; each job of a batch has its own
 abbrev pub HasRequest : Command → Type 0

@@ -1,5 +1,6 @@
 pub mod Bans
 pub mod Batch
+pub mod Breaks
 pub mod Check
 pub mod Commands
 pub mod Gen
@@ -7,5 +8,6 @@ pub mod Inside
 pub mod Latest
 pub mod Plan
 pub mod Run
+pub mod Tour
 pub mod Trips
 pub mod Words

@@ -16,7 +16,7 @@ use Rattle.front_words.specs.declared.commands.Check.{Check}
 use Rattle.front_words.specs.declared.commands.Invocation.{Invocation as Command}
 use Rattle.front_words.specs.declared.commands.Invocation.TheVariants.{Check as to_check}
 use Rattle.front_words.specs.Commands.{command_of}
-use Rattle.front_desk.specs.Commands.{first_fault_for, failed_check_for, Answers, Judges, HasRequest, Rejects, WritesFiles, LeavesFiles}
+use Rattle.front_desk.specs.Commands.{first_fault_for, PassesChecks, FailsCheck, Answers, Judges, HasRequest, Rejects, WritesFiles, LeavesFiles}
 use Rattle.front_desk.specs.Commands.{IsFinished, IsUndisturbed, ReadsNothing}
 use Rattle.network_folder.specs.Faults.{IsFirstFault}
 use Rattle.network_folder.specs.Files.{IfTold}
@@ -24,7 +24,7 @@ use Rattle.network_folder.specs.Files.{IfTold}
 -- the command's files have no fault, its request passes all checks, and the text is its answer
 pub record IsAnsweredBy (command : Command) (held : Contents) (after : Option Contents) (text : List ℕ) : Type 0 where
   pub faultless : first_fault_for command held ≡ None
-  pub good : failed_check_for command held ≡ None
+  pub good : PassesChecks command held
   pub answer : Answers command held after text
 
 -- the words are a command, and where the folder tells its contents, the text is the command's answer
@@ -36,7 +36,7 @@ pub record IsAnswer (words : List (List ℕ)) (old new : FolderState) (text : Li
 -- the command's files have no fault, its request passes all checks, and the text rejects the file that it judges
 pub record IsRejectedBy (command : Command) (held : Contents) (text : List ℕ) : Type 0 where
   pub faultless : first_fault_for command held ≡ None
-  pub good : failed_check_for command held ≡ None
+  pub good : PassesChecks command held
   pub rejects : Rejects command held text
 
 -- the words are a command that judges a file, and where the folder tells its contents, the text rejects that file
@@ -50,7 +50,7 @@ pub record IsRejection (words : List (List ℕ)) (old : FolderState) (text : Lis
 pub record IsFailedCheck (command : Command) (old : FolderState) (fault : RequestFault) : Type 0 where
   pub asks : HasRequest command
   pub faultless : IfTold old (λ held. first_fault_for command held ≡ None)
-  pub first : IfTold old (λ held. failed_check_for command held ≡ Some fault)
+  pub first : IfTold old (λ held. FailsCheck command held fault)
 
 -- why a command is refused
 abbrev pub IsCauseFor : Command → FolderState → FolderState → Refusal → Type 0
@@ -125,7 +125,7 @@ pub record FailsToPrint (words : List (List ℕ)) (old new : FolderState) (from 
 pub record StopsAtFile (command : Command) (old new : FolderState) : Type 0 where
   pub writes : WritesFiles command
   pub faultless : IfTold old (λ held. first_fault_for command held ≡ None)
-  pub good : IfTold old (λ held. failed_check_for command held ≡ None)
+  pub good : IfTold old (λ held. PassesChecks command held)
   pub counted : FailedToWrite old new
 
 -- the words are such a command
@@ -161,13 +161,13 @@ RefusesBadInput words old status =
 abbrev pub RefusesBadRequest : List (List ℕ) → FolderState → Status → Type 0
 RefusesBadRequest words old status =
     (held : Contents) (command : Command) (fault : RequestFault) → old.contents ≡ Some held → command_of words ≡ Some command
-    → first_fault_for command held ≡ None → failed_check_for command held ≡ Some fault → (status ≡ BadRequest) ⊎ HasFailed status
+    → first_fault_for command held ≡ None → FailsCheck command held fault → (status ≡ BadRequest) ⊎ HasFailed status
 
 -- every other command comes to its end, unless memory runs out, where no fault was counted that could stop it
 abbrev pub Completes : List (List ℕ) → FolderState → FolderState → SinkState → SinkState → Status → Type 0
 Completes words old new from to status =
     (held : Contents) (command : Command) → old.contents ≡ Some held → command_of words ≡ Some command
-    → first_fault_for command held ≡ None → failed_check_for command held ≡ None → IsUndisturbed command old new from to
+    → first_fault_for command held ≡ None → PassesChecks command held → IsUndisturbed command old new from to
     → IsFinished command status ⊎ (status ≡ NoMemory)
 
 -- a check accepts each good certificate, unless reading, writing or memory fails

@@ -4,11 +4,13 @@ ghost use Rattle.front_desk.specs.Words.{command_of, AsksSupported, Ends, EndsWo
 
 use crate::bans::report_bans;
 use crate::batch::report_batch;
+use crate::breaks::report_breaks;
 use crate::generation::report_gen;
 use crate::judgement::report_check;
 use crate::latest::report_latest;
 use crate::outcome::{Halt, Report};
 use crate::plan::report_plan;
+use crate::tour::report_tour;
 use front_words::{Invocation, WordsFault, read_invocation};
 use plan_report::Refusal;
 use route_base::{Folder, Gate, Text};
@@ -47,8 +49,8 @@ fn report<R: Threads + Sync, F: Folder, G: Gate>(
         Invocation::Batch(batch) => report_batch(rt, alloc, folder, batch, gate),
         Invocation::Gen(grid) => report_gen(rt, alloc, folder, grid, gate),
         Invocation::Latest(late) => report_latest(rt, alloc, folder, late, gate),
-        Invocation::Tour(_) => Err(Halt::NoMemory),
-        Invocation::Breaks(_) => Err(Halt::NoMemory),
+        Invocation::Tour(tour) => report_tour(rt, alloc, folder, tour, gate),
+        Invocation::Breaks(breaks) => report_breaks(rt, alloc, folder, breaks, gate),
     }
 }
 

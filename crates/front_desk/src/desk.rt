@@ -43,7 +43,9 @@ fn refuse<S: Sink>(alloc: Global, out: &mut S, refusal: Refusal) -> Status
 /// which the arc is closed to the vehicle. `latest DIR VEHICLE FROM TO DEPART UNTIL` prints how late one may leave, not before DEPART: the
 /// Pareto front of departure and cost. `batch DIR JOBS` prints the plans of the trips of the table JOBS of DIR, planned on four
 /// workers or as many as `--workers N` says. `gen DIR NUMBER ROWS COLUMNS` draws a network from a number, writes its files into DIR, and
-/// prints a summary of them and of a trip over them. The vehicle is `any` or one of `vehicles.csv`. An instant is a text, such
+/// prints a summary of them and of a trip over them. `tour DIR VEHICLE FROM TO DEPART UNTIL STOPS` prints the Pareto front of the tours that
+/// serve the stops of the table STOPS of DIR in their order, and `breaks DIR VEHICLE FROM TO DEPART UNTIL` that of the trips with at most
+/// `--drive` minutes of driving, 270 if it isn't given, since the last break of `--rest` minutes, else 45. The vehicle is `any` or one of `vehicles.csv`. An instant is a text, such
 /// as `2020-07-04T00:00Z`, or a Unix minute. Any other words are `Usage`. The text goes to the sink in one call.
 ///
 /// Reading is linear in the bytes. A plan takes the time and the memory of `propagation::search`, which are those of the cost functions'

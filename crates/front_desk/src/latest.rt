@@ -21,11 +21,7 @@ use std::thread::Threads;
 pub const LONGEST_LATE_HORIZON: Minute = 86_399;
 
 // The text of the latest departures over the net of a trip.
-fn late_text_over(
-    alloc: Global,
-    net: &TimedNet,
-    request: Request,
-) -> Result<Vec<u8>, OutOfMemory>
+fn late_text_over(alloc: Global, net: &TimedNet, request: Request) -> Result<Vec<u8>, OutOfMemory>
     requires { IsLateRequest net.now request }
     ensures { IfOk result (λ text. IsLateText (setting_of net.now) request text.items) }
 {

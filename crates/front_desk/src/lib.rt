@@ -2,21 +2,23 @@
 //!
 //! `requests` checks a request and finds its vehicle, and `networks` makes the net of a trip over a network that `network_folder` has loaded:
 //! `net_for` does both, and `net_within` for a shorter time.
-//! Each command has a module of its own, `plan`, `judgement` (of certificates), `bans`, `latest`, `batch` and `generation` (of networks);
-//! `commands` has one case for each. `desk` has the top call, `run`, and `run_gated`, whose workers go through a gate; `outcome` says how a command may end;
-//! `laws` has the numbers of the limits, and the law that `check` accepts what `plan` writes. The commands are those of `front_words`; reports
-//! and the lines of refusals are those of `plan_report`, and latest departures those of `latest_departure`.
+//! Each command has a module of its own, `plan`, `judgement` (of certificates), `bans`, `latest`, `batch`, `generation` (of networks), `tour` and
+//! `breaks`; `commands` has one case for each. `desk` has the top call, `run`, and `run_gated`, whose workers go through a gate; `outcome` says
+//! how a command may end; `laws` has the numbers of the limits, and the law that `check` accepts what `plan` writes. The commands are those of
+//! `front_words`; reports and the lines of refusals are those of `plan_report`, latest departures those of `latest_departure`, and tours those of
+//! `stop_tour`.
 //!
 //! The law of `run` is in `specs/`. `Run` says which text is due with each status and what a run promises by its status, over `Commands` (the
 //! answer, the refusals and the files of each command, one line a command and a last one for all others), `Trips` (the first check that
-//! fails), and `Plan`, `Check`, `Bans`, `Latest`, `Batch` and `Gen` (the answers of the commands); the files are those of `network_folder`, and the
-//! texts those of `plan_report`. It is proved on `run`; each other call answers exactly as its definition says, a command's by one clause,
-//! `Ends`. `Inside` is no law: it has how a command ends, and the facts that the functions hand to one another. `Words` passes the names of
-//! all these on to the contracts.
+//! fails), and `Plan`, `Check`, `Bans`, `Latest`, `Batch`, `Gen`, `Tour` and `Breaks` (the answers of the commands); the files are those of
+//! `network_folder`. It is proved on `run`; each other call answers exactly as its definition says, a command's by one clause, `Ends`. `Inside`
+//! is no law: it has how a command ends, and the facts that the functions hand to one another. `Words` passes the names of all these on to the
+//! contracts.
 #![tactic(auto)]
 
 mod bans;
 mod batch;
+mod breaks;
 mod commands;
 mod desk;
 mod generation;
@@ -27,6 +29,7 @@ mod networks;
 mod outcome;
 mod plan;
 mod requests;
+mod tour;
 
 pub use desk::{run, run_gated};
 pub use laws::{limits_are_these, written_certificates_are_good};

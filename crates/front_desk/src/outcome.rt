@@ -2,10 +2,11 @@
 ghost use Rattle.std.specs.Prelude.{◌≡◌};
 ghost use Rattle.front_desk.specs.Run.{status_of};
 ghost use Rattle.front_desk.specs.Inside.Ending.{status_of_report};
+ghost use Rattle.front_desk.specs.Inside.Planning.{too_many};
 
 use network_folder::LoadFault;
 use plan_report::Refusal;
-use route_base::{OutOfMemory, Status, WriteError};
+use route_base::{OutOfMemory, RequestFault, Status, WriteError};
 
 /// The status of a refusal.
 pub fn status_of_refusal(refusal: Refusal) -> Status
@@ -45,6 +46,13 @@ pub enum Halt {
     ReadFault,
     WriteFault,
     NoMemory,
+}
+
+/// The halt at a request that has too many states.
+pub fn too_many_states() -> Halt
+    ensures { result ≡ too_many }
+{
+    Halt::Refused(Refusal::Request(RequestFault::TooManyStates))
 }
 
 impl From<OutOfMemory> for Halt {

@@ -2,6 +2,7 @@
 
 mod bans;
 mod batches;
+mod breaks;
 mod certificates;
 mod faults;
 mod forms;
@@ -17,6 +18,7 @@ mod requests;
 mod rules;
 mod system;
 mod tables;
+mod tours;
 mod words;
 
 use front_desk::run;

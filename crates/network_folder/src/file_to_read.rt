@@ -50,7 +50,7 @@ impl FileToRead<'static> {
 impl<'a> FileToRead<'a> {
     ghost use Rattle.std.specs.Prelude.{◌≡◌};
     ghost use Rattle.network_folder.specs.Files.{file_in};
-    ghost use Rattle.network_folder.specs.ReadingOrder.{named_file, certificate_file, jobs_file};
+    ghost use Rattle.network_folder.specs.ReadingOrder.{named_file, certificate_file, jobs_file, stops_file};
 
     // A file of this name, which is TooLong beyond the limit.
     fn named(kind: FileKind, name: &'a str, required: bool, limit: u64) -> FileToRead<'a>
@@ -82,5 +82,12 @@ impl<'a> FileToRead<'a> {
         ensures { file_in result ≡ jobs_file name.now }
     {
         FileToRead::named(FileKind::Jobs, name.as_str(), true, LONGEST_FILE)
+    }
+
+    /// The table of stops of this name, which has to be there.
+    pub fn stops(name: &'a Text) -> FileToRead<'a>
+        ensures { file_in result ≡ stops_file name.now }
+    {
+        FileToRead::named(FileKind::Stops, name.as_str(), true, LONGEST_FILE)
     }
 }

@@ -34,6 +34,7 @@ pub use batch::batch_text;
 pub use check::check_text;
 pub use laws::reports_agree;
 pub use outcomes::{Refusal, Verdict3};
+pub use plain::plain_text;
 pub use refusals::refusal_text;
 pub use reports::plan_text;
 pub use summary::summary_text;

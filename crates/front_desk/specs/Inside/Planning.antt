@@ -1,5 +1,5 @@
 -- The net of a trip, and what a plan has ready before it writes (source: own).
-use Rattle.std.specs.Prelude.{◌≡◌, ℕ, ◌-◌, ◌≤◌, false, ⊤, Option, Some, None, List, length, Result, Ok, Err}
+use Rattle.std.specs.Prelude.{◌≡◌, ◌⊎◌, ℕ, ◌-◌, ◌≤◌, false, ⊤, Option, Some, None, List, length, Result, Ok, Err}
 use Rattle.route_base.specs.FolderState.{FolderState, CountsRise, KeepsFiles, PutsFile}
 use Rattle.route_base.specs.Front.{IsRight}
 use Rattle.route_base.specs.Legs.{CostsFit}
@@ -8,6 +8,7 @@ use Rattle.route_base.specs.Net.{Net, IsGoodRequest, setting_of}
 use Rattle.route_base.specs.Setting.{Setting}
 use Rattle.route_base.specs.Time.{IsInstant}
 use Rattle.route_base.specs.declared.faults.RequestFault.{RequestFault}
+use Rattle.route_base.specs.declared.faults.RequestFault.TheVariants.{TooManyStates}
 use Rattle.route_base.specs.declared.limits.TheConstants.{LONGEST_HORIZON, MOST_NODES, MOST_ARCS}
 use Rattle.route_base.specs.declared.sink.WriteError.{WriteError}
 use Rattle.route_base.specs.declared.types.Request.{Request}
@@ -53,6 +54,14 @@ StopsAtCheck failed NoMemory = ⊤
 -- why a trip has no net: it fails a check, or memory ran out
 abbrev pub StopsTrip : NetworkModel → Trip → Halt → Type 0
 StopsTrip network trip halt = StopsAtCheck (failed_check network trip) halt
+
+-- the halt at a request that has too many states
+abbrev pub too_many : Halt
+too_many = Refused (RequestRefusal TooManyStates)
+
+-- why a trip whose states may be too many has no text: they are, or memory ran out
+abbrev pub StopsAtSize : Type 0 → Halt → Type 0
+StopsAtSize Many halt = (halt ≡ NoMemory) ⊎ ((halt ≡ too_many) × Many)
 
 -- the net stands for the roads of the trip's vehicle in the trip's minutes, none of which is dear, and the trip is a request over it
 pub record IsTripNet (network : NetworkModel) (trip : Trip) (net : Net) : Type 0 where

@@ -6,19 +6,13 @@ const BEFORE_THE_DEADLINE: &str = "pairs 1\nleave 26563960 120.000\ndrive 1\ndri
 
 // Words, and their answers over the graph alone.
 const DEPARTURES: &[(&str, &str)] = &[
-    (
-        "latest d any 1 3 26563680 26564080",
-        BEFORE_THE_DEADLINE,
-    ),
+    ("latest d any 1 3 26563680 26564080", BEFORE_THE_DEADLINE),
     (
         "latest d any 1 3 2020-07-04T00:00Z 2020-07-04T06:40Z",
         BEFORE_THE_DEADLINE,
     ),
     // Just enough time, and a minute less.
-    (
-        "latest d any 1 3 26563960 26564080",
-        BEFORE_THE_DEADLINE,
-    ),
+    ("latest d any 1 3 26563960 26564080", BEFORE_THE_DEADLINE),
     ("latest d any 1 3 26563961 26564080", "pairs 0\n"),
     // No road leads there.
     ("latest d any 3 1 26563680 26564080", "pairs 0\n"),

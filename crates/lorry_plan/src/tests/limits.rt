@@ -46,6 +46,40 @@ const PARKING: Table<'static> = Table {
     after: ",1",
 };
 
+// As many stops at node 1 as there may be, each of which has to be served at once.
+const STOPS: Table<'static> = Table {
+    path: "d/s.csv",
+    header: "node,service,from,to",
+    before: "1,1,26563680,",
+    start: 26_563_681,
+    end: 26_563_731,
+    after: "",
+};
+
+const TOUR: &str = "tour d any 1 2 26563680 26564080 s.csv";
+
+const FIFTY: &str =
+    "pairs 1\npair 26563790 60.000\nserve 1\nserve 2\nserve 3\nserve 4\nserve 5\nserve 6\nserve 7\nserve 8\nserve 9\nserve 10\nserve 11\nserve 12\nserve 13\nserve 14\nserve 15\nserve 16\nserve 17\nserve 18\nserve 19\nserve 20\nserve 21\nserve 22\nserve 23\nserve 24\nserve 25\nserve 26\nserve 27\nserve 28\nserve 29\nserve 30\nserve 31\nserve 32\nserve 33\nserve 34\nserve 35\nserve 36\nserve 37\nserve 38\nserve 39\nserve 40\nserve 41\nserve 42\nserve 43\nserve 44\nserve 45\nserve 46\nserve 47\nserve 48\nserve 49\nserve 50\ndrive 1\n";
+
+// A graph of two arcs, and one of whose nodes and arcs 51 layers have just too many.
+const SMALL: Table<'static> = Table {
+    path: "d/graph.gr",
+    header: "p sp 3 2",
+    before: "a 1 2 ",
+    start: 60,
+    end: 62,
+    after: "",
+};
+
+const WIDE: Table<'static> = Table {
+    path: "d/graph.gr",
+    header: "p sp 500000 284314",
+    before: "a ",
+    start: 1,
+    end: 284_315,
+    after: " 499999 60",
+};
+
 // Pushes the rows of the table.
 fn push_rows(text: &mut String, table: Table<'_>) -> Result<(), OutOfMemory> {
     let Table { before, after, .. } = table;
@@ -118,6 +152,19 @@ const CASES: &[(Tables<'static>, &str, Status, &str)] = &[
         TRIP,
         Status::BadInput,
         "refused input parking.csv 500002 SizeLimit\n",
+    ),
+    (&[(SMALL, ""), (STOPS, "")], TOUR, Status::Done, FIFTY),
+    (
+        &[(SMALL, ""), (STOPS, "\n1,1,26563680,26564080")],
+        TOUR,
+        Status::BadInput,
+        "refused input stops 52 SizeLimit\n",
+    ),
+    (
+        &[(WIDE, ""), (STOPS, "")],
+        TOUR,
+        Status::BadRequest,
+        "refused request TooManyStates\n",
     ),
 ];
 

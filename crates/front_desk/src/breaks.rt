@@ -1,0 +1,81 @@
+// The command that plans a trip with driver breaks.
+ghost use Rattle.std.specs.Prelude.{◌↔◌, List, ℕ, IfOk, OnOk, IfErr};
+ghost use Rattle.front_desk.specs.Words.{HasGoodRule, IsBreaksText, HasManyStates, to_breaks};
+ghost use Rattle.front_desk.specs.Words.{trip_setting, request_of, IsTimed, IsPlannable, IsTripNet, StopsAtSize, Ends};
+ghost use Rattle.front_transport.specs.CheapArcs.{HasCheapArcs};
+ghost use Rattle.front_words.specs.declared.commands.Breaks.{Breaks as BreaksModel};
+ghost use Rattle.network_tables.specs.NetworkModel.{NetworkModel};
+ghost use Rattle.route_base.specs.Net.{Net, setting_of};
+
+use crate::networks::net_for;
+use crate::outcome::{Halt, Report, too_many_states};
+use crate::requests::{request_of, trip_of};
+use drive_breaks::{BreakFault, BreakRule, plan_breaks, rested_trips_agree};
+use front_words::Breaks;
+use itinerary_unpack::FunctionEngine;
+use network_folder::load_network;
+use plan_report::plain_text;
+use route_base::{Folder, Gate, TimedNet};
+use std::alloc::Global;
+use std::thread::Threads;
+
+// The law of the net of a trip: a text that reports right routes over the net reports them over the network's roads, and there are too
+// many states in both or in neither. The call does nothing.
+fn breaks_agree()
+    ensures text { (network : NetworkModel) (net : Net) (breaks : BreaksModel) (text : List ℕ)
+        → IsTripNet network breaks.trip net → IsBreaksText (setting_of net) breaks text
+        → IsBreaksText (trip_setting network breaks.trip) breaks text }
+    ensures states { (network : NetworkModel) (net : Net) (breaks : BreaksModel)
+        → IsTripNet network breaks.trip net
+        → HasManyStates (setting_of net) breaks
+        ↔ HasManyStates (trip_setting network breaks.trip) breaks }
+{
+    rested_trips_agree();
+}
+
+// The text of a trip with breaks over its net, or why there is none: too many states, or no memory.
+fn rested_text(alloc: Global, net: &TimedNet, breaks: &Breaks) -> Result<Vec<u8>, Halt>
+    requires plannable { IsPlannable net.now (request_of breaks.now.trip) }
+    requires cheap { HasCheapArcs net.now }
+    requires rule { HasGoodRule breaks.now }
+    ensures right { IfOk result (λ text.
+        IsBreaksText (setting_of net.now) breaks.now text.items) }
+    ensures few { OnOk result (HasManyStates (setting_of net.now) breaks.now → ⊥) }
+    ensures refused { IfErr result
+        (StopsAtSize (HasManyStates (setting_of net.now) breaks.now)) }
+{
+    let request = request_of(trip_of(&breaks.trip));
+    let rule = BreakRule {
+        drive: breaks.drive,
+        rest: breaks.rest,
+    };
+    match plan_breaks(alloc, &FunctionEngine, net, request, rule) {
+        Ok(routes) => Ok(plain_text(alloc, &routes)?),
+        Err(BreakFault::TooManyStates) => Err(too_many_states()),
+        Err(BreakFault::OutOfMemory) => Err(Halt::NoMemory),
+    }
+}
+
+/// The report of a trip with driver breaks over the files of its folder. Several workers make the net at once; the network is given back
+/// before the search. It takes the time and memory of `plan_breaks` beside reading.
+pub fn report_breaks<R: Threads + Sync, F: Folder, G: Gate>(
+    rt: &R,
+    alloc: Global,
+    folder: &mut F,
+    breaks: &Breaks,
+    gate: &G,
+) -> Result<Report, Halt>
+    requires timed { IsTimed breaks.now.trip }
+    requires rule { HasGoodRule breaks.now }
+    ensures { Ends (to_breaks breaks.now)
+        (F.state folder.old) (F.state folder.new) result }
+{
+    let network = load_network(alloc, folder, &breaks.dir)?;
+    let net = net_for(rt, alloc, network, trip_of(&breaks.trip), gate)?;
+    breaks_agree();
+    let text = rested_text(alloc, &net, breaks)?;
+    Ok(Report {
+        text,
+        rejects: false,
+    })
+}
