@@ -1,3 +1,4 @@
+pub mod AgreeingTrips
 pub mod BreakFronts
 pub mod Built
 pub mod Counting

@@ -4,5 +4,6 @@ pub mod Mapped
 pub mod NetParts
 pub mod PairOrder
 pub mod Places
+pub mod SameFronts
 pub mod Tidying
 pub mod Transport

@@ -4,7 +4,7 @@ use Rattle.route_base.specs.Setting.{Setting}
 use Rattle.route_base.specs.Itinerary.{Position, Step, drive, wait, Moves}
 use Rattle.route_base.specs.Legs.{start_of, end_of}
 use Rattle.route_base.specs.Front.{IsNoWorse}
-use Rattle.route_base.specs.Net.{Net, at_number}
+use Rattle.route_base.specs.Net.{Net, at_number, setting_of}
 use Rattle.route_base.specs.declared.limits.TheConstants.{DAY_MINUTES}
 use Rattle.route_base.specs.declared.types.Pair.{Pair}
 use Rattle.route_base.specs.declared.types.Request.{Request}
@@ -24,9 +24,13 @@ pub record IsStopAmong (nodes : ℕ) (stop : Stop) : Type 0 where
 abbrev pub IsGoodStop : Net → Stop → Type 0
 IsGoodStop net stop = IsStopAmong net.nodes stop
 
--- the nodes and arcs of the net, once for each number of served stops
+-- the nodes and arcs, once for each number of served stops
+abbrev pub size_in : Setting → List Stop → ℕ
+size_in s stops = (length stops + 1) * (s.nodes + s.arcs)
+
+-- the size over a net
 abbrev pub size_of : Net → List Stop → ℕ
-size_of net stops = (length stops + 1) * (net.nodes + length net.arcs)
+size_of net stops = size_in (setting_of net) stops
 
 -- a position, and the number of stops that were served
 pub record TourPosition : Type 0 where

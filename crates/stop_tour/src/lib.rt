@@ -15,6 +15,7 @@
 //! walks over it, and `Unlayered` about legs.
 #![tactic(auto)]
 
+mod laws;
 mod layers;
 mod limits;
 mod stop_table;
@@ -22,6 +23,7 @@ mod stops;
 mod text;
 mod tours;
 
+pub use laws::tours_agree;
 pub use limits::MOST_STOPS;
 pub use stop_table::read_stops;
 pub use stops::{Stop, Stops, TourFault, TourLeg, TourLegs, TourRoute, TourRoutes};
