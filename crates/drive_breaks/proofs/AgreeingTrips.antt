@@ -1,5 +1,5 @@
 -- Trips that keep a rule, and states, are the same over settings that agree.
-use Rattle.std.proofs.Common.{◌≡◌, ℕ, ◌+◌, ◌≤◌, Option, Some, List, [], get_or, sym, ◌∙◌, subst}
+use Rattle.std.proofs.Common.{◌≡◌, ℕ, Option, List, [], get_or, sym, ◌∙◌, subst}
 use Rattle.std.specs.Prelude.{All}
 use Rattle.route_base.specs.Setting.{Setting, Road}
 use Rattle.route_base.specs.Itinerary.{Position, Step, Walks}
@@ -13,7 +13,7 @@ use Rattle.route_base.specs.declared.types.Route.{Route}
 use Rattle.front_transport.specs.ParetoFronts.{ArrivesBefore}
 use Rattle.front_transport.proofs.SameFronts.{same_front}
 use Rattle.drive_breaks.specs.Rested.{AchievesRested, AreRightRested, IsRestedAchieved, IsRestedFrom}
-use Rattle.drive_breaks.specs.StateSize.{first, by_drive, by_break, Departure, HasTooManyStates, IsDeparture, IsState}
+use Rattle.drive_breaks.specs.StateSize.{first, by_drive, by_break, HasTooManyStates, IsDeparture, IsState}
 use Rattle.drive_breaks.specs.declared.rule.BreakRule.{BreakRule}
 use Rattle.drive_breaks.specs.declared.rule.State.{State}
 

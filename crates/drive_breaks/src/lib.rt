@@ -3,7 +3,8 @@
 //! The rule is one of Regulation (EC) 561/2006, Article 7: at most so many minutes of driving since the last break, which is an
 //! unbroken wait of so many minutes. Split breaks and daily rest are no part of it. The law is `AreRightRested` of `specs/Rested`, a
 //! clause of `plan_breaks`: the pairs are the Pareto front of all lawful itineraries that keep the rule, and each pair has the legs
-//! of one. `specs/StateSize` says what the states of a trip are, and when there are too many.
+//! of one. `specs/StateSize` says what the states of a trip are, and when there are too many. Both are the same over settings that agree
+//! (`rested_trips_agree`).
 //!
 //! A state is a node and the minutes driven since the last break. `exploration` finds all states and the ways between them, or that
 //! there are too many; `states` numbers them. `states_as_net` makes a net in which each state is a node, and each drive and each

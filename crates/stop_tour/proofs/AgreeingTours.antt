@@ -1,5 +1,5 @@
 -- Tours are the same over settings that agree.
-use Rattle.std.proofs.Common.{◌≡◌, ℕ, ◌≤◌, List, [], ◌∷◌, get_or, map, arith}
+use Rattle.std.proofs.Common.{ℕ, ◌≤◌, List, [], ◌∷◌, get_or, map, arith}
 use Rattle.std.specs.Prelude.{All}
 use Rattle.route_base.specs.Setting.{Setting}
 use Rattle.route_base.specs.Front.{IsNoWorse}

@@ -4,7 +4,7 @@
 //! and wait as an itinerary of `route_base` does and serve the stops one after another, and each pair has the legs of such a tour.
 //! There are too many states exactly where the number of stops plus one, times the number of nodes and arcs, is above
 //! `MOST_STATES` of `front_transport`. `read_stops` reads the stops of a table, whose rows and causes `specs/StopTable` has, and
-//! `tour_text` writes tours as `specs/TourText` says.
+//! `tour_text` writes tours as `specs/TourText` says. Tours and sizes are the same over settings that agree (`tours_agree`).
 //!
 //! `layers` builds a net with one layer for each number of served stops. A service is an arc from a layer to the next, closed outside
 //! the stop's window. So an engine's front over the layers is that of the tours (`tours`), and an arc's number tells which arc is
