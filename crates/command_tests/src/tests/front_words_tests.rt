@@ -244,6 +244,143 @@ const NETWORKS: &[(&str, &str)] = &[
     ("Gen|d|7|1|2", "no"),
 ];
 
+// The same of the other commands of a trip.
+const TRIPS: &[(&str, &str)] = &[
+    (
+        "latest|d|any|1|3|26563680|26564080",
+        "latest d any 1 3 26563680 26564080",
+    ),
+    (
+        "latest|a b/c|v_1.x|0|4294967295|2020-07-04T00:00Z|120968639",
+        "latest a b/c v_1.x 0 4294967295 26563680 120968639",
+    ),
+    ("latest|d|any|1|3|26563680", "no"),
+    ("latest|d|any|1|3|26563680|26564080|more", "no"),
+    ("latest|-d|any|1|3|26563680|26564080", "no"),
+    ("latest|d|a/b|1|3|26563680|26564080", "no"),
+    ("latest|d|any|01|3|26563680|26564080", "no"),
+    ("latest|d|any|1|4294967296|26563680|26564080", "no"),
+    ("latest|d|any|1|3|525599|26564080", "no"),
+    ("latest|d|any|1|3|26563680|120968640", "no"),
+    ("latest|d|any|1|3|26563680|26564080|--form|csv", "no"),
+    ("latest|--drive=1|d|any|1|3|26563680|26564080", "no"),
+    ("Latest|d|any|1|3|26563680|26564080", "no"),
+    (
+        "tour|d|any|1|3|26563680|26564080|s.csv",
+        "tour d any 1 3 26563680 26564080 s.csv",
+    ),
+    (
+        "tour|d|any|1|3|26563680|26564080|any",
+        "tour d any 1 3 26563680 26564080 any",
+    ),
+    (
+        "tour|d|any|1|3|26563680|26564080|abcdefghijklmnopqrstuvwxyzABCDEFGHIJKLMNOPQRSTUVWXYZ01234567.csv",
+        "tour d any 1 3 26563680 26564080 abcdefghijklmnopqrstuvwxyzABCDEFGHIJKLMNOPQRSTUVWXYZ01234567.csv",
+    ),
+    (
+        "tour|d|any|1|3|26563680|26564080|abcdefghijklmnopqrstuvwxyzABCDEFGHIJKLMNOPQRSTUVWXYZ012345678.csv",
+        "no",
+    ),
+    ("tour|d|any|1|3|26563680|26564080", "no"),
+    ("tour|d|any|1|3|26563680|26564080|s.csv|more", "no"),
+    ("tour|d|any|1|3|26563680|26564080|", "no"),
+    ("tour|d|any|1|3|26563680|26564080|a/s.csv", "no"),
+    ("tour|d|any|1|3|26563680|26564080|-s.csv", "no"),
+    ("tour|d|any|1|3|26563680|26564080|s csv", "no"),
+    ("tour|d|any|1|3|s.csv|26563680|26564080", "no"),
+    ("tour|d|any|1|3|26563680|26564080|s.csv|--rest|45", "no"),
+    ("tour|d|any|1|3|26563680|26564080|s.csv|--form=csv", "no"),
+];
+
+// The same of plans with breaks.
+const BREAKS: &[(&str, &str)] = &[
+    (
+        "breaks|d|any|1|3|26563680|26564080",
+        "breaks d any 1 3 26563680 26564080 270 45",
+    ),
+    (
+        "breaks|d|any|1|3|26563680|26564080|--drive|179",
+        "breaks d any 1 3 26563680 26564080 179 45",
+    ),
+    (
+        "breaks|d|any|1|3|26563680|26564080|--rest=30",
+        "breaks d any 1 3 26563680 26564080 270 30",
+    ),
+    (
+        "breaks|d|any|1|3|26563680|26564080|--rest=45",
+        "breaks d any 1 3 26563680 26564080 270 45",
+    ),
+    (
+        "breaks|d|any|1|3|26563680|26564080|--drive|1|--rest|1440",
+        "breaks d any 1 3 26563680 26564080 1 1440",
+    ),
+    (
+        "breaks|d|any|1|3|26563680|26564080|--rest|1440|--drive|1",
+        "breaks d any 1 3 26563680 26564080 1 1440",
+    ),
+    (
+        "breaks|--rest=1|--drive=1440|d|any|1|3|26563680|26564080",
+        "breaks d any 1 3 26563680 26564080 1440 1",
+    ),
+    (
+        "breaks|--drive|360|d|any|1|3|26563680|--rest=20|26564080",
+        "breaks d any 1 3 26563680 26564080 360 20",
+    ),
+    (
+        "breaks|d|--rest|20|any|1|3|26563680|26564080|--drive=360",
+        "breaks d any 1 3 26563680 26564080 360 20",
+    ),
+    ("breaks|d|any|1|3|26563680|26564080|--drive|0", "no"),
+    ("breaks|d|any|1|3|26563680|26564080|--drive=0", "no"),
+    ("breaks|d|any|1|3|26563680|26564080|--drive|1441", "no"),
+    ("breaks|d|any|1|3|26563680|26564080|--drive|01", "no"),
+    ("breaks|d|any|1|3|26563680|26564080|--drive|0270", "no"),
+    ("breaks|d|any|1|3|26563680|26564080|--drive|+1", "no"),
+    ("breaks|d|any|1|3|26563680|26564080|--drive|-1", "no"),
+    ("breaks|d|any|1|3|26563680|26564080|--drive=-1", "no"),
+    ("breaks|d|any|1|3|26563680|26564080|--drive|4h", "no"),
+    (
+        "breaks|d|any|1|3|26563680|26564080|--drive|18446744073709551886",
+        "no",
+    ),
+    ("breaks|d|any|1|3|26563680|26564080|--drive", "no"),
+    ("breaks|d|any|1|3|26563680|26564080|--drive=", "no"),
+    ("breaks|d|any|1|3|26563680|26564080|--drive|", "no"),
+    ("breaks|d|any|1|3|26563680|26564080|--drive|--rest|45", "no"),
+    (
+        "breaks|d|any|1|3|26563680|26564080|--drive|270|--drive|270",
+        "no",
+    ),
+    (
+        "breaks|--drive=270|d|any|1|3|26563680|26564080|--drive|200",
+        "no",
+    ),
+    ("breaks|d|any|1|3|26563680|26564080|--rest|0", "no"),
+    ("breaks|d|any|1|3|26563680|26564080|--rest|1441", "no"),
+    ("breaks|d|any|1|3|26563680|26564080|--rest=1441", "no"),
+    ("breaks|d|any|1|3|26563680|26564080|--rest|045", "no"),
+    ("breaks|d|any|1|3|26563680|26564080|--rest", "no"),
+    ("breaks|d|any|1|3|26563680|26564080|--rest=", "no"),
+    (
+        "breaks|d|any|1|3|26563680|26564080|--rest|45|--rest=45",
+        "no",
+    ),
+    (
+        "breaks|d|any|1|3|26563680|26564080|--drive|270|--rest|45|--rest|45",
+        "no",
+    ),
+    ("breaks|d|any|1|3|26563680|26564080|--Drive|270", "no"),
+    ("breaks|d|any|1|3|26563680|26564080|-drive|270", "no"),
+    ("breaks|d|any|1|3|26563680|26564080|drive|270", "no"),
+    ("breaks|d|any|1|3|26563680|26564080|--break|45", "no"),
+    ("breaks|d|any|1|3|26563680|26564080|--form|csv", "no"),
+    ("breaks|d|any|1|3|26563680", "no"),
+    ("breaks|d|any|1|3|26563680|--drive|270", "no"),
+    ("breaks|d|any|1|3|26563680|26564080|more", "no"),
+    ("breaks|d|a/b|1|3|26563680|26564080", "no"),
+    ("plan|d|any|1|3|26563680|26564080|--drive|270", "no"),
+];
+
 // The words of a line; an empty line has none.
 fn words_of(alloc: Global, line: &str) -> Result<Vec<Text>, OutOfMemory> {
     let mut words = Vec::new(alloc);
@@ -331,6 +468,42 @@ fn line_of(alloc: Global, command: &Command) -> Result<String, OutOfMemory> {
             let dir = dir.as_str();
             format!(in alloc; "gen {dir} {number} {rows} {columns}")
         }
+        Command::Latest {
+            dir,
+            vehicle,
+            from,
+            to,
+            depart,
+            until,
+        } => {
+            let (dir, vehicle) = (dir.as_str(), vehicle.as_str());
+            format!(in alloc; "latest {dir} {vehicle} {from} {to} {depart} {until}")
+        }
+        Command::Tour {
+            dir,
+            vehicle,
+            from,
+            to,
+            depart,
+            until,
+            stops,
+        } => {
+            let (dir, vehicle, stops) = (dir.as_str(), vehicle.as_str(), stops.as_str());
+            format!(in alloc; "tour {dir} {vehicle} {from} {to} {depart} {until} {stops}")
+        }
+        Command::Breaks {
+            dir,
+            vehicle,
+            from,
+            to,
+            depart,
+            until,
+            drive,
+            rest,
+        } => {
+            let (dir, vehicle) = (dir.as_str(), vehicle.as_str());
+            format!(in alloc; "breaks {dir} {vehicle} {from} {to} {depart} {until} {drive} {rest}")
+        }
     };
     Ok(line?)
 }
@@ -364,6 +537,8 @@ fn reads_commands(rt: HostRuntime) {
     expect_read(&rt, CASES);
     expect_read(&rt, BATCHES);
     expect_read(&rt, NETWORKS);
+    expect_read(&rt, TRIPS);
+    expect_read(&rt, BREAKS);
 }
 
 // A line of a command whose folder has a name of this length.
