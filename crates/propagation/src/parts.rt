@@ -13,7 +13,7 @@ use crate::progress::{Progress, first_of};
 use crate::spares::Spares;
 use crate::task::Task;
 use cost_functions::{CostFn, Piece};
-use function_merge::{beginning_by, cut_with_spare, into_pruned};
+use function_merge::{beginning_by, shift_and_prune};
 use label_queue::LabelQueue;
 use minute_sets::MinuteSet;
 use route_base::{Bound, Minute, NodeId, OutOfMemory, Run};
@@ -68,8 +68,16 @@ pub fn part_of(
         first,
     );
     let split = split_at(alloc, &mut progress.pending, v, first, end)?;
-    let whole = cut_with_spare(spares.take(alloc), &progress.functions[place], &split.taken)?;
-    let part = into_pruned(whole, task.request.until, &progress.pairs, bound);
+    let part = shift_and_prune(
+        spares.take(alloc),
+        &progress.functions[place],
+        &split.taken,
+        0,
+        0,
+        task.request.until,
+        &progress.pairs,
+        bound,
+    )?;
     requeue(&mut progress.queue, v, split.next, bound);
     Ok(part)
 }
