@@ -1,10 +1,9 @@
--- The value of the last element that gives one, where one element more stands at the end.
+-- The value of the last element that gives one, in two lists one after another.
 use Rattle.std.proofs.Common.{◌≡◌, Option, List, [], ◌∷◌, ◌++◌, sym, ap, ◌∙◌}
 use Rattle.std.specs.Option.{option_or}
 use Rattle.route_base.proofs.Logic.{option_or-none, option_or-assoc}
 use Rattle.conditional_rules.specs.Decisions.{last_given}
 
-pub last_given_push : {P A : Type 0} (f : P → Option A) (xs : List P) (x : P)
-    → last_given f (xs ++ x ∷ []) ≡ option_or (f x) (last_given f xs)
-last_given_push f [] x = sym (option_or-none (f x))
-last_given_push f (y ∷ ys) x = ap (λ o. option_or o (f y)) (last_given_push f ys x) ∙ option_or-assoc (f x) (last_given f ys) (f y)
+pub last_append : {Q A : Type 0} (f : Q → Option A) (xs ys : List Q) → last_given f (xs ++ ys) ≡ option_or (last_given f ys) (last_given f xs)
+last_append f [] ys = sym (option_or-none (last_given f ys))
+last_append f (x ∷ xs) ys = ap (λ o. option_or o (f x)) (last_append f xs ys) ∙ option_or-assoc (last_given f ys) (last_given f xs) (f x)

@@ -17,3 +17,4 @@ pub mod Joined
 pub mod CanonicalReading
 pub mod OneReading
 pub mod LastGiven
+pub mod LastPlace

@@ -1,7 +1,7 @@
 -- The clause of a conditional value that decides (source: OpenStreetMap wiki, conditional restrictions).
-use Rattle.std.specs.Prelude.{ℕ, ◌==◌, nat_lt, nat_le, Bool, false, Option, Some, None, List, [], ◌∷◌, if◌then◌else◌}
+use Rattle.std.specs.Prelude.{ℕ, suc, ◌==◌, nat_lt, nat_le, Bool, false, Option, Some, None, List, [], ◌∷◌, if◌then◌else◌}
 use Rattle.std.specs.List.{list_all}
-use Rattle.std.specs.Option.{option_or}
+use Rattle.std.specs.Option.{option_or, option_map}
 use Rattle.opening_hours.specs.Coverage.{is_covered}
 use Rattle.opening_hours.specs.Holidays.{HolidayLists}
 use Rattle.vehicle_classes.specs.VehicleModel.{VehicleModel, size_of, has_flag}
@@ -45,3 +45,12 @@ last_given f (x ∷ xs) = option_or (last_given f xs) (f x)
 abbrev pub decision : VehicleModel → HolidayLists → ℕ → ℕ → List Clause → Option Access
 decision vehicle holidays day minute clauses =
     last_given (λ clause. if clause_holds vehicle holidays day minute clause then Some clause.access else None) clauses
+
+-- the place, from 0, of the last element that passes the test
+abbrev pub last_place : {P : Type 0} → (P → Bool) → List P → Option ℕ
+last_place p [] = None
+last_place p (x ∷ xs) = option_or (option_map (λ i. suc i) (last_place p xs)) (if p x then Some 0 else None)
+
+-- the place, from 0, of the last clause that holds
+abbrev pub deciding_place : VehicleModel → HolidayLists → ℕ → ℕ → List Clause → Option ℕ
+deciding_place vehicle holidays day minute clauses = last_place (clause_holds vehicle holidays day minute) clauses

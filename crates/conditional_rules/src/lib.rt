@@ -12,15 +12,16 @@
 //! `Comparisons` which texts compare a size, and `Conditions` puts them together as `IsConditional`, one case for each form:
 //! `parse` meets it, and no text has two lists of clauses (`one_reading`). `Reading` is the same as a function, `conditional_of`:
 //! it gives exactly the clauses that a text has (`computed_reading`). `CanonicalText` is the canonical text, met by
-//! `print`: it is read as the same clauses (`canonical_reading`). `Decisions` says which clause decides, and `decide` meets
-//! it: the last clause whose parts all hold for the vehicle at a minute, where a size that isn't known compares with no value.
+//! `print`: it is read as the same clauses (`canonical_reading`). `Decisions` says which clause decides: the last whose
+//! parts all hold for the vehicle at a minute, where a size that isn't known compares with no value. `deciding` gives its place and
+//! `decide` its access; that these agree is the law `decides_at_its_place`.
 #![tactic(auto)]
 
 mod access;
 mod comparisons;
 mod conditional;
 mod cutting;
-mod deciding;
+mod decisions;
 mod faults;
 mod laws;
 mod parser;
@@ -30,7 +31,7 @@ mod threads;
 
 pub use access::{Access, lets_in, read_value};
 pub use conditional::{Clause, Comparison, Conditional, Part, Parts, Word, parse};
-pub use deciding::{comparison_holds, decide};
+pub use decisions::{comparison_holds, decide, deciding};
 pub use faults::ConditionalFault;
-pub use laws::{canonical_reading, computed_reading, one_reading};
+pub use laws::{canonical_reading, computed_reading, decides_at_its_place, one_reading};
 pub use printer::print;

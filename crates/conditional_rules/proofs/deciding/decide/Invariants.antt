@@ -1,9 +1,0 @@
-use Rattle.std.proofs.Common.{◌≡◌, length}
-use Rattle.conditional_rules.specs.Decisions.{decision}
-use Rattle.conditional_rules.proofs.deciding.decide.Given as goal
-
-abbrev pub invariant-loop-clause : goal.invariant-loop-clause
-invariant-loop-clause l = decision l.vehicle l.holidays l.day l.minute l.rest ≡ decision l.vehicle l.holidays l.day l.minute l.conditional
-
-abbrev pub decreases-loop-clause : goal.decreases-loop-clause
-decreases-loop-clause l = length l.rest
