@@ -1,5 +1,5 @@
 -- The lines of an itinerary's file, and the legs that are read of them.
-use Rattle.std.proofs.Common.{◌≡◌, ℕ, suc, ◌+◌, ◌≤◌, ◌<◌, ◌&&◌, Bool, not, cond, Option, Some, None, List, [], ◌∷◌, ◌++◌, length, take, drop, get_or}
+use Rattle.std.proofs.Common.{◌≡◌, ℕ, suc, ◌+◌, ◌≤◌, ◌<◌, ◌&&◌, Bool, not, cond, Option, Some, None, List, [], ◌∷◌, ◌++◌, length, map, take, drop, get_or}
 use Rattle.std.proofs.Common.{refl, sym, ◌∙◌, ap, subst, arith, append_assoc, append-nil, length-append}
 use Rattle.std.specs.List.{AllZip, filter_map, cons_option, position, position_or_len}
 use Rattle.std.specs.Option.{is_some, option_map, option_and_then, option_or}
@@ -7,9 +7,10 @@ use Rattle.std.specs.Prelude.{codes, nat_le, nat_lt}
 use Rattle.std.specs.Str.{bytes_eq}
 use Rattle.std.proofs.Math.Seq.{take-append_seam, drop-append_seam}
 use Rattle.std.proofs.lemmas.Bool.{le-leb, leb-true, lt-ltb, le-ltb, and_parts}
-use Rattle.std.proofs.lemmas.List.{take-append-drop}
+use Rattle.std.proofs.lemmas.List.{take-append-drop, map-append}
 use Rattle.std.proofs.lemmas.Option.{same_Some}
 use Rattle.std.proofs.lemmas.Slice.Eq.{bytes_eq-Decides}
+use Rattle.std.proofs.lemmas.Slice.Zip.{AllZip-long}
 use Rattle.route_base.specs.Digits.{plain_number_of}
 use Rattle.route_base.specs.Legs.{HasNoEmptyWait}
 use Rattle.route_base.specs.declared.limits.TheConstants.{LONGEST_HORIZON}
@@ -118,13 +119,12 @@ HasLeg line leg = leg_of line ≡ Some leg
 abbrev is_bad : List ℕ → Bool
 is_bad line = not (is_some (leg_of line))
 
--- lines and their legs, one more at the end
-zip_push : (lines : List (List ℕ)) (legs : List Leg) (line : List ℕ) (leg : Leg) → AllZip HasLeg lines legs → HasLeg line leg
-    → AllZip HasLeg (lines ++ line ∷ []) (legs ++ leg ∷ [])
-zip_push [] [] line leg each here = (here, tt)
-zip_push [] (y ∷ legs) line leg each here = absurd each
-zip_push (x ∷ lines) [] line leg each here = absurd each
-zip_push (x ∷ lines) (y ∷ legs) line leg each here = (each.0, zip_push lines legs line leg each.1 here)
+-- each line has the leg at its place
+zipped : (lines : List (List ℕ)) (legs : List Leg) → map leg_of lines ≡ map Some legs → AllZip HasLeg lines legs
+zipped [] [] same = tt
+zipped [] (y ∷ legs) same = absurd (cc)
+zipped (x ∷ lines) [] same = absurd (cc)
+zipped (x ∷ lines) (y ∷ legs) same = (cc, zipped lines legs (cc))
 
 -- the legs of lines that have each one
 legs_are : (lines : List (List ℕ)) (legs : List Leg) → AllZip HasLeg lines legs → legs ≡ filter_map leg_of lines
@@ -152,11 +152,11 @@ passed (x ∷ lines) (y ∷ legs) more each = rw each.0 (let rest = passed lines
 pub record HasReadLegs (bytes rest : List ℕ) (legs : List Leg) : Type 0 where
   pub before : List (List ℕ)
   pub lines : lines_of bytes ≡ before ++ lines_of rest
-  pub good : AllZip HasLeg before legs
+  pub good : map leg_of before ≡ map Some legs
   pub few : length legs + length rest ≤ length bytes
 
 pub read_none : (bytes : List ℕ) → HasReadLegs bytes bytes []
-read_none bytes = record { before = []; lines = refl; good = tt; few = omega arith }
+read_none bytes = record { before = []; lines = refl; good = refl; few = omega arith }
 
 -- one line more
 pub read_more : (bytes rest line more : List ℕ) (legs : List Leg) (leg : Leg) → HasReadLegs bytes rest legs
@@ -167,7 +167,10 @@ read_more bytes rest line more legs leg h cuts less here =
     record {
       before = h.before ++ line ∷ [];
       lines = h.lines ∙ ap (λ (ls : List (List ℕ)). h.before ++ ls) cuts ∙ sym (append_assoc h.before (line ∷ []) (lines_of more));
-      good = zip_push h.before legs line leg h.good here;
+      good = map-append leg_of h.before (line ∷ [])
+          ∙ ap (λ (os : List (Option Leg)). os ++ leg_of line ∷ []) h.good
+          ∙ ap (λ (o : Option Leg). map Some legs ++ o ∷ []) here
+          ∙ sym (map-append Some legs (leg ∷ []));
       few = omega arith;
     }
 
@@ -178,19 +181,14 @@ unfolding bad_line_of
 line_refused bytes rest line more legs h cuts none =
     let all : lines_of bytes ≡ h.before ++ line ∷ lines_of more = h.lines ∙ ap (λ (ls : List (List ℕ)). h.before ++ ls) cuts in
     let here : position_or_len is_bad (line ∷ lines_of more) ≡ 0 = ap (λ o. cond (not (not (is_some o))) (1 + position_or_len is_bad (lines_of more)) 0) none in
-    let place : position_or_len is_bad (h.before ++ line ∷ lines_of more) ≡ length legs = passed h.before legs (line ∷ lines_of more) h.good ∙ omega arith in
+    let each = zipped h.before legs h.good in
+    let place : position_or_len is_bad (h.before ++ line ∷ lines_of more) ≡ length legs = passed h.before legs (line ∷ lines_of more) each ∙ omega arith in
     let count = length-append h.before (line ∷ lines_of more) in
-    let long = zip_long h.before legs h.good in
+    let long = AllZip-long HasLeg h.before legs each in
     let inside : length legs < length (h.before ++ line ∷ lines_of more) = omega arith in
     ap (λ (ls : List (List ℕ)). option_map (λ k. k + 1) (position is_bad ls)) all
     ∙ ap (λ k. option_map (λ k. k + 1) (cond (nat_lt k (length (h.before ++ line ∷ lines_of more))) (Some k) None)) place
     ∙ ap (λ b. option_map (λ k. k + 1) (cond b (Some (length legs)) None)) (lt-ltb (length legs) (length (h.before ++ line ∷ lines_of more)) inside)
-  where
-    zip_long : (lines : List (List ℕ)) (legs : List Leg) → AllZip HasLeg lines legs → length lines ≡ length legs
-    zip_long [] [] each = refl
-    zip_long [] (y ∷ legs) each = absurd each
-    zip_long (x ∷ lines) [] each = absurd each
-    zip_long (x ∷ lines) (y ∷ legs) each = let more = zip_long lines legs each.1 in omega arith
 
 -- the end of the file
 all_lines : (bytes rest : List ℕ) (legs : List Leg) (h : HasReadLegs bytes rest legs) → rest ≡ [] → lines_of bytes ≡ h.before
@@ -198,10 +196,10 @@ all_lines bytes rest legs h none = h.lines ∙ ap (λ r. h.before ++ lines_of r)
 
 pub end_legs : (bytes rest : List ℕ) (legs : List Leg) → HasReadLegs bytes rest legs → rest ≡ [] → legs ≡ legs_of bytes
 unfolding legs_of
-end_legs bytes rest legs h none = legs_are h.before legs h.good ∙ ap (filter_map leg_of) (sym (all_lines bytes rest legs h none))
+end_legs bytes rest legs h none = legs_are h.before legs (zipped h.before legs h.good) ∙ ap (filter_map leg_of) (sym (all_lines bytes rest legs h none))
 
 pub end_waits : (bytes rest : List ℕ) (legs : List Leg) → HasReadLegs bytes rest legs → HasNoEmptyWait legs
-end_waits bytes rest legs h = no_empty h.before legs h.good
+end_waits bytes rest legs h = no_empty h.before legs (zipped h.before legs h.good)
 
 no_bad : (lines : List (List ℕ)) (legs : List Leg) → AllZip HasLeg lines legs → position is_bad lines ≡ None
 no_bad lines legs each =
@@ -218,7 +216,7 @@ pub end_faultless : (bytes rest : List ℕ) (legs : List Leg) → HasReadLegs by
 unfolding bad_line_of
 end_faultless bytes rest legs h none =
     ap (λ (ls : List (List ℕ)). option_map (λ k. k + 1) (position is_bad ls)) (all_lines bytes rest legs h none)
-    ∙ ap (option_map (λ k. k + 1)) (no_bad h.before legs h.good)
+    ∙ ap (option_map (λ k. k + 1)) (no_bad h.before legs (zipped h.before legs h.good))
 
 -- each line has its leg, where none is bad
 one_more : (line : List ℕ) (lines : List (List ℕ)) (o : Option Leg) → leg_of line ≡ o
