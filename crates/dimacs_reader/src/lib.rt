@@ -4,8 +4,8 @@
 //! The law is in `specs/`: `Lines` (the lines of a file, and the meaning of a line), `Stated` (the statement of several lines),
 //! `Faults` (the first fault of a file, with its line and cause) and `GraphModel` (the graph that the lines state, and the limits
 //! of each graph). `read_graph` meets it for every list of bytes: it returns the graph of a file without a fault, and refuses
-//! any other with its first fault. Only running out of memory can take the place of either. `Inside` is no law: it has the
-//! invariant of the builder.
+//! any other with its first fault. Only running out of memory can take the place of either. `next_line` gives lines one by one, for
+//! readers of other files too. `Inside` is no law: it has the invariant of the builder.
 #![tactic(auto)]
 
 mod builder;
@@ -18,3 +18,4 @@ mod threads;
 pub use faults::GraphFault;
 pub use graph::{Graph, GraphArc};
 pub use graph_file::read_graph;
+pub use lines::next_line;
