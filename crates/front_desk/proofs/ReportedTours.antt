@@ -1,14 +1,10 @@
 -- The report of a tour is that of its command.
-use Rattle.std.proofs.Common.{◌≡◌, ◌≤◌, ◌<◌, Bool, cond, false, None, Some, Option, List, Ok, ap, sym, subst, ◌∙◌}
+use Rattle.std.proofs.Common.{◌≡◌, false, None, Some, Option, List, Ok, ap, subst, ◌∙◌}
 use Rattle.std.specs.Option.{option_or}
-use Rattle.std.proofs.lemmas.Bool.{le-ltb, lt-ltb}
 use Rattle.route_base.specs.FolderState.{FolderState, KeepsFiles}
-use Rattle.route_base.specs.Setting.{Setting}
 use Rattle.route_base.specs.declared.faults.RequestFault.{RequestFault}
 use Rattle.route_base.specs.declared.faults.RequestFault.TheVariants.{TooManyStates}
-use Rattle.front_transport.specs.declared.limits.TheConstants.{MOST_STATES}
 use Rattle.network_tables.specs.NetworkModel.{NetworkModel}
-use Rattle.stop_tour.specs.Tours.{size_in}
 use Rattle.stop_tour.specs.declared.stops.Stop.{Stop}
 use Rattle.front_words.specs.declared.commands.Tour.{Tour}
 use Rattle.front_words.specs.declared.commands.Invocation.TheVariants.{Tour as to_tour}
@@ -17,17 +13,10 @@ use Rattle.network_folder.specs.ReadingOrder.{network_held}
 use Rattle.front_desk.specs.Commands.{FailsCheck}
 use Rattle.front_desk.specs.Inside.Ending.{Ends}
 use Rattle.front_desk.specs.Plan.{trip_setting}
-use Rattle.front_desk.specs.Tour.{IsTourText, failed_size, failed_tour_check, stops_held, tour_check, tour_fault}
+use Rattle.front_desk.specs.Tour.{IsTourText, failed_size, failed_tour_check, stops_held, tour_fault}
 use Rattle.front_desk.specs.Trips.{failed_check, request_of}
 use Rattle.front_desk.specs.declared.outcome.Report.{Report}
 use Rattle.front_desk.proofs.Ending.{kept_rises, reports}
-
--- a size within the limit is no fault, and one above it is
-pub size_fits : (s : Setting) (stops : List Stop) → size_in s stops ≤ MOST_STATES → failed_size s stops ≡ None
-size_fits s stops fits = ap (λ (b : Bool). cond b (Some TooManyStates) None) (le-ltb MOST_STATES (size_in s stops) fits)
-
-pub size_exceeds : (s : Setting) (stops : List Stop) → MOST_STATES < size_in s stops → failed_size s stops ≡ Some TooManyStates
-size_exceeds s stops exceeds = ap (λ (b : Bool). cond b (Some TooManyStates) None) (lt-ltb MOST_STATES (size_in s stops) exceeds)
 
 module _ (t : Tour) (old new : FolderState) (network : NetworkModel) (stops : List Stop)
     (found : IfTold old (λ held. network ≡ network_held held t.dir)) (stated : IfTold old (λ held. stops ≡ stops_held t held)) where

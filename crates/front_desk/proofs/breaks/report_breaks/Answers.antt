@@ -6,7 +6,7 @@ use Rattle.front_words.specs.declared.commands.Trip.{Trip}
 use Rattle.front_desk.specs.Breaks.{HasManyStates}
 use Rattle.front_desk.specs.Inside.Planning.{IsTripNet}
 use Rattle.front_desk.specs.Trips.{IsGoodTrip, failed_check}
-use Rattle.front_desk.proofs.Ending.{ends_at_size, ends_short, ends_stopped, ends_unread}
+use Rattle.front_desk.proofs.Ending.{ends_at_size, ends_stopped, ends_unread}
 use Rattle.front_desk.proofs.ReadyPlans.{plannable}
 use Rattle.front_desk.proofs.ReportedBreaks.{ends_breaks, exceeds}
 use Rattle.front_desk.proofs.breaks.report_breaks.Goals as goal

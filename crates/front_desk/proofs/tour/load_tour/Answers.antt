@@ -1,7 +1,6 @@
-use Rattle.std.proofs.Common.{◌≡◌, ℕ, None, List, ap, sym, subst, ◌∙◌}
+use Rattle.std.proofs.Common.{◌≡◌, None, ap, sym, subst, ◌∙◌}
 use Rattle.std.proofs.lemmas.Result.{err_from_is_err_and}
 use Rattle.route_base.specs.Contents.{Contents}
-use Rattle.route_base.specs.FolderState.{FolderState}
 use Rattle.network_tables.specs.NetworkModel.{NetworkModel}
 use Rattle.network_folder.specs.Faults.{StopsReading}
 use Rattle.network_folder.specs.Files.{FileToRead, bytes_at}

@@ -1,4 +1,4 @@
-use Rattle.std.proofs.Common.{◌≡◌, ◌∙◌, ℕ, None, Some, All, List, ap, refl, sym, subst}
+use Rattle.std.proofs.Common.{◌≡◌, ◌∙◌, ℕ, None, Some, All, ap, refl, sym, subst}
 use Rattle.route_base.specs.Net.{setting_of}
 use Rattle.route_base.specs.declared.faults.RequestFault.TheVariants.{TooManyStates}
 use Rattle.route_base.specs.declared.types.Request.{Request}
@@ -8,7 +8,7 @@ use Rattle.stop_tour.specs.Tours.{IsStopAmong}
 use Rattle.front_desk.specs.Inside.Planning.{IsPlannable, IsTripNet}
 use Rattle.front_desk.specs.Tour.{IsTourText, failed_size}
 use Rattle.front_desk.specs.Trips.{IsGoodTrip, failed_check, request_of}
-use Rattle.front_desk.proofs.Ending.{ends_at_size, ends_short, ends_stopped_by, ends_unread}
+use Rattle.front_desk.proofs.Ending.{ends_at_size, ends_stopped_by, ends_unread}
 use Rattle.front_desk.proofs.ReadyPlans.{plannable}
 use Rattle.front_desk.proofs.ReportedTours.{ends_tour, size_fails, trip_fails}
 use Rattle.front_desk.proofs.tour.report_tour.Goals as goal
