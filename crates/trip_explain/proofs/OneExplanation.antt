@@ -1,5 +1,5 @@
 -- Legs that are unlawful somewhere achieve no pair.
-use Rattle.std.proofs.Common.{◌≡◌, ℕ, zero, suc, ◌+◌, true, false, Option, Some, None, List, [], ◌∷◌, ◌++◌, inl, inr, length, take, slice_get, refl}
+use Rattle.std.proofs.Common.{◌≡◌, ℕ, zero, suc, ◌+◌, true, false, Some, None, List, [], ◌∷◌, ◌++◌, inl, inr, length, take, slice_get, refl}
 use Rattle.std.proofs.Common.{sym, ◌∙◌, ap, subst, append_assoc, arith}
 use Rattle.std.proofs.lemmas.List.{take_all}
 use Rattle.route_base.specs.Setting.{Setting, Road}
@@ -15,9 +15,7 @@ use Rattle.network_tables.specs.RoadSetting.{road_setting}
 use Rattle.trip_explain.specs.declared.explanation.Why.{Why}
 use Rattle.trip_explain.specs.Explanations.{IsUnlawfulAt}
 use Rattle.trip_explain.specs.Reasons.{IsStuck, elsewhere, late, closed, unrated, late_wait, shut_wait}
-
-pub some_same : {A : Type 0} (o : Option A) (x y : A) → o ≡ Some x → o ≡ Some y → x ≡ y
-some_same o x y a b = cc
+use Rattle.trip_explain.proofs.Places.{some_same}
 
 module _ (s : Setting) (until : ℕ) where
   -- a step leads to one position

@@ -1,5 +1,5 @@
 -- Legs have one explanation.
-use Rattle.std.proofs.Common.{◌≡◌, ℕ, zero, suc, ◌+◌, ◌<◌, ◌≤◌, Some, List, [], ◌∷◌, ◌++◌, inl, inr, length, take, slice_get, refl, sym, ◌∙◌, ap, subst, arith}
+use Rattle.std.proofs.Common.{◌≡◌, ℕ, ◌+◌, ◌<◌, ◌≤◌, Some, List, [], ◌∷◌, ◌++◌, inl, inr, length, take, slice_get, refl, sym, ◌∙◌, ap, subst, arith}
 use Rattle.std.proofs.lemmas.Bool.{cases_lt}
 use Rattle.std.proofs.lemmas.List.{take-take}
 use Rattle.std.proofs.lemmas.Option.{slice_get_within}
@@ -13,8 +13,9 @@ use Rattle.network_tables.specs.RoadSetting.{road_setting}
 use Rattle.trip_explain.specs.declared.explanation.Why.{Why}
 use Rattle.trip_explain.specs.Explanations.{IsUnlawfulAt, StopsIn}
 use Rattle.trip_explain.specs.Reasons.{IsStuck}
-use Rattle.trip_explain.proofs.OneExplanation.{some_same, moves_same, walks_same, walk_parts, walk_on, legs_split, no_move}
+use Rattle.trip_explain.proofs.OneExplanation.{moves_same, walks_same, walk_parts, walk_on, legs_split, no_move}
 use Rattle.trip_explain.proofs.OnlyReason.{stuck_once}
+use Rattle.trip_explain.proofs.Places.{some_same, taken}
 
 module _ (net : NetworkModel) (vehicle : VehicleModel) (until : ℕ) where
   stuck_from : (p q : Position) (x y : Step) (t u : ℕ) (why other : Why) → p ≡ q → x ≡ y
@@ -69,13 +70,6 @@ stops_nowhere net vehicle until legs i leg p at q t why there before stops whole
     let next = walk_on s until stops.made (stops.step ∷ stops.left) at stops.at parts.0 stops.walk within in
     no_move net vehicle until stops.at next.0 stops.step t why stops.stuck next.1
 
-taken_leg : (legs : List Leg) (k n : ℕ) (leg : Leg) → k < n → slice_get legs k ≡ Some leg → slice_get (take n legs) k ≡ Some leg
-taken_leg [] k n leg less there = absurd (cc)
-taken_leg (r ∷ rs) zero (suc n) leg less there = there
-taken_leg (r ∷ rs) zero zero leg less there = absurd (omega (arith, less))
-taken_leg (r ∷ rs) (suc k) zero leg less there = absurd (omega (arith, less))
-taken_leg (r ∷ rs) (suc k) (suc n) leg less there = taken_leg rs k n leg (omega (arith, less)) there
-
 module _ (net : NetworkModel) (vehicle : VehicleModel) (r : Request) (legs : List Leg) where
   within_legs : (n t : ℕ) (why : Why) (u : IsUnlawfulAt net vehicle r legs n t why) → u.i ≤ length legs
   within_legs n t why u =
@@ -92,7 +86,7 @@ module _ (net : NetworkModel) (vehicle : VehicleModel) (r : Request) (legs : Lis
             let s = road_setting net vehicle in
             let first : take u.i (take v.i legs) ≡ take u.i legs = take-take u.i v.i legs (omega (arith, less)) in
             stops_nowhere net vehicle r.until (take v.i legs) u.i here.0 (start_of r) u.at v.at t why
-            (taken_leg legs u.i v.i here.0 less here.1)
+            (taken legs u.i v.i here.0 less here.1)
             (subst (λ (xs : List Leg). Walks s r.until (steps_of xs) (start_of r) u.at) (sym first) u.led.walk)
             here.2 v.led.walk
         | inr here ↦ let most = within_legs m t' other v in omega (arith, here.all, most, less)

@@ -1,5 +1,5 @@
 -- A step that can't be made has one minute and one reason.
-use Rattle.std.proofs.Common.{◌≡◌, ℕ, zero, suc, List, [], ◌∷◌, ◌+◌, ◌<◌, ◌≤◌, true, false, Option, Some, None, inl, inr, take, slice_get, refl, sym}
+use Rattle.std.proofs.Common.{◌≡◌, ℕ, List, ◌+◌, ◌<◌, ◌≤◌, true, false, Option, Some, None, inl, inr, take, refl, sym}
 use Rattle.std.proofs.Common.{◌∙◌, ap, subst, arith}
 use Rattle.std.proofs.lemmas.Bool.{cases_lt}
 use Rattle.route_base.specs.Itinerary.{Position, Step, drive, wait}
@@ -13,17 +13,7 @@ use Rattle.trip_explain.specs.declared.explanation.Why.{Why}
 use Rattle.trip_explain.specs.declared.explanation.Why.TheVariants.{Closure}
 use Rattle.trip_explain.specs.Reasons.{Begins, ClosesFirst, IsClosedBy, IsElsewhere, IsFirstRun, IsStuck, elsewhere, late, closed, unrated, late_wait}
 use Rattle.trip_explain.specs.Reasons.{shut_wait, rule_of}
-use Rattle.trip_explain.proofs.Places.{any_found}
-
-same_some : {A : Type 0} (o : Option A) (x y : A) → o ≡ Some x → o ≡ Some y → x ≡ y
-same_some o x y a b = cc
-
-taken : (runs : List Run) (k n : ℕ) (run : Run) → k < n → slice_get runs k ≡ Some run → slice_get (take n runs) k ≡ Some run
-taken [] k n run less there = absurd (cc)
-taken (r ∷ rs) zero (suc n) run less there = there
-taken (r ∷ rs) zero zero run less there = absurd (omega (arith, less))
-taken (r ∷ rs) (suc k) zero run less there = absurd (omega (arith, less))
-taken (r ∷ rs) (suc k) (suc n) run less there = taken rs k n run (omega (arith, less)) there
+use Rattle.trip_explain.proofs.Places.{any_found, some_same, taken}
 
 not_later : (runs : List Run) (t k n : ℕ) → IsFirstRun runs t k → IsFirstRun runs t n → k < n → ⊥
 not_later runs t k n one two less =
@@ -44,7 +34,7 @@ one_run runs t k n one two =
 one_closing : (net : NetworkModel) (vehicle : VehicleModel) (a t : ℕ) (why other : Why) → IsClosedBy net vehicle a t why
     → IsClosedBy net vehicle a t other → why ≡ other
 one_closing net vehicle a t why other (inl one) (inl two) =
-    one.is ∙ ap rule_of (same_some _ one.ruling two.ruling one.given two.given) ∙ sym two.is
+    one.is ∙ ap rule_of (some_same _ one.ruling two.ruling one.given two.given) ∙ sym two.is
 one_closing net vehicle a t why other (inl one) (inr two) = let bad : false ≡ true = sym one.barred ∙ two.let_in in absurd (cc)
 one_closing net vehicle a t why other (inr one) (inl two) = let bad : false ≡ true = sym two.barred ∙ one.let_in in absurd (cc)
 one_closing net vehicle a t why other (inr one) (inr two) =
@@ -71,12 +61,12 @@ one_first net vehicle a from t u why other one two =
 not_both : (s : Setting) (a v : ℕ) (road : Road) → IsElsewhere s a v → Begins s a v road → ⊥
 not_both s a v road (inl none) begins = let bad : None ≡ Some road = sym none ∙ begins.is in cc
 not_both s a v road (inr (other, is, differs)) begins =
-    differs (ap (λ (w : Road). w.tail) (same_some (s.road a) other road is begins.is) ∙ begins.tail)
+    differs (ap (λ (w : Road). w.tail) (some_same (s.road a) other road is begins.is) ∙ begins.tail)
 
 not_late : (s : Setting) (a v until t : ℕ) (road other : Road) → Begins s a v road → Begins s a v other → until < t + road.minutes
     → t + other.minutes ≤ until → ⊥
 not_late s a v until t road other one two after fits =
-    let minutes : road.minutes ≡ other.minutes = ap (λ (w : Road). w.minutes) (same_some (s.road a) road other one.is two.is) in
+    let minutes : road.minutes ≡ other.minutes = ap (λ (w : Road). w.minutes) (some_same (s.road a) road other one.is two.is) in
     omega (arith, minutes, after, fits)
 
 not_rated : (o : Option ℕ) (weight : ℕ) → o ≡ None → o ≡ Some weight → ⊥

@@ -1,6 +1,6 @@
 -- Places of keys, one key after another, and items at places.
 use Rattle.std.proofs.Common.{◌≡◌, ℕ, zero, suc, ◌+◌, Bool, true, Option, Some, None, unwrap_or, List, [], ◌∷◌, ◌++◌, take, slice_get, append_assoc}
-use Rattle.std.proofs.Common.{sym, ◌∙◌, ap, refl}
+use Rattle.std.proofs.Common.{◌<◌, sym, ◌∙◌, ap, refl, arith}
 use Rattle.std.specs.List.{list_any}
 use Rattle.std.specs.Option.{option_or, option_map}
 use Rattle.std.proofs.lemmas.Bool.{or_left, or_right}
@@ -43,3 +43,15 @@ any_found p (y ∷ ys) zero x is passes =
     let same : y ≡ x = cc in
     or_left (p y) (list_any p ys) (ap p same ∙ passes)
 any_found p (y ∷ ys) (suc k) x is passes = or_right (p y) (list_any p ys) (any_found p ys k x is passes)
+
+-- an option has one value
+pub some_same : {A : Type 0} (o : Option A) (x y : A) → o ≡ Some x → o ≡ Some y → x ≡ y
+some_same o x y a b = cc
+
+-- an item before the n-th is among the first n
+pub taken : {A : Type 0} (xs : List A) (k n : ℕ) (x : A) → k < n → slice_get xs k ≡ Some x → slice_get (take n xs) k ≡ Some x
+taken [] k n x less there = absurd (cc)
+taken (y ∷ ys) zero (suc n) x less there = there
+taken (y ∷ ys) zero zero x less there = absurd (omega (arith, less))
+taken (y ∷ ys) (suc k) zero x less there = absurd (omega (arith, less))
+taken (y ∷ ys) (suc k) (suc n) x less there = taken ys k n x (omega (arith, less)) there

@@ -1,4 +1,4 @@
-use Rattle.std.proofs.Common.{◌≡◌, ℕ, ◌-◌, ◌*◌, ◌+◌, [], Some, None, not, replicate, refl, sym, ◌∙◌, ap, arith}
+use Rattle.std.proofs.Common.{◌≡◌, ◌-◌, ◌*◌, ◌+◌, [], Some, not, replicate, refl, sym, ◌∙◌, ap, arith}
 use Rattle.route_base.specs.Itinerary.{wait}
 use Rattle.route_base.proofs.Waiting.{waits}
 use Rattle.network_tables.specs.NetworkModel.{weight_at}
