@@ -1,1 +1,11 @@
+pub mod Places
+pub mod RulingAccess
+pub mod StuckSteps
+pub mod OneExplanation
+pub mod Dominating
+pub mod Undominated
+pub mod FirstMinutes
+pub mod OnlyReason
+pub mod OnlyExplanation
+pub mod OpenParks
 pub mod ItineraryLines
