@@ -11,7 +11,6 @@ use Rattle.route_base.proofs.Numbered.{at_number-all, at_number-next}
 use Rattle.route_base.proofs.Costs.{IsCheap}
 use Rattle.front_transport.specs.CheapArcs.{HasCheapArcs}
 use Rattle.dimacs_reader.specs.GraphModel.{IsGoodGraph, IsGoodGraphArc}
-use Rattle.dimacs_reader.specs.declared.graph.GraphArc.{GraphArc}
 use Rattle.vehicle_classes.specs.VehicleModel.{VehicleModel}
 use Rattle.network_tables.specs.NetworkModel.{NetworkModel, IsGoodNetwork, IsGoodPark, park_of, toll_at, weight_at}
 use Rattle.network_tables.specs.Parking.{ParkRow}

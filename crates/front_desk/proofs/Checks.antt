@@ -1,5 +1,5 @@
 -- A request that fails a check doesn't pass all of them.
-use Rattle.std.proofs.Common.{◌≡◌, ◌⊎◌, inl, inr, ⊎_elim, Some}
+use Rattle.std.proofs.Common.{◌≡◌, inl, ⊎_elim, Some}
 use Rattle.route_base.specs.Contents.{Contents}
 use Rattle.route_base.specs.declared.faults.RequestFault.{RequestFault}
 use Rattle.front_words.specs.declared.commands.Breaks.{Breaks}

@@ -1,5 +1,5 @@
 -- The report of how late one may leave is that of its command.
-use Rattle.std.proofs.Common.{◌≡◌, ◌≤◌, ◌+◌, false, Some, None, Result, Ok, Err, subst, arith}
+use Rattle.std.proofs.Common.{◌≡◌, ◌≤◌, ◌+◌, false, Some, None, Result, Ok, subst, arith}
 use Rattle.std.specs.Result.{IsErrAnd}
 use Rattle.route_base.specs.FolderState.{FolderState, KeepsFiles}
 use Rattle.route_base.specs.Net.{Net}

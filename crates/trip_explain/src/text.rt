@@ -47,7 +47,8 @@ fn push_rule(
     conditional: bool,
     clause: u64,
 ) -> Result<(), OutOfMemory>
-    ensures { OnOk result (out.new.items ≡ out.old.items ++ rule_text of_arc key conditional clause) }
+    ensures { OnOk result
+        (out.new.items ≡ out.old.items ++ rule_text of_arc key conditional clause) }
 {
     push_text(out, "rule ")?;
     push_text(out, scope_label(of_arc))?;
