@@ -8,8 +8,8 @@ use Rattle.route_base.specs.declared.faults.BadInput.{BadInput}
 use Rattle.route_base.specs.declared.faults.Cause.TheVariants.{TooLong}
 use Rattle.route_base.specs.declared.faults.FileKind.{FileKind}
 use Rattle.route_base.specs.declared.faults.FileKind.TheVariants.{Graph, Zones, Areas, Roads, Vehicles, Rules, Closures, Ratings, Parking, Holidays, Tolls}
-use Rattle.route_base.specs.declared.faults.FileKind.TheVariants.{Certificate, Jobs, Stops}
-use Rattle.route_base.specs.declared.limits.TheConstants.{LONGEST_CERTIFICATE, LONGEST_FILE}
+use Rattle.route_base.specs.declared.faults.FileKind.TheVariants.{Certificate, Itinerary, Jobs, Stops}
+use Rattle.route_base.specs.declared.limits.TheConstants.{LONGEST_CERTIFICATE, LONGEST_FILE, LONGEST_ITINERARY}
 use Rattle.network_tables.specs.Files.{no_files, with_file}
 use Rattle.network_tables.specs.NetworkFiles.{contents_fault, network_in_files}
 use Rattle.network_tables.specs.NetworkModel.{NetworkModel}
@@ -39,6 +39,10 @@ jobs_file name = named_file Jobs name true LONGEST_FILE
 -- a table of stops, which has to be there
 abbrev pub stops_file : List ℕ → FileToRead
 stops_file name = named_file Stops name true LONGEST_FILE
+
+-- an itinerary, which has to be there
+abbrev pub itinerary_file : List ℕ → FileToRead
+itinerary_file name = named_file Itinerary name true LONGEST_ITINERARY
 
 -- the kinds of a network's files in the order in which they are read
 abbrev pub network_kinds : List FileKind
