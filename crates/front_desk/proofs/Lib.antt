@@ -14,6 +14,7 @@ pub mod ReadyPlans
 pub mod RefusalTexts
 pub mod ReportedBans
 pub mod ReportedBreaks
+pub mod ReportedExplain
 pub mod ReportedLate
 pub mod ReportedTours
 pub mod Rows
