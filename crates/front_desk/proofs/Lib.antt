@@ -5,6 +5,7 @@ pub mod Checks
 pub mod ClosedWindows
 pub mod Drawn
 pub mod Ending
+pub mod ExactExplanations
 pub mod Grouping
 pub mod Handing
 pub mod Judgements

@@ -27,9 +27,7 @@ use route_base::{
 };
 use std::alloc::Global;
 use std::thread::Threads;
-use trip_explain::{
-    Explanation, ItineraryFault, dominator, explain, explain_text, read_itinerary,
-};
+use trip_explain::{Explanation, ItineraryFault, dominator, explain, explain_text, read_itinerary};
 
 // The law of the net of a trip: the first better pair over the net is that over the network's roads. The call does nothing.
 fn better_pairs_agree()
@@ -80,11 +78,7 @@ fn better_for<R: Threads + Sync, G: Gate>(
 }
 
 // The explanation of the legs for a trip, or the first check that the trip fails.
-fn explanation_of(
-    network: &Network,
-    trip: Trip<'_>,
-    legs: &[Leg],
-) -> Result<Explanation, Halt>
+fn explanation_of(network: &Network, trip: Trip<'_>, legs: &[Leg]) -> Result<Explanation, Halt>
     requires timed { IsTimed (trip_in trip) }
     requires waits { HasNoEmptyWait legs.now }
     ensures passed { OnOk result (failed_check network.now (trip_in trip.entry) ≡ None) }

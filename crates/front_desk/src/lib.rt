@@ -4,9 +4,9 @@
 //! `net_for` does both, and `net_within` for a shorter time.
 //! Each command has a module of its own, `plan`, `judgement` (of certificates), `bans`, `latest`, `batch`, `generation` (of networks), `tour`,
 //! `breaks` and `explain`; `commands` has one case for each. `desk` has the top call, `run`, and `run_gated`, whose workers go through a
-//! gate; `outcome` says how a command may end; `laws` has the numbers of the limits, and the law that `check` accepts what `plan` writes. The
-//! commands are those of `front_words`; reports and the lines of refusals are those of `plan_report`, latest departures those of
-//! `latest_departure`, tours those of `stop_tour`, and explanations those of `trip_explain`.
+//! gate; `outcome` says how a command may end; `laws` has the numbers of the limits, the law that `check` accepts what `plan` writes, and the
+//! law of explanations. The commands are those of `front_words`; reports and the lines of refusals are those of `plan_report`, latest
+//! departures those of `latest_departure`, tours those of `stop_tour`, and explanations those of `trip_explain`.
 //!
 //! The law of `run` is in `specs/`. `Run` says which text is due with each status and what a run promises by its status, over `Commands` (the
 //! answer, the refusals and the files of each command, one line a command and a last one for all others), `Trips` (the first check that
@@ -33,4 +33,4 @@ mod requests;
 mod tour;
 
 pub use desk::{run, run_gated};
-pub use laws::{limits_are_these, written_certificates_are_good};
+pub use laws::{explanations_are_exact, limits_are_these, written_certificates_are_good};
