@@ -2,8 +2,11 @@
 ghost use Rattle.std.specs.Prelude.{◌≢◌};
 ghost use Rattle.route_base.specs.declared.faults.Cause.TheVariants.{Missing};
 
-use route_base::limits::{LONGEST_CERTIFICATE, LONGEST_FILE, LONGEST_ITINERARY};
+use route_base::limits::{LONGEST_CERTIFICATE, LONGEST_FILE};
 use route_base::{Cause, FileKind, Text};
+
+/// The most bytes of an itinerary's file.
+pub const LONGEST_ITINERARY: u64 = 16_777_216;
 
 /// A file to read: its kind, its name below the folder, whether it has to be there, the most bytes that it may have, and the
 /// cause of its refusal where it has more.

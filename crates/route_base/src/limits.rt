@@ -88,8 +88,5 @@ pub const LONGEST_FOLDER: usize = 4_096;
 /// The most bytes of a network's file, and of a jobs file.
 pub const LONGEST_FILE: u64 = 268_435_456;
 
-/// The most bytes of an itinerary's file.
-pub const LONGEST_ITINERARY: u64 = 16_777_216;
-
 /// The most bytes of a certificate's file.
 pub const LONGEST_CERTIFICATE: u64 = 4_398_046_511_104;
