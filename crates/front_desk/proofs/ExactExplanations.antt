@@ -1,6 +1,7 @@
 -- The text that explains legs is exact.
-use Rattle.std.proofs.Common.{◌≡◌, ◌↔◌, ℕ, ◌++◌, codes, None, Some, Option, List, ap, refl, sym, subst, ◌∙◌}
+use Rattle.std.proofs.Common.{◌≡◌, ◌↔◌, ℕ, ◌++◌, codes, None, Some, Option, List, get_or, ap, refl, sym, subst, ◌∙◌}
 use Rattle.std.proofs.lemmas.List.{append_cancel_left}
+use native.Mathlib.Omega.{arith}
 use Rattle.route_base.specs.Front.{IsAchieved, IsUndominated}
 use Rattle.route_base.specs.Itinerary.{Position}
 use Rattle.route_base.specs.Legs.{Achieves, end_of, start_of, steps_of}
@@ -25,7 +26,9 @@ use Rattle.front_desk.specs.Explain.{IsBetterFor, IsExplainText, IsFirstBetter}
 -- the text of lawful legs that no pair dominates names no better pair
 none_better : (better : Option Pair) → better_line better ≡ better_line None → better ≡ None
 none_better None same = refl
-none_better (Some pair) same = absurd (cc)
+none_better (Some pair) same =
+    let first : 100 ≡ 117 = ap (λ (line : List ℕ). get_or line 0 0) same in
+    absurd (omega (arith, first))
 
 module _ (s : Setting) (r : Request) (legs : List Leg) where
   pair_by : ℕ → ℕ → Pair
