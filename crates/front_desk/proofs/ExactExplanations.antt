@@ -1,5 +1,5 @@
 -- The text that explains legs is exact.
-use Rattle.std.proofs.Common.{◌≡◌, ◌↔◌, ℕ, ◌++◌, codes, None, Some, Option, List, get_or, ap, arith, refl, sym, subst, ◌∙◌}
+use Rattle.std.proofs.Common.{◌≡◌, ◌↔◌, ℕ, codes, None, Some, Option, List, get_or, ap, arith, refl, sym, subst, ◌∙◌}
 use Rattle.std.proofs.lemmas.List.{append_cancel_left}
 use Rattle.route_base.specs.Front.{IsAchieved, IsUndominated}
 use Rattle.route_base.specs.Itinerary.{Position}

@@ -1,4 +1,4 @@
-use Rattle.std.proofs.Common.{◌≡◌, None, List, ℕ, refl, subst}
+use Rattle.std.proofs.Common.{◌≡◌, None, refl, subst}
 use Rattle.front_words.specs.declared.commands.Invocation.TheVariants.{Explain as to_explain}
 use Rattle.front_words.specs.declared.commands.Trip.{Trip}
 use Rattle.front_desk.specs.Explain.{IsExplainText}
