@@ -1,7 +1,6 @@
 -- The text that explains legs is exact.
-use Rattle.std.proofs.Common.{◌≡◌, ◌↔◌, ℕ, ◌++◌, codes, None, Some, Option, List, get_or, ap, refl, sym, subst, ◌∙◌}
+use Rattle.std.proofs.Common.{◌≡◌, ◌↔◌, ℕ, ◌++◌, codes, None, Some, Option, List, get_or, ap, arith, refl, sym, subst, ◌∙◌}
 use Rattle.std.proofs.lemmas.List.{append_cancel_left}
-use native.Mathlib.Omega.{arith}
 use Rattle.route_base.specs.Front.{IsAchieved, IsUndominated}
 use Rattle.route_base.specs.Itinerary.{Position}
 use Rattle.route_base.specs.Legs.{Achieves, end_of, start_of, steps_of}
