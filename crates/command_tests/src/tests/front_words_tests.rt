@@ -323,10 +323,7 @@ const TRIPS: &[(&str, &str)] = &[
         "explain|d|any|1|3|26563680|26564080|--itinerary|i.txt",
         "no",
     ),
-    (
-        "explain|d|any|1|3|26563680|26564080|i.txt|--form|csv",
-        "no",
-    ),
+    ("explain|d|any|1|3|26563680|26564080|i.txt|--form|csv", "no"),
     ("explain|--drive=1|d|any|1|3|26563680|26564080|i.txt", "no"),
     ("Explain|d|any|1|3|26563680|26564080|i.txt", "no"),
 ];

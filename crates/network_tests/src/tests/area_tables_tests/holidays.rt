@@ -1,6 +1,6 @@
 // The holidays of arcs.
 use crate::tests::network_tables_tests::{AREAS, read};
-use network_tables::Network;
+use network_tables::{Network, NetworkFault};
 use route_base::{ArcId, FileKind};
 
 // Whether a day is a public holiday and whether it is a school holiday, at an arc; none where the triangle has no such arc.
@@ -34,11 +34,18 @@ const TEXTS: &[(FileKind, &str)] = &[
     ),
 ];
 
-#[test]
-fn reads_holidays_of_both_kinds(rt: HostRuntime) {
-    let network = read(rt.alloc(), TEXTS).expect(&rt, "a network");
-    for (a, day, public, school) in DAYS {
-        let found = holidays_on(&network, *a, *day);
-        assert!(rt; found == Some((*public, *school)), "arc {a} on {day}");
+// Whether the network has these holidays.
+fn has_holidays(network: &Network, days: &[(u32, u32, bool, bool)]) -> bool {
+    let mut has = true;
+    for (a, day, public, school) in days {
+        has = has && holidays_on(network, *a, *day) == Some((*public, *school));
     }
+    has
+}
+
+#[test]
+fn reads_holidays_of_both_kinds(rt: HostRuntime) -> Result<(), NetworkFault> {
+    let has = has_holidays(&read(rt.alloc(), TEXTS)?, DAYS);
+    assert!(rt; has);
+    Ok(())
 }

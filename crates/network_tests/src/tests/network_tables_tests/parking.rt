@@ -27,12 +27,18 @@ fn has_park(network: &Network, node: u32, area: usize, timed: bool) -> bool {
 
 const PARKED: &str = "node,rating,area,hours\n1,r,,\n2,free,town,\"Mo-Fr 06:00-22:00; PH off\"\n";
 
+// Whether one may wait at the first node always, at the second at times, and nowhere else.
+fn has_two_parks(network: &Network) -> bool {
+    has_park(network, 1, 0, false)
+        && has_park(network, 2, 1, true)
+        && network.parks().rated(NodeId(3)).is_none()
+}
+
 #[test]
-fn reads_areas_and_hours_of_parking(rt: HostRuntime) {
-    let network = parked(rt.alloc(), PARKED).expect(&rt, "a network");
-    assert!(rt; has_park(&network, 1, 0, false));
-    assert!(rt; has_park(&network, 2, 1, true));
-    assert!(rt; network.parks().rated(NodeId(3)).is_none());
+fn reads_areas_and_hours_of_parking(rt: HostRuntime) -> Result<(), NetworkFault> {
+    let right = has_two_parks(&parked(rt.alloc(), PARKED)?);
+    assert!(rt; right);
+    Ok(())
 }
 
 const SHARED: &str = "node,rating,area,hours\n1,r,town,24/7\n2,free,town,24/7\n3,r,port,24/7\n";
@@ -101,11 +107,17 @@ fn long_hours(alloc: Global, bytes: usize) -> Result<String, OutOfMemory> {
     Ok(text)
 }
 
+// Why hours of this number of bytes are refused, if they are.
+fn fault_of_hours(alloc: Global, bytes: usize) -> Result<Option<NetworkFault>, OutOfMemory> {
+    let text = long_hours(alloc, bytes)?;
+    Ok(parked(alloc, &text).err())
+}
+
 #[test]
-fn refuses_longer_hours_than_65536_bytes(rt: HostRuntime) {
-    let text = long_hours(rt.alloc(), 65_536).expect(&rt, "memory");
-    assert!(rt; parked(rt.alloc(), &text).is_ok());
-    let text = long_hours(rt.alloc(), 65_537).expect(&rt, "memory");
-    let fault = parked(rt.alloc(), &text).err();
-    assert!(rt; fault == refusal(FileKind::Parking, 2, Cause::SizeLimit));
+fn refuses_longer_hours_than_65536_bytes(rt: HostRuntime) -> Result<(), OutOfMemory> {
+    let longest = fault_of_hours(rt.alloc(), 65_536)?;
+    assert!(rt; longest.is_none());
+    let longer = fault_of_hours(rt.alloc(), 65_537)?;
+    assert!(rt; longer == refusal(FileKind::Parking, 2, Cause::SizeLimit));
+    Ok(())
 }

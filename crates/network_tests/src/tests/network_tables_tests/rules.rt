@@ -61,14 +61,20 @@ const PLAIN: &[(u32, Key, Option<Access>, Option<Access>)] = &[
     (3, Key::Bus, None, None),
 ];
 
-#[test]
-fn reads_plain_rules_of_areas_and_arcs(rt: HostRuntime) {
-    let network = ruled(rt.alloc(), "", RULES).expect(&rt, "a network");
-    for (a, key, area, own) in PLAIN {
-        let found = plain_of(&network, *a, *key);
-        assert!(rt; found == (*area, *own), "{key:?} of {a}");
+// Whether the network has these plain values, and three rows are passed over.
+fn has_plain(network: &Network, cases: &[(u32, Key, Option<Access>, Option<Access>)]) -> bool {
+    let mut has = network.passed_over() == 3;
+    for (a, key, area, own) in cases {
+        has = has && plain_of(network, *a, *key) == (*area, *own);
     }
-    assert_eq!(rt; network.passed_over(), 3);
+    has
+}
+
+#[test]
+fn reads_plain_rules_of_areas_and_arcs(rt: HostRuntime) -> Result<(), NetworkFault> {
+    let has = has_plain(&ruled(rt.alloc(), "", RULES)?, PLAIN);
+    assert!(rt; has);
+    Ok(())
 }
 
 // Arcs and keys, and the numbers of clauses of the area and of the arc.
@@ -80,13 +86,20 @@ const CLAUSES: &[(u32, Key, usize, usize)] = &[
     (3, Key::Access, 0, 0),
 ];
 
-#[test]
-fn reads_conditional_rules_of_areas_and_arcs(rt: HostRuntime) {
-    let network = ruled(rt.alloc(), "", RULES).expect(&rt, "a network");
-    for (a, key, area, own) in CLAUSES {
-        let found = clauses_of(&network, *a, *key);
-        assert!(rt; found == (*area, *own), "{key:?} of {a}");
+// Whether the network has conditional values of these numbers of clauses.
+fn has_clauses(network: &Network, cases: &[(u32, Key, usize, usize)]) -> bool {
+    let mut has = true;
+    for (a, key, area, own) in cases {
+        has = has && clauses_of(network, *a, *key) == (*area, *own);
     }
+    has
+}
+
+#[test]
+fn reads_conditional_rules_of_areas_and_arcs(rt: HostRuntime) -> Result<(), NetworkFault> {
+    let has = has_clauses(&ruled(rt.alloc(), "", RULES)?, CLAUSES);
+    assert!(rt; has);
+    Ok(())
 }
 
 // The network of the rules in these rows.
@@ -165,12 +178,18 @@ const GOOD_RULES: &[(u64, &str)] = &[
     (2, "arc:1,,\narc:1,:conditional,no\n"),
 ];
 
+// The number of these rows that are passed over.
+fn passed_of(alloc: Global, rows: &str) -> Result<u64, NetworkFault> {
+    Ok(with_rules(alloc, rows)?.passed_over())
+}
+
 #[test]
-fn counts_the_rows_that_are_passed_over(rt: HostRuntime) {
+fn counts_the_rows_that_are_passed_over(rt: HostRuntime) -> Result<(), NetworkFault> {
     for (count, rows) in GOOD_RULES {
-        let network = with_rules(rt.alloc(), rows).expect(&rt, "a network");
-        assert!(rt; network.passed_over() == *count, "{rows}");
+        let passed = passed_of(rt.alloc(), rows)?;
+        assert!(rt; passed == *count, "{rows}");
     }
+    Ok(())
 }
 
 // The row of a rule of this key whose value is `no @ a` and n blanks.
