@@ -494,12 +494,16 @@ MaxStartups 100
         self.assertEqual(self.sent(), before)
 
     def test_failures(self):
-        """The parts of a machine that can't be reached are run on another, and so is a part that fails."""
+        """A machine that can't be reached is left out, and a part that fails is run again."""
         self.write_jobs(20)
         self.write("fail-00002", "1")
         many = self.call("--rows", "5", "--sshlogin", self.login("node1"), "--sshlogin", self.login("dead"), "--send")
         self.assertEqual((many.returncode, many.stdout), (0, self.one_batch().stdout), many.stderr.decode())
-        self.assertIn("Connection refused", many.stderr.decode())
+        self.assertRegex(many.stderr.decode(), "dead can't be reached: .*Connection refused")
+        self.write_jobs(21)
+        many = self.call("--sshlogin", self.login("dead"))
+        self.assertEqual((many.returncode, many.stdout), (75, b""))
+        self.assertIn("no machine can be reached", many.stderr.decode())
 
     def test_other_files_on_a_machine(self):
         """A machine that sees other files under the same path gives no part."""
