@@ -617,15 +617,16 @@ class OverSlurm(Runs):
         self.assertEqual((many.returncode, many.stdout), (0, self.one_batch().stdout), many.stderr.decode())
 
 
-def draw_network(case):
-    """Draws a network with the program that is tested, and a table of 40 jobs over it."""
+def take_network(case):
+    """Takes the roads of an example, with trips that wait and trips that are refused, for the built program."""
     case.program = BUILT
     shutil.rmtree(case.net)
-    os.mkdir(case.net)
-    subprocess.run([BUILT, "gen", case.net, "7", "5", "5"], stdout=subprocess.DEVNULL, check=True)
+    shutil.copytree(os.path.join(TOP, "examples", "night-closure"), case.net)
     draws = random.Random(3)
-    rows = [f"{draws.choice(['any', 'any', 'x'])},{draws.randint(1, 25)},{draws.randint(1, 26)},{26563680 + draws.randint(0, 500)},"
-            f"{26563680 + draws.randint(400, 2000)}" for _ in range(40)]  # fmt: skip
+    rows = []
+    for _ in range(40):
+        depart = 26563680 + draws.randint(0, 120)
+        rows.append(f"{draws.choice(['any', 'any', 'x'])},{draws.randint(1, 2)},{draws.randint(1, 4)},{depart},{depart + draws.randint(0, 500)}")
     case.write("net/jobs.csv", "\n".join(["vehicle,from,to,depart,until", *rows, ""]))
 
 
@@ -635,7 +636,7 @@ class Real(OverParallel):
 
     def setUp(self):
         super().setUp()
-        draw_network(self)
+        take_network(self)
 
     def test_same_text(self):
         many = self.expect_same("--rows", "7", "--jobs", "2")
@@ -683,7 +684,7 @@ class Real(OverParallel):
 @unittest.skipUnless(os.access(BUILT, os.X_OK), "there is no built program: ./lorry_plan builds it")
 class RealOverSsh(OverSsh):
     def test_send(self):
-        draw_network(self)
+        take_network(self)
         self.expect_same("--rows", "7", "--sshlogin", self.login("node1"), "--sshlogin", self.login("node2"), "--send")
 
     test_shared_folder = test_failures = test_other_files_on_a_machine = None
@@ -692,7 +693,7 @@ class RealOverSsh(OverSsh):
 @unittest.skipUnless(os.access(BUILT, os.X_OK), "there is no built program: ./lorry_plan builds it")
 class RealOverSlurm(OverSlurm):
     def test_array(self):
-        draw_network(self)
+        take_network(self)
         self.expect_same("--rows", "7", "--slurm")
 
     test_failures = test_interrupted = None
