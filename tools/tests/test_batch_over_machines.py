@@ -98,6 +98,22 @@ def lacks(*names):
     return next((name for name in names if not shutil.which(name, path=SBIN)), None)
 
 
+def say_what_is_skipped():
+    """One line for each kind of tests that can't be run here."""
+    for kind, packages, names in [
+        ("all runs", "parallel", ["parallel"]),
+        ("runs over ssh", "parallel openssh-server rsync", ["parallel", "sshd", "ssh", "ssh-keygen", "rsync"]),
+        ("runs over Slurm", "slurm-wlm munge", ["sbatch", "slurmctld", "slurmd", "munged"]),
+    ]:
+        if lacks(*names):
+            print(f"test_batch_over_machines: {kind} are skipped: apt-get install {packages}", file=sys.stderr)
+    if not os.access(BUILT, os.X_OK):
+        print("test_batch_over_machines: runs of the built program are skipped: ./lorry_plan builds it", file=sys.stderr)
+
+
+say_what_is_skipped()
+
+
 def free_port():
     with socket.socket() as it:
         it.bind(("127.0.0.1", 0))
@@ -413,6 +429,10 @@ class OverParallel(Runs):
         with open(self.path("text"), "rb") as file:
             self.assertEqual(file.read(), self.one_batch().stdout)
         self.assertTrue(os.path.isdir(self.path("work here")))
+        # A folder with other files is left as it is.
+        many = self.call("--work", self.net)
+        self.assertEqual((many.returncode, many.stdout), (2, b""))
+        self.assertEqual(sorted(os.listdir(self.net)), ["graph.gr", "jobs.csv", "tolls.csv"])
 
     def test_words(self):
         self.assertEqual(subprocess.run([sys.executable, TOOL, "--help"], stdout=subprocess.DEVNULL).returncode, 0)

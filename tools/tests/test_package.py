@@ -42,6 +42,14 @@ def lacks(*names):
     return next((name for name in names if not shutil.which(name)), None)
 
 
+for absent in ["dpkg-deb", "lintian", "mandoc", "man", "zsh", "fish"]:
+    if lacks(absent):
+        package = {"dpkg-deb": "dpkg", "man": "man-db"}.get(absent, absent)
+        print(f"test_package: what needs {absent} is skipped: apt-get install {package}", file=sys.stderr)
+if not os.access(BUILT, os.X_OK):
+    print("test_package: what runs the built program is skipped: ./lorry_plan builds it", file=sys.stderr)
+
+
 def content(path):
     with open(path, "rb") as file:
         return file.read()
