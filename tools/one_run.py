@@ -21,6 +21,8 @@ MOST_MEMORY = 200
 DONE, REJECTED, USAGE, BAD_INPUT, READ_FAULT, WRITE_FAULT, NO_MEMORY, BAD_REQUEST = range(8)
 
 INSTANT = rb"\d{4}-\d\d-\d\dT\d\d:\d\dZ"
+PAIR = rb"\d+ \d+\.\d{3}"
+REASON = rb"(?:tail|late|unrated|shut|goal|closure \d+|rule (?:area|arc) [a-z_]+ (?:plain|conditional) \d+)"
 PLAIN = rb"pairs \d+\n(?:pair \d+ \d+\.\d{3}\n(?:drive \d+\n|wait \d+\n)*)*"
 REQUEST_REFUSED = rb"refused request [A-Za-z]+\n"
 
@@ -31,6 +33,7 @@ TEXTS = {
         "check": rb"accepted \d+\n",
         "bans": rb"bans \d+\n(?:closed " + INSTANT + b" " + INSTANT + rb"\n)*passed \d+\n",
         "batch": rb"(?:job \d+\n(?:" + PLAIN + b"|" + REQUEST_REFUSED + b"))*",
+        "explain": rb"lawful " + PAIR + rb"\n(?:undominated|dominated " + PAIR + rb")\n|unlawful \d+ \d+ " + REASON + rb"\n",
         "gen": rb"generated \d+ \d+\npairs \d+\n(?:first \d+ \d+\.\d{3}\nlast \d+ \d+\.\d{3}\n)?",
     },
     REJECTED: rb"rejected [0-6]\n",

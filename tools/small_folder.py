@@ -14,6 +14,7 @@ TOUR = TRIP[:4] + ["2020-07-06T00:00Z"]
 CERTIFICATE = "plan.cert"
 JOBS = "jobs.csv"
 STOPS = "stops.csv"
+ITINERARY = "itinerary.txt"
 
 NETWORK = {
     "graph.gr": "c Five roads.\np sp 4 5\na 1 2 60\na 2 4 60\na 1 3 90\na 3 4 60\na 1 4 300\n",
@@ -45,8 +46,11 @@ JOBS_TEXT = (
 # A stop at the node where the truck waits for the closure's end, and one at the goal.
 STOPS_TEXT = "node,service,from,to\n2,30,2020-07-04T01:00Z,26563860\n4,1440,26563680,2020-07-06T00:00Z\n"
 
+# The first pair of the truck's trip, with its wait in two parts.
+ITINERARY_TEXT = "drive 1\nwait 60\nwait 60\ndrive 2\n"
+
 # The kinds of files that a command reads.
-KINDS = [*NETWORK, JOBS, STOPS, CERTIFICATE]
+KINDS = [*NETWORK, JOBS, STOPS, ITINERARY, CERTIFICATE]
 
 # Files that gen replaces, so that a file that was left as it was can be told from one that was written.
 OLD_DRAWING = {
@@ -66,7 +70,7 @@ def write_files(folder, files):
 
 def make(runner, folder):
     """Writes all files into a folder; the certificate is the program's own."""
-    write_files(folder, {**NETWORK, JOBS: JOBS_TEXT, STOPS: STOPS_TEXT})
+    write_files(folder, {**NETWORK, JOBS: JOBS_TEXT, STOPS: STOPS_TEXT, ITINERARY: ITINERARY_TEXT})
     run = runner.run(plan(folder, "--certificate", CERTIFICATE))
     if run.status != DONE:
         sys.exit(f"the trip of the small folder ends with status {run.status}, and prints {run.printed!r}")
@@ -118,6 +122,10 @@ def breaks(folder, *options):
     return ["breaks", folder] + TRIP + list(options)
 
 
+def explain(folder, name=ITINERARY):
+    return ["explain", folder] + TRIP + [name]
+
+
 def gen(folder):
     return ["gen", folder, "7", "2", "3"]
 
@@ -133,6 +141,8 @@ def readers_of(name, folder):
         return [(batch(folder, 2), {DONE, BAD_INPUT})]
     if name == STOPS:
         return [(tour(folder), {DONE, BAD_INPUT})]
+    if name == ITINERARY:
+        return [(explain(folder), {DONE, BAD_INPUT})]
     return [
         (plan(folder), NETWORK_STATUSES),
         (bans(folder), NETWORK_STATUSES),
@@ -141,4 +151,5 @@ def readers_of(name, folder):
         (batch(folder, 1), {DONE, BAD_INPUT}),
         (tour(folder), NETWORK_STATUSES),
         (breaks(folder), NETWORK_STATUSES),
+        (explain(folder), NETWORK_STATUSES),
     ]

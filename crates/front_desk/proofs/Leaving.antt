@@ -9,6 +9,7 @@ use Rattle.front_words.specs.declared.commands.Plan.{Plan}
 use Rattle.front_words.specs.declared.commands.Gen.{Gen}
 use Rattle.front_words.specs.declared.commands.Invocation.TheVariants.{Plan as to_plan, Check as to_check, Bans as to_bans, Batch as to_batch, Gen as to_gen}
 use Rattle.front_words.specs.declared.commands.Invocation.TheVariants.{Latest as to_latest, Tour as to_tour, Breaks as to_breaks}
+use Rattle.front_words.specs.declared.commands.Invocation.TheVariants.{Explain as to_explain}
 use Rattle.front_words.specs.Commands.{command_of}
 use Rattle.front_desk.specs.Commands.{Judges, LeavesCertificate, LeavesPlan, LeavesGen, LeavesFiles, ReadsNothing}
 use Rattle.front_desk.specs.Gen.{files_written}
@@ -49,6 +50,7 @@ by_files P plan gen other (to_batch b) = other (to_batch b) (λ old new status. 
 by_files P plan gen other (to_latest l) = other (to_latest l) (λ old new status. (λ left. left, λ kept. kept))
 by_files P plan gen other (to_tour t) = other (to_tour t) (λ old new status. (λ left. left, λ kept. kept))
 by_files P plan gen other (to_breaks b) = other (to_breaks b) (λ old new status. (λ left. left, λ kept. kept))
+by_files P plan gen other (to_explain e) = other (to_explain e) (λ old new status. (λ left. left, λ kept. kept))
 
 module _ (old new : FolderState) where
   -- what a status leaves is left, too, where the text then couldn't be written, or where memory ran out
@@ -126,6 +128,7 @@ module _ (words : List (List ℕ)) (command : Command) (is : command_of words �
   never_read end (to_latest l) nothing left = absurd nothing
   never_read end (to_tour t) nothing left = absurd nothing
   never_read end (to_breaks b) nothing left = absurd nothing
+  never_read end (to_explain e) nothing left = absurd nothing
   never_read end (to_gen g) nothing left = λ same. subst (λ (e : Result Report Halt). LeavesGen g old new (status_of_end e)) same left
 
   refused_words : (refusal : Refusal) → IsCauseFor command old new refusal → IsCause words old new refusal

@@ -5,6 +5,7 @@ pub mod Checks
 pub mod ClosedWindows
 pub mod Drawn
 pub mod Ending
+pub mod ExactExplanations
 pub mod Grouping
 pub mod Handing
 pub mod Judgements
@@ -14,6 +15,7 @@ pub mod ReadyPlans
 pub mod RefusalTexts
 pub mod ReportedBans
 pub mod ReportedBreaks
+pub mod ReportedExplain
 pub mod ReportedLate
 pub mod ReportedTours
 pub mod Rows

@@ -20,6 +20,7 @@ use Rattle.front_words.specs.declared.commands.Check.{Check}
 use Rattle.front_words.specs.declared.commands.Invocation.{Invocation as Command}
 use Rattle.front_words.specs.declared.commands.Invocation.TheVariants.{Plan as to_plan, Check as to_check, Bans as to_bans, Batch as to_batch, Gen as to_gen}
 use Rattle.front_words.specs.declared.commands.Invocation.TheVariants.{Latest as to_latest, Tour as to_tour, Breaks as to_breaks}
+use Rattle.front_words.specs.declared.commands.Invocation.TheVariants.{Explain as to_explain}
 use Rattle.front_words.specs.Commands.{command_of}
 use Rattle.front_desk.specs.Commands.{first_fault_for, PassesChecks, FailsCheck, IsFinished, Judges, LeavesFiles, Rejects, ReadsNothing, WritesFiles}
 use Rattle.front_desk.specs.Inside.Ending.{Writes}
@@ -37,6 +38,7 @@ finishes (to_gen g) = (refl, λ judges. absurd judges)
 finishes (to_latest l) = (refl, λ judges. absurd judges)
 finishes (to_tour t) = (refl, λ judges. absurd judges)
 finishes (to_breaks b) = (refl, λ judges. absurd judges)
+finishes (to_explain e) = (refl, λ judges. absurd judges)
 
 -- a good certificate fails no condition
 good_never_fails : (s : Setting) (r : Request) (c : Certificate) (k : ℕ) → IsGood s r c → FailsFirst s r c k → ⊥

@@ -12,11 +12,13 @@ use Rattle.front_desk.specs.Bans.{IsBansReport, bans_fault, bans_check}
 use Rattle.front_desk.specs.Batch.{IsBatchReport, batch_fault}
 use Rattle.front_desk.specs.Breaks.{IsBreaksReport, PassesBreaks, FailsBreaks, breaks_fault, breaks_check}
 use Rattle.front_desk.specs.Check.{AcceptsCertificate, RejectsCertificate, check_fault, check_check}
+use Rattle.front_desk.specs.Explain.{IsExplainReport, explain_fault, explain_check}
 use Rattle.front_words.specs.declared.commands.Invocation.{Invocation as Command}
 use Rattle.front_words.specs.declared.commands.Plan.{Plan}
 use Rattle.front_words.specs.declared.commands.Gen.{Gen}
 use Rattle.front_words.specs.declared.commands.Invocation.TheVariants.{Plan as to_plan, Check as to_check, Bans as to_bans, Batch as to_batch, Gen as to_gen}
 use Rattle.front_words.specs.declared.commands.Invocation.TheVariants.{Latest as to_latest, Tour as to_tour, Breaks as to_breaks}
+use Rattle.front_words.specs.declared.commands.Invocation.TheVariants.{Explain as to_explain}
 use Rattle.network_folder.specs.Files.{IfTold, path_of}
 use Rattle.network_folder.specs.Writing.{HoldsEach, HoldsFirst, SpoilsNext}
 use Rattle.front_desk.specs.Gen.{IsGenReport, files_written}
@@ -34,6 +36,7 @@ first_fault_for (to_gen g) held = None
 first_fault_for (to_latest l) held = latest_fault l held
 first_fault_for (to_tour t) held = tour_fault t held
 first_fault_for (to_breaks b) held = breaks_fault b held
+first_fault_for (to_explain e) held = explain_fault e held
 
 -- the first check that the command's request fails, but for the states of `breaks`; a job of a batch that fails one is answered in its
 -- place
@@ -46,6 +49,7 @@ failed_check_for (to_gen g) held = None
 failed_check_for (to_latest l) held = latest_check l held
 failed_check_for (to_tour t) held = tour_check t held
 failed_check_for (to_breaks b) held = breaks_check b held
+failed_check_for (to_explain e) held = explain_check e held
 
 -- the command's request passes all checks
 abbrev pub PassesChecks : Command → Contents → Type 0
@@ -67,6 +71,7 @@ Answers (to_gen g) held after text = IsGenReport g held after text
 Answers (to_latest l) held after text = IsLateReport l held text
 Answers (to_tour t) held after text = IsTourReport t held text
 Answers (to_breaks b) held after text = IsBreaksReport b held text
+Answers (to_explain e) held after text = IsExplainReport e held text
 
 -- the command has a request, which may fail a check; each job of a batch has its own
 abbrev pub HasRequest : Command → Type 0

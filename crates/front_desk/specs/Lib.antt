@@ -3,6 +3,7 @@ pub mod Batch
 pub mod Breaks
 pub mod Check
 pub mod Commands
+pub mod Explain
 pub mod Gen
 pub mod Inside
 pub mod Latest

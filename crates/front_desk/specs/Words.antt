@@ -9,10 +9,12 @@ pub use Rattle.front_desk.specs.Batch.{jobs_held, jobs_fault, batch_fault, IsBat
 pub use Rattle.front_desk.specs.Breaks.{rule_of, IsBreaksText, HasManyStates}
 pub use Rattle.front_words.specs.declared.commands.Invocation.TheVariants.{Plan as to_plan, Check as to_check, Bans as to_bans, Batch as to_batch, Gen as to_gen}
 pub use Rattle.front_words.specs.declared.commands.Invocation.TheVariants.{Latest as to_latest, Tour as to_tour, Breaks as to_breaks}
+pub use Rattle.front_words.specs.declared.commands.Invocation.TheVariants.{Explain as to_explain}
 pub use Rattle.front_words.specs.Commands.{command_of}
 pub use Rattle.front_words.specs.Commands.{AsksSupported, HasGoodRule, IsTimed}
 pub use Rattle.front_desk.specs.Check.{check_fault, certificate_held}
 pub use Rattle.front_desk.specs.Commands.{ReadsNothing, LeavesFiles}
+pub use Rattle.front_desk.specs.Explain.{legs_held, itinerary_fault, explain_fault, IsFirstBetter, IsBetterFor, IsExplainText}
 pub use Rattle.network_folder.specs.Files.{IfTold}
 pub use Rattle.network_folder.specs.Writing.{written_in}
 pub use Rattle.front_desk.specs.Gen.{drawn_trip, stated_network, files_to_write, files_written, IsSummary}

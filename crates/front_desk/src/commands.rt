@@ -5,6 +5,7 @@ ghost use Rattle.front_desk.specs.Words.{command_of, AsksSupported, Ends, EndsWo
 use crate::bans::report_bans;
 use crate::batch::report_batch;
 use crate::breaks::report_breaks;
+use crate::explain::report_explain;
 use crate::generation::report_gen;
 use crate::judgement::report_check;
 use crate::latest::report_latest;
@@ -51,6 +52,7 @@ fn report<R: Threads + Sync, F: Folder, G: Gate>(
         Invocation::Latest(late) => report_latest(rt, alloc, folder, late, gate),
         Invocation::Tour(tour) => report_tour(rt, alloc, folder, tour, gate),
         Invocation::Breaks(breaks) => report_breaks(rt, alloc, folder, breaks, gate),
+        Invocation::Explain(explain) => report_explain(rt, alloc, folder, explain, gate),
     }
 }
 

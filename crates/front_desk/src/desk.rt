@@ -45,8 +45,11 @@ fn refuse<S: Sink>(alloc: Global, out: &mut S, refusal: Refusal) -> Status
 /// workers or as many as `--workers N` says. `gen DIR NUMBER ROWS COLUMNS` draws a network from a number, writes its files into DIR, and
 /// prints a summary of them and of a trip over them. `tour DIR VEHICLE FROM TO DEPART UNTIL STOPS` prints the Pareto front of the tours that
 /// serve the stops of the table STOPS of DIR in their order, and `breaks DIR VEHICLE FROM TO DEPART UNTIL` that of the trips with at most
-/// `--drive` minutes of driving, 270 if it isn't given, since the last break of `--rest` minutes, else 45. The vehicle is `any` or one of `vehicles.csv`. An instant is a text, such
-/// as `2020-07-04T00:00Z`, or a Unix minute. Any other words are `Usage`. The text goes to the sink in one call.
+/// `--drive` minutes of driving, 270 if it isn't given, since the last break of `--rest` minutes, else 45.
+/// `explain DIR VEHICLE FROM TO DEPART UNTIL ITINERARY` prints the pair of the itinerary in the file ITINERARY of DIR, and the first pair of
+/// the Pareto front that dominates it; or for an unlawful one the first leg that can't be travelled, its minute and the reason. The vehicle is
+/// `any` or one of `vehicles.csv`. An instant is a text, such as `2020-07-04T00:00Z`, or a Unix minute. Any other words are `Usage`. The text
+/// goes to the sink in one call.
 ///
 /// Reading is linear in the bytes. A plan takes the time and the memory of `propagation::search`, which are those of the cost functions'
 /// pieces and not of minutes, and for each pair what its legs take. A judgement takes a few binary searches for

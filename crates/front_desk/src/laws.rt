@@ -1,14 +1,28 @@
-// The numbers of the limits, and the law of certificates.
-ghost use Rattle.std.specs.Prelude.{◌≡◌, ℕ, List, Some, true};
+// The numbers of the limits, and the laws of certificates and of explanations.
+ghost use Rattle.std.specs.Prelude.{◌≡◌, ◌↔◌, ℕ, List, Some, None, true};
 ghost use Rattle.front_desk.specs.Check.{HasGoodCertificate, check_of};
+ghost use Rattle.front_desk.specs.Explain.{IsExplainText};
 ghost use Rattle.front_words.specs.declared.commands.Plan.{Plan};
 ghost use Rattle.front_desk.specs.Plan.{IsCertified};
 ghost use Rattle.front_words.specs.Forms.{is_certificate_name};
+ghost use Rattle.network_tables.specs.NetworkModel.{NetworkModel};
+ghost use Rattle.network_tables.specs.RoadSetting.{road_setting};
 ghost use Rattle.route_base.specs.Contents.{Contents};
+ghost use Rattle.route_base.specs.Front.{IsUndominated};
+ghost use Rattle.route_base.specs.Legs.{Achieves};
+ghost use Rattle.route_base.specs.declared.types.Leg.{Leg};
+ghost use Rattle.route_base.specs.declared.types.Pair.{Pair};
+ghost use Rattle.route_base.specs.declared.types.Request.{Request};
+ghost use Rattle.trip_explain.specs.ExplanationText.{explanation_text};
+ghost use Rattle.trip_explain.specs.Explanations.{IsUnlawfulAt};
+ghost use Rattle.trip_explain.specs.declared.explanation.Explanation.TheVariants.{Lawful, Unlawful};
+ghost use Rattle.trip_explain.specs.declared.explanation.Why.{Why};
+ghost use Rattle.vehicle_classes.specs.VehicleModel.{VehicleModel};
 ghost use Rattle.certificate.specs.declared.limits.TheConstants.{LONGEST_BOUND};
 ghost use Rattle.front_desk.specs.declared.latest.TheConstants.{LONGEST_LATE_HORIZON};
 ghost use Rattle.front_words.specs.declared.limits.TheConstants.{MOST_WORKERS, USUAL_WORKERS};
 ghost use Rattle.net_generator.specs.declared.limits.TheConstants.{LAST_NUMBER, MOST_GENERATED_NODES, MOST_LINES};
+ghost use Rattle.network_folder.specs.declared.file_to_read.TheConstants.{LONGEST_ITINERARY};
 ghost use Rattle.network_tables.specs.declared.limits.TheConstants.{MOST_JOBS};
 ghost use Rattle.route_base.specs.declared.limits.TheConstants.{MOST_NODES, MOST_ARCS, LONGEST_DRIVE, LONGEST_HORIZON, LAST_DAY};
 ghost use Rattle.route_base.specs.declared.limits.TheConstants.{FIRST_INSTANT, LAST_INSTANT, COST_OF_MINUTE, HEAVIEST_WEIGHT};
@@ -35,6 +49,7 @@ pub fn limits_are_these()
     ensures names { (LONGEST_NAME ≡ 64) × (LONGEST_FOLDER ≡ 4096) }
     ensures file { LONGEST_FILE ≡ 268435456 }
     ensures certificate { (LONGEST_CERTIFICATE ≡ 4398046511104) × (LONGEST_BOUND ≡ 10000000000) }
+    ensures itinerary { LONGEST_ITINERARY ≡ 16777216 }
     ensures workers { (MOST_WORKERS ≡ 64) × (USUAL_WORKERS ≡ 4) }
     ensures drawn { (MOST_LINES ≡ 400) × (MOST_GENERATED_NODES ≡ 22500) }
     ensures number { LAST_NUMBER ≡ 2147483646 }
@@ -57,4 +72,20 @@ pub fn written_certificates_are_good()
     ensures { (plan : Plan) (name : List ℕ) (held after : Contents)
         → is_certificate_name name ≡ true → IsCertified plan name held (Some after)
         → HasGoodCertificate (check_of plan name) after }
+{}
+
+/// The law of explanations: the text of lawful legs says `undominated` exactly where no lawful itinerary's pair dominates theirs, and the text
+/// of unlawful legs never does: it tells their leg, minute and reason. The call does nothing.
+pub fn explanations_are_exact()
+    ensures lawful { (network : NetworkModel) (vehicle : VehicleModel) (request : Request)
+        → (legs : List Leg) (text : List ℕ) (pair : Pair)
+        → IsExplainText network vehicle request legs text
+        → Achieves (road_setting network vehicle) request legs pair
+        → (text ≡ explanation_text (Lawful pair) None)
+        ↔ IsUndominated (road_setting network vehicle) request pair }
+    ensures unlawful { (network : NetworkModel) (vehicle : VehicleModel) (request : Request)
+        → (legs : List Leg) (text : List ℕ) (leg minute : ℕ) (why : Why)
+        → IsExplainText network vehicle request legs text
+        → IsUnlawfulAt network vehicle request legs leg minute why
+        → text ≡ explanation_text (Unlawful leg minute why) None }
 {}

@@ -6,8 +6,8 @@ use Rattle.clap.specs.Simple.{App, built}
 use Rattle.clap.proofs.OnLiterals.{clap_on_literals}
 use Rattle.front_words.specs.ClapCommands.{Passes, app_with, bans_app, bans_places, batch_app, batch_choices, batch_places, check_app, check_places}
 use Rattle.front_words.specs.ClapCommands.{gen_app, gen_places, line_of_batch, line_of_plan, option_line, plan_app, plan_choices, plan_places, written_out}
-use Rattle.front_words.specs.ClapCommands.{latest_app, tour_app}
-use Rattle.front_words.specs.Commands.{bans_usage, check_usage, gen_usage, latest_usage, tour_usage}
+use Rattle.front_words.specs.ClapCommands.{explain_app, latest_app, tour_app}
+use Rattle.front_words.specs.Commands.{bans_usage, check_usage, explain_usage, gen_usage, latest_usage, tour_usage}
 use Rattle.front_words.specs.Inside.{ArePlain, TakesPlaces}
 use Rattle.front_words.specs.Splitting.{is_dashed}
 use Rattle.front_words.proofs.ClapWalk.{IsLeaf, Opens, WalksOn, due_from, held_behind, met_from, passes_at, passes_line, rule_by_id, texts_in}
@@ -64,6 +64,14 @@ pub tour_takes : TakesPlaces tour_usage check_places
 tour_takes = record { counted = refl; alone = refl; passes = passes }
   where
     passes : (words : List Text) → length words ≡ 7 → ArePlain words → Passes tour_app (codes "tour" ∷ words) check_places words [] []
+    passes (a ∷ b ∷ c ∷ d ∷ e ∷ f ∷ g ∷ []) n plain = passes_alone _ _ _ (record { simple = refl; named = refl; alone = refl }) plain refl refl refl
+    passes words n plain = absurd (omega arith)
+
+-- `explain DIR VEHICLE FROM TO DEPART UNTIL ITINERARY`
+pub explain_takes : TakesPlaces explain_usage check_places
+explain_takes = record { counted = refl; alone = refl; passes = passes }
+  where
+    passes : (words : List Text) → length words ≡ 7 → ArePlain words → Passes explain_app (codes "explain" ∷ words) check_places words [] []
     passes (a ∷ b ∷ c ∷ d ∷ e ∷ f ∷ g ∷ []) n plain = passes_alone _ _ _ (record { simple = refl; named = refl; alone = refl }) plain refl refl refl
     passes words n plain = absurd (omega arith)
 

@@ -47,7 +47,7 @@ plan_choices = codes "form" ∷ codes "certificate" ∷ []
 abbrev pub plan_app : App
 plan_app = app_with (codes "plan") plan_places plan_choices
 
--- the positional words of `check` and `tour`
+-- the positional words of `check`, `tour` and `explain`
 abbrev pub check_places : List (List ℕ)
 check_places = codes "dir" ∷ (trip_places ++ codes "name" ∷ [])
 
@@ -98,6 +98,10 @@ breaks_choices = codes "drive" ∷ codes "rest" ∷ []
 -- `breaks DIR VEHICLE FROM TO DEPART UNTIL [--drive B] [--rest L]`
 abbrev pub breaks_app : App
 breaks_app = app_with (codes "breaks") plan_places breaks_choices
+
+-- `explain DIR VEHICLE FROM TO DEPART UNTIL ITINERARY`
+abbrev pub explain_app : App
+explain_app = app_with (codes "explain") check_places []
 
 -- `clap` refuses the words for want of memory alone
 unfoldable pub IsTaken : App → List (List ℕ) → Type 0

@@ -16,10 +16,12 @@ pub use Rattle.front_words.specs.declared.commands.Gen.{Gen}
 pub use Rattle.front_words.specs.declared.commands.Latest.{Latest}
 pub use Rattle.front_words.specs.declared.commands.Tour.{Tour}
 pub use Rattle.front_words.specs.declared.commands.Breaks.{Breaks}
+pub use Rattle.front_words.specs.declared.commands.Explain.{Explain}
 pub use Rattle.front_words.specs.declared.commands.Invocation.{Invocation as Command}
 pub use Rattle.front_words.specs.declared.commands.Invocation.TheVariants.{Plan as to_plan, Check as to_check, Bans as to_bans}
 pub use Rattle.front_words.specs.declared.commands.Invocation.TheVariants.{Batch as to_batch, Gen as to_gen}
 pub use Rattle.front_words.specs.declared.commands.Invocation.TheVariants.{Latest as to_latest, Tour as to_tour, Breaks as to_breaks}
+pub use Rattle.front_words.specs.declared.commands.Invocation.TheVariants.{Explain as to_explain}
 use Rattle.front_words.specs.declared.flat.Command.{Command as FlatCommand}
 use Rattle.front_words.specs.declared.flat.Command.TheVariants as flat
 use Rattle.front_words.specs.declared.limits.TheConstants.{MOST_WORKERS, USUAL_DRIVE, USUAL_REST, USUAL_WORKERS}
@@ -104,6 +106,12 @@ breaks_of (of_text dir ∷ of_text lorry ∷ of_number from ∷ of_number to ∷
     }))
 breaks_of places options = None
 
+-- the explanation that the values of its words ask for
+abbrev pub explain_of : List Value → List (Option Value) → Option Command
+explain_of (of_text dir ∷ of_text lorry ∷ of_number from ∷ of_number to ∷ of_number start ∷ of_number end ∷ of_text name ∷ []) [] =
+    Some (to_explain (record { dir = dir; trip = trip_to lorry from to start end; itinerary = name }))
+explain_of places options = None
+
 -- `plan DIR VEHICLE FROM TO DEPART UNTIL [--form F] [--certificate NAME]`
 abbrev pub plan_usage : Usage Command
 plan_usage = record {
@@ -176,9 +184,19 @@ breaks_usage = record {
   make = breaks_of;
 }
 
+-- `explain DIR VEHICLE FROM TO DEPART UNTIL ITINERARY`
+abbrev pub explain_usage : Usage Command
+explain_usage = record {
+  name = codes "explain";
+  places = folder ∷ (trip_forms ++ file ∷ []);
+  options = [];
+  make = explain_of;
+}
+
 -- the commands, in the order of their table
 abbrev pub usages : List (Usage Command)
-usages = plan_usage ∷ check_usage ∷ bans_usage ∷ batch_usage ∷ gen_usage ∷ latest_usage ∷ tour_usage ∷ breaks_usage ∷ []
+usages =
+    plan_usage ∷ check_usage ∷ bans_usage ∷ batch_usage ∷ gen_usage ∷ latest_usage ∷ tour_usage ∷ breaks_usage ∷ explain_usage ∷ []
 
 -- the command of words: its name and then its own words; nothing for words that are no command
 abbrev pub command_of : List (List ℕ) → Option Command
@@ -197,6 +215,8 @@ command_in (flat.Latest dir lorry from to start end) = to_latest (record { dir =
 command_in (flat.Tour dir lorry from to start end stops) = to_tour (record { dir = dir; trip = trip_to lorry from to start end; stops = stops })
 command_in (flat.Breaks dir lorry from to start end drive rest) =
     to_breaks (record { dir = dir; trip = trip_to lorry from to start end; drive = drive; rest = rest })
+command_in (flat.Explain dir lorry from to start end name) =
+    to_explain (record { dir = dir; trip = trip_to lorry from to start end; itinerary = name })
 
 -- the trip begins and ends at instants
 pub record IsTimed (trip : Trip) : Type 0 where
@@ -219,3 +239,4 @@ AsksSupported (to_gen g) = IsDrawable g.number g.rows g.columns
 AsksSupported (to_latest l) = IsTimed l.trip
 AsksSupported (to_tour t) = IsTimed t.trip
 AsksSupported (to_breaks b) = IsTimed b.trip × HasGoodRule b
+AsksSupported (to_explain e) = IsTimed e.trip

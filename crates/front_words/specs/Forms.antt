@@ -48,7 +48,7 @@ pub data WordForm : Type 0 where
   certificate : WordForm
   -- F
   report : WordForm
-  -- JOBS, STOPS
+  -- JOBS, STOPS, ITINERARY
   file : WordForm
   -- N, NUMBER, ROWS, COLUMNS, B, L: up to the limit
   count : ℕ → WordForm

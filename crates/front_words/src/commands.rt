@@ -86,6 +86,14 @@ pub struct Breaks {
     pub rest: u64,
 }
 
+/// Says what is wrong with the itinerary of the file `itinerary`, for a trip over the files of the folder `dir`, or which pair is better.
+#[derive(Drop)]
+pub struct Explain {
+    pub dir: Text,
+    pub trip: Trip,
+    pub itinerary: Text,
+}
+
 /// A command with the values of its words, those of each command in a struct of its own.
 #[derive(Drop)]
 pub enum Invocation {
@@ -97,6 +105,7 @@ pub enum Invocation {
     Latest(Latest),
     Tour(Tour),
     Breaks(Breaks),
+    Explain(Explain),
 }
 
 /// Why words give no command.

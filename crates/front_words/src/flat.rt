@@ -1,8 +1,8 @@
 // The commands, with the values of all their words side by side.
 ghost use Rattle.std.specs.Prelude.{◌≡◌};
-ghost use Rattle.front_words.specs.Commands.{command_in, to_breaks, to_check, to_latest, to_plan, to_tour};
+ghost use Rattle.front_words.specs.Commands.{command_in, to_breaks, to_check, to_explain, to_latest, to_plan, to_tour};
 
-use crate::{Bans, Batch, Breaks, Check, Gen, Invocation, Latest, Plan, Tour, Trip};
+use crate::{Bans, Batch, Breaks, Check, Explain, Gen, Invocation, Latest, Plan, Tour, Trip};
 use route_base::{Form, Minute, Text};
 
 /// A command, with the values of its words. Nodes and arcs are numbered from 1; minutes are Unix minutes.
@@ -83,6 +83,17 @@ pub enum Command {
         drive: u64,
         rest: u64,
     },
+    /// Says what is wrong with the itinerary of the file `itinerary`, for a trip over the files of the folder `dir`, or which pair is
+    /// better.
+    Explain {
+        dir: Text,
+        vehicle: Text,
+        from: u32,
+        to: u32,
+        depart: Minute,
+        until: Minute,
+        itinerary: Text,
+    },
 }
 
 // The same command, its words side by side.
@@ -129,6 +140,7 @@ pub fn side_by_side(invocation: Invocation) -> Command
         Invocation::Latest(latest) => latest_of(latest),
         Invocation::Tour(tour) => tour_of(tour),
         Invocation::Breaks(breaks) => breaks_of(breaks),
+        Invocation::Explain(explain) => explain_of(explain),
     }
 }
 
@@ -255,5 +267,32 @@ fn breaks_of(breaks: Breaks) -> Command
         until,
         drive,
         rest,
+    }
+}
+
+// The words of an explanation.
+fn explain_of(explain: Explain) -> Command
+    ensures { command_in result ≡ to_explain explain }
+{
+    let Explain {
+        dir,
+        trip,
+        itinerary,
+    } = explain;
+    let Trip {
+        vehicle,
+        origin,
+        goal,
+        depart,
+        until,
+    } = trip;
+    Command::Explain {
+        dir,
+        vehicle,
+        from: origin,
+        to: goal,
+        depart,
+        until,
+        itinerary,
     }
 }

@@ -7,6 +7,7 @@ use crate::bans::BansWords;
 use crate::batch::read_batch;
 use crate::breaks::read_breaks;
 use crate::check::CheckWords;
+use crate::explain::ExplainWords;
 use crate::flat::side_by_side;
 use crate::generate::GenWords;
 use crate::latest::LatestWords;
@@ -35,13 +36,13 @@ fn options_of(name: &str) -> &'static [&'static str]
 ///
 /// The commands are `plan DIR VEHICLE FROM TO DEPART UNTIL [--form F] [--certificate NAME]`, `check DIR VEHICLE FROM TO DEPART UNTIL
 /// NAME`, `bans DIR VEHICLE ARC DEPART UNTIL`, `batch DIR JOBS [--workers N]`, `gen DIR NUMBER ROWS COLUMNS`, `latest DIR VEHICLE FROM
-/// TO DEPART UNTIL`, `tour DIR VEHICLE FROM TO DEPART UNTIL STOPS` and `breaks DIR VEHICLE FROM TO DEPART UNTIL [--drive B] [--rest L]`.
-/// An option stands anywhere behind the command's name, once at most, as two words or as one, `--form F` or `--form=F`; any other word
-/// that begins with `-` is refused.
+/// TO DEPART UNTIL`, `tour DIR VEHICLE FROM TO DEPART UNTIL STOPS`, `breaks DIR VEHICLE FROM TO DEPART UNTIL [--drive B] [--rest L]` and
+/// `explain DIR VEHICLE FROM TO DEPART UNTIL ITINERARY`. An option stands anywhere behind the command's name, once at most, as two words
+/// or as one, `--form F` or `--form=F`; any other word that begins with `-` is refused.
 ///
-/// DIR has 1 to 4,096 bytes and doesn't begin with `-`; VEHICLE, JOBS and STOPS are names, and `any` is one; FROM, TO and ARC are numbers of 32
-/// bits without a leading zero; DEPART and UNTIL are instants, as texts or as Unix minutes; F is `plain`, `table`, `csv` or `json`, and
-/// `plain` where it isn't given; NAME is a name that ends in `.cert`. N is 1 to 64, and 4 where it isn't given; NUMBER is 1 to
+/// DIR has 1 to 4,096 bytes and doesn't begin with `-`; VEHICLE, JOBS, STOPS and ITINERARY are names, and `any` is one; FROM, TO and ARC are
+/// numbers of 32 bits without a leading zero; DEPART and UNTIL are instants, as texts or as Unix minutes; F is `plain`, `table`, `csv` or
+/// `json`, and `plain` where it isn't given; NAME is a name that ends in `.cert`. N is 1 to 64, and 4 where it isn't given; NUMBER is 1 to
 /// 2,147,483,646; ROWS and COLUMNS are 1 to 400 each, and their product is at most 22,500; B and L are minutes from 1 to 1,440, and 270 and
 /// 45 where they aren't given; none of these has a leading zero.
 pub fn read_invocation(alloc: Global, words: &[Text]) -> Result<Invocation, WordsFault>
@@ -63,6 +64,7 @@ pub fn read_invocation(alloc: Global, words: &[Text]) -> Result<Invocation, Word
         "latest" => read_places(alloc, &LatestWords, places),
         "tour" => read_places(alloc, &TourWords, places),
         "breaks" => read_breaks(alloc, places, split.given.as_slice()),
+        "explain" => read_places(alloc, &ExplainWords, places),
         _ => Err(WordsFault::NotACommand),
     }
 }

@@ -4,6 +4,7 @@ mod bans;
 mod batches;
 mod breaks;
 mod certificates;
+mod explain;
 mod faults;
 mod forms;
 mod fronts;

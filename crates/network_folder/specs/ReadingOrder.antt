@@ -8,13 +8,14 @@ use Rattle.route_base.specs.declared.faults.BadInput.{BadInput}
 use Rattle.route_base.specs.declared.faults.Cause.TheVariants.{TooLong}
 use Rattle.route_base.specs.declared.faults.FileKind.{FileKind}
 use Rattle.route_base.specs.declared.faults.FileKind.TheVariants.{Graph, Zones, Areas, Roads, Vehicles, Rules, Closures, Ratings, Parking, Holidays, Tolls}
-use Rattle.route_base.specs.declared.faults.FileKind.TheVariants.{Certificate, Jobs, Stops}
+use Rattle.route_base.specs.declared.faults.FileKind.TheVariants.{Certificate, Itinerary, Jobs, Stops}
 use Rattle.route_base.specs.declared.limits.TheConstants.{LONGEST_CERTIFICATE, LONGEST_FILE}
 use Rattle.network_tables.specs.Files.{no_files, with_file}
 use Rattle.network_tables.specs.NetworkFiles.{contents_fault, network_in_files}
 use Rattle.network_tables.specs.NetworkModel.{NetworkModel}
 use Rattle.network_tables.specs.declared.files.Files.{Files}
 use Rattle.network_folder.specs.Files.{FileToRead, first_unreadable, bytes_at}
+use Rattle.network_folder.specs.declared.file_to_read.TheConstants.{LONGEST_ITINERARY}
 
 -- a file of this name, which is TooLong beyond the limit
 abbrev pub named_file : FileKind → List ℕ → Bool → ℕ → FileToRead
@@ -39,6 +40,10 @@ jobs_file name = named_file Jobs name true LONGEST_FILE
 -- a table of stops, which has to be there
 abbrev pub stops_file : List ℕ → FileToRead
 stops_file name = named_file Stops name true LONGEST_FILE
+
+-- an itinerary, which has to be there
+abbrev pub itinerary_file : List ℕ → FileToRead
+itinerary_file name = named_file Itinerary name true LONGEST_ITINERARY
 
 -- the kinds of a network's files in the order in which they are read
 abbrev pub network_kinds : List FileKind

@@ -5,6 +5,9 @@ ghost use Rattle.route_base.specs.declared.faults.Cause.TheVariants.{Missing};
 use route_base::limits::{LONGEST_CERTIFICATE, LONGEST_FILE};
 use route_base::{Cause, FileKind, Text};
 
+/// The most bytes of an itinerary's file.
+pub const LONGEST_ITINERARY: u64 = 16_777_216;
+
 /// A file to read: its kind, its name below the folder, whether it has to be there, the most bytes that it may have, and the
 /// cause of its refusal where it has more.
 #[derive(Clone, Copy)]
@@ -50,7 +53,7 @@ impl FileToRead<'static> {
 impl<'a> FileToRead<'a> {
     ghost use Rattle.std.specs.Prelude.{◌≡◌};
     ghost use Rattle.network_folder.specs.Files.{file_in};
-    ghost use Rattle.network_folder.specs.ReadingOrder.{named_file, certificate_file, jobs_file, stops_file};
+    ghost use Rattle.network_folder.specs.ReadingOrder.{named_file, certificate_file, itinerary_file, jobs_file, stops_file};
 
     // A file of this name, which is TooLong beyond the limit.
     fn named(kind: FileKind, name: &'a str, required: bool, limit: u64) -> FileToRead<'a>
@@ -89,5 +92,12 @@ impl<'a> FileToRead<'a> {
         ensures { file_in result ≡ stops_file name.now }
     {
         FileToRead::named(FileKind::Stops, name.as_str(), true, LONGEST_FILE)
+    }
+
+    /// The itinerary of this name, which has to be there.
+    pub fn itinerary(name: &'a Text) -> FileToRead<'a>
+        ensures { file_in result ≡ itinerary_file name.now }
+    {
+        FileToRead::named(FileKind::Itinerary, name.as_str(), true, LONGEST_ITINERARY)
     }
 }

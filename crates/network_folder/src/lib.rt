@@ -16,6 +16,6 @@ mod reading;
 mod writing;
 
 pub use faults::LoadFault;
-pub use file_to_read::FileToRead;
+pub use file_to_read::{FileToRead, LONGEST_ITINERARY};
 pub use loading::{load_network, load_with};
 pub use writing::{FileToWrite, put_each, put_file};

@@ -11,7 +11,8 @@ use Rattle.route_base.proofs.AgreeingWalks.{flipped, moves_too}
 use Rattle.route_base.proofs.Walking.{moves_forward}
 use Rattle.front_transport.specs.ParetoFronts.{ArrivesBefore}
 use Rattle.front_transport.proofs.SameFronts.{same_front}
-use Rattle.stop_tour.specs.Tours.{go, serve, AchievesTour, AreRightTours, IsTourAchieved, TourMoves, TourPosition, TourStep, TourWalks, tour_start, tour_steps_of}
+use Rattle.stop_tour.specs.Tours.{go, serve, AchievesTour, AreRightTours, IsTourAchieved, TourMoves, TourPosition}
+use Rattle.stop_tour.specs.Tours.{TourStep, TourWalks, tour_start, tour_steps_of}
 use Rattle.stop_tour.specs.declared.stops.Stop.{Stop}
 use Rattle.stop_tour.specs.declared.stops.TourRoute.{TourRoute}
 

@@ -290,6 +290,42 @@ const TRIPS: &[(&str, &str)] = &[
     ("tour|d|any|1|3|s.csv|26563680|26564080", "no"),
     ("tour|d|any|1|3|26563680|26564080|s.csv|--rest|45", "no"),
     ("tour|d|any|1|3|26563680|26564080|s.csv|--form=csv", "no"),
+    (
+        "explain|d|any|1|3|26563680|26564080|i.txt",
+        "explain d any 1 3 26563680 26564080 i.txt",
+    ),
+    (
+        "explain|a b/c|v_1.x|0|4294967295|2020-07-04T00:00Z|120968639|any",
+        "explain a b/c v_1.x 0 4294967295 26563680 120968639 any",
+    ),
+    (
+        "explain|d|any|1|3|26563680|26564080|abcdefghijklmnopqrstuvwxyzABCDEFGHIJKLMNOPQRSTUVWXYZ01234567.txt",
+        "explain d any 1 3 26563680 26564080 abcdefghijklmnopqrstuvwxyzABCDEFGHIJKLMNOPQRSTUVWXYZ01234567.txt",
+    ),
+    (
+        "explain|d|any|1|3|26563680|26564080|abcdefghijklmnopqrstuvwxyzABCDEFGHIJKLMNOPQRSTUVWXYZ012345678.txt",
+        "no",
+    ),
+    ("explain|d|any|1|3|26563680|26564080", "no"),
+    ("explain|d|any|1|3|26563680|26564080|i.txt|more", "no"),
+    ("explain|d|any|1|3|26563680|26564080|", "no"),
+    ("explain|d|any|1|3|26563680|26564080|a/i.txt", "no"),
+    ("explain|d|any|1|3|26563680|26564080|-i.txt", "no"),
+    ("explain|d|any|1|3|26563680|26564080|i txt", "no"),
+    ("explain|d|any|1|3|i.txt|26563680|26564080", "no"),
+    ("explain|-d|any|1|3|26563680|26564080|i.txt", "no"),
+    ("explain|d|a/b|1|3|26563680|26564080|i.txt", "no"),
+    ("explain|d|any|1|03|26563680|26564080|i.txt", "no"),
+    ("explain|d|any|4294967296|3|26563680|26564080|i.txt", "no"),
+    ("explain|d|any|1|3|525599|26564080|i.txt", "no"),
+    ("explain|d|any|1|3|26563680|120968640|i.txt", "no"),
+    (
+        "explain|d|any|1|3|26563680|26564080|--itinerary|i.txt",
+        "no",
+    ),
+    ("explain|d|any|1|3|26563680|26564080|i.txt|--form|csv", "no"),
+    ("explain|--drive=1|d|any|1|3|26563680|26564080|i.txt", "no"),
+    ("Explain|d|any|1|3|26563680|26564080|i.txt", "no"),
 ];
 
 // The same of plans with breaks.
@@ -503,6 +539,18 @@ fn line_of(alloc: Global, command: &Command) -> Result<String, OutOfMemory> {
         } => {
             let (dir, vehicle) = (dir.as_str(), vehicle.as_str());
             format!(in alloc; "breaks {dir} {vehicle} {from} {to} {depart} {until} {drive} {rest}")
+        }
+        Command::Explain {
+            dir,
+            vehicle,
+            from,
+            to,
+            depart,
+            until,
+            itinerary,
+        } => {
+            let (dir, vehicle, itinerary) = (dir.as_str(), vehicle.as_str(), itinerary.as_str());
+            format!(in alloc; "explain {dir} {vehicle} {from} {to} {depart} {until} {itinerary}")
         }
     };
     Ok(line?)

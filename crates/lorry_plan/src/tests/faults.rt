@@ -133,6 +133,33 @@ const READING: &[(u8, Case<'static>)] = &[
         },
     ),
     (
+        14,
+        Case {
+            more: &[("d/graph.gr", TRIANGLE), ("d/i.txt", "drive 3\n")],
+            words: "explain d any 1 3 26563680 26564080 i.txt",
+            status: Status::Done,
+            text: "lawful 26563980 300.000\ndominated 26563800 120.000\n",
+        },
+    ),
+    (
+        14,
+        Case {
+            more: &[("d/graph.gr", TRIANGLE), ("d/i.txt", "drive 2\n")],
+            words: "explain d any 1 3 26563680 26564080 i.txt",
+            status: Status::Done,
+            text: "unlawful 1 26563680 tail\n",
+        },
+    ),
+    (
+        13,
+        Case {
+            more: GRAPH,
+            words: "explain d any 1 3 26563680 26564080 i.txt",
+            status: Status::BadInput,
+            text: "refused input itinerary 0 Missing\n",
+        },
+    ),
+    (
         0,
         Case {
             more: NETWORK,

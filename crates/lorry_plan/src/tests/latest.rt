@@ -78,7 +78,7 @@ const CLOSED_TWICE: &str = "arc,from,to\n2,26563740,26563860\n1,26563740,2656408
 const FOR_TRUCKS: &[(&str, &str)] = &[
     (
         "d/vehicles.csv",
-        "name,class,weight_kg,axleload_kg,height_cm,width_cm,length_cm,axles,purpose,flags\ntruck,hgv,40000,,,,,,,\n",
+        "name,class,weight_kg,axleload_kg,height_cm,width_cm,length_cm,axles,purpose,flags\ntruck,hgv,40000,,,,,,,\ncoach,bus,,,,,,,,\n",
     ),
     ("d/rules.csv", "scope,key,value\narc:1,hgv,no\n"),
 ];
@@ -108,7 +108,7 @@ const OVER_TABLES: &[Case<'static>] = &[
     },
     Case {
         more: FOR_TRUCKS,
-        words: "latest d any 1 3 26563680 26564080",
+        words: "latest d coach 1 3 26563680 26564080",
         status: Status::Done,
         text: BEFORE_THE_DEADLINE,
     },

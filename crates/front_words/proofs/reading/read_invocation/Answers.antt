@@ -1,4 +1,4 @@
-use Rattle.front_words.proofs.ClapLines.{bans_takes, check_takes, gen_takes, latest_takes, tour_takes}
+use Rattle.front_words.proofs.ClapLines.{bans_takes, check_takes, explain_takes, gen_takes, latest_takes, tour_takes}
 use Rattle.front_words.proofs.reading.read_invocation.Goals as goal
 
 pub read_places-requires-clause-takes : goal.read_places-requires-clause-takes
@@ -15,3 +15,6 @@ read_places-requires-in-latest-clause-takes c = latest_takes
 
 pub read_places-requires-in-tour-clause-takes : goal.read_places-requires-in-tour-clause-takes
 read_places-requires-in-tour-clause-takes c = tour_takes
+
+pub read_places-requires-in-explain-clause-takes : goal.read_places-requires-in-explain-clause-takes
+read_places-requires-in-explain-clause-takes c = explain_takes
