@@ -6,7 +6,9 @@ lines below it, up to the next command or the block's end, are its whole standar
 to the line `EOF`. A last line `[status N]` says that it ends with status N, otherwise it ends with 0. Each command runs at
 the top of the repository, in the order of the document.
 
-A block whose kind is followed by a path, such as `rust crates/uses/src/plans.rt`, has to be that whole file."""
+A block whose kind is followed by a path, such as `rust crates/uses/src/plans.rt`, has to be that whole file.
+
+The manual page and the completions of tools/package.d have to agree with docs/COMMANDS.md."""
 import glob
 import os
 import re
@@ -14,6 +16,13 @@ import subprocess
 import sys
 
 TOP = os.path.dirname(os.path.dirname(os.path.abspath(__file__)))
+
+# The module beside the manual page leaves no compiled file in the repository.
+sys.dont_write_bytecode = True
+sys.path.insert(0, os.path.join(TOP, "tools", "package.d"))
+
+import manual
+
 BLOCK = re.compile(r"^```console\n(.*?)^```$", re.M | re.S)
 QUOTED = re.compile(r"^```\w+ (\S+)\n(.*?)^```$", re.M | re.S)
 HERE_DOCUMENT = re.compile(r".*<<'EOF'\n(?s:.*?)^EOF\n", re.M)
@@ -57,7 +66,10 @@ def differs_from_file(path, shown):
 
 
 def main():
-    passed = failed = 0
+    found = manual.differences()
+    passed, failed = int(not found), len(found)
+    for difference in found:
+        print(difference)
     for name in documents():
         with open(os.path.join(TOP, name), encoding="utf-8") as document:
             text = document.read()
