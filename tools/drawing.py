@@ -252,7 +252,8 @@ class TimeAxis:
         for tick in ticks:
             x = self.at(tick)
             drawing.line(x, place, x, place + 4 * far, "#7C868E")
-            drawing.line(x, place, x, other, GRID, stroke_dasharray="1 3")
+            if other != place:
+                drawing.line(x, place, x, other, GRID, stroke_dasharray="1 3")
             if step < 1440:
                 drawing.text(x, place + (17 if below else -8), clock(tick), "small middle")
         self.draw_day_names(drawing, place + (32 if below else -23) if step < 1440 else place + (17 if below else -8))
