@@ -259,16 +259,26 @@ class TimeAxis:
         self.draw_day_names(drawing, place + (32 if below else -23) if step < 1440 else place + (17 if below else -8))
 
     def draw_day_names(self, drawing, y):
-        """Writes the name of each day into the middle of its part of the axis, where there is room for it."""
-        end, wide = -math.inf, self.at(self.low + 1440) - self.left
-        for day in days_between(self.low, self.high):
+        """Writes the name of each day into the middle of its part of the axis, where there is room for it; of many days only the Mondays."""
+        days, wide, end = list(days_between(self.low, self.high)), self.at(self.low + 1440) - self.left, -math.inf
+        named = [it for it in NAMES if len(days) <= 4 or max(text_width(it(day), 11) for day in days) + 6 <= wide]
+        for day in days:
             left, right = self.at(max(day, self.low)), self.at(min(day + 1440, self.high))
-            for text in (day_text(day, True), day_text(day), f"{moment_of(day):%a} {moment_of(day).day}", f"{moment_of(day).day}"):
-                width = text_width(text, 11) + 6
-                if width <= right - left or (wide < 40 and moment_of(day).weekday() == 0 and text.count(" ") == 2 and left - width / 2 > end):
-                    middle = (left + right) / 2 if width <= right - left else left
-                    middle = min(max(middle, self.left + width / 2), self.right - width / 2)
-                    if middle - width / 2 >= end:
-                        drawing.text(middle, y, text, "small middle soft")
-                        end = middle + width / 2
-                    break
+            text = next((it(day) for it in named if text_width(it(day), 11) + 6 <= right - left), None)
+            if not named and moment_of(day).weekday() == 0 and day >= self.low:
+                text, right = f"{moment_of(day).day} {moment_of(day):%b}", left
+            half = text_width(text, 11) / 2 + 3 if text else 0
+            middle = min(max((left + right) / 2, self.left + half), self.right - half)
+            if text and middle - half >= end:
+                drawing.text(middle, y, text, "small middle soft")
+                end = middle + half
+
+    def title(self, what, low, high):
+        """Returns the title of the axis, with the days of these minutes."""
+        low, high = moment_of(low), moment_of(high)
+        last = f"{high.day} {high:%b} {high.year}"
+        return f"{what} (UTC), {last}" if low.date() == high.date() else f"{what} (UTC), {low.day} {low:%b} {low.year} to {last}"
+
+
+# The forms of the name of a day, the longest first.
+NAMES = [lambda day: day_text(day, True), day_text, lambda day: f"{moment_of(day):%a} {moment_of(day).day}", lambda day: f"{moment_of(day).day}"]

@@ -192,7 +192,9 @@ class Findings(beside.FolderTest):
 
     def test_values_that_are_not_understood(self):
         self.rules("area:land,hgv:conditional,no @ (weight>7.5 AND Su", "arc:1,hgv,maybe", "arc:2,hgv:conditional,no @ (sunrise-sunset)")
-        self.assertEqual([it.split(": ")[0] for it in self.findings()], [f"rules.csv {it} not-read" for it in (2, 3, 4)])
+        self.write(vehicles=beside.VEHICLES + TRUCK + "heavy,hgv,40 t,,,,,,,\ntram,rail,,,,,,,,\n", holidays="area,kind,date\nland,PH,2026-02-30\n")
+        found = [it.split(": ")[0] for it in self.findings()]
+        self.assertEqual(sorted(found), sorted([*(f"rules.csv {it} not-read" for it in (2, 3, 4)), *(f"vehicles.csv {it} not-read" for it in (3, 4)), "holidays.csv 2 not-read"]))
 
     def test_many_findings_of_one_name(self):
         self.write(parking="node,rating\n" + "".join(f"{it},r\n" for it in range(10, 40)))

@@ -170,6 +170,12 @@ class ByStandIn(Causes, beside.FolderTest):
         self.assertEqual(status, 0)
         self.assertIn("takes more runs of bans (--most-bans)", printed)
 
+    def test_ends_are_looked_at_however_few_runs_are_allowed(self):
+        closures = "arc,from,to\n1,2026-07-03T20:00Z,2026-07-04T02:00Z\n2,2026-07-03T20:00Z,2026-07-04T03:00Z\n"
+        self.write(graph=graph(2, (1, 2, 60), (1, 2, 61)), closures=closures)
+        words = [self.folder, "any", 1, 2, START, END, "--program", self.program, "--most-bans", 0]
+        self.assertTrue(beside.run("why_empty", *words)[1].startswith("departure-in-ban: each of the 2 roads"))
+
     def test_a_program_that_is_not_there(self):
         self.write(graph=graph(2, (1, 2, 60)))
         status, printed, complained = beside.run("why_empty", self.folder, "any", 1, 2, START, END, "--program", "/nowhere/lorry_plan")
