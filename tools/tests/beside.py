@@ -1,10 +1,11 @@
 """What the tests of the tools share: folders, runs of a tool, the built program, and a stand-in for it.
 
 The built program is LORRY_PLAN_PROGRAM, or crates/lorry_plan/out/lorry_plan."""
+import contextlib
 import importlib.machinery
 import importlib.util
+import io
 import os
-import subprocess
 import sys
 import tempfile
 import unittest
@@ -13,11 +14,14 @@ TOP = os.path.dirname(os.path.dirname(os.path.dirname(os.path.abspath(__file__))
 TOOLS = os.path.join(TOP, "tools")
 PROGRAM = os.environ.get("LORRY_PLAN_PROGRAM") or os.path.join(TOP, "crates", "lorry_plan", "out", "lorry_plan")
 HAS_PROGRAM = os.path.exists(PROGRAM)
-STAND_IN = os.path.join(TOP, "tools", "tests", "stand_in")
+STAND_IN = os.path.join(TOP, "tools", "tests", "stand_in.py")
 
 sys.dont_write_bytecode = True
 if TOOLS not in sys.path:
     sys.path.insert(0, TOOLS)
+
+import folder_reading
+import stand_in
 
 needs_program = unittest.skipUnless(HAS_PROGRAM, "there is no built program")
 
@@ -26,18 +30,30 @@ VEHICLES = "name,class,weight_kg,axleload_kg,height_cm,width_cm,length_cm,axles,
 
 def load(name):
     """Returns a tool as a module."""
-    loader = importlib.machinery.SourceFileLoader(name, os.path.join(TOOLS, name))
-    module = importlib.util.module_from_spec(importlib.util.spec_from_loader(name, loader))
-    sys.modules[name] = module
-    loader.exec_module(module)
-    return module
+    if name not in sys.modules:
+        loader = importlib.machinery.SourceFileLoader(name, os.path.join(TOOLS, name))
+        module = importlib.util.module_from_spec(importlib.util.spec_from_loader(name, loader))
+        sys.modules[name] = module
+        loader.exec_module(module)
+    return sys.modules[name]
 
 
-def run(tool, *words, stdin=None):
-    """Runs a tool, and returns its status and what it wrote to both outputs."""
-    command = [sys.executable, os.path.join(TOOLS, tool), *(str(it) for it in words)]
-    done = subprocess.run(command, stdout=subprocess.PIPE, stderr=subprocess.PIPE, input=stdin or "", universal_newlines=True)
-    return done.returncode, done.stdout, done.stderr
+def run(tool, *words, stdin="", explains=False):
+    """Runs a tool in this process, and returns its status and what it wrote to both outputs. The stand-in is called, and not started."""
+    printed, complained, before = io.StringIO(), io.StringIO(), (sys.argv, sys.stdin, folder_reading.Program.run)
+
+    def asked(program, questions):
+        return stand_in.answer([str(it) for it in questions], explains) if program.path == STAND_IN else before[2](program, questions)
+
+    sys.argv, sys.stdin, folder_reading.Program.run = [tool, *(str(it) for it in words)], io.StringIO(stdin), asked
+    try:
+        with contextlib.redirect_stdout(printed), contextlib.redirect_stderr(complained):
+            status = load(tool).main()
+    except SystemExit as end:
+        status = end.code
+    finally:
+        sys.argv, sys.stdin, folder_reading.Program.run = before
+    return status, printed.getvalue(), complained.getvalue()
 
 
 def graph(nodes, *arcs):

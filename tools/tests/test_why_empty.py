@@ -157,10 +157,8 @@ class ByStandIn(Causes, beside.FolderTest):
 
     def test_the_row_of_a_closure_by_explain(self):
         self.write(graph=graph(2, (1, 2, 60)), closures="arc,from,to\n2,1,2\n1,2026-07-03T20:00Z,2026-07-04T02:00Z\n")
-        os.environ["STAND_IN_EXPLAINS"] = "1"
-        self.addCleanup(os.environ.pop, "STAND_IN_EXPLAINS")
         words = [self.folder, "any", 1, 2, START, END, "--program", self.program]
-        self.assertIn("arc 1 until 2026-07-04T02:00Z (closures.csv 3); node 1", beside.run("why_empty", *words)[1])
+        self.assertIn("arc 1 until 2026-07-04T02:00Z (closures.csv 3); node 1", beside.run("why_empty", *words, explains=True)[1])
 
     def test_too_many_runs_of_bans(self):
         closures = "arc,from,to\n1,2000-01-01T00:00Z,2100-01-01T00:00Z\n2,2000-01-01T00:00Z,2100-01-01T00:00Z\n"

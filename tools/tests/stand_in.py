@@ -1,7 +1,8 @@
 #!/usr/bin/env python3
 """A stand-in for the program, for tests of the tools: roads, closures and parking without hours, and no rules.
 
-It knows `plan` in JSON with the first arrival alone, `bans`, and `explain` for an itinerary of one drive, and goes minute by minute."""
+It knows `plan` in JSON with the first arrival alone, `bans`, and, where it is told to, `explain` for an itinerary of one drive. It goes minute by
+minute. Tests call `answer`; as a script it is a program."""
 import json
 import os
 import sys
@@ -69,32 +70,30 @@ def legs_to(legs, graph, origin, depart, node, minute):
     return found
 
 
-def main():
-    command, path, words = sys.argv[1], sys.argv[2], sys.argv[4:]
-    folder = Folder(path)
+def answer(words, explains=False):
+    """Returns the status for these words, and what is printed."""
+    command, folder, words = words[0], Folder(words[1]), words[3:]
     if command == "bans":
         arc, depart, until = number_of(words[0]), minute_of(words[1]), minute_of(words[2])
         runs = runs_of(folder, arc, depart, until)
-        print(f"bans {len(runs)}", *(f"closed {instant_text(low)} {instant_text(high)}" for low, high in runs), "passed 0", sep="\n")
-        return 0
+        return 0, "\n".join([f"bans {len(runs)}", *(f"closed {instant_text(low)} {instant_text(high)}" for low, high in runs), "passed 0\n"])
     origin, goal, depart, until = number_of(words[0]), number_of(words[1]), minute_of(words[2]), minute_of(words[3])
     if command == "plan":
         pair = first_pair(folder, origin, goal, depart, until)
         pairs = [pair] if pair else []
-        print(json.dumps({"pairs": pairs}) if "json" in words else f"pairs {len(pairs)}")
-        return 0
-    if command == "explain" and os.environ.get("STAND_IN_EXPLAINS"):
+        return 0, json.dumps({"pairs": pairs}) if "json" in words else f"pairs {len(pairs)}\n"
+    if command == "explain" and explains:
         with open(folder.file(words[4]), encoding="utf-8") as file:
             arc = int(file.read().split()[1])
         end = depart + folder.graph().ends(arc)[2]
         for place, (low, high) in enumerate(closures_of(folder, arc), 1):
             if low < end and depart < high:
-                print(f"unlawful 1 {max(low, depart)} closure {place}")
-                return 0
-        print(f"lawful {end} 0.000\nundominated")
-        return 0
-    print("refused usage")
-    return 2
+                return 0, f"unlawful 1 {max(low, depart)} closure {place}\n"
+        return 0, f"lawful {end} 0.000\nundominated\n"
+    return 2, "refused usage\n"
 
 
-sys.exit(main())
+if __name__ == "__main__":
+    status, text = answer(sys.argv[1:])
+    sys.stdout.write(text)
+    sys.exit(status)
