@@ -206,6 +206,16 @@ class ByProgram(Causes, beside.FolderTest):
         self.assertEqual(self.lines(1, 3, vehicle="truck"), ["closed-for-good: the one road into node 3 is closed to truck for the next 60 d: arc 2"])
         self.assertEqual(self.lines(1, 3, vehicle="van"), ["pairs 1: the plan is not empty"])
 
+    def test_the_rule_that_closes_a_road_for_good_and_not_that_of_the_departure(self):
+        if beside.folder_reading.Program(beside.PROGRAM).run(["explain", ".", "any", 1, 1, 26563680, 26563680, "x"])[1] == "refused usage\n":
+            self.skipTest("the program has no command explain")
+        self.write(
+            graph=graph(3, (1, 2, 60), (2, 3, 60)), areas="area,zone\nland,UTC\n",
+            rules="scope,key,value\narea:land,hgv,destination\narea:land,hgv:conditional,no @ (Sa)\n",
+        )  # fmt: skip
+        words = [self.folder, "any", 1, 3, START, END, "--program", self.program]
+        self.assertIn("arc 1 (rules.csv 2: area:land hgv)", beside.run("why_empty", *words)[1])
+
 
 if __name__ == "__main__":
     unittest.main()
