@@ -1,0 +1,314 @@
+"""Reads conditional values and hours as docs/FORMATS.md describes them, and lays them out over the days of a window. tools/lint uses it.
+
+It is another reading than the program's, written for warnings: nothing here is proved. Minutes are those of local time, each day has
+1,440, and a set of minutes is a whole number whose bit k is the minute k after the first midnight."""
+import dataclasses
+import datetime
+import re
+
+TOKEN = re.compile(r"[ \t]*([A-Za-z]+|24/7|\d{1,2}:\d\d|\d{1,2}|[-,;:\[\]])", re.ASCII)
+MONTHS = "Jan Feb Mar Apr May Jun Jul Aug Sep Oct Nov Dec".split()
+WEEKDAYS = "Mo Tu We Th Fr Sa Su".split()
+HOLIDAYS = ("PH", "SH")
+
+# Values, by whom they let in: every vehicle, those that deliver, or none.
+ALL, DELIVERING, NONE = "all", "delivering", "none"
+VALUES = {
+    **dict.fromkeys("yes designated permissive discouraged".split(), ALL),
+    **dict.fromkeys("destination delivery".split(), DELIVERING),
+    **dict.fromkeys("no private agricultural forestry customers permit".split(), NONE),
+}
+
+# Each size with the columns of vehicles.csv, its unit, and how many of the column's units are one of the number's.
+SIZES = {
+    "weight": ("weight_kg", "t", 1000),
+    "axleload": ("axleload_kg", "t", 1000),
+    "height": ("height_cm", "m", 100),
+    "width": ("width_cm", "m", 100),
+    "length": ("length_cm", "m", 100),
+    "axles": ("axles", None, 1),
+}
+COMPARISON = re.compile(r"(\w+)[ \t]*(<=|>=|==|<|>|=)[ \t]*(\d{1,6})(?:\.(\d{1,3}))?[ \t]*([tm]?)", re.ASCII)
+FLAG = re.compile(r"[a-z][a-z_]*", re.ASCII)
+NO_FLAGS = ("off", "closed", "open", "and")
+
+
+class NotRead(Exception):
+    """A text is outside the notation."""
+
+
+# Hours.
+
+
+@dataclasses.dataclass
+class HoursRule:
+    """The days that a rule matches, and the spans that begin on them: pairs of a first minute and the one after the last."""
+
+    dates: list  # pairs of (month, day); empty for every date
+    weekdays: set
+    holidays: set
+    ordinals: list  # pairs of a weekday and an ordinal
+    spans: list  # empty for `off`
+
+    def matches(self, day, kinds):
+        if self.dates and not any(
+            first <= (day.month, day.day) <= last if first <= last else (day.month, day.day) >= first or (day.month, day.day) <= last
+            for first, last in self.dates
+        ):
+            return False
+        if not (self.weekdays or self.holidays or self.ordinals):
+            return True
+        return day.weekday() in self.weekdays or bool(self.holidays & kinds) or any(is_nth(day, *it) for it in self.ordinals)
+
+
+def is_nth(day, weekday, ordinal):
+    """Whether a day is the first (1) to fifth of this weekday in its month, or the last (-1) to fifth from its end."""
+    if day.weekday() != weekday:
+        return False
+    if ordinal > 0:
+        return (day.day + 6) // 7 == ordinal
+    following = (day.replace(day=28) + datetime.timedelta(days=4)).replace(day=1) - day
+    return (following.days + 6) // 7 == -ordinal
+
+
+class HoursReader:
+    """Reads the tokens of a text of hours."""
+
+    def __init__(self, text):
+        self.tokens, place = [], 0
+        if text != text.strip(" \t"):
+            raise NotRead
+        while place < len(text):
+            token = TOKEN.match(text, place)
+            if not token:
+                raise NotRead
+            self.tokens.append(token.group(1))
+            place = token.end()
+        self.at = 0
+
+    def peek(self, ahead=0):
+        return self.tokens[self.at + ahead] if self.at + ahead < len(self.tokens) else ""
+
+    def take(self, *allowed):
+        token = self.peek()
+        if not token or (allowed and token not in allowed):
+            raise NotRead
+        self.at += 1
+        return token
+
+    def takes(self, *allowed):
+        if self.peek() in allowed and self.peek():
+            self.at += 1
+            return True
+        return False
+
+    def rules(self):
+        rules = [self.rule()]
+        while self.takes(";"):
+            rules.append(self.rule())
+        if self.peek():
+            raise NotRead
+        return rules
+
+    def rule(self):
+        rule, begin = HoursRule([], set(), set(), [], [(0, 1440)]), self.at
+        if self.takes("24/7"):
+            self.takes("open")
+            return rule
+        if self.peek() in MONTHS:
+            rule.dates.append(self.date())
+            while self.takes(","):
+                rule.dates.append(self.date())
+            self.takes(":")
+        if self.is_long_span():
+            first, start = WEEKDAYS.index(self.take()), self.time(1439)
+            self.take("-")
+            last, end = WEEKDAYS.index(self.take(*WEEKDAYS)), self.time(1440)
+            length = (last - first) * 1440 + end - start
+            rule.weekdays = {first}
+            rule.spans = [(start, start + (length if length > 0 else length + 7 * 1440))]
+            self.takes("open")
+            return rule
+        if self.peek() in WEEKDAYS or self.peek() in HOLIDAYS:
+            self.item(rule)
+            while self.takes(","):
+                self.item(rule)
+        if is_time(self.peek()):
+            rule.spans = [self.span()]
+            while self.takes(","):
+                rule.spans.append(self.span())
+            self.takes("open")
+        elif self.takes("off", "closed"):
+            rule.spans = []
+        elif self.at > begin:
+            self.takes("open")
+        if self.at == begin:
+            raise NotRead
+        return rule
+
+    def is_long_span(self):
+        return self.peek() in WEEKDAYS and is_time(self.peek(1)) and self.peek(2) == "-" and self.peek(3) in WEEKDAYS
+
+    def date(self):
+        month = MONTHS.index(self.take(*MONTHS)) + 1
+        if not is_number(self.peek()):
+            if self.peek() == "-":
+                self.take()
+                last = MONTHS.index(self.take(*MONTHS)) + 1
+                if is_number(self.peek()):
+                    raise NotRead
+                return (month, 1), (last, 31)
+            return (month, 1), (month, 31)
+        first = (month, self.day())
+        if not self.takes("-"):
+            return first, first
+        if self.peek() in MONTHS:
+            month = MONTHS.index(self.take()) + 1
+        return first, (month, self.day())
+
+    def day(self):
+        if not is_number(self.peek()) or not 1 <= int(self.peek()) <= 31:
+            raise NotRead
+        return int(self.take())
+
+    def item(self, rule):
+        word = self.take(*WEEKDAYS, *HOLIDAYS)
+        if word in HOLIDAYS:
+            rule.holidays.add(word)
+            return
+        first = WEEKDAYS.index(word)
+        if self.takes("["):
+            sign = -1 if self.takes("-") else 1
+            number = self.take()
+            if number not in ("1", "2", "3", "4", "5"):
+                raise NotRead
+            self.take("]")
+            rule.ordinals.append((first, sign * int(number)))
+            return
+        last = WEEKDAYS.index(self.take(*WEEKDAYS)) if self.takes("-") else first
+        rule.weekdays |= {(first + k) % 7 for k in range((last - first) % 7 + 1)}
+
+    def span(self):
+        start = self.time(1439)
+        self.take("-")
+        end = self.time(2880)
+        return start, end if end > start else end + 1440
+
+    def time(self, most):
+        if not is_time(self.peek()):
+            raise NotRead
+        hours, minutes = (int(it) for it in self.take().split(":"))
+        if minutes > 59 or hours * 60 + minutes > most:
+            raise NotRead
+        return hours * 60 + minutes
+
+
+def is_time(token):
+    return ":" in token and token != ":"
+
+
+def is_number(token):
+    return token.isdigit()
+
+
+def read_hours(text):
+    return HoursReader(text).rules()
+
+
+class Window:
+    """Whole local days, over which hours are laid out."""
+
+    def __init__(self, first, days):
+        self.first, self.days = first, days
+        self.whole = (1 << days * 1440) - 1
+
+    def covered(self, rules, holidays):
+        """Returns the minutes that hours cover; `holidays` has the set of kinds for each day that has one."""
+        minutes = 0
+        for k in range(-8, self.days):
+            day = self.first + datetime.timedelta(days=k)
+            governing = next((it for it in reversed(rules) if it.matches(day, holidays.get(day, frozenset()))), None)
+            for start, end in governing.spans if governing else ():
+                low, high = max(k * 1440 + start, 0), min(k * 1440 + end, self.days * 1440)
+                if low < high:
+                    minutes |= ((1 << high - low) - 1) << low
+        return minutes
+
+    def first_of(self, minutes):
+        """Returns the first minute of a set as a local date and time."""
+        least = (minutes & -minutes).bit_length() - 1
+        return datetime.datetime.combine(self.first, datetime.time()) + datetime.timedelta(minutes=least)
+
+
+# Conditional values.
+
+
+@dataclasses.dataclass
+class Clause:
+    value: str  # ALL, DELIVERING or NONE
+    comparisons: list  # a column of vehicles.csv, a sign, and a number in the column's units
+    flags: list
+    hours: list  # texts
+
+    def holds_for(self, vehicle):
+        """Whether the parts that are about the vehicle hold: a size that isn't known compares with no number."""
+        sizes = all(vehicle[column] != "" and compares(int(vehicle[column]), sign, number) for column, sign, number in self.comparisons)
+        return sizes and all(it in vehicle["flags"].split() for it in self.flags)
+
+
+def compares(size, sign, number):
+    return {"<": size < number, "<=": size <= number, ">": size > number, ">=": size >= number}.get(sign, size == number)
+
+
+def read_conditional(text):
+    """Returns the clauses of a conditional value."""
+    return [read_clause(it) for it in cut_clauses(text)]
+
+
+def cut_clauses(text):
+    """Cuts a text at the semicolons outside parentheses."""
+    parts, depth = [""], 0
+    for it in text:
+        depth += (it == "(") - (it == ")")
+        if depth not in (0, 1):
+            raise NotRead
+        if it == ";" and not depth:
+            parts.append("")
+        else:
+            parts[-1] += it
+    if depth:
+        raise NotRead
+    return parts
+
+
+def read_clause(text):
+    value, mark, condition = text.partition("@")
+    value, condition = value.strip(" \t"), condition.strip(" \t")
+    if not mark or value not in VALUES:
+        raise NotRead
+    if condition.startswith("(") and condition.endswith(")"):
+        condition = condition[1:-1].strip(" \t")
+    if "(" in condition or ")" in condition:
+        raise NotRead
+    clause = Clause(VALUES[value], [], [], [])
+    for part in re.split(r"[ \t]+(?:AND|and)(?=[ \t])", condition):
+        add_part(clause, part.strip(" \t"))
+    return clause
+
+
+def add_part(clause, part):
+    if any(it in part for it in "<=>"):
+        words = COMPARISON.fullmatch(part)
+        if not words or words[1] not in SIZES:
+            raise NotRead
+        column, unit, scale = SIZES[words[1]]
+        decimals = words[4] or ""
+        if (words[5] and words[5] != unit) or len(decimals) > len(str(scale)) - 1:
+            raise NotRead
+        number = int(words[3]) * scale + int((decimals + "000")[: len(str(scale)) - 1] or "0")
+        clause.comparisons.append((column, words[2], number))
+    elif FLAG.fullmatch(part) and part not in NO_FLAGS:
+        clause.flags.append(part)
+    else:
+        read_hours(part)
+        clause.hours.append(part)
