@@ -1,0 +1,554 @@
+"""What the program has to answer to the words of a trip over a folder, by the definitions of docs/MODEL.md, minute by minute.
+
+tools/random_trips uses it. There is no search here and no pruning: the least cost of each place at each minute is carried forward by each
+lawful step, and printed legs are followed step by step. It shares nothing with the program."""
+import dataclasses
+import heapq
+import os
+import re
+
+import trip_network
+from trip_network import COST_OF_MINUTE, FOR_DELIVERY, FREE, BadInput, instant_of, is_name, number_of
+
+COMMANDS = ["plan", "latest", "tour", "breaks", "explain"]
+
+DONE, USAGE, BAD_INPUT, READ_FAULT, BAD_REQUEST = 0, 2, 3, 4, 7
+
+MOST_MINUTES = 86_400
+MOST_STATES = 40_000_000
+MOST_STOPS = 50
+MOST_ITINERARY_BYTES = 16_777_216
+
+OPTIONS = {"breaks": {"--drive": 270, "--rest": 45}}
+FILE_LABELS = {"tour": "stops", "explain": "itinerary"}
+
+
+@dataclasses.dataclass
+class Request:
+    """The words of a trip; `file` is the last word of a tour, and of a trip that is explained."""
+
+    command: str
+    folder: str
+    vehicle: str
+    origin: int
+    goal: int
+    depart: int
+    until: int
+    file: str
+    drive: int
+    rest: int
+
+
+@dataclasses.dataclass
+class Due:
+    """The status and the bytes that are due; where there is a front, its pairs in place of the bytes, and the test of a route's legs."""
+
+    status: int
+    text: bytes = None
+    pairs: list = None
+    wrong_legs: object = None
+
+
+class Unlawful(Exception):
+    """The first unlawful step: its leg from 1, a minute and the reason."""
+
+
+# ---- Words ----
+
+
+def request_of(words):
+    """The request that words are; None where they aren't one of a command of COMMANDS."""
+    if not words or words[0] not in COMMANDS:
+        return None
+    command = words[0]
+    split = split_words(words[1:], OPTIONS.get(command, {}))
+    if split is None:
+        return None
+    positional, options = split
+    if len(positional) != (7 if command in FILE_LABELS else 6):
+        return None
+    folder, vehicle, origin, goal, depart, until = positional[:6]
+    file = positional[6] if command in FILE_LABELS else "any"
+    values = {**OPTIONS.get(command, {}), **{name: option_of(value) for name, value in options.items()}}
+    request = Request(
+        command, folder, vehicle, node_of(origin), node_of(goal), instant_of(depart), instant_of(until), file, values.get("--drive"), values.get("--rest")
+    )
+    numbers = [request.origin, request.goal, request.depart, request.until, *values.values()]
+    forms = 1 <= len(os.fsencode(folder)) <= 4_096 and is_name(vehicle) and is_name(file)
+    return request if forms and None not in numbers else None
+
+
+def split_words(words, known):
+    """The positional words and the options, or None where a word with a dash is none of them."""
+    positional, options, left = [], {}, list(words)
+    while left:
+        word = left.pop(0)
+        if not word.startswith("-"):
+            positional.append(word)
+            continue
+        name, equals, value = word.partition("=")
+        if not equals:
+            value = left.pop(0) if left else "-"
+        if name not in known or name in options or value.startswith("-"):
+            return None
+        options[name] = value
+    return positional, options
+
+
+def node_of(word):
+    return number_of(word) if re.fullmatch("0|[1-9][0-9]*", word) else None
+
+
+def option_of(word):
+    return int(word) if re.fullmatch("[1-9][0-9]{0,3}", word) and int(word) <= 1_440 else None
+
+
+# ---- Files of a request ----
+
+
+def read_own_file(request):
+    """The bytes of the request's own file as characters of the same numbers."""
+    label = FILE_LABELS[request.command]
+    try:
+        with open(os.path.join(request.folder, request.file), "rb") as file:
+            data = file.read().decode("latin-1")
+    except FileNotFoundError:
+        raise BadInput(label, 0, "Missing") from None
+    if request.command == "explain" and len(data) > MOST_ITINERARY_BYTES:
+        raise BadInput(label, 0, "TooLong")
+    return data
+
+
+def stops_of(text, nodes):
+    """The stops as (node, service, from, to). Raises BadInput for the first fault."""
+    stops = []
+    for number, record in trip_network.records_of(text):
+        if number == 1:
+            if record != ["node", "service", "from", "to"]:
+                raise BadInput("stops", 1, "BadHeader")
+            continue
+        if len(record) != 4:
+            raise BadInput("stops", number, "FieldCount")
+        if number > MOST_STOPS + 1:
+            raise BadInput("stops", number, "SizeLimit")
+        node, service, begin, end = number_of(record[0]), number_of(record[1]), instant_of(record[2]), instant_of(record[3])
+        if node is None or service is None or not 1 <= service <= 1_440 or begin is None or end is None:
+            raise BadInput("stops", number, "BadField")
+        if not 1 <= node <= nodes:
+            raise BadInput("stops", number, "Unknown")
+        if end <= begin:
+            raise BadInput("stops", number, "NotRising")
+        stops.append((node, service, begin, end))
+    return stops
+
+
+def legs_of(text):
+    """The legs of an itinerary. Raises BadInput for the first line that is none."""
+    legs = []
+    for number, line in enumerate(trip_network.lines_of(text), 1):
+        form = re.fullmatch("(drive|wait) ([1-9][0-9]{0,9})", line)
+        if not form or int(form[2]) > (4_294_967_295 if form[1] == "drive" else 86_400):
+            raise BadInput("itinerary", number, "BadForm")
+        legs.append((form[1], int(form[2])))
+    return legs
+
+
+# ---- Lawful steps ----
+
+
+class Roads:
+    """Where a vehicle may drive and wait, and what it costs."""
+
+    def __init__(self, network, vehicle):
+        self.network = network
+        self.vehicle = vehicle
+        self.closed = {}
+        self.entered = {}
+        self.parked = {}
+        self.arcs_at = {}
+        self.places = {}
+        for arc, (tail, *_) in enumerate(network.arcs, 1):
+            self.arcs_at.setdefault(tail, []).append(arc)
+            self.places[arc] = network.places(arc, vehicle)
+
+    def closing_rule(self, arc, minute):
+        """The ruling by which an arc doesn't let the vehicle in; None where it is let in."""
+        ruling = self.network.ruling(arc, self.vehicle, self.places[arc], minute)
+        if ruling is None or ruling.access == FREE or (ruling.access == FOR_DELIVERY and self.vehicle.purpose == "delivery"):
+            return None
+        return ruling
+
+    def is_closed(self, arc, minute):
+        if (arc, minute) not in self.closed:
+            closed = self.closing_rule(arc, minute) is not None or self.network.closure_at(arc, minute) is not None
+            self.closed[arc, minute] = closed
+        return self.closed[arc, minute]
+
+    def is_open_from(self, arc, minute):
+        """Whether an arc is closed at none of the minutes that a drive from this minute takes."""
+        if (arc, minute) not in self.entered:
+            self.entered[arc, minute] = not any(self.is_closed(arc, minute + part) for part in range(self.minutes(arc)))
+        return self.entered[arc, minute]
+
+    def head(self, arc):
+        return self.network.arcs[arc - 1][1]
+
+    def minutes(self, arc):
+        return self.network.arcs[arc - 1][2]
+
+    def cost(self, arc):
+        return self.minutes(arc) * COST_OF_MINUTE + self.network.tolls.get(arc, 0)
+
+    def weight(self, node):
+        """What a minute's wait at a node costs; None where it isn't rated."""
+        return self.network.parks[node].weight if node in self.network.parks else None
+
+    def is_park_open(self, node, minute):
+        if (node, minute) not in self.parked:
+            self.parked[node, minute] = self.network.is_park_open(node, minute)
+        return self.parked[node, minute]
+
+    def may_wait(self, node, minute, until):
+        return self.weight(node) is not None and minute + 1 <= until and self.is_park_open(node, minute)
+
+    def drives(self, node, minute, until):
+        """The arcs that a lawful drive may take."""
+        for arc in self.arcs_at.get(node, []):
+            if minute + self.minutes(arc) <= until and self.is_open_from(arc, minute):
+                yield arc
+
+
+def least_costs(start, depart, steps):
+    """The least cost of each state at each minute that is reached, over all runs of lawful steps from the start.
+
+    `steps(state, minute)` gives the next states, the minutes to them, of which there is at least one, and the costs."""
+    costs, ahead = {depart: {start: 0}}, [depart]
+    while ahead:
+        minute = heapq.heappop(ahead)
+        for state, cost in costs[minute].items():
+            for after, minutes, price in steps(state, minute):
+                if minute + minutes not in costs:
+                    costs[minute + minutes] = {}
+                    heapq.heappush(ahead, minute + minutes)
+                later = costs[minute + minutes]
+                if after not in later or later[after] > cost + price:
+                    later[after] = cost + price
+    return costs
+
+
+def front_of(achieved):
+    """The achieved pairs that none dominates: of each arrival, by rising ones, the least cost, where it is below those before it."""
+    front = []
+    for arrival, cost in sorted(achieved):
+        if not front or cost < front[-1][1]:
+            front.append((arrival, cost))
+    return front
+
+
+def dominates(pair, other):
+    return pair != other and pair[0] <= other[0] and pair[1] <= other[1]
+
+
+def plain_steps(roads, until):
+    """The lawful steps from a node at a minute: the next nodes, the minutes to them and the costs."""
+    known = {}
+
+    def steps(node, minute):
+        if (node, minute) not in known:
+            waits = [(node, 1, roads.weight(node))] if roads.may_wait(node, minute, until) else []
+            drives = [(roads.head(arc), roads.minutes(arc), roads.cost(arc)) for arc in roads.drives(node, minute, until)]
+            known[node, minute] = waits + drives
+        return known[node, minute]
+
+    return steps
+
+
+def plan_front(roads, request):
+    costs = least_costs(request.origin, request.depart, plain_steps(roads, request.until))
+    return front_of([(minute, at[request.goal]) for minute, at in costs.items() if request.goal in at])
+
+
+def late_front(roads, request):
+    """For each departure, by falling ones, the least cost of an itinerary that leaves then, where it is below those before it."""
+    front, steps = [], plain_steps(roads, request.until)
+    for departure in range(request.until, request.depart - 1, -1):
+        costs = least_costs(request.origin, departure, steps)
+        achieved = [at[request.goal] for at in costs.values() if request.goal in at]
+        if achieved and (not front or min(achieved) < front[-1][1]):
+            front.append((departure, min(achieved)))
+    return front
+
+
+def tour_front(roads, request, stops):
+    plain = plain_steps(roads, request.until)
+
+    def steps(state, minute):
+        node, served = state
+        for after, minutes, cost in plain(node, minute):
+            yield (after, served), minutes, cost
+        if served < len(stops) and may_serve(stops[served], node, minute, request.until):
+            yield (node, served + 1), stops[served][1], 0
+
+    costs = least_costs((request.origin, 0), request.depart, steps)
+    end = (request.goal, len(stops))
+    return front_of([(minute, at[end]) for minute, at in costs.items() if end in at])
+
+
+def may_serve(stop, node, minute, until):
+    at, service, begin, end = stop
+    return node == at and begin <= minute and minute + service <= end and minute + service <= until
+
+
+def breaks_front(roads, request):
+    """A state is a node, the minutes driven since the last break, and the neighbouring waits so far, which don't matter after a break."""
+
+    def steps(state, minute):
+        node, driven, waits = state
+        if roads.may_wait(node, minute, request.until):
+            rested = driven == 0 or waits + 1 == request.rest
+            yield (node, 0, 0) if rested else (node, driven, waits + 1), 1, roads.weight(node)
+        for arc in roads.drives(node, minute, request.until):
+            stretch = driven + roads.minutes(arc)
+            if stretch <= request.drive:
+                yield (roads.head(arc), stretch, 0), roads.minutes(arc), roads.cost(arc)
+
+    costs = least_costs((request.origin, 0, 0), request.depart, steps)
+    return front_of([(minute, cost) for minute, at in costs.items() for state, cost in at.items() if state[0] == request.goal])
+
+
+def breaks_size(roads, request):
+    """The states, the drives and the breaks that leave them; the states of a node are the bits of a number."""
+    network = roads.network
+    held = {request.origin: 1}
+    waiting = [request.origin]
+    while waiting:
+        node = waiting.pop()
+        if roads.weight(node) is not None:
+            held[node] |= 1
+        for arc in roads.arcs_at.get(node, []):
+            head = roads.head(arc)
+            more = held.get(head, 0) | below(held[node], request.drive - roads.minutes(arc)) << roads.minutes(arc)
+            if more != held.get(head, 0):
+                held[head] = more
+                waiting.append(head)
+    states = sum(ones(bits) for bits in held.values())
+    drives = sum(ones(below(held.get(tail, 0), request.drive - minutes)) for tail, _, minutes in network.arcs)
+    breaks = sum(ones(bits & ~1) for node, bits in held.items() if roads.weight(node) is not None)
+    return states + drives + breaks
+
+
+def below(bits, most):
+    """The bits up to this place."""
+    return bits & ((1 << (most + 1)) - 1) if most >= 0 else 0
+
+
+def ones(bits):
+    return bin(bits).count("1")
+
+
+# ---- Following legs ----
+
+
+def follow(roads, request, legs, depart, stops=()):
+    """The node, the minute, the cost and the stops served at the end of the legs. Raises Unlawful."""
+    node, minute, cost, served = request.origin, depart, 0, 0
+    for number, (kind, value) in enumerate(legs, 1):
+        for _ in range(value if kind == "wait" else 1):
+            wrong = wrong_step(roads, request.until, node, minute, kind, value, served, stops)
+            if wrong:
+                raise Unlawful(number, *wrong)
+            if kind == "wait":
+                minute, cost = minute + 1, cost + roads.weight(node)
+            elif kind == "drive":
+                node, minute, cost = roads.head(value), minute + roads.minutes(value), cost + roads.cost(value)
+            else:
+                minute, served = minute + stops[served][1], served + 1
+    return node, minute, cost, served
+
+
+def wrong_step(roads, until, node, minute, kind, value, served, stops):
+    """The minute and the first reason why a step isn't lawful; None where it is."""
+    network = roads.network
+    if kind == "serve":
+        lawful = value == served + 1 and value <= len(stops) and may_serve(stops[value - 1], node, minute, until)
+        return None if lawful else (minute, "serve")
+    if kind == "wait":
+        if roads.weight(node) is None:
+            return minute, "unrated"
+        if minute + 1 > until:
+            return minute, "late"
+        return None if roads.is_park_open(node, minute) else (minute, "shut")
+    if not 1 <= value <= len(network.arcs) or network.arcs[value - 1][0] != node:
+        return minute, "tail"
+    if minute + roads.minutes(value) > until:
+        return minute, "late"
+    for later in range(minute, minute + roads.minutes(value)):
+        if roads.is_closed(value, later):
+            return later, closing_reason(roads, value, later)
+    return None
+
+
+def closing_reason(roads, arc, minute):
+    ruling = roads.closing_rule(arc, minute)
+    if ruling:
+        return f"rule {ruling.scope} {ruling.key} {ruling.kind} {ruling.clause}"
+    return f"closure {roads.network.closure_at(arc, minute)}"
+
+
+def is_rested(roads, legs, rule):
+    """Whether the stretch of each drive is within the rule: its minutes, and those of the drives after the last break before it."""
+    steps = []
+    for kind, value in legs:
+        steps += [value] if kind == "drive" else [None] * value
+    for place, arc in enumerate(steps):
+        if arc is None:
+            continue
+        ends = [end for end in range(rule.rest, place + 1) if all(step is None for step in steps[end - rule.rest : end])]
+        since = ends[-1] if ends else 0
+        if sum(roads.minutes(step) for step in steps[since : place + 1] if step is not None) > rule.drive:
+            return False
+    return True
+
+
+def wrong_route(roads, request, pair, legs, stops=()):
+    """Why the legs of a route aren't lawful, or aren't those of its pair; None where they are."""
+    kinds = [kind for kind, _ in legs]
+    if ("wait", "wait") in zip(kinds, kinds[1:]) or ("wait", 0) in legs:
+        return "neighbouring or empty waits"
+    late = request.command == "latest"
+    try:
+        node, minute, cost, served = follow(roads, request, legs, pair[0] if late else request.depart, stops)
+    except Unlawful as unlawful:
+        return f"leg {unlawful.args[0]} isn't lawful at {unlawful.args[1]}: {unlawful.args[2]}"
+    if node != request.goal or served != len(stops):
+        return f"it ends at node {node} with {served} stops served"
+    if cost != pair[1] or (not late and minute != pair[0]):
+        return f"it ends at {minute} with the cost {cost}"
+    if request.command == "breaks" and not is_rested(roads, legs, request):
+        return "a stretch is too long"
+    return None
+
+
+# ---- Answers ----
+
+
+def refused(status, *words):
+    return Due(status, (" ".join(["refused", *(str(word) for word in words)]) + "\n").encode("ascii"))
+
+
+def answer_due(words):
+    """What is due for the words of a command."""
+    request = request_of(words)
+    if request is None:
+        return refused(USAGE, "usage")
+    try:
+        network = trip_network.Network(request.folder)
+        if request.command in FILE_LABELS and os.path.isdir(os.path.join(request.folder, request.file)):
+            return Due(READ_FAULT, b"")
+        text = read_own_file(request) if request.command in FILE_LABELS else None
+        network.read()
+        own = {"tour": lambda: stops_of(text, network.nodes), "explain": lambda: legs_of(text)}.get(request.command, list)()
+    except BadInput as fault:
+        return refused(BAD_INPUT, "input", *fault.args)
+    fault = failed_check(network, request)
+    if fault:
+        return refused(BAD_REQUEST, "request", fault)
+    roads = Roads(network, network.vehicles[request.vehicle])
+    return ANSWERS[request.command](roads, request, own)
+
+
+def failed_check(network, request):
+    if request.vehicle not in network.vehicles:
+        return "UnknownVehicle"
+    if not 1 <= request.origin <= network.nodes:
+        return "OriginRange"
+    if not 1 <= request.goal <= network.nodes:
+        return "GoalRange"
+    if request.until < request.depart:
+        return "UntilBeforeDepart"
+    if request.until - request.depart > (MOST_MINUTES - 1 if request.command == "latest" else MOST_MINUTES):
+        return "HorizonTooLong"
+    return None
+
+
+def plan_due(roads, request, _):
+    return Due(DONE, pairs=plan_front(roads, request), wrong_legs=lambda pair, legs: wrong_route(roads, request, pair, legs))
+
+
+def late_due(roads, request, _):
+    return Due(DONE, pairs=late_front(roads, request), wrong_legs=lambda pair, legs: wrong_route(roads, request, pair, legs))
+
+
+def tour_due(roads, request, stops):
+    if (len(stops) + 1) * (roads.network.nodes + len(roads.network.arcs)) > MOST_STATES:
+        return refused(BAD_REQUEST, "request", "TooManyStates")
+    return Due(DONE, pairs=tour_front(roads, request, stops), wrong_legs=lambda pair, legs: wrong_route(roads, request, pair, legs, stops))
+
+
+def breaks_due(roads, request, _):
+    if breaks_size(roads, request) > MOST_STATES:
+        return refused(BAD_REQUEST, "request", "TooManyStates")
+    return Due(DONE, pairs=breaks_front(roads, request), wrong_legs=lambda pair, legs: wrong_route(roads, request, pair, legs))
+
+
+def explain_due(roads, request, legs):
+    try:
+        node, minute, cost, _ = follow(roads, request, legs, request.depart)
+    except Unlawful as unlawful:
+        return Due(DONE, f"unlawful {unlawful.args[0]} {unlawful.args[1]} {unlawful.args[2]}\n".encode("ascii"))
+    if node != request.goal:
+        return Due(DONE, f"unlawful {len(legs) + 1} {minute} goal\n".encode("ascii"))
+    better = next((pair for pair in plan_front(roads, request) if dominates(pair, (minute, cost))), None)
+    verdict = f"dominated {better[0]} {cost_text(better[1])}" if better else "undominated"
+    return Due(DONE, f"lawful {minute} {cost_text(cost)}\n{verdict}\n".encode("ascii"))
+
+
+ANSWERS = {"plan": plan_due, "latest": late_due, "tour": tour_due, "breaks": breaks_due, "explain": explain_due}
+
+
+# ---- Printed fronts ----
+
+
+def cost_text(cost):
+    return f"{cost // 1_000}.{cost % 1_000:03}"
+
+
+def front_text(command, routes):
+    head = "leave" if command == "latest" else "pair"
+    lines = [f"pairs {len(routes)}"]
+    for (first, cost), legs in routes:
+        lines.append(f"{head} {first} {cost_text(cost)}")
+        lines += [f"{kind} {value}" for kind, value in legs]
+    return "".join(line + "\n" for line in lines).encode("ascii")
+
+
+def routes_of(printed):
+    """The pairs and legs in a printed front, whose form isn't looked into."""
+    routes = []
+    for line in printed.decode("latin-1").split("\n"):
+        pair = re.fullmatch(r"(?:pair|leave) ([0-9]+) ([0-9]+)\.([0-9]{3})", line)
+        leg = re.fullmatch("(drive|wait|serve) ([0-9]+)", line)
+        if pair:
+            routes.append(((int(pair[1]), int(pair[2] + pair[3])), []))
+        elif leg and routes:
+            routes[-1][1].append((leg[1], int(leg[2])))
+    return routes
+
+
+def wrong_answer(command, due, status, printed):
+    """How a run's status and text differ from what is due; None where they don't."""
+    if status != due.status:
+        return f"the status is {status}, and {due.status} is due"
+    if due.pairs is None:
+        return None if printed == due.text else f"{due.text!r} is due"
+    routes = routes_of(printed)
+    if printed != front_text(command, routes):
+        return "the text isn't that of a front"
+    pairs = [pair for pair, _ in routes]
+    if pairs != due.pairs:
+        return f"the pairs {due.pairs} are due"
+    for pair, legs in routes:
+        wrong = due.wrong_legs(pair, legs)
+        if wrong:
+            return f"the legs of {pair}: {wrong}"
+    return None
