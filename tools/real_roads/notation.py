@@ -115,10 +115,10 @@ class Reader:
             self.take(":")
         is_day = lambda word: word in WEEKDAYS or word in HOLIDAYS
         if self.is_long_span():
-            for most in (23 * 60 + 59, 24 * 60):
-                self.at += 1
-                self.time(most)
-                self.take("-")
+            self.at += 1
+            self.time(23 * 60 + 59)
+            self.at += 2
+            self.time(24 * 60)
             self.take("open")
             return self.end(set(), False)
         days = self.listed(is_day, self.item) if is_day(self.peek()) else []

@@ -438,7 +438,7 @@ def is_relevant(key):
     return bool(WATCHED.search(key)) or key.startswith("maxspeed")
 
 
-def law_lists(rows, reading):
+def law_lists(rows):
     """The lists of a country's law, from rows of keys and values in lorry_plan's own words; raises Unread where one isn't of that form."""
     tags = {}
     for key, value in rows:
