@@ -1,0 +1,242 @@
+"""What an OpenStreetMap extract says that roads need: ways with their nodes, barriers, parking, places, borders.
+
+The extract is read twice by pyosmium: for its relations, and for its nodes and ways."""
+import array
+import collections
+import re
+import sys
+
+import osmium
+
+from . import tags as road_tags
+
+# Coordinates are whole numbers of 1e-7 degrees, as in OpenStreetMap's database; this one is none.
+NO_PLACE = 2147483647
+PLACES = ("city", "town", "village")
+WALLS = {"bollard", "block", "jersey_barrier", "cycle_barrier", "debris", "log", "kissing_gate", "turnstile", "stile", "fence", "wall",
+         "motorcycle_barrier", "planter", "full-height_turnstile", "hampshire_gate", "horse_stile", "chain", "rope", "spikes", "barrier_board"}
+# Barriers that let motor vehicles pass unless their tags say otherwise.
+PASSED = {"gate", "lift_gate", "swing_gate", "sliding_gate", "sliding_beam", "bump_gate", "wicket_gate", "entrance", "border_control", "toll_booth",
+          "cattle_grid", "sally_port", "kerb", "height_restrictor", "width_restrictor", "yes", "bus_trap", "sump_buster"}
+PARKING_TAGS = ("amenity", "highway", "hgv", "access", "opening_hours", "name", "ref", "capacity:hgv", "parking", "fee", "maxstay", "maxheight",
+                "maxweight", "maxlength", "hgv:parking", "truck", "goods")
+LET_IN = {"yes", "designated", "permissive", "destination", "delivery", "official"}
+
+
+def is_parking(tags):
+    return (
+        tags.get("amenity") in ("parking", "truck_stop", "fuel", "truck_parking")
+        or tags.get("highway") in ("rest_area", "services")
+        or "hgv:parking" in tags
+    )
+
+
+def country_of(tags):
+    """The country whose border a relation or a closed way is, in small letters."""
+    for key in ("ISO3166-1:alpha2", "ISO3166-1", "country_code_iso3166_1_alpha_2"):
+        if re.match(r"[A-Za-z]{2}$", tags.get(key, "")):
+            return tags[key].lower()
+    return None
+
+
+def subdivision_of(tags):
+    code = tags.get("ISO3166-2", "")
+    return code.lower() if re.match(r"[A-Za-z]{2}-[A-Za-z0-9]{1,3}$", code) else None
+
+
+class Way:
+    """A drivable way: its number in OpenStreetMap, class, name, tags, and the place of its nodes in the arrays of the extract."""
+
+    __slots__ = ("number", "tags", "name", "first", "last")
+
+    def __init__(self, number, tags, name, first, last):
+        self.number, self.tags, self.name, self.first, self.last = number, tags, name, first, last
+
+
+class Extract:
+    def __init__(self):
+        self.counts = collections.Counter()
+        self.classes = collections.Counter()
+        self.other_keys = collections.Counter()
+        self.ways = []
+        self.refs, self.xs, self.ys = array.array("q"), array.array("i"), array.array("i")
+        # Relevant tags are kept once for all ways that have the same.
+        self.tags = {}
+        self.barriers = {}
+        self.parking = []
+        self.places = []
+        # Borders: code, name and the ways of each; the ways with their coordinates.
+        self.borders = []
+        self.border_ways = {}
+        self.turns = collections.Counter()
+        self.turn_examples = {}
+        self.ferries = []
+        self.toll_points = collections.Counter()
+
+
+class Relations(osmium.SimpleHandler):
+    def __init__(self, found, wants_borders):
+        super().__init__()
+        self.found, self.wants_borders = found, wants_borders
+        self.parking = []
+
+    def relation(self, relation):
+        self.found.counts["relations"] += 1
+        tags = {tag.k: tag.v for tag in relation.tags}
+        kind = tags.get("type", "")
+        if kind.startswith("restriction"):
+            what = next((tags[key] for key in tags if key.startswith("restriction")), "")
+            self.found.turns[what] += 1
+            self.found.turn_examples.setdefault(what, relation.id)
+        elif self.wants_borders and tags.get("boundary") == "administrative" and kind in ("boundary", "multipolygon"):
+            country = country_of(tags) if tags.get("admin_level", "2") == "2" else None
+            code = country or subdivision_of(tags)
+            members = [it.ref for it in relation.members if it.type == "w" and it.role in ("outer", "inner", "", "exclave", "enclave")]
+            if code:
+                self.found.borders.append((code, members))
+                self.found.border_ways.update((ref, None) for ref in members)
+            elif tags.get("admin_level") == "2":
+                self.found.counts["borders of countries without a code"] += 1
+        elif kind == "multipolygon" and is_parking(tags):
+            self.parking.append(({key: tags[key] for key in PARKING_TAGS if key in tags}, {it.ref for it in relation.members if it.type == "w"}))
+
+
+class NodesAndWays(osmium.SimpleHandler):
+    def __init__(self, found, parts_of_parking, choice, progress):
+        super().__init__()
+        self.found, self.choice, self.progress = found, choice, progress
+        self.parts_of_parking = parts_of_parking
+        self.parts = {}
+
+    def node(self, node):
+        found = self.found
+        found.counts["nodes"] += 1
+        if found.counts["nodes"] % 1_000_000 == 0:
+            self.progress(f"{found.counts['nodes']:,} nodes read")
+        if not len(node.tags):
+            return
+        tags = {tag.k: tag.v for tag in node.tags}
+        location = node.location
+        if not location.valid():
+            return
+        if "barrier" in tags or any(key in tags for key in road_tags.LIMITS) or "hazmat" in tags:
+            found.barriers[node.id] = {key: tags[key] for key in tags if key == "barrier" or road_tags.is_relevant(key)}
+        if tags.get("barrier") == "toll_booth" or tags.get("highway") == "toll_gantry":
+            found.toll_points[tags.get("barrier") or tags["highway"]] += 1
+        if is_parking(tags):
+            found.parking.append(({key: tags[key] for key in PARKING_TAGS if key in tags}, node.id, [node.id], location.x, location.y))
+        if tags.get("place") in PLACES and "name" in tags:
+            found.places.append((PLACES.index(tags["place"]), tags["name"], location.x, location.y))
+
+    def way(self, way):
+        found = self.found
+        found.counts["ways"] += 1
+        if found.counts["ways"] % 200_000 == 0:
+            self.progress(f"{found.counts['ways']:,} ways read")
+        if way.id in found.border_ways:
+            found.border_ways[way.id] = [(it.x, it.y) for it in way.nodes if it.x != NO_PLACE]
+        number = self.parts_of_parking.get(way.id)
+        if number is not None:
+            self.parts.setdefault(number, []).extend((it.ref, it.x, it.y) for it in way.nodes if it.x != NO_PLACE)
+        highway = way.tags.get("highway")
+        if highway is None and "amenity" not in way.tags and "route" not in way.tags and "hgv:parking" not in way.tags and "boundary" not in way.tags:
+            return
+        tags = {tag.k: tag.v for tag in way.tags}
+        if is_parking(tags):
+            nodes = [(it.ref, it.x, it.y) for it in way.nodes if it.x != NO_PLACE]
+            if nodes:
+                found.parking.append(parking_of(tags, way.id, nodes))
+        if tags.get("boundary") == "administrative" and country_of(tags) and len(way.nodes) > 3 and way.nodes[0].ref == way.nodes[-1].ref:
+            found.border_ways[way.id] = [(it.x, it.y) for it in way.nodes if it.x != NO_PLACE]
+            found.borders.append((country_of(tags), [way.id]))
+        if tags.get("route") in ("ferry", "shuttle_train"):
+            found.ferries.append(f"{tags['route']} {tags.get('name', '')} (way {way.id})")
+        if highway:
+            self.road(way, highway, tags)
+
+    def road(self, way, highway, tags):
+        found = self.found
+        reason = self.choice.leaves_out(highway, tags)
+        if reason:
+            found.classes[reason] += 1
+            return
+        first = len(found.refs)
+        outside = 0
+        for node in way.nodes:
+            if node.x == NO_PLACE:
+                outside += 1
+                continue
+            found.refs.append(node.ref)
+            found.xs.append(node.x)
+            found.ys.append(node.y)
+        if outside:
+            found.counts["drivable ways with nodes outside the extract"] += 1
+        if len(found.refs) - first < 2:
+            del found.refs[first:], found.xs[first:], found.ys[first:]
+            found.counts["drivable ways of less than two nodes"] += 1
+            return
+        kept = []
+        for key in tags:
+            if key in ("highway", "junction") or road_tags.is_relevant(key):
+                kept.append((key, tags[key]))
+            else:
+                found.other_keys[key] += 1
+        kept = tuple(sorted(kept))
+        kept = found.tags.setdefault(kept, kept)
+        name = sys.intern(" ".join(tags[key] for key in ("ref", "name") if key in tags))
+        found.counts["drivable ways"] += 1
+        found.ways.append(Way(way.id, kept, name, first, len(found.refs)))
+
+
+def parking_of(tags, number, nodes):
+    """A parking area with its nodes and its middle."""
+    middle = [sum(it[at] for it in nodes) // len(nodes) for at in (1, 2)]
+    return {key: tags[key] for key in PARKING_TAGS if key in tags}, number, [it[0] for it in nodes], middle[0], middle[1]
+
+
+class Choice:
+    """Which classes of roads are taken."""
+
+    def __init__(self, speeds, tracks):
+        self.speeds, self.tracks = speeds, tracks
+
+    def leaves_out(self, highway, tags):
+        """Why a road isn't taken; None where it is."""
+        if highway not in self.speeds:
+            return f"highway={highway}"
+        if tags.get("area") == "yes":
+            return "area=yes"
+        if highway == "track" and not self.tracks and tags.get("hgv") not in LET_IN:
+            return "highway=track without hgv=yes"
+        if highway == "pedestrian":
+            keys = ("access", "vehicle", "motor_vehicle", "goods", "hgv", "bus")
+            if not any(tags.get(key) in LET_IN or f"{key}:conditional" in tags for key in keys):
+                return "highway=pedestrian without motor vehicles"
+        if tags.get("service") == "emergency_access":
+            return "service=emergency_access"
+        return None
+
+
+def read(path, choice, wants_borders, progress):
+    """Reads an extract; raises RuntimeError where pyosmium can't."""
+    found = Extract()
+    relations = Relations(found, wants_borders)
+    reader = osmium.io.Reader(path, osmium.osm.osm_entity_bits.RELATION)
+    osmium.apply(reader, relations)
+    reader.close()
+    parts = {way: number for number, (_, ways) in enumerate(relations.parking) for way in ways}
+    handler = NodesAndWays(found, parts, choice, progress)
+    handler.apply_file(path, locations=True)
+    for number, nodes in handler.parts.items():
+        found.parking.append(parking_of(relations.parking[number][0], -number - 1, nodes))
+    return found
+
+
+def read_borders(path):
+    """Reads only the borders of another file."""
+    found = Extract()
+    reader = osmium.io.Reader(path, osmium.osm.osm_entity_bits.RELATION)
+    osmium.apply(reader, Relations(found, True))
+    reader.close()
+    NodesAndWays(found, {}, Choice({}, False), lambda text: None).apply_file(path, locations=True)
+    return found.borders, found.border_ways

@@ -1,0 +1,164 @@
+"""Parking, depots and towns, and the nodes of the network that they are at."""
+import collections
+import re
+
+from . import notation, tags as road_tags
+from .notation import Unread
+from .roads import metres
+
+CELL = 100_000
+# The farthest node that is taken, in metres.
+MOST_TO_PARKING, MOST_TO_DEPOT, MOST_TO_TOWN = 300, 1000, 2000
+# Ratings, the best first, each with an invented price of a minute's wait.
+RATINGS = {"depot": "0.050", "services": "0.100", "lorry_parking": "0.150", "rest_area": "0.250", "fuel": "0.500", "parking": "0.750"}
+# Ratings whose place stays as it is in a coarse network.
+EXACT = ("depot", "services", "lorry_parking", "rest_area")
+LORRY = ("yes", "designated", "permissive", "customers")
+SHUT = ("no", "private", "permit", "residents", "employees", "staff", "permissive;no", "military")
+# A lower bar, or a shorter place, isn't for lorries.
+LEAST = {"maxheight": 3.8, "maxweight": 12, "maxlength": 12}
+
+
+class Site:
+    """A place where a lorry may wait: its rating, name and hours, its coordinates, and nodes of its own."""
+
+    def __init__(self, rating, name, hours, x, y, refs=()):
+        self.rating, self.name, self.hours, self.x, self.y, self.refs = rating, name, hours, x, y, refs
+        self.node = None
+
+
+def rating_of(tags, any_parking):
+    """The rating of a parking area, or the reason why it isn't taken."""
+    lorry = tags.get("hgv", tags.get("truck", tags.get("hgv:parking", "")))
+    for_lorries = lorry in LORRY or tags.get("capacity:hgv", "0") not in ("0", "no")
+    access = tags.get("access", "yes")
+    if lorry in ("no", "none") or tags.get("capacity:hgv") in ("0", "no"):
+        return None, "parking that isn't for lorries"
+    if access in SHUT or access == "customers" and not for_lorries:
+        return None, "parking that isn't public"
+    if tags.get("amenity") in ("truck_stop", "truck_parking") or tags.get("amenity") != "fuel" and for_lorries and "highway" not in tags:
+        return "lorry_parking", ""
+    if tags.get("highway") == "services":
+        return "services", ""
+    if tags.get("highway") == "rest_area":
+        return "rest_area", ""
+    if tags.get("amenity") == "fuel":
+        return ("fuel", "") if for_lorries else (None, "filling stations without hgv=yes")
+    if not any_parking:
+        return None, "parking that doesn't say it is for lorries (--any-parking takes it)"
+    if tags.get("parking", "surface") not in ("surface", "yes", "lane", "layby", "rest_area"):
+        return None, "parking in buildings or underground"
+    return "parking", ""
+
+
+def site_of(tags, number, refs, x, y, any_parking, reading, report):
+    """The site of a parking area, if lorries may wait there."""
+    rating, reason = rating_of(tags, any_parking)
+    what = next((f"{key}={tags[key]}" for key in ("highway", "amenity", "hgv:parking") if key in tags), "parking")
+    where = f"{'relation' if number < 0 else 'way or node'} {abs(number)}" if number > 0 else ""
+    if rating is None:
+        report.add("left out", reason, what, where)
+        return None
+    for key, least in LEAST.items():
+        if key in tags:
+            try:
+                kind = road_tags.LIMITS[key]
+                if float(road_tags.size_of(kind, tags[key], lambda *_: None)) < least:
+                    report.add("left out", "parking for smaller vehicles", f"{key}={tags[key]}", where)
+                    return None
+            except Unread:
+                if tags[key] not in road_tags.LIFTED:
+                    report.add("left out", "parking with a limit that can't be read", f"{key}={tags[key]}", where)
+                    return None
+    hours = ""
+    if "opening_hours" in tags:
+        text = tags["opening_hours"]
+        try:
+            hours = notation.hours(text, lambda what, example: report.add("changed", what, example, where), reading.school_holidays, True)
+            hours = "" if re.sub(r"\s", "", hours) in ("24/7", "24/7open") else hours
+        except Unread as error:
+            report.add("left out", f"parking whose hours can't be read: {error}", f"opening_hours={text}", where)
+            return None
+    if "maxstay" in tags and tags["maxstay"] not in ("unlimited", "no", "none", "24/7"):
+        report.add("warning", "parking with a longest stay, which isn't considered", f"maxstay={tags['maxstay']}", where)
+    report.add("read", "parking, by rating", rating)
+    return Site(rating, tags.get("name", tags.get("ref", "")), hours, x, y, refs)
+
+
+def cells_around(x, y, reach=1):
+    column, row = x // CELL, y // CELL
+    return [(column + i, row + j) for i in range(-reach, reach + 1) for j in range(-reach, reach + 1)]
+
+
+def nearest_refs(extract, usable, sites):
+    """The node of a usable way that is nearest to each site, so that the network has it."""
+    wanted = {cell for site in sites for cell in cells_around(site.x, site.y)}
+    grid = collections.defaultdict(list)
+    if wanted:
+        for way in extract.ways:
+            if usable(way):
+                for at in range(way.first, way.last):
+                    cell = (extract.xs[at] // CELL, extract.ys[at] // CELL)
+                    if cell in wanted:
+                        grid[cell].append(at)
+    found = set()
+    for site in sites:
+        near = [at for cell in cells_around(site.x, site.y) for at in grid[cell]]
+        if near:
+            at = min(near, key=lambda at: (metres(site.x, site.y, extract.xs[at], extract.ys[at]), extract.refs[at]))
+            found.add(extract.refs[at])
+            own = [at for at in near if extract.refs[at] in site.refs]
+            if own:
+                found.add(extract.refs[own[0]])
+    return found
+
+
+class Nodes:
+    """Nodes of the network by their place."""
+
+    def __init__(self, network, nodes):
+        self.network = network
+        self.grid = collections.defaultdict(list)
+        for node in nodes:
+            self.grid[network.xs[node] // CELL, network.ys[node] // CELL].append(node)
+
+    def distance(self, node, x, y):
+        return metres(x, y, self.network.xs[node], self.network.ys[node])
+
+    def nearest(self, x, y, most):
+        """The nearest node within so many metres, or None."""
+        reach = 1 + int(most / 350)
+        near = [node for cell in cells_around(x, y, reach) for node in self.grid.get(cell, ())]
+        near = [node for node in near if self.distance(node, x, y) <= most]
+        return min(near, key=lambda node: (self.distance(node, x, y), node), default=None)
+
+
+def place_sites(sites, network, nodes, report):
+    """Gives each site its node; those that have none are left out."""
+    index = Nodes(network, nodes)
+    found = []
+    for site in sites:
+        own = [network.number[ref] for ref in site.refs if ref in network.number and network.number[ref] in nodes]
+        most = MOST_TO_DEPOT if site.rating == "depot" else MOST_TO_PARKING
+        site.node = own[0] if own else index.nearest(site.x, site.y, most)
+        if site.node is None:
+            report.add("warning" if site.rating == "depot" else "left out", f"places to wait without a road of the network within {most} m", f"{site.rating} {site.name}".strip())
+        else:
+            found.append(site)
+    return found
+
+
+def better(one, other):
+    """Of two sites at one node the one that is kept: the better rating, and no hours before hours."""
+    order = list(RATINGS)
+    return min(one, other, key=lambda site: (order.index(site.rating), site.hours != "", site.name))
+
+
+def name_towns(places, network, nodes):
+    """The node that is nearest to each town, with the town's name."""
+    index, found = Nodes(network, nodes), {}
+    for _, name, x, y in sorted(places):
+        node = index.nearest(x, y, MOST_TO_TOWN)
+        if node is not None:
+            found.setdefault(node, name)
+    return found
