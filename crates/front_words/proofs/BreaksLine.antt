@@ -1,5 +1,5 @@
 -- The line of `breaks` passes `clap`, which gives back its words.
-use Rattle.std.proofs.Common.{◌≡◌, refl, codes, map, List, Option, Some, None, [], ◌∷◌, ◌++◌, length, arith}
+use Rattle.std.proofs.Common.{◌≡◌, refl, codes, List, Option, Some, None, [], ◌∷◌, ◌++◌, length, arith}
 use Rattle.clap.specs.Walk.{Held, Text, nothing_held}
 use Rattle.clap.specs.Simple.{App, built}
 use Rattle.clap.proofs.OnLiterals.{clap_on_literals}

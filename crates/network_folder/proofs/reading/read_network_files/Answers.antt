@@ -1,11 +1,10 @@
-use Rattle.std.proofs.Common.{◌≡◌, ◌++◌, ◌∷◌, ◌+◌, [], List, take, drop, get_or, map, refl, ap, sym, subst, ◌∙◌, arith}
+use Rattle.std.proofs.Common.{◌++◌, ◌∷◌, [], List, take, get_or, map, refl, ap, sym, subst, ◌∙◌, arith}
 use Rattle.std.proofs.lemmas.List.{take_more}
 use Rattle.std.proofs.lemmas.Result.{err_from_is_err_and}
 use Rattle.route_base.specs.Contents.{Contents}
 use Rattle.route_base.specs.declared.faults.FileKind.{FileKind}
 use Rattle.route_base.specs.declared.faults.FileKind.TheVariants.{Graph}
 use Rattle.route_base.proofs.FolderStates.{keeps_more}
-use Rattle.network_tables.specs.declared.files.Files.{Files}
 use Rattle.network_folder.specs.Files.{FileToRead, IsRead, fault_of_file, first_unreadable}
 use Rattle.network_folder.specs.Faults.{StopsReading}
 use Rattle.network_folder.specs.ReadingOrder.{network_file}
