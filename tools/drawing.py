@@ -1,6 +1,7 @@
 """Draws charts as SVG: scales, ticks of time and cost, and labels that don't lie on each other. tools/look uses it."""
 import html
 import math
+import re
 
 from folder_reading import moment_of
 
@@ -17,13 +18,16 @@ text{font-family:system-ui,-apple-system,'Segoe UI','DejaVu Sans',Verdana,sans-s
 .halo{paint-order:stroke;stroke:#fff;stroke-width:3px;stroke-linejoin:round}
 """
 
+NOT_XML = re.compile("[^\t\n\r\x20-\ud7ff\ue000-\ufffd\U00010000-\U0010ffff]")
+
 # The steps between two ticks of time, in minutes.
 STEPS = [1, 2, 5, 10, 15, 30, 60, 120, 180, 360, 720, 1440, 2880, 4320, 10080, 20160]
 MONDAY = 4 * 1440  # the first Monday of Unix time
 
 
 def quoted(text):
-    return html.escape(str(text), quote=True)
+    """Returns a text as XML and HTML write it; characters that they don't have are replaced."""
+    return html.escape(NOT_XML.sub("\ufffd", str(text)), quote=True)
 
 
 def number(value):
@@ -60,6 +64,12 @@ def shortened(text, size, width):
     return text.rstrip() + "…"
 
 
+def attributes_text(attributes):
+    """Returns attributes as an element has them; `_` stands for `-`."""
+    values = ((key.replace("_", "-"), number(it) if isinstance(it, float) else it) for key, it in attributes.items())
+    return "".join(f' {key}="{quoted(value)}"' for key, value in values)
+
+
 class Drawing:
     """A drawing of a width and a height, to which shapes are added."""
 
@@ -68,8 +78,8 @@ class Drawing:
         self.parts = []
 
     def shape(self, name, tip=None, **attributes):
-        """Adds a shape; `tip` is shown where the pointer rests on it. An attribute's `_` stands for `-`."""
-        words = "".join(f' {key.rstrip("_").replace("_", "-")}="{quoted(number(it) if isinstance(it, float) else it)}"' for key, it in attributes.items())
+        """Adds a shape; `tip` is shown where the pointer rests on it."""
+        words = attributes_text(attributes)
         self.parts.append(f"<{name}{words}/>" if tip is None else f"<{name}{words}><title>{quoted(tip)}</title></{name}>")
 
     def rect(self, x, y, width, height, fill, tip=None, **more):
@@ -86,14 +96,13 @@ class Drawing:
         self.shape("circle", tip, cx=float(x), cy=float(y), r=float(radius), fill=fill, **more)
 
     def text(self, x, y, text, kind="", size=None, **more):
-        words = "".join(f' {key.rstrip("_").replace("_", "-")}="{quoted(it)}"' for key, it in more.items())
+        words = attributes_text(more)
         kind = f' class="{kind}"' if kind else ""
         size = f' style="font-size:{number(float(size))}px"' if size else ""
         self.parts.append(f'<text x="{number(x)}" y="{number(y)}"{kind}{size}{words}>{quoted(text)}</text>')
 
     def begin(self, **attributes):
-        words = "".join(f' {key.rstrip("_").replace("_", "-")}="{quoted(it)}"' for key, it in attributes.items())
-        self.parts.append(f"<g{words}>")
+        self.parts.append(f"<g{attributes_text(attributes)}>")
 
     def end(self):
         self.parts.append("</g>")

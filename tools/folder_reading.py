@@ -258,6 +258,12 @@ def default_program():
     return launcher if os.path.isfile(launcher) else shutil.which("lorry_plan") or launcher
 
 
+def write_as_utf8():
+    """Lets the standard output take any text, whatever the language of the machine is."""
+    if hasattr(sys.stdout, "reconfigure"):
+        sys.stdout.reconfigure(encoding="utf-8", errors="replace")
+
+
 class Progress:
     """A line on the standard error that tells how far long work is. It appears only on a terminal, and only where the work is long."""
 

@@ -47,17 +47,20 @@ class Findings(beside.FolderTest):
         self.assertEqual(self.findings(), [])
 
     def test_rows_that_are_passed_over(self):
-        self.rules("area:land,hgv,yes", "arc:1,maxweight,7.5", "arc:2,maxweight,3.5", "arc:1,HGV,no", "arc:1,hgv:forward,no", "arc:3,hazmat,no", "arc:3,lanes,2")
+        self.rules(
+            "area:land,hgv,yes", "arc:1,maxweight,7.5", "arc:2,maxweight,3.5", "arc:1,HGV,no", "arc:1,hgv:forward,no", "arc:3,hazmat,no", "arc:3,x,2"
+        )
         self.assertEqual(
             self.findings(),
             [
                 "rules.csv 3 passed-over: 2 rows with the key maxweight, such as arc:1,maxweight,7.5; "
                 "a limit is a rule such as hgv:conditional with no @ (weight>N)",
                 "rules.csv 5 passed-over: 1 row with the key HGV, such as arc:1,HGV,no; perhaps hgv is meant",
-                "rules.csv 6 passed-over: 1 row with the key hgv:forward, such as arc:1,hgv:forward,no; an arc goes one way, so its key has no direction",
+                "rules.csv 6 passed-over: 1 row with the key hgv:forward, such as arc:1,hgv:forward,no; "
+                "an arc goes one way, so its key has no direction",
                 "rules.csv 7 passed-over: 1 row with the key hazmat, such as arc:3,hazmat,no; "
                 "as a rule: hgv:conditional with no @ (hazmat), for vehicles with this flag",
-                "rules.csv 8 passed-over: 1 row with the key lanes, such as arc:3,lanes,2",
+                "rules.csv 8 passed-over: 1 row with the key x, such as arc:3,x,2",
             ],
         )
 
@@ -87,8 +90,8 @@ class Findings(beside.FolderTest):
         self.assertEqual(
             self.findings(),
             [
-                "rules.csv 4 lifted-ban: arc:2 hgv:conditional yes @ (Mo-Fr 06:00-20:00); no @ (We) lets any and truck in where the rules of area land "
-                "don't, first on 2026-07-02 06:00 local time"
+                "rules.csv 4 lifted-ban: arc:2 hgv:conditional yes @ (Mo-Fr 06:00-20:00); no @ (We) lets any and truck in where the rules of area "
+                "land don't, first on 2026-07-02 06:00 local time"
             ],
         )
 
@@ -122,7 +125,8 @@ class Findings(beside.FolderTest):
         self.assertEqual(
             [it for it in self.findings() if "flag" in it and "no-rule" not in it],
             [
-                "rules.csv 2 unknown-flag: area:land hgv:conditional speaks of the flag mo, which no vehicle has; Mo is written with a capital letter",
+                "rules.csv 2 unknown-flag: area:land hgv:conditional speaks of the flag mo, which no vehicle has; "
+                "Mo is written with a capital letter",
                 "rules.csv 2 unknown-flag: area:land hgv:conditional speaks of the flag wet, which no vehicle has",
             ],
         )
@@ -164,11 +168,14 @@ class Findings(beside.FolderTest):
     def test_holidays(self):
         self.rules('area:land,hgv:conditional,"no @ (Su,PH 00:00-22:00)"', "arc:1,hgv:conditional,no @ (SH)")
         self.write(holidays="area,kind,date\nland,SH,2026-12-24\nland,PH,2025-12-25\nother,PH,2026-01-01\n")
-        self.assertEqual(self.findings(), ["rules.csv 2 no-holidays: area:land hgv:conditional speaks of PH, and holidays.csv has none of area land in 2026"])
+        said = "rules.csv 2 no-holidays: area:land hgv:conditional speaks of PH, and holidays.csv has none of area land in 2026"
+        self.assertEqual(self.findings(), [said])
 
     def test_files_that_are_never_read(self):
-        names = ["Rules.csv", "closure.csv", "ban.csv", "jobs.csv", "my-stops.csv", "README.md", "nodes.csv", "trip.cert", "way.txt", "prices.csv", "graph.gr.old"]
-        texts = {"ban.csv": "scope,key,value\r\narea:land,hgv,no\n", "jobs.csv": "vehicle,from,to,depart,until\n", "my-stops.csv": "node,service,from,to\n"}
+        names = ["Rules.csv", "closure.csv", "ban.csv", "jobs.csv", "my-stops.csv", "README.md", "nodes.csv", "trip.cert", "way.txt", "prices.csv"]
+        texts = {"ban.csv": "scope,key,value\r\narea:land,hgv,no\n", "jobs.csv": "vehicle,from,to,depart,until\n"}
+        texts.update({"my-stops.csv": "node,service,from,to\n", "graph.gr.old": ""})
+        names.append("graph.gr.old")
         for name in names:
             with open(self.path(name), "w", encoding="utf-8") as file:
                 file.write(texts.get(name, ""))
@@ -194,7 +201,12 @@ class Findings(beside.FolderTest):
         self.rules("area:land,hgv:conditional,no @ (weight>7.5 AND Su", "arc:1,hgv,maybe", "arc:2,hgv:conditional,no @ (sunrise-sunset)")
         self.write(vehicles=beside.VEHICLES + TRUCK + "heavy,hgv,40 t,,,,,,,\ntram,rail,,,,,,,,\n", holidays="area,kind,date\nland,PH,2026-02-30\n")
         found = [it.split(": ")[0] for it in self.findings()]
-        self.assertEqual(sorted(found), sorted([*(f"rules.csv {it} not-read" for it in (2, 3, 4)), *(f"vehicles.csv {it} not-read" for it in (3, 4)), "holidays.csv 2 not-read"]))
+        rows = ["rules.csv 2", "rules.csv 3", "rules.csv 4", "vehicles.csv 3", "vehicles.csv 4", "holidays.csv 2"]
+        self.assertEqual(sorted(found), sorted(f"{it} not-read" for it in rows))
+
+    def test_a_finding_is_one_line(self):
+        self.rules('area:land,"max\nspeed\x1b[2J",80')
+        self.assertEqual(self.findings(), ["rules.csv 2 passed-over: 1 row with the key max?speed?[2J, such as area:land,max?speed?[2J,80"])
 
     def test_many_findings_of_one_name(self):
         self.write(parking="node,rating\n" + "".join(f"{it},r\n" for it in range(10, 40)))
@@ -233,7 +245,9 @@ class Notation(unittest.TestCase):
                 rule_texts.read_hours(text)
 
     def test_conditional_values(self):
-        for text in ("no@weight > 7.5t and Sa 7:00-20:00; permit@hazmat", "no @ (Mo 22:00-06:00; PH off)", "no @ axles>=3", "no @ height>3.9m", "no @ off"):
+        for text in (
+            "no@weight > 7.5t and Sa 7:00-20:00; permit@hazmat", "no @ (Mo 22:00-06:00; PH off)", "no @ axles>=3", "no @ height>3.9m", "no @ off",
+        ):  # fmt: skip
             rule_texts.read_conditional(text)
         for text in (
             "no", "no @ hazmat;", "No @ (24/7)", "no @ ((hazmat))", "no @ (two words)", "no @ (a And b)", "no @ weight>7,5", "no @ axles>=3t",
@@ -260,10 +274,11 @@ def random_hours(draw):
 
     def rule():
         months, days = rule_texts.MONTHS, rule_texts.WEEKDAYS
-        dates = draw.choice(["", "", "", f"{draw.choice(months)} ", f"{draw.choice(months)}-{draw.choice(months)} ", f"Jul {draw.randint(1, 31)}-Aug {draw.randint(1, 31)} "])
+        month, day = lambda: draw.choice(months), lambda: draw.choice(days)
+        dates = draw.choice(["", "", "", f"{month()} ", f"{month()}-{month()} ", f"Jul {draw.randint(1, 31)}-Aug {draw.randint(1, 31)} "])
         if draw.random() < 0.15:
-            return f"{dates}{draw.choice(days)} {time()}-{draw.choice(days)} {time()}"
-        items = draw.choice(["", f"{draw.choice(days)}-{draw.choice(days)} ", f"{draw.choice(days)},PH ", f"{draw.choice(days)}[{draw.choice([1, 2, 3, 4, 5, -1, -2])}] ", "SH "])
+            return f"{dates}{day()} {time()}-{day()} {time()}"
+        items = draw.choice(["", f"{day()}-{day()} ", f"{day()},PH ", f"{day()}[{draw.choice([1, 2, 3, 4, 5, -1, -2])}] ", "SH "])
         spans = draw.choice(["", "off", f"{time()}-{time(47)}", f"{time()}-{time()},{time()}-{time()}"])
         return (dates + items + spans).strip() or "24/7"
 

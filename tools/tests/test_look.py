@@ -166,10 +166,10 @@ class Pages(beside.FolderTest):
             self.assertEqual(beside.run("look", *words, *more)[0], 0)
 
     def test_one_to_a_hundred_pairs(self):
-        arcs = [(1, 3, 100 + 7 * k) for k in range(100)]
+        arcs = [(1, 3, 100 + 6 * k) for k in range(100)]
         self.write(graph=graph(3, *arcs))
         for count in (1, 2, 9, 17, 41, 100):
-            pairs = [{"arrival": START + 100 + 7 * k, "cost": 9000000 - 1234 * k, "legs": [{"arc": k + 1, "kind": "drive"}]} for k in range(count)]
+            pairs = [{"arrival": START + 100 + 6 * k, "cost": 9000000 - 1234 * k, "legs": [{"arc": k + 1, "kind": "drive"}]} for k in range(count)]
             page = self.draw("--no-bans", pairs=pairs)
             elements = self.check_page(page)
             self.assertEqual(sum(tag == "details" for tag, _ in elements), count)
@@ -180,11 +180,12 @@ class Pages(beside.FolderTest):
             self.check_svg(self.draw("--no-bans", svg=True))
 
     def test_a_map_with_names(self):
-        nodes = "node,osm_node,lon,lat,name\n1,7,9.5,47.1,Vaduz\n2,8,9.6,47.2,\n3,9,9.7,47.1,<b>&\n"
+        nodes = "node,osm_node,lon,lat,name\n1,7,9.5,47.1,Vaduz\n2,8,9.6,47.2,\n3,9,9.7,47.1,<b>&\x01\n"
         self.write(graph="c Map data (c) OpenStreetMap contributors\n" + PASS, nodes=nodes, ways="arc,name\n1,Landstrasse\n")
         page = self.draw(pairs=PASS_PAIRS)
         self.check_page(page)
-        for text in ("Where they go", "Vaduz (1)", "Landstrasse (1)", "&lt;b&gt;&amp; (3)", "© OpenStreetMap contributors", "Waits at node 2: option 1 5 h"):
+        said = ["Where they go", "Vaduz (1)", "Landstrasse (1)", "&lt;b&gt;&amp;\ufffd (3)", "© OpenStreetMap", "Waits at node 2: option 1 5 h"]
+        for text in said:
             self.assertIn(text, page)
         self.check_svg(self.draw(svg=True))
 
@@ -216,7 +217,9 @@ class Pages(beside.FolderTest):
         self.assertIn("--out says where", complained)
 
     def test_what_is_no_plan(self):
-        for text in ("", "refused usage\n", "[]", '{"pairs":3}', '{"pairs":[{"arrival":1}]}', '{"pairs":[{"arrival":1,"cost":2,"legs":[{"kind":"fly","minutes":2}]}]}'):
+        texts = ["", "refused usage\n", "[]", '{"pairs":3}', '{"pairs":[{"arrival":1}]}']
+        legs = ['{"kind":"fly","minutes":2}', '{"kind":"wait","minutes":0}', '{"kind":"drive","minutes":2}', "7"]
+        for text in texts + [f'{{"pairs":[{{"arrival":1,"cost":2,"legs":[{it}]}}]}}' for it in legs]:
             with open(self.path("plan.json"), "w", encoding="utf-8") as file:
                 file.write(text)
             status, printed, complained = beside.run("look", self.path("plan.json"))
@@ -231,6 +234,7 @@ class Pages(beside.FolderTest):
             (["any", 1, 2, "2026-07-04T16:00Z", "2026-07-05T04:00Z"], "end at node 3"),
             (["any", 1, 3, "2026-07-04T17:00Z", "2026-07-05T04:00Z"], "2026-07-05T00:00Z, and the plan says 2026-07-04T23:00Z"),
             (["any", 1, 3, "today", "2026-07-05T04:00Z"], "--trip has the words of a plan"),
+            (["any", 1, 3, "2026-07-04T16:00Z", "2026-07-05T01:00Z"], "a route arrives on 2026-07-05T02:00Z, after UNTIL"),
         ):
             status, printed, complained = beside.run("look", self.path("plan.json"), "--trip", self.folder, *words)
             self.assertEqual((status, printed), (2, ""))
