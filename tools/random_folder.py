@@ -133,8 +133,7 @@ def graph_text(nodes, arcs):
     return "".join([f"p sp {nodes} {len(arcs)}\n", *(f"a {tail} {head} {minutes}\n" for tail, head, minutes in arcs)])
 
 
-def draw_closures(rng, window, arcs):
-    share = rng.choice([0, 0.2, 0.4, 0.6, 1])
+def draw_closures(rng, window, arcs, share):
     rows = []
     for arc in range(1, len(arcs) + 1):
         for _ in range(rng.randint(1, 3) if rng.random() < share else 0):
@@ -167,7 +166,7 @@ def draw_parking(rng, window, nodes, areas, offset_of_area, share):
         f"r{place}": f"0.{rng.randint(0, 999):03}" if cheap else rng.choice([*WEIGHTS, f"{rng.randint(0, 9)}.{rng.randint(0, 999):03}"])
         for place in range(rng.randint(1, 4))
     }
-    with_hours = rng.random() < 0.3
+    with_hours = rng.random() < 0.45
     rows = []
     for node in rng.sample(range(1, nodes + 1), nodes):
         if rng.random() >= share:
@@ -204,21 +203,22 @@ def draw_vehicles(rng):
 
 
 def draw_rules(rng, window, arcs, areas, offset_of_area, area_of_arc, keys):
-    rows, taken = [], set()
+    """Rules of which many differ from another in one of scope, key and kind alone."""
+    rows, taken = [], []
     for _ in range(rng.randint(1, 6)):
-        if arcs and rng.random() < 0.6:
-            arc = rng.randint(1, len(arcs))
-            place, scope, area = arc, f"arc:{arc}", area_of_arc.get(arc, areas[0])
-        else:
-            area = rng.choice(areas)
-            place, scope = area, f"area:{area}"
-        key = rng.choice(keys) if rng.random() < 0.8 else rng.choice(KEYS)
+        arc = rng.randint(1, len(arcs)) if arcs else 0
+        area = area_of_arc.get(arc, areas[0]) if rng.random() < 0.7 else rng.choice(areas)
+        scope = f"arc:{arc}" if arc and rng.random() < 0.6 else f"area:{area}"
+        key = rng.choice(keys) if rng.random() < 0.9 else rng.choice(KEYS)
         kind = rng.choice(["", ":conditional", ":conditional"])
-        if (place, key, kind) in taken:
+        if taken and rng.random() < 0.5:
+            other = rng.choice(taken)
+            scope, key, kind = rng.choice([(scope, other[1], other[2]), (other[0], key, other[2]), (*other[:2], kind), (*other[:2], kind)])
+        if (scope, key, kind) in taken:
             continue
-        taken.add((place, key, kind))
-        value = draw_conditional(rng, window, offset_of_area[area]) if kind else draw_value(rng)
-        rows.append([scope, key + kind, value])
+        taken.append((scope, key, kind))
+        of_area = area_of_arc.get(int(scope[4:]), areas[0]) if scope.startswith("arc:") else scope[5:]
+        rows.append([scope, key + kind, draw_conditional(rng, window, offset_of_area[of_area]) if kind else draw_value(rng)])
         if rng.random() < 0.1:
             rows.append([scope, rng.choice(["maxspeed", "hgv:forward", "HGV"]), "80"])
     rng.shuffle(rows)
@@ -252,7 +252,24 @@ def draw_part(rng, window, offset):
     return limit
 
 
-def draw_network(rng, graph, window, rated):
+@dataclasses.dataclass
+class Shares:
+    """Which part of the nodes is rated and which part of the arcs has closures, and whether there are rules."""
+
+    rated: float
+    closed: float
+    ruled: bool
+
+
+def draw_shares(rng, command):
+    """Where breaks and stops are to matter, roads are mostly open."""
+    rated = rng.choice([0.7, 1, 1] if command == "breaks" else [0, 0.4, 0.7, 1, 1])
+    if command in ("breaks", "tour") and rng.random() < 0.6:
+        return Shares(rated, rng.choice([0, 0.2]), False)
+    return Shares(rated, rng.choice([0, 0.2, 0.4, 0.6, 1]), rng.random() < 0.5)
+
+
+def draw_network(rng, graph, window, shares):
     """The texts of the files by name."""
     nodes, arcs = graph.nodes, graph.arcs
     zone_rows, offsets = draw_zones(rng, window)
@@ -263,10 +280,10 @@ def draw_network(rng, graph, window, rated):
     area_of_arc = {arc: rng.choice(areas) for arc in range(1, len(arcs) + 1) if rng.random() < 0.6}
     vehicles = draw_vehicles(rng)
     keys = KEYS_OF_CLASS[rng.choice(["hgv", *(row[1] for row in vehicles)])]
-    ratings, parking, parking_header = draw_parking(rng, window, nodes, areas, offset_of_area, rated)
+    ratings, parking, parking_header = draw_parking(rng, window, nodes, areas, offset_of_area, shares.rated)
     days = [date_text(window.wall(offset)[0] + rng.randint(-1, 1)) for offset in offsets.values()]
     holidays = [[rng.choice(areas), rng.choice(["PH", "SH"]), rng.choice(days)] for _ in range(rng.choice([0, 0, 1, 3]))]
-    rules = draw_rules(rng, window, arcs, areas, offset_of_area, area_of_arc, keys) if rng.random() < 0.35 else []
+    rules = draw_rules(rng, window, arcs, areas, offset_of_area, area_of_arc, keys) if shares.ruled else []
     tolls = draw_tolls(rng, graph, rng.choice([0, 0.5, 0.8, 1]))
     return {
         "graph.gr": graph_text(nodes, arcs),
@@ -277,7 +294,7 @@ def draw_network(rng, graph, window, rated):
             rng, "name,class,weight_kg,axleload_kg,height_cm,width_cm,length_cm,axles,purpose,flags", vehicles
         ),
         "rules.csv": table(rng, "scope,key,value", rules),
-        "closures.csv": table(rng, "arc,from,to", draw_closures(rng, window, arcs)),
+        "closures.csv": table(rng, "arc,from,to", draw_closures(rng, window, arcs, shares.closed)),
         "ratings.csv": table(rng, "rating,weight", ratings),
         "parking.csv": table(rng, parking_header, parking),
         "holidays.csv": table(rng, "area,kind,date", holidays),
@@ -300,9 +317,9 @@ def draw_hours(rng, window, offset):
 def hours_rule(rng, day, minute, minutes):
     draw = rng.random()
     opened = " open" if rng.random() < 0.1 else ""
-    if draw < 0.05:
+    if draw < 0.04:
         return "24/7" + opened
-    if draw < 0.35:
+    if draw < 0.42:
         return spans(rng, minute, minutes) + opened
     if draw < 0.55:
         return day_items(rng, day) + " " + spans(rng, minute, minutes) + opened
@@ -331,12 +348,12 @@ def spans(rng, minute, minutes):
 
 def gap(rng, minute, minutes):
     begin = min(max((minute + rng.randint(-10, minutes + 5)) % MINUTES_OF_DAY, 1), MINUTES_OF_DAY - 2)
-    return begin, min(begin + rng.randint(1, 60), MINUTES_OF_DAY - 1)
+    return begin, min(begin + rng.choice([rng.randint(1, 10), rng.randint(1, 60)]), MINUTES_OF_DAY - 1)
 
 
 def span(rng, minute, minutes):
-    begin = (minute + rng.randint(-45, minutes + 15)) % MINUTES_OF_DAY
-    end = begin + rng.choice([rng.randint(1, 8), rng.randint(1, 40), rng.randint(1, 180), rng.randint(1, MINUTES_OF_DAY)])
+    begin = (minute + rng.choice([rng.randint(-45, minutes + 15), rng.randint(-20, minutes)])) % MINUTES_OF_DAY
+    end = begin + rng.choice([rng.randint(1, 8), rng.randint(1, 25), rng.randint(1, 50), rng.randint(1, 180), rng.randint(1, MINUTES_OF_DAY)])
     if end > MINUTES_OF_DAY and rng.random() < 0.5:
         end -= MINUTES_OF_DAY
     return f"{time_text(rng, begin)}-{time_text(rng, end)}"
@@ -400,7 +417,7 @@ def draw_trip(rng, command, folder):
         window = Window(window.depart, window.depart + rng.randint(50, 90))
     if rng.random() < 0.003:
         return draw_long_trip(rng, command, folder, window)
-    write_all(folder, draw_network(rng, graph, window, rng.choice([0.7, 1, 1] if command == "breaks" else [0, 0.4, 0.7, 1, 1])))
+    write_all(folder, draw_network(rng, graph, window, draw_shares(rng, command)))
     network = Network(folder).read()
     return draw_trip_over(rng, command, folder, network, graph, window)
 
@@ -671,3 +688,31 @@ def spoil_folder(rng, folder, words, network, window):
         os.remove(name)
         if rng.random() < 0.3:
             os.mkdir(name)
+
+
+# ---- Trips at their limits ----
+
+
+def limit_trips(folder):
+    """Trips at the limits of their states and of an itinerary's bytes, and one beyond each; gives what each is and its words.
+
+    The folder is empty at first, and holds the files of one trip after another."""
+    depart = instant_of(BEGINNINGS[0])
+    times = [str(depart), str(depart + 50)]
+    for arcs in (300_000, 300_001):
+        write(folder, "graph.gr", graph_text(500_000, [(1, 2, 10), *[(3, 4, 10)] * (arcs - 1)]))
+        write(folder, STOPS, "node,service,from,to\n" + f"2,1,{times[0]},{times[1]}\n" * 49)
+        yield f"a tour of {50 * (500_000 + arcs):,} states", ["tour", folder, "any", "1", "2", str(depart), str(depart + 60), STOPS]
+    nodes, drive = 6_943, 1_440
+    chain = [(node, node, 1) for node in range(1, nodes + 1)] + [(node, node + 1, 1) for node in range(1, nodes)]
+    # Each node has drive + 1 states, a loop and an arc to the next node that drive of these may take, and drive breaks.
+    size = nodes * (drive + 1) + (len(chain) + nodes) * drive
+    write(folder, "ratings.csv", "rating,weight\nr,0.5\n")
+    write(folder, "parking.csv", "node,rating\n" + "".join(f"{node},r\n" for node in range(1, nodes + 1)))
+    for most in (40_000_000, 40_000_001):
+        write(folder, "graph.gr", graph_text(nodes, chain + [(1, 2, drive)] * (most - size)))
+        yield f"breaks of {most:,} states", ["breaks", folder, "any", "1", "40", *times, "--drive", str(drive), "--rest", "1"]
+    write(folder, "graph.gr", graph_text(10, [(1, 1, 10_080)] * 10))
+    for text in ("drive 1\n" * 2_097_152, "drive 1\n" * 2_097_151 + "drive 10\n"):
+        write(folder, ITINERARY, text)
+        yield f"an itinerary of {len(text):,} bytes", ["explain", folder, "any", "1", "1", *times, ITINERARY]
