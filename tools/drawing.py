@@ -241,9 +241,6 @@ class TimeAxis:
     def at(self, minute):
         return self.left + (minute - self.low) * (self.right - self.left) / (self.high - self.low)
 
-    def minutes_in(self, width):
-        return width * (self.high - self.low) / (self.right - self.left)
-
     def draw_days(self, drawing, top, bottom):
         """Shades every weekend, and draws a line where a day begins."""
         for day in days_between(self.low, self.high):

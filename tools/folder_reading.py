@@ -118,7 +118,7 @@ class Graph:
         return self.tails[arc - 1], self.heads[arc - 1], self.minutes[arc - 1]
 
     def arcs_at(self, nodes):
-        """Returns, for each of these lists of nodes (tails or heads of all arcs), the numbers of the arcs at each node."""
+        """Returns the numbers of the arcs that leave each node, where these are the tails, or that come into it, where they are the heads."""
         at = {}
         for arc, node in enumerate(nodes, 1):
             at.setdefault(node, []).append(arc)

@@ -122,6 +122,8 @@ class Pages(beside.FolderTest):
         self.assertAlmostEqual(second[0], first[0] + 360 * minute, delta=0.1)
         self.assertAlmostEqual(ahead[0], first[0] + 240 * minute, delta=0.1)
         self.assertAlmostEqual(ahead[1], 120 * minute, delta=0.1)
+        ticks = [float(it.get("x")) for it in root.iter(SVG + "text") if it.text == "20:00"]
+        self.assertTrue(any(abs(it - ahead[0]) < 0.1 for it in ticks), (ticks, ahead))
 
     def test_which_closed_minutes_are_ahead(self):
         self.plan(PASS_PAIRS)
@@ -187,7 +189,12 @@ class Pages(beside.FolderTest):
         said = ["Where they go", "Vaduz (1)", "Landstrasse (1)", "&lt;b&gt;&amp;\ufffd (3)", "© OpenStreetMap", "Waits at node 2: option 1 5 h"]
         for text in said:
             self.assertIn(text, page)
-        self.check_svg(self.draw(svg=True))
+        root = self.check_svg(self.draw(svg=True))
+        places = {it.find(SVG + "title").text.split(":")[0]: it for it in root.iter() if it.find(SVG + "title") is not None}
+        start, goal, wait = places["Vaduz (1)"], places["<b>&\ufffd (3)"], places["Waits at node 2"]
+        x, y = float(wait.get("cx")), float(wait.get("cy"))
+        self.assertTrue(float(start.get("x")) < x < float(goal.get("x")), "east is to the right")
+        self.assertTrue(y < float(start.get("y")) == float(goal.get("y")), "north is above")
 
     def test_a_map_without_some_coordinates(self):
         self.write(nodes="node,lon,lat\n1,9.5,47.1\n2,east,north\n3,nan,47\n")
