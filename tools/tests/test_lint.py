@@ -260,6 +260,25 @@ class Notation(unittest.TestCase):
         (clause,) = rule_texts.read_conditional("no @ (weight>7.5 AND height>=3.9m AND axles=3)")
         self.assertEqual(clause.comparisons, [("weight_kg", ">", 7500), ("height_cm", ">=", 390), ("axles", "=", 3)])
 
+    def test_the_days_that_hours_match(self):
+        def days(text, first, count):
+            window = rule_texts.Window(first, count)
+            minutes = window.covered(rule_texts.read_hours(text), {})
+            return [k for k in range(count) if minutes >> (k * 1440 + 720) & 1]
+
+        self.assertEqual(days("We[-1]", datetime.date(2026, 6, 1), 30), [23])
+        self.assertEqual(days("Fr[-1]", datetime.date(2026, 7, 1), 31), [30])
+        self.assertEqual(days("Fr[-5]", datetime.date(2026, 7, 1), 31), [2])
+        self.assertEqual(days("Su[1]", datetime.date(2026, 7, 1), 31), [4])
+        self.assertEqual(days("Nov-Feb", datetime.date(2026, 10, 31), 3), [1, 2])
+        self.assertEqual(days("Nov-Feb", datetime.date(2027, 2, 27), 3), [0, 1])
+        self.assertEqual(days("Dec 31-Jan 1", datetime.date(2026, 12, 30), 4), [1, 2])
+        self.assertEqual(days("Sa-Mo", datetime.date(2026, 7, 6), 7), [0, 5, 6])
+
+    def test_a_span_that_ends_when_it_starts(self):
+        window = rule_texts.Window(datetime.date(2026, 7, 6), 2)
+        self.assertEqual(window.covered(rule_texts.read_hours("Mo 08:00-08:00"), {}), ((1 << 1440) - 1) << 480)
+
     def test_minutes_of_the_days_before(self):
         window = rule_texts.Window(datetime.date(2026, 7, 6), 1)  # a Monday
         self.assertEqual(window.covered(rule_texts.read_hours("Su 22:00-06:00"), {}), (1 << 360) - 1)

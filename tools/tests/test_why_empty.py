@@ -109,6 +109,12 @@ class Causes:
             ],
         )
 
+    def test_a_ban_at_until_of_a_road_that_is_behind_the_lorry(self):
+        closures = "arc,from,to\n1,2026-07-04T02:00Z,2026-07-04T20:00Z\n2,2026-07-04T01:00Z,2026-07-04T12:00Z\n"
+        self.write(graph=graph(3, (1, 2, 60), (2, 3, 60)), closures=closures, ratings=RATINGS, parking="node,rating\n2,yard\n")
+        (line,) = self.lines(1, 3)
+        self.assertTrue(line.startswith("horizon-in-ban: UNTIL is in a ban, arc 2 from 2026-07-04T01:00Z"), line)
+
     def test_both_a_departure_within_a_ban_and_a_horizon_that_ends_in_it(self):
         self.write(graph=graph(2, (1, 2, 60)), closures="arc,from,to\n1,2026-07-03T00:00Z,2026-07-04T12:00Z\n")
         first, second = self.lines(1, 2)
