@@ -1,8 +1,9 @@
 """Who is let in, as a list of clauses for each class of vehicles, and the rows of rules.csv that say so.
 
-A clause is an access and parts, the comparisons, flags and hours that must all hold. In a list the last clause that holds decides, as in lorry_plan; a
-clause without parts always holds. Lists of this form are closed under what roads need: a road's sign and a country's law must both let in (`both`),
-a text whose hours can't be read may hold at any time (`capped`), and a ban that is lifted for deliveries (`for_deliveries`)."""
+A clause is an access and parts: the comparisons, flags and hours that must all hold. In a list the last clause that holds decides, as in
+lorry_plan; a clause without parts always holds. Roads need four operations on lists: a road's sign and a country's law must both let in
+(`both`); a text whose hours can't be read may hold at any time (`capped`); a list is about some vehicles only (`with_parts`); and a ban
+is lifted for deliveries (`for_deliveries`)."""
 
 NO, DESTINATION, YES = 0, 1, 2
 VALUES = ("no", "destination", "yes")

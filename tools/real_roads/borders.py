@@ -7,6 +7,15 @@ import math
 
 # Places are looked up by cells of a hundredth of a degree; a cell without a border's way lies in one country.
 CELL = 100_000
+# How many cells away a border is looked for.
+MOST_RINGS = 200
+
+
+def cells_of_ring(column, row, ring):
+    if not ring:
+        return [(column, row)]
+    found = [(column + i, row + j) for i in range(-ring, ring + 1) for j in (-ring, ring)]
+    return found + [(column + i, row + j) for i in (-ring, ring) for j in range(-ring + 1, ring)]
 
 
 class Border:
@@ -67,11 +76,13 @@ class Borders:
                 opened[code] = set(numbers)
         # A place may be within a country and within its subdivision: the smaller one is looked at first.
         self.closed.sort(key=lambda border: (("-" not in border.code), border.area()))
-        self.sides = []
+        # The places of open borders, by cells.
+        self.sides = collections.defaultdict(list)
         for number, line in ways.items():
             codes = [code for code, numbers in opened.items() if number in numbers]
             if line and len(codes) == 1:
-                self.sides += [(x, y, codes[0]) for x, y in line]
+                for x, y in line:
+                    self.sides[x // CELL, y // CELL].append((x, y, codes[0]))
         self.opened = sorted(opened)
         self.known = {}
         self.near = collections.Counter()
@@ -84,10 +95,24 @@ class Borders:
         for border in self.closed:
             if border.contains(x, y):
                 return border.code, True
-        if self.sides:
-            wide = math.cos(math.radians(y / 1e7))
-            return min(self.sides, key=lambda it: (wide * (it[0] - x)) ** 2 + (it[1] - y) ** 2)[2], False
-        return None, False
+        return self.nearest(x, y), False
+
+    def nearest(self, x, y):
+        """The code of the open border that is nearest to a place; cells are looked at ring by ring."""
+        if not self.sides:
+            return None
+        wide = math.cos(math.radians(y / 1e7))
+        column, row = x // CELL, y // CELL
+        best, code = None, None
+        for ring in range(MOST_RINGS):
+            if best is not None and (ring - 1) * CELL * min(wide, 1) > best:
+                break
+            for cell in cells_of_ring(column, row, ring):
+                for other_x, other_y, other_code in self.sides.get(cell, ()):
+                    distance = math.hypot(wide * (other_x - x), other_y - y)
+                    if best is None or distance < best:
+                        best, code = distance, other_code
+        return code
 
     def country(self, x, y):
         """The code of a place, or None. A place that no closed border has is counted."""

@@ -1,16 +1,17 @@
 """A coarser network: few junctions, and between them the least driving times.
 
-An arc takes at least a minute, so a network of all junctions of a town is far too slow. Of the junctions some are kept, none within so many seconds of
-another, the fastest roads first. An arc between two kept junctions stands for a way over roads between them, with all rules of these roads. Of
-the ways from one to another all are kept that no other way beats, in driving time, rules and metres with a toll (a way with fewer rules may take longer).
-So a trip in the coarse network is as fast as over all roads, and as lawful: a road that is closed for a while closes the arc for the while."""
+An arc takes at least a minute, so trips in a network of all junctions of a town are far too slow. Some junctions are kept, none within so
+many seconds of another, those of the fastest roads first. An arc between two kept junctions stands for a way over the roads between them,
+and each rule of these roads holds on it. From one kept junction to another all ways are taken that no other way beats in driving time, rules
+and metres with a toll: a way with fewer rules may take longer. Then those that others replace in little more time are left out. A trip in the
+coarse network is lawful over the roads too: a road that is closed for a while closes the whole arc for this while."""
 import heapq
 import itertools
 
 from .roads import Arc
 
 # A way over this many kept junctions is no longer followed to see whether it is better than another one: then an arc may be kept for nothing.
-MOST_KEPT = 4
+MOST_KEPT = 2
 # The most ways to a junction that are followed at once, by their rules and tolls.
 MOST_WAYS = 12
 
@@ -127,8 +128,17 @@ def arc_of(label):
         ways += [way for way in arc.ways if not ways or ways[-1] != way]
     name = max(names, key=lambda it: (it != "", names[it]))
     rules = frozenset(arc.rules for arc in arcs if arc.rules)
-    return Arc(arcs[0].tail, arcs[-1].head, sum(arc.time for arc in arcs), sum(arc.length for arc in arcs), rules, sum(arc.toll for arc in arcs),
-               arcs[0].area, tuple(ways), name)
+    return Arc(
+        arcs[0].tail,
+        arcs[-1].head,
+        sum(arc.time for arc in arcs),
+        sum(arc.length for arc in arcs),
+        rules,
+        sum(arc.toll for arc in arcs),
+        arcs[0].area,
+        tuple(ways),
+        name,
+    )
 
 
 def minutes(arc):

@@ -12,12 +12,26 @@ from .report import Report
 
 # Kilometres an hour of a lorry by the class of a road, with its junctions; maxspeed lowers them.
 SPEEDS = {
-    "motorway": 80, "motorway_link": 50, "trunk": 75, "trunk_link": 45, "primary": 60, "primary_link": 40, "secondary": 55, "secondary_link": 40,
-    "tertiary": 45, "tertiary_link": 35, "unclassified": 35, "road": 30, "residential": 25, "living_street": 7, "service": 12, "pedestrian": 7,
+    "motorway": 80,
+    "motorway_link": 50,
+    "trunk": 75,
+    "trunk_link": 45,
+    "primary": 60,
+    "primary_link": 40,
+    "secondary": 55,
+    "secondary_link": 40,
+    "tertiary": 45,
+    "tertiary_link": 35,
+    "unclassified": 35,
+    "road": 30,
+    "residential": 25,
+    "living_street": 7,
+    "service": 12,
+    "pedestrian": 7,
     "track": 10,
 }
-# From how many junctions trips are measured, and the shortest trip that counts, in milliseconds.
-SOURCES, SHORTEST = 24, 300_000
+# From how many junctions trips are measured, fewer where there are many arcs, and the shortest trip that counts, in milliseconds.
+MOST_SOURCES, LEAST_SOURCES, MEASURED_ARCS, SHORTEST = 24, 4, 1_000_000, 300_000
 
 
 class Stop(Exception):
@@ -118,7 +132,11 @@ class Conversion:
             raise Stop(f"{options.extract}: {error}") from None
         found = self.extract
         if not found.ways:
-            raise Stop(f"{options.extract} has no drivable road of the classes that are taken")
+            outside = found.counts["drivable ways of less than two nodes"]
+            raise Stop(
+                f"{options.extract} has no drivable road of the classes that are taken"
+                + (f"; the nodes of {outside:,} ways aren't there, or come after them (osmium sort)" if outside else "")
+            )
         report.number("nodes, ways and relations of the extract", ", ".join(f"{found.counts[it]:,}" for it in ("nodes", "ways", "relations")))
         report.number("drivable ways", f"{found.counts['drivable ways']:,}")
         for what in ("drivable ways with nodes outside the extract", "drivable ways of less than two nodes", "borders of countries without a code"):
@@ -139,8 +157,10 @@ class Conversion:
 
     def find_countries(self):
         options, report = self.options, self.report
-        given, ways = (extract.read_borders(options.borders) if options.borders else (self.extract.borders, self.extract.border_ways))
+        given, ways = extract.read_borders(options.borders) if options.borders else (self.extract.borders, self.extract.border_ways)
         self.country = options.country.lower() if options.country else None
+        if self.country and not re.match(r"[a-z0-9_][a-z0-9_-]{0,40}$", self.country):
+            raise Stop(f"--country {options.country}: not a code such as de or de-by")
         self.borders = borders.Borders(given, ways, options.subdivisions)
         codes = self.borders.codes()
         report.number("borders", ", ".join(f"{code}{' (open)' if code in self.borders.opened else ''}" for code in codes) or "none")
@@ -172,7 +192,9 @@ class Conversion:
         nodes = roads.largest_component(len(network.refs), arcs)
         lost = [arc for arc in arcs if arc.tail not in nodes or arc.head not in nodes]
         for arc in lost:
-            report.add("left out", "arcs outside the largest strongly connected part", arc.name or "without a name", f"way {found.ways[arc.ways[0]].number}")
+            report.add(
+                "left out", "arcs outside the largest strongly connected part", arc.name or "without a name", f"way {found.ways[arc.ways[0]].number}"
+            )
         arcs = roads.within(arcs, nodes)
         if not arcs:
             raise Stop("no two places are connected in both directions")
@@ -185,7 +207,9 @@ class Conversion:
         report.number("kilometres of arcs", f"{sum(arc.length for arc in self.arcs) / 1000:,.0f}")
         for area, count in self.borders.near.items():
             if area is not None:
-                report.add("warning", "steps of roads whose country was found by the nearest border, as borders of the extract are cut", area, count=count)
+                report.add(
+                    "warning", "steps of roads whose country was found by the nearest border, as borders of the extract are cut", area, count=count
+                )
         if any(arc.area == "other" for arc in self.arcs):
             report.add("warning", "roads in no known country: give --country", "")
 
@@ -279,8 +303,12 @@ class Conversion:
         tables.write(folder, "holidays.csv", ("area", "kind", "date"), days)
         with_hours = any(site.hours for site in park.values())
         country_at = {arc.tail: arc.area for arc in self.arcs}
-        tables.write(folder, "parking.csv", ("node", "rating", "area", "hours") if with_hours else ("node", "rating"),
-                     sorted((self.number_of[node], site.rating) + ((country_at[node], site.hours) if with_hours else ()) for node, site in park.items()))
+        tables.write(
+            folder,
+            "parking.csv",
+            ("node", "rating", "area", "hours") if with_hours else ("node", "rating"),
+            sorted((self.number_of[node], site.rating) + ((country_at[node], site.hours) if with_hours else ()) for node, site in park.items()),
+        )
         used = {site.rating for site in park.values()}
         tables.write(folder, "ratings.csv", ("rating", "weight"), tables.rating_rows(folder, used))
         self.write_tolls(folder)
@@ -290,9 +318,11 @@ class Conversion:
             with open(os.path.join(folder, "vehicles.csv"), "w", encoding="ascii", newline="") as file:
                 file.write(tables.VEHICLES)
         with open(os.path.join(folder, "LICENCE.txt"), "w", encoding="utf-8") as file:
-            file.write(f"The tables of this folder were made by tools/from_osm from {os.path.basename(options.extract)}.\n"
-                       f"Map data {tables.MAP_LICENCE}\n"
-                       "The folder is a derived database: whoever passes it on says so, and leaves it under the same licence.\n")
+            file.write(
+                f"The tables of this folder were made by tools/from_osm from {os.path.basename(options.extract)}.\n"
+                f"Map data {tables.MAP_LICENCE}\n"
+                "The folder is a derived database: whoever passes it on says so, and leaves it under the same licence.\n"
+            )
         self.summarise(areas, own, park, used)
         with open(os.path.join(folder, "report.txt"), "w", encoding="utf-8") as file:
             file.write(report.text())
@@ -382,7 +412,10 @@ class Conversion:
         report.number("nodes and arcs of the folder", f"{len(self.nodes):,}, {len(arcs):,}")
         report.number("arcs with rules of their own", f"{own:,}" + (f" ({areas.by_arc:,} by arc, as areas are used up)" if areas.by_arc else ""))
         report.number("rows of rules, areas", f"{len(areas.rows):,}, {len(areas.countries):,}")
-        report.number("places to wait", ", ".join(f"{sum(site.rating == name for site in park.values())} {name}" for name in sites.RATINGS if name in used) or "none")
+        report.number(
+            "places to wait",
+            ", ".join(f"{sum(site.rating == name for site in park.values())} {name}" for name in sites.RATINGS if name in used) or "none",
+        )
         for node, site in sorted(park.items()):
             if site.rating == "depot":
                 report.number(f"node of the depot {site.name}", self.number_of[node])
@@ -391,12 +424,13 @@ class Conversion:
         report.number("nodes that a lorry without a delivery can reach, and leave", f"{len(reach):,}")
         flags = sorted(flag for flag in self.reading.flags)
         report.number("flags of vehicles that rules speak of", ", ".join(flags) or "none")
-        over = sum(coarse.minutes(arc) > tables.LONGEST_DRIVE for arc in arcs)
-        if over:
-            raise Stop(f"{over} arcs take more than a week")
+        if os.path.exists(os.path.join(self.options.dir, "closures.csv")):
+            report.add("warning", "closures.csv names arcs by their numbers, which may have changed", "")
         bend = self.bend()
         if bend:
-            report.number("minutes of a trip, as a share of its driving time", "median {:.2f}, 5 % of trips below {:.2f}, 5 % above {:.2f}".format(*bend))
+            report.number(
+                "minutes of a trip, as a share of its driving time", "median {:.2f}, 5 % of trips below {:.2f}, 5 % above {:.2f}".format(*bend)
+            )
             if not 0.9 <= bend[0] <= 1.25:
                 report.add("warning", "whole minutes bend the trips of this folder: take more seconds by --coarse", "")
         report.add("warning", "prices of waiting are invented: see ratings.csv", "")
@@ -405,11 +439,12 @@ class Conversion:
     def bend(self):
         """How many minutes trips take in the folder, for each minute over all roads: the median, and the quantiles of 5 and 95 percent."""
         self.progress("measuring trips ..")
-        step = max(1, len(self.nodes) // SOURCES)
+        sources = max(LEAST_SOURCES, min(MOST_SOURCES, MEASURED_ARCS // len(self.fine_arcs)))
+        step = max(1, len(self.nodes) // sources)
         fine = coarse.Stars(len(self.network.refs), self.fine_arcs).out
         rough = coarse.Stars(len(self.network.refs), self.arcs).out
         found = []
-        for source in self.nodes[step // 2 :: step][:SOURCES]:
+        for source in self.nodes[step // 2 :: step][:sources]:
             exact = times(source, fine, lambda arc: arc.time)
             whole = times(source, rough, lambda arc: coarse.minutes(arc) * 60_000)
             found += [whole[node] / exact[node] for node in whole if exact.get(node, 0) >= SHORTEST]

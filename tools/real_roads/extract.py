@@ -13,13 +13,68 @@ from . import tags as road_tags
 # Coordinates are whole numbers of 1e-7 degrees, as in OpenStreetMap's database; this one is none.
 NO_PLACE = 2147483647
 PLACES = ("city", "town", "village")
-WALLS = {"bollard", "block", "jersey_barrier", "cycle_barrier", "debris", "log", "kissing_gate", "turnstile", "stile", "fence", "wall",
-         "motorcycle_barrier", "planter", "full-height_turnstile", "hampshire_gate", "horse_stile", "chain", "rope", "spikes", "barrier_board"}
+WALLS = {
+    "bollard",
+    "block",
+    "jersey_barrier",
+    "cycle_barrier",
+    "debris",
+    "log",
+    "kissing_gate",
+    "turnstile",
+    "stile",
+    "fence",
+    "wall",
+    "motorcycle_barrier",
+    "planter",
+    "full-height_turnstile",
+    "hampshire_gate",
+    "horse_stile",
+    "chain",
+    "rope",
+    "spikes",
+    "barrier_board",
+}
 # Barriers that let motor vehicles pass unless their tags say otherwise.
-PASSED = {"gate", "lift_gate", "swing_gate", "sliding_gate", "sliding_beam", "bump_gate", "wicket_gate", "entrance", "border_control", "toll_booth",
-          "cattle_grid", "sally_port", "kerb", "height_restrictor", "width_restrictor", "yes", "bus_trap", "sump_buster"}
-PARKING_TAGS = ("amenity", "highway", "hgv", "access", "opening_hours", "name", "ref", "capacity:hgv", "parking", "fee", "maxstay", "maxheight",
-                "maxweight", "maxlength", "hgv:parking", "truck", "goods")
+PASSED = {
+    "gate",
+    "lift_gate",
+    "swing_gate",
+    "sliding_gate",
+    "sliding_beam",
+    "bump_gate",
+    "wicket_gate",
+    "entrance",
+    "border_control",
+    "toll_booth",
+    "cattle_grid",
+    "sally_port",
+    "kerb",
+    "height_restrictor",
+    "width_restrictor",
+    "yes",
+    "bus_trap",
+    "sump_buster",
+}
+PARKING_TAGS = (
+    "amenity",
+    "highway",
+    "hgv",
+    "access",
+    "opening_hours",
+    "name",
+    "ref",
+    "capacity:hgv",
+    "parking",
+    "fee",
+    "maxstay",
+    "maxheight",
+    "maxweight",
+    "maxlength",
+    "hgv:parking",
+    "truck",
+    "goods",
+)
 LET_IN = {"yes", "designated", "permissive", "destination", "delivery", "official"}
 
 
@@ -107,14 +162,15 @@ class NodesAndWays(osmium.SimpleHandler):
         self.found, self.choice, self.progress = found, choice, progress
         self.parts_of_parking = parts_of_parking
         self.parts = {}
+        self.nodes = self.all_ways = 0
 
     def node(self, node):
-        found = self.found
-        found.counts["nodes"] += 1
-        if found.counts["nodes"] % 1_000_000 == 0:
-            self.progress(f"{found.counts['nodes']:,} nodes read")
+        self.nodes += 1
+        if self.nodes % 1_000_000 == 0:
+            self.progress(f"{self.nodes:,} nodes read")
         if not len(node.tags):
             return
+        found = self.found
         tags = {tag.k: tag.v for tag in node.tags}
         location = node.location
         if not location.valid():
@@ -130,9 +186,9 @@ class NodesAndWays(osmium.SimpleHandler):
 
     def way(self, way):
         found = self.found
-        found.counts["ways"] += 1
-        if found.counts["ways"] % 200_000 == 0:
-            self.progress(f"{found.counts['ways']:,} ways read")
+        self.all_ways += 1
+        if self.all_ways % 200_000 == 0:
+            self.progress(f"{self.all_ways:,} ways read")
         if way.id in found.border_ways:
             found.border_ways[way.id] = [(it.x, it.y) for it in way.nodes if it.x != NO_PLACE]
         number = self.parts_of_parking.get(way.id)
@@ -227,6 +283,7 @@ def read(path, choice, wants_borders, progress):
     parts = {way: number for number, (_, ways) in enumerate(relations.parking) for way in ways}
     handler = NodesAndWays(found, parts, choice, progress)
     handler.apply_file(path, locations=True)
+    found.counts["nodes"], found.counts["ways"] = handler.nodes, handler.all_ways
     for number, nodes in handler.parts.items():
         found.parking.append(parking_of(relations.parking[number][0], -number - 1, nodes))
     return found

@@ -164,6 +164,7 @@ def read_hours(text):
 
 def with_ordinals(text):
     """Su[1,3] as Su[1],Su[3]"""
+
     def each(found):
         return ",".join(f"{found[1]}[{one.strip()}]" for one in found[2].split(","))
 

@@ -15,8 +15,9 @@ def metres(x1, y1, x2, y2):
 
 
 class Arc:
-    """A road driven one way: its ends, driving time in milliseconds, metres, the number of its rules, metres that cost a toll, the area, the places of
-    its ways in the extract's list, and its name. Where it stands for several roads its rules are a set of numbers, and each of them holds."""
+    """A road driven one way: its ends, driving time in milliseconds, metres, the number of its rules, metres with a toll, area, ways and name.
+
+    Ways are places in the extract's list. In a coarse network the rules are a set of numbers, and each of them holds."""
 
     __slots__ = ("tail", "head", "time", "length", "rules", "toll", "area", "ways", "name")
 
@@ -264,7 +265,7 @@ def joined(one, other):
 
 
 def without_continuations(count, arcs, kept):
-    """Drops nodes at which a road only goes on, unless they are in `kept`: two neighbours, and the same rules, area and kind of toll on both sides."""
+    """Drops nodes at which a road only goes on: two neighbours, and on both sides the same rules and area, and a toll or none. `kept` stay."""
     into, out = [set() for _ in range(count)], [set() for _ in range(count)]
     for number, arc in enumerate(arcs):
         out[arc.tail].add(number)

@@ -55,7 +55,7 @@ def site_of(tags, number, refs, x, y, any_parking, reading, report):
     """The site of a parking area, if lorries may wait there."""
     rating, reason = rating_of(tags, any_parking)
     what = next((f"{key}={tags[key]}" for key in ("highway", "amenity", "hgv:parking") if key in tags), "parking")
-    where = f"{'relation' if number < 0 else 'way or node'} {abs(number)}" if number > 0 else ""
+    where = f"object {number}" if number > 0 else ""
     if rating is None:
         report.add("left out", reason, what, where)
         return None
@@ -142,7 +142,11 @@ def place_sites(sites, network, nodes, report):
         most = MOST_TO_DEPOT if site.rating == "depot" else MOST_TO_PARKING
         site.node = own[0] if own else index.nearest(site.x, site.y, most)
         if site.node is None:
-            report.add("warning" if site.rating == "depot" else "left out", f"places to wait without a road of the network within {most} m", f"{site.rating} {site.name}".strip())
+            report.add(
+                "warning" if site.rating == "depot" else "left out",
+                f"places to wait without a road of the network within {most} m",
+                f"{site.rating} {site.name}".strip(),
+            )
         else:
             found.append(site)
     return found

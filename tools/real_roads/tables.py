@@ -82,7 +82,7 @@ class Areas:
 
     def holiday_areas(self):
         """The areas whose rules speak of holidays, and all countries."""
-        named = {scope[len("area:"):] for scope, _, value in self.rows if "PH" in value or "SH" in value}
+        named = {scope[len("area:") :] for scope, _, value in self.rows if "PH" in value or "SH" in value}
         return [name for name, country in self.countries.items() if name == country or name in named]
 
     def speak_of_holidays(self, kind):
@@ -90,7 +90,7 @@ class Areas:
         found = set()
         for scope, _, value in self.rows:
             if kind in value:
-                found.update([self.countries[scope[len("area:"):]]] if scope.startswith("area:") else self.countries.values())
+                found.update([self.countries[scope[len("area:") :]]] if scope.startswith("area:") else self.countries.values())
         return sorted(found)
 
 
@@ -121,11 +121,17 @@ def rating_rows(folder, used):
 
 def check_sizes(count, arcs, rows):
     if count > MOST_NODES or len(arcs) > MOST_ARCS:
-        raise TooLarge(f"{count:,} nodes and {len(arcs):,} arcs are more than the {MOST_NODES:,} and {MOST_ARCS:,} that lorry_plan reads: "
-                       "take more seconds by --coarse, or only larger roads by --roads")
+        raise TooLarge(
+            f"{count:,} nodes and {len(arcs):,} arcs are more than the {MOST_NODES:,} and {MOST_ARCS:,} that lorry_plan reads: "
+            "take more seconds by --coarse, or only larger roads by --roads"
+        )
+    if any(coarse.minutes(arc) > LONGEST_DRIVE for arc in arcs):
+        raise TooLarge("a road takes more than the week that lorry_plan reads: look at its maxspeed")
     if len(rows) > MOST_RULES:
-        raise TooLarge(f"{len(rows):,} rows of rules are more than the {MOST_RULES:,} that lorry_plan reads: "
-                       "take more seconds by --coarse, or only larger roads by --roads")
+        raise TooLarge(
+            f"{len(rows):,} rows of rules are more than the {MOST_RULES:,} that lorry_plan reads: "
+            "take more seconds by --coarse, or only larger roads by --roads"
+        )
 
 
 def tags_of(extract, arc):
@@ -140,9 +146,28 @@ def tags_of(extract, arc):
 
 def write_roads(folder, extract, network, nodes, arcs, names):
     """Writes nodes.csv and ways.csv."""
-    write(folder, "nodes.csv", ("node", "osm_node", "lon", "lat", "name"),
-          ((number, network.refs[node], f"{network.xs[node] / 1e7:.5f}", f"{network.ys[node] / 1e7:.5f}", names.get(node, ""))
-           for number, node in enumerate(nodes, 1)))
-    write(folder, "ways.csv", ("arc", "osm_way", "name", "metres", "seconds", "tags"),
-          ((number, ";".join(str(extract.ways[way].number) for way in dict.fromkeys(arc.ways)), arc.name, round(arc.length), round(arc.time / 1000),
-            tags_of(extract, arc)) for number, arc in enumerate(arcs, 1)))
+    write(
+        folder,
+        "nodes.csv",
+        ("node", "osm_node", "lon", "lat", "name"),
+        (
+            (number, network.refs[node], f"{network.xs[node] / 1e7:.5f}", f"{network.ys[node] / 1e7:.5f}", names.get(node, ""))
+            for number, node in enumerate(nodes, 1)
+        ),
+    )
+    write(
+        folder,
+        "ways.csv",
+        ("arc", "osm_way", "name", "metres", "seconds", "tags"),
+        (
+            (
+                number,
+                ";".join(str(extract.ways[way].number) for way in dict.fromkeys(arc.ways)),
+                arc.name,
+                round(arc.length),
+                round(arc.time / 1000),
+                tags_of(extract, arc),
+            )
+            for number, arc in enumerate(arcs, 1)
+        ),
+    )

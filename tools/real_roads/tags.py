@@ -18,8 +18,27 @@ NATIVE = {
 # Words that mean one of them.
 OTHER_WORDS = {
     **dict.fromkeys(("official", "public", "allowed", "fee", "toll", "unsuitable", "tolerated"), "yes"),
-    **dict.fromkeys(("residents", "resident", "employees", "staff", "members", "military", "emergency", "restricted", "none", "taxi", 
-                     "use_sidepath", "dismount", "tourist_bus", "foot", "bicycle", "school"), "no"),
+    **dict.fromkeys(
+        (
+            "residents",
+            "resident",
+            "employees",
+            "staff",
+            "members",
+            "military",
+            "emergency",
+            "restricted",
+            "none",
+            "taxi",
+            "use_sidepath",
+            "dismount",
+            "tourist_bus",
+            "foot",
+            "bicycle",
+            "school",
+        ),
+        "no",
+    ),
     **dict.fromkeys(("loading", "unloading", "deliveries"), "delivery"),
     "local": "destination",
 }
@@ -38,24 +57,77 @@ ACCESS_KEYS = LAW_KEYS[:3] + ("motorcar", "psv") + LAW_KEYS[3:]
 
 # The limits, and the size of a vehicle that each is about. A vehicle has one weight only.
 LIMITS = {
-    "maxweight": "weight", "maxweightrating": "weight", "maxgcweight": "weight", "maxgcweightrating": "weight", "maxaxleload": "axleload",
-    "maxheight": "height", "maxheight:physical": "height", "maxheight:legal": "height", "maxwidth": "width", "maxwidth:physical": "width",
+    "maxweight": "weight",
+    "maxweightrating": "weight",
+    "maxgcweight": "weight",
+    "maxgcweightrating": "weight",
+    "maxaxleload": "axleload",
+    "maxheight": "height",
+    "maxheight:physical": "height",
+    "maxheight:legal": "height",
+    "maxwidth": "width",
+    "maxwidth:physical": "width",
     "maxlength": "length",
 }
-SIZES = {"weight": "weight", "weightrating": "weight", "gcweight": "weight", "gcweightrating": "weight", "maxweight": "weight", "axleload": "axleload",
-         "height": "height", "width": "width", "length": "length", "axles": "axles"}
+SIZES = {
+    "weight": "weight",
+    "weightrating": "weight",
+    "gcweight": "weight",
+    "gcweightrating": "weight",
+    "maxweight": "weight",
+    "axleload": "axleload",
+    "height": "height",
+    "width": "width",
+    "length": "length",
+    "axles": "axles",
+}
 COMPARISON = re.compile(r"([a-z]+)\s*(<=|>=|==|<|>|=)\s*(.+)$")
 # What a vehicle may carry or draw, with the flag that says so.
 FLAG_KEYS = {"hazmat": "hazmat", "hazmat:water": "hazmat_water", "trailer": "trailer", **{f"hazmat:{it}": f"hazmat_{it.lower()}" for it in "ABCDE"}}
 # Words of conditions that say something of a vehicle, its load or the weather.
-FLAGS = {"hazmat", "trailer", "caravan", "articulated", "bdouble", "permit", "residents", "resident", "employees", "customers", "emergency", "disabled",
-         "doctor", "military", "forestry", "agricultural", "wet", "snow", "ice", "fog", "winter", "snow_chains", "winter_tyres"}
+FLAGS = {
+    "hazmat",
+    "trailer",
+    "caravan",
+    "articulated",
+    "bdouble",
+    "permit",
+    "residents",
+    "resident",
+    "employees",
+    "customers",
+    "emergency",
+    "disabled",
+    "doctor",
+    "military",
+    "forestry",
+    "agricultural",
+    "wet",
+    "snow",
+    "ice",
+    "fog",
+    "winter",
+    "snow_chains",
+    "winter_tyres",
+}
 
 DIRECTIONS = ("forward", "backward")
-ONEWAY = {"yes": "forward", "true": "forward", "1": "forward", "-1": "backward", "reverse": "backward", "no": "", "false": "", "0": "", "alternating": ""}
+ONEWAY = {
+    "yes": "forward",
+    "true": "forward",
+    "1": "forward",
+    "-1": "backward",
+    "reverse": "backward",
+    "no": "",
+    "false": "",
+    "0": "",
+    "alternating": "",
+}
 # Words in a key that make it worth a line where it isn't read.
-WATCHED = re.compile(r"(^|:)(access|vehicle|motor_vehicle|motorcar|hgv|hgv_articulated|goods|bus|psv|coach|tourist_bus|trailer|hazmat|bdouble|oneway|"
-                     r"toll|conditional|tunnel_code|adr_tunnel_code|restriction|traffic_sign)(:|$)|^max|^overtaking:hgv")
+WATCHED = re.compile(
+    r"(^|:)(access|vehicle|motor_vehicle|motorcar|hgv|hgv_articulated|goods|bus|psv|coach|tourist_bus|trailer|hazmat|bdouble|oneway|"
+    r"toll|conditional|tunnel_code|adr_tunnel_code|restriction|traffic_sign)(:|$)|^max|^overtaking:hgv"
+)
 # Kilometres an hour for words of maxspeed.
 SPEED_WORDS = {"walk": 7, "living_street": 7, "urban": 50, "rural": 80, "trunk": 80, "motorway": 80, "zone30": 30, "zone:30": 30, "30": 30, "20": 20}
 
@@ -346,10 +418,12 @@ class Reading:
             elif value is not None and self.refuse("a direction that isn't known", f"{key}={value}"):
                 clauses = CLOSED
             if f"{key}:conditional" in tags:
+
                 def directed(text):
                     if text not in ONEWAY:
                         raise Unread("a direction that isn't known")
                     return (NO if ONEWAY[text] and ONEWAY[text] != way else YES,)
+
                 for given, parts in self.clauses(f"{key}:conditional", tags[f"{key}:conditional"], directed):
                     clauses = self.with_clause(clauses, given and given[0], parts)
         return clauses
@@ -382,10 +456,15 @@ class Reading:
         base, _, mode = plain.rpartition(":")
         modes = LAW_KEYS[1:] + ("psv",)
         return (
-            plain in ACCESS_KEYS or plain in LIMITS or plain in FLAG_KEYS or plain == "oneway"
-            or mode in modes and (base in LIMITS or base == "oneway")
+            plain in ACCESS_KEYS
+            or plain in LIMITS
+            or plain in FLAG_KEYS
+            or plain == "oneway"
+            or mode in modes
+            and (base in LIMITS or base == "oneway")
             or plain in ("hazmat:adr_tunnel_code", "hazmat:tunnel_code", "toll", "toll:hgv", "maxstay")
-            or plain in ("maxspeed", "maxspeed:hgv") and not key.endswith(":conditional")
+            or plain in ("maxspeed", "maxspeed:hgv")
+            and not key.endswith(":conditional")
         )
 
     def note_keys(self, tags):

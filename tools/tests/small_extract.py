@@ -7,9 +7,24 @@ STEP = 0.0045
 CLASSES = ["primary", "secondary", "tertiary", "residential", "unclassified"]
 PLAIN = ["yes", "no", "destination", "delivery", "private", "designated", "agricultural", "permissive"]
 HOURS = ["22:00-06:00", "Sa,Su", "Mo-Fr 06:00-09:00,16:00-19:00", "Su,PH 00:00-22:00", "Jul-Aug Sa 07:00-20:00", "Mo-Fr 08:00-18:00; PH off", "24/7"]
-CONDITIONS = ["{hours}", "weight>7.5", "weight > 12 t", "weight>3.5 AND {hours}", "length>=12", "axles>2 AND {hours}", "hazmat", "delivery", "destination AND {hours}"]
-LIMITS = {"maxweight": ["7.5", "12 t", "3.5", "18", "7500 kg"], "maxheight": ["3.8", "3.6 m", "12'6\"", "default", "none"], "maxlength": ["12", "8.5 m"],
-          "maxwidth": ["2.3", "2 m"], "maxaxleload": ["8", "10 t"]}
+CONDITIONS = [
+    "{hours}",
+    "weight>7.5",
+    "weight > 12 t",
+    "weight>3.5 AND {hours}",
+    "length>=12",
+    "axles>2 AND {hours}",
+    "hazmat",
+    "delivery",
+    "destination AND {hours}",
+]
+LIMITS = {
+    "maxweight": ["7.5", "12 t", "3.5", "18", "7500 kg"],
+    "maxheight": ["3.8", "3.6 m", "12'6\"", "default", "none"],
+    "maxlength": ["12", "8.5 m"],
+    "maxwidth": ["2.3", "2 m"],
+    "maxaxleload": ["8", "10 t"],
+}
 
 
 def condition(draws):
@@ -27,7 +42,9 @@ def drawn_tags(draws):
             if draws.random() < 0.5:
                 tags[key] = draws.choice(PLAIN if key != "access" else ["yes", "destination", "permissive"])
             else:
-                tags[key + ":conditional"] = "; ".join(f"{draws.choice(['no', 'no', 'yes', 'destination'])} @ {condition(draws)}" for _ in range(draws.randint(1, 2)))
+                tags[key + ":conditional"] = "; ".join(
+                    f"{draws.choice(['no', 'no', 'yes', 'destination'])} @ {condition(draws)}" for _ in range(draws.randint(1, 2))
+                )
     if draws.random() < 0.25:
         key = draws.choice(list(LIMITS))
         tags[key] = draws.choice(LIMITS[key])
@@ -42,7 +59,7 @@ def drawn_tags(draws):
 
 def element(kind, number, attributes, inside):
     words = "".join(f" {key}={quoteattr(str(value))}" for key, value in attributes.items())
-    return f"  <{kind} id=\"{number}\" version=\"1\"{words}>\n" + "".join(f"    {one}\n" for one in inside) + f"  </{kind}>\n"
+    return f'  <{kind} id="{number}" version="1"{words}>\n' + "".join(f"    {one}\n" for one in inside) + f"  </{kind}>\n"
 
 
 def tag_lines(tags):
@@ -54,8 +71,10 @@ def text_of(nodes, ways, relations=()):
     parts = ['<?xml version="1.0"?>\n<osm version="0.6" generator="tests">\n']
     parts += [element("node", number, {"lat": f"{lat:.7f}", "lon": f"{lon:.7f}"}, tag_lines(tags)) for number, lat, lon, tags in nodes]
     parts += [element("way", number, {}, [f'<nd ref="{ref}"/>' for ref in refs] + tag_lines(tags)) for number, refs, tags in ways]
-    parts += [element("relation", number, {}, [f'<member type="{kind}" ref="{ref}" role="{role}"/>' for kind, ref, role in members] + tag_lines(tags))
-              for number, members, tags in relations]
+    parts += [
+        element("relation", number, {}, [f'<member type="{kind}" ref="{ref}" role="{role}"/>' for kind, ref, role in members] + tag_lines(tags))
+        for number, members, tags in relations
+    ]
     return "".join(parts) + "</osm>\n"
 
 

@@ -55,12 +55,59 @@ def run(python, *words, check=True):
 class Notation(unittest.TestCase):
     """docs/FORMATS.md says what the program reads."""
 
-    READ = ["24/7", "24/7open", "Mo 08:00-12:00; Tu 09:00-10:00", "Mo-Fr 22:00-06:00; PH off", "PH,Mo", "Su[1]", "Fr[-1]", "Sa 22:00-Su 22:00", "off", "Jul:",
-            "Jul: open", "Jul 05-29: 08:00-12:00", "Jul12:00-13:00", "Nov-Feb", "Jul 1-Aug 7", "Mo08:00-09:00", "22:00-30:00", "Feb 30", "08:00-48:00",
-            "Mo 08:00-Mo 08:00", "SH off", "Mo-Mo", "Jan 01,Jan 06", "Mo 08:00-12:00,13:00-17:00", "Sa 22:00-Su 24:00"]
-    REFUSED = ["Mo 08:00-12:00;", "Mo 08:00-12:00 off", "mo", "24:00-25:00", "08:60-09:00", "17:00+", "sunrise-sunset", "Su[01]", "Su[1] 22:00-Mo 06:00",
-               "week 1-2", "2024 Jul", "easter", "PH Mo", "Su[1,3]", "Jan 01,06", "Jul-Aug 7", "Mo 08:00-12:00, Tu 09:00-10:00", "Jul 05-29:08:00-12:00", "",
-               "Su[6]", "08:00-48:01", "08:00", "Jan 32", "Mo 22:00-Tu 06:00 -"]
+    READ = [
+        "24/7",
+        "24/7open",
+        "Mo 08:00-12:00; Tu 09:00-10:00",
+        "Mo-Fr 22:00-06:00; PH off",
+        "PH,Mo",
+        "Su[1]",
+        "Fr[-1]",
+        "Sa 22:00-Su 22:00",
+        "off",
+        "Jul:",
+        "Jul: open",
+        "Jul 05-29: 08:00-12:00",
+        "Jul12:00-13:00",
+        "Nov-Feb",
+        "Jul 1-Aug 7",
+        "Mo08:00-09:00",
+        "22:00-30:00",
+        "Feb 30",
+        "08:00-48:00",
+        "Mo 08:00-Mo 08:00",
+        "SH off",
+        "Mo-Mo",
+        "Jan 01,Jan 06",
+        "Mo 08:00-12:00,13:00-17:00",
+        "Sa 22:00-Su 24:00",
+    ]
+    REFUSED = [
+        "Mo 08:00-12:00;",
+        "Mo 08:00-12:00 off",
+        "mo",
+        "24:00-25:00",
+        "08:60-09:00",
+        "17:00+",
+        "sunrise-sunset",
+        "Su[01]",
+        "Su[1] 22:00-Mo 06:00",
+        "week 1-2",
+        "2024 Jul",
+        "easter",
+        "PH Mo",
+        "Su[1,3]",
+        "Jan 01,06",
+        "Jul-Aug 7",
+        "Mo 08:00-12:00, Tu 09:00-10:00",
+        "Jul 05-29:08:00-12:00",
+        "",
+        "Su[6]",
+        "08:00-48:01",
+        "08:00",
+        "Jan 32",
+        "Mo 22:00-Tu 06:00 -",
+    ]
 
     def test_hours_are_read_as_by_the_program(self):
         for text in self.READ:
@@ -70,8 +117,13 @@ class Notation(unittest.TestCase):
                 notation.read_hours(text)
 
     def test_hours_are_rewritten(self):
-        for text, expected in [("Su[1,3]", "Su[1],Su[3]"), ("Jan 01,06", "Jan 01,Jan 06"), ("Tu 10:00-12:00, We 10:00-12:00", "Tu 10:00-12:00; We 10:00-12:00"),
-                               ("Mo\u2013Fr 08:00\u201312:00;", "Mo-Fr 08:00-12:00"), ("Mo  08:00 - 12:00", "Mo 08:00 - 12:00")]:
+        for text, expected in [
+            ("Su[1,3]", "Su[1],Su[3]"),
+            ("Jan 01,06", "Jan 01,Jan 06"),
+            ("Tu 10:00-12:00, We 10:00-12:00", "Tu 10:00-12:00; We 10:00-12:00"),
+            ("Mo\u2013Fr 08:00\u201312:00;", "Mo-Fr 08:00-12:00"),
+            ("Mo  08:00 - 12:00", "Mo 08:00 - 12:00"),
+        ]:
             self.assertEqual(notation.hours(text, lambda *_: None), expected)
 
     def test_an_additional_rule_that_repeats_a_day_is_refused(self):
@@ -104,7 +156,9 @@ class Clauses(unittest.TestCase):
     def lists(self, seed):
         draws = random.Random(seed)
         base = ((draws.choice((NO, DESTINATION, YES)), ()),)
-        return base + tuple(access.clause(draws.choice((NO, DESTINATION, YES)), draws.sample(self.PARTS, draws.randint(1, 2))) for _ in range(draws.randint(0, 4)))
+        return base + tuple(
+            access.clause(draws.choice((NO, DESTINATION, YES)), draws.sample(self.PARTS, draws.randint(1, 2))) for _ in range(draws.randint(0, 4))
+        )
 
     def test_each_call_says_what_it_should(self):
         for seed in range(400):
@@ -189,17 +243,35 @@ class Tags(unittest.TestCase):
     def test_options(self):
         self.assertEqual(self.rows("motorcar=no", motorcar=True)[0], "access,no")
         self.assertEqual(self.rows("hgv:conditional=no @ (sunset-sunrise)", unread="open")[0], "")
-        self.assertEqual(self.rows("hgv:conditional=no @ (SH Mo-Fr 07:00-08:00)", school_holidays=True)[0], "hgv:conditional,no @ (Mo-Fr 07:00-08:00 AND SH)")
+        self.assertEqual(
+            self.rows("hgv:conditional=no @ (SH Mo-Fr 07:00-08:00)", school_holidays=True)[0], "hgv:conditional,no @ (Mo-Fr 07:00-08:00 AND SH)"
+        )
         self.assertEqual(self.rows("oneway=yes", "backward")[0], "access,no")
-        self.assertEqual(self.rows("oneway=yes | oneway:conditional=no @ (22:00-06:00)", "backward")[0], "access,no\naccess:conditional,yes @ (22:00-06:00)")
+        self.assertEqual(
+            self.rows("oneway=yes | oneway:conditional=no @ (22:00-06:00)", "backward")[0], "access,no\naccess:conditional,yes @ (22:00-06:00)"
+        )
 
     def test_what_is_not_read_is_noted(self):
-        for text, kind in [("maxheight=below_default", "closed"), ("hgv=whatever", "closed"), ("hgv:conditional=no @ (dusk-dawn)", "closed"), ("hgv=official", "changed"),
-                           ("access=unknown", "left out"), ("hgv:conditional=no @ 7.5", "closed"), ("hgv:conditional=80 @ wet", "closed"),
-                           ("hgv:conditional=no @ (2013 Jun)", "left out")]:
+        for text, kind in [
+            ("maxheight=below_default", "closed"),
+            ("hgv=whatever", "closed"),
+            ("hgv:conditional=no @ (dusk-dawn)", "closed"),
+            ("hgv=official", "changed"),
+            ("access=unknown", "left out"),
+            ("hgv:conditional=no @ 7.5", "closed"),
+            ("hgv:conditional=80 @ wet", "closed"),
+            ("hgv:conditional=no @ (2013 Jun)", "left out"),
+        ]:
             _, reading = self.rows(text, first_year=2026)
             self.assertIn(kind, {it[0] for it in reading.notes.said}, text)
-        for text in ("maxbogieweight=11", "hgv:lanes=no|yes", "maxspeed:conditional=80 @ wet", "coach=no", "access:lanes=no|yes", "maxheight:marine=3"):
+        for text in (
+            "maxbogieweight=11",
+            "hgv:lanes=no|yes",
+            "maxspeed:conditional=80 @ wet",
+            "coach=no",
+            "access:lanes=no|yes",
+            "maxheight:marine=3",
+        ):
             reading = tags.Reading()
             reading.note_keys(dict([text.split("=", 1)]))
             self.assertEqual({it[0] for it in reading.notes.said}, {"left out"}, text)
@@ -219,10 +291,15 @@ class Tags(unittest.TestCase):
         law = tags.law_lists([("hgv:conditional", "no @ (weight>7.5 AND Su)")])
         sign = tags.Reading().lists({"hgv": "designated", "maxweight": "12"}, "forward")
         both = tuple(access.both(one, other) for one, other in zip(law, sign))
-        self.assertEqual(access.rows(both, False), [("hgv:conditional", "no @ (Su AND weight>7.5); no @ (weight>12)"), ("goods:conditional", "no @ (weight>12)"),
-                                                     ("bus:conditional", "no @ (weight>12)")])
-        self.assertEqual(access.rows((CLOSED, OPEN, OPEN, OPEN), True),
-                         [("hgv", "no"), ("hgv_articulated", "yes"), ("goods", "yes"), ("bus", "yes")])
+        self.assertEqual(
+            access.rows(both, False),
+            [
+                ("hgv:conditional", "no @ (Su AND weight>7.5); no @ (weight>12)"),
+                ("goods:conditional", "no @ (weight>12)"),
+                ("bus:conditional", "no @ (weight>12)"),
+            ],
+        )
+        self.assertEqual(access.rows((CLOSED, OPEN, OPEN, OPEN), True), [("hgv", "no"), ("hgv_articulated", "yes"), ("goods", "yes"), ("bus", "yes")])
 
     def test_a_law_in_another_form_is_refused(self):
         for row in [("maxweight", "7.5"), ("hgv", "whatever"), ("hgv:conditional", "no @ (dusk-dawn)")]:
@@ -239,7 +316,9 @@ class Tags(unittest.TestCase):
 class Tables(unittest.TestCase):
     def test_zones(self):
         rows = zone_rows.rows("Europe/Berlin", 2026, 2026)
-        self.assertEqual([row[1:] for row in rows], [("2026-01-01T00:00Z", "+01:00"), ("2026-03-29T01:00Z", "+02:00"), ("2026-10-25T01:00Z", "+01:00")])
+        self.assertEqual(
+            [row[1:] for row in rows], [("2026-01-01T00:00Z", "+01:00"), ("2026-03-29T01:00Z", "+02:00"), ("2026-10-25T01:00Z", "+01:00")]
+        )
         self.assertEqual({row[0] for row in rows}, {"Europe-Berlin"})
         self.assertEqual(zone_rows.rows("Asia/Kathmandu", 1985, 1986, "np")[1], ("np", "1985-12-31T18:30Z", "+05:45"))
         for zone in ("Europe/Nowhere", "../etc/passwd"):
@@ -266,7 +345,11 @@ class Tables(unittest.TestCase):
             for name in ("osmium", "holidays"):
                 with open(os.path.join(folder, name + ".py"), "w", encoding="ascii") as file:
                     file.write("raise ImportError\n")
-            without = ["-c", "import os, sys; os.environ['PYTHONPATH'] = sys.argv[1]; os.execv(sys.executable, [sys.executable] + sys.argv[2:])", folder]
+            without = [
+                "-c",
+                "import os, sys; os.environ['PYTHONPATH'] = sys.argv[1]; os.execv(sys.executable, [sys.executable] + sys.argv[2:])",
+                folder,
+            ]
             for script, words in [("from_osm", ["a", "b"]), ("holidays", ["de=DE"])]:
                 done = run(sys.executable, *without, f"{TOOLS}/{script}", *words, check=False)
                 self.assertEqual(len(done.stderr.splitlines()), 1, done.stderr)
@@ -325,7 +408,11 @@ class Folders(unittest.TestCase):
 
     def test_oneway_streets_barriers_and_dead_ends(self):
         nodes, ways = self.square({"oneway": "yes"}, nodes=[(5, 52.51, 13.46, {}), (6, 52.5, 13.415, {"barrier": "bollard"}), (7, 52.49, 13.4, {})])
-        ways += [(10, [2, 5], {"highway": "residential", "oneway": "yes"}), (11, [1, 6, 2], {"highway": "residential"}), (12, [1, 7], {"highway": "service", "access": "private"})]
+        ways += [
+            (10, [2, 5], {"highway": "residential", "oneway": "yes"}),
+            (11, [1, 6, 2], {"highway": "residential"}),
+            (12, [1, 7], {"highway": "service", "access": "private"}),
+        ]
         folder, done = self.convert(small_extract.text_of(nodes, ways), *self.law(), "--coarse", "0")
         self.assertEqual({row["osm_node"] for row in table(folder, "nodes.csv")} & {"5", "6", "7"}, set())
         self.assertTrue(all("11" not in row["osm_way"].split(";") for row in table(folder, "ways.csv")))
@@ -339,7 +426,10 @@ class Folders(unittest.TestCase):
         law = "no @ (Su 00:00-22:00 AND weight>7.5); no @ (PH 00:00-22:00 AND weight>7.5)"
         self.assertEqual(rules["area:de", "hgv:conditional"], law)
         of_scope = {scope: {key: value for (one, key), value in rules.items() if one == scope} for scope, _ in rules}
-        self.assertIn({"hgv:conditional": law + "; no @ (height>3.8)", "goods:conditional": "no @ (height>3.8)", "bus:conditional": "no @ (height>3.8)"}, of_scope.values())
+        self.assertIn(
+            {"hgv:conditional": law + "; no @ (height>3.8)", "goods:conditional": "no @ (height>3.8)", "bus:conditional": "no @ (height>3.8)"},
+            of_scope.values(),
+        )
         self.assertIn({"hgv": "destination", "hgv:conditional": law}, of_scope.values())
         self.assertEqual(len(of_scope), 3)  # hgv=designated says what the law leaves open
         days = {row["area"] for row in table(folder, "holidays.csv")}
@@ -347,9 +437,15 @@ class Folders(unittest.TestCase):
 
     def test_places_to_wait(self):
         area = [(21, 52.5005, 13.4, {}), (22, 52.5005, 13.401, {}), (23, 52.501, 13.401, {})]
-        nodes, ways = self.square(nodes=area + [(31, 52.52, 13.4301, {"amenity": "parking", "hgv": "yes", "opening_hours": "Mo-Fr 06:00-22:00"}),
-                                                (32, 52.5, 13.4301, {"amenity": "parking", "hgv": "yes", "opening_hours": "sunrise-sunset"}),
-                                                (33, 52.5, 13.43, {"amenity": "parking"}), (34, 52.5, 13.4302, {"amenity": "parking", "hgv": "yes", "maxheight": "2.1"})])
+        nodes, ways = self.square(
+            nodes=area
+            + [
+                (31, 52.52, 13.4301, {"amenity": "parking", "hgv": "yes", "opening_hours": "Mo-Fr 06:00-22:00"}),
+                (32, 52.5, 13.4301, {"amenity": "parking", "hgv": "yes", "opening_hours": "sunrise-sunset"}),
+                (33, 52.5, 13.43, {"amenity": "parking"}),
+                (34, 52.5, 13.4302, {"amenity": "parking", "hgv": "yes", "maxheight": "2.1"}),
+            ]
+        )
         ways += [(20, [21, 22, 23, 21], {"highway": "rest_area", "name": "Field"})]
         folder, done = self.convert(small_extract.text_of(nodes, ways), *self.law(), "--depot", "Yard=52.5205,13.4001")
         at = {row["osm_node"]: row["node"] for row in table(folder, "nodes.csv")}
@@ -373,7 +469,11 @@ class Folders(unittest.TestCase):
         nodes, ways = self.square()
         corners = [(50 + number, lat, lon, {}) for number, (lat, lon) in enumerate([(52.4, 13.3), (52.4, 13.415), (52.6, 13.415), (52.6, 13.3)])]
         ways += [(60, [50, 51], {}), (61, [51, 52, 53, 50], {})]
-        border = (70, [("way", 60, "outer"), ("way", 61, "outer")], {"type": "boundary", "boundary": "administrative", "admin_level": "2", "ISO3166-1": "PL"})
+        border = (
+            70,
+            [("way", 60, "outer"), ("way", 61, "outer")],
+            {"type": "boundary", "boundary": "administrative", "admin_level": "2", "ISO3166-1": "PL"},
+        )
         ways[0][1].insert(1, 8)
         folder, _ = self.convert(small_extract.text_of(nodes + corners + [(8, 52.5, 13.4149, {})], ways, [border]), *self.law(), "--coarse", "0")
         zones = {row["area"]: row["zone"] for row in table(folder, "areas.csv")}
@@ -386,9 +486,14 @@ class Folders(unittest.TestCase):
         text = small_extract.text_of(nodes, ways)
         bad = self.write("bad.csv", "country,key,value\nde,hgv:conditional,no @ (dusk-dawn)\n")
         unknown = self.write("unknown.csv", "country,key,value\nxx,hgv:conditional,no @ (PH)\n")
-        for words, expected in [(["--laws", bad], "can't be read"), (["--laws", unknown, "--country", "xx"], "public holidays"), (["--depot", "A=1,2,3"], "--depot"),
-                                (["--speed", "primary=fast"], "--speed"), (["--country", "de", "--zone", "de=Europe/Nowhere"], "zone database"),
-                                (["--roads", "motorway"], "no drivable road")]:
+        for words, expected in [
+            (["--laws", bad], "can't be read"),
+            (["--laws", unknown, "--country", "xx"], "public holidays"),
+            (["--depot", "A=1,2,3"], "--depot"),
+            (["--speed", "primary=fast"], "--speed"),
+            (["--country", "de", "--zone", "de=Europe/Nowhere"], "zone database"),
+            (["--roads", "motorway"], "no drivable road"),
+        ]:
             _, done = self.convert(text, *words, check=False)
             self.assertEqual((done.returncode, len(done.stderr.splitlines()[-1:])), (1, 1))
             self.assertIn(expected, done.stderr.splitlines()[-1])
@@ -409,8 +514,11 @@ class Folders(unittest.TestCase):
         """By a script that shares no code with the converter, and by the built program."""
         if not os.access(PROGRAM, os.X_OK):
             self.skipTest("the program isn't built")
-        most = ["-c", "import sys; sys.argv[0] = sys.argv.pop(1); sys.path[:0] = [sys.argv.pop(1)]; from real_roads import tables; tables.MOST_AREAS = 9\n"
-                      "exec(compile(open(sys.argv[0]).read(), sys.argv[0], 'exec'))"]
+        most = [
+            "-c",
+            "import sys; sys.argv[0] = sys.argv.pop(1); sys.path[:0] = [sys.argv.pop(1)]; from real_roads import tables; tables.MOST_AREAS = 9\n"
+            "exec(compile(open(sys.argv[0]).read(), sys.argv[0], 'exec'))",
+        ]
         for seed, coarse, few_areas in [(1, "0", False), (2, "90", False), (3, "0", True)]:
             roads = self.write(f"{seed}.osm", small_extract.drawn(seed, 6))
             folder = os.path.join(self.kept.name, f"drawn{seed}")
@@ -418,8 +526,23 @@ class Folders(unittest.TestCase):
             run(OSMIUM, *script, roads, folder, "--years", "2026", "2026", "--coarse", coarse, *self.law())
             if few_areas:
                 self.assertEqual(len(table(folder, "areas.csv")), 9)
-            done = run(OSMIUM, f"{TESTS}/agrees_with_tags", "--laws", os.path.join(self.kept.name, "laws.csv"), "--program", PROGRAM, "--from", "2026-10-02", "--days", "3",
-                       "--arcs", "6", roads, folder, check=False)
+            done = run(
+                OSMIUM,
+                f"{TESTS}/agrees_with_tags",
+                "--laws",
+                os.path.join(self.kept.name, "laws.csv"),
+                "--program",
+                PROGRAM,
+                "--from",
+                "2026-10-02",
+                "--days",
+                "3",
+                "--arcs",
+                "6",
+                roads,
+                folder,
+                check=False,
+            )
             self.assertEqual(done.returncode, 0, done.stdout[-3000:] + done.stderr[-2000:])
 
 
