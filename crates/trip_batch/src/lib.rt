@@ -7,9 +7,12 @@
 //! planned job by job. Workers share the planner by reference, without a lock and without a copy.
 #![tactic(auto)]
 
+mod one_by_one;
+mod ordered;
 mod parts;
 mod planner;
 mod threads;
 
-pub use parts::run_batch;
-pub use planner::{JobPlanner, JobTexts};
+pub use ordered::run_in_order;
+pub use parts::{run_batch, run_in_parts};
+pub use planner::{JobPlanner, JobTexts, PartPlanner};

@@ -6,4 +6,4 @@ returns g t c =
     let left = rw c.in_ok-texts.was at c.join-left.ensures.first in
     let right = rw c.in_ok-right.was at c.join-left.ensures.second in
     rw c.in_ok-append.ensures.items (right-append
-    (g.P.JobPlanner.is_right c.args.planner.now) c.args.from _ c.args.to c.in_ok-texts.texts.items c.in_ok-right.field-0.items left right)
+    (g.P.PartPlanner.is_right c.args.planner.now) c.args.from _ c.args.to c.in_ok-texts.texts.items c.in_ok-right.field-0.items left right)

@@ -1,5 +1,0 @@
-use Rattle.trip_batch.specs.Right.{AreRight}
-use Rattle.trip_batch.proofs.parts.run_part.Given as goal
-
-abbrev pub invariant-loop-job : goal.invariant-loop-job
-invariant-loop-job g l = AreRight (g.P.JobPlanner.is_right l.planner) l.from l.job l.texts.items
