@@ -1,6 +1,7 @@
 -- A table of jobs that was read, and the texts of its jobs.
 use Rattle.std.proofs.Common.{◌≡◌, ℕ, ◌+◌, false, Some, None, Option, List, Ok, length, refl, ap, sym, subst, ◌∙◌, arith}
 use Rattle.std.specs.Option.{option_or}
+use Rattle.std.specs.Prelude.{IfSome}
 use Rattle.route_base.specs.Causes.{IsOfContents}
 use Rattle.route_base.specs.Contents.{Contents}
 use Rattle.route_base.specs.FolderState.{FolderState, KeepsFiles}
@@ -14,7 +15,7 @@ use Rattle.plan_report.specs.Batch.{batch_text_of}
 use Rattle.plan_report.specs.Refusals.{refusal_text_of}
 use Rattle.plan_report.specs.Reports.{report_text}
 use Rattle.plan_report.specs.declared.outcomes.Refusal.TheVariants.{Request}
-use Rattle.trip_batch.specs.Right.{AreRight}
+use Rattle.trip_batch.specs.Right.{AreRightByJob}
 use Rattle.front_desk.specs.Batch.{batch_fault, jobs_held, trip_of_job, IsTripText, IsJobText, IsTextAt, IsBatchText}
 use Rattle.front_words.specs.declared.commands.Batch.{Batch}
 use Rattle.front_words.specs.declared.commands.Plan.{Plan}
@@ -24,6 +25,7 @@ use Rattle.front_desk.specs.Inside.Ending.{Ends}
 use Rattle.front_desk.proofs.Ending.{kept_rises, reports}
 use Rattle.network_folder.specs.Faults.{StopsReading, StopsStating}
 use Rattle.front_desk.specs.Inside.Planning.{IsReady}
+use Rattle.front_desk.specs.Inside.Sharing.{IsTextAtPlace}
 use Rattle.front_desk.specs.Plan.{trip_setting}
 use Rattle.network_folder.specs.ReadingOrder.{network_held}
 use Rattle.front_desk.specs.Trips.{Trip, failed_check, request_of}
@@ -79,14 +81,15 @@ module _ (network : NetworkModel) (job : Job) (trip : Trip) (same : trip ≡ tri
       → IsJobText network job text
   refused_text fault failed is = of_job (subst (λ (o : Option RequestFault). IsTripText network trip o text) (sym failed) is)
 
--- right texts, one behind the other
-pub batch_by : (network : NetworkModel) (jobs : List Job) (texts : List (List ℕ)) (text : List ℕ)
-    → AreRight (IsTextAt network jobs) 0 (length jobs) texts → text ≡ batch_text_of texts → IsBatchText network jobs text
-batch_by network jobs texts text right is = record {
+-- right texts by job
+pub batch_by : (network : NetworkModel) (jobs : List Job) (order : List ℕ) (texts : List (List ℕ)) (text : List ℕ) → length order ≡ length jobs
+    → AreRightByJob (IsTextAtPlace network jobs order) order texts → text ≡ batch_text_of texts → IsBatchText network jobs text
+batch_by network jobs order texts text count right is = record {
   texts = texts;
-  count = omega (arith, right.count);
+  count = right.count ∙ count;
   each = λ k job_text at.
-      let same : 0 + k ≡ k = omega arith in subst (λ (n : ℕ). IsTextAt network jobs n job_text) same (right.each k job_text at);
+      let found = right.each k job_text at in
+      subst (λ (o : Option ℕ). IfSome o (λ job. IsTextAt network jobs job job_text)) found.1 found.2;
   is_text = is;
 }
 

@@ -8,6 +8,7 @@ pub mod Ending
 pub mod ExactExplanations
 pub mod Grouping
 pub mod Handing
+pub mod JobOrders
 pub mod Judgements
 pub mod Leaving
 pub mod NamedVehicles
@@ -20,3 +21,4 @@ pub mod ReportedLate
 pub mod ReportedTours
 pub mod Rows
 pub mod Running
+pub mod Sharing

@@ -4,3 +4,4 @@ pub mod Ending
 pub mod Planning
 pub mod Judging
 pub mod Late
+pub mod Sharing

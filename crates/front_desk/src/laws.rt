@@ -17,6 +17,7 @@ ghost use Rattle.trip_explain.specs.ExplanationText.{explanation_text};
 ghost use Rattle.trip_explain.specs.Explanations.{IsUnlawfulAt};
 ghost use Rattle.trip_explain.specs.declared.explanation.Explanation.TheVariants.{Lawful, Unlawful};
 ghost use Rattle.trip_explain.specs.declared.explanation.Why.{Why};
+ghost use Rattle.stop_tour.specs.declared.limits.TheConstants.{MOST_STOPS};
 ghost use Rattle.vehicle_classes.specs.VehicleModel.{VehicleModel};
 ghost use Rattle.certificate.specs.declared.limits.TheConstants.{LONGEST_BOUND};
 ghost use Rattle.front_desk.specs.declared.latest.TheConstants.{LONGEST_LATE_HORIZON};
@@ -64,6 +65,7 @@ pub fn limits_are_these()
     ensures holidays { MOST_HOLIDAYS ≡ 100000 }
     ensures tolls { MOST_TOLLS ≡ 1000000 }
     ensures jobs { MOST_JOBS ≡ 10000 }
+    ensures stops { MOST_STOPS ≡ 50 }
 {}
 
 /// The law that `check` accepts what a plan writes: where the certificate of a plan was written under its name, it is a good one of the folder

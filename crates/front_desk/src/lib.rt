@@ -1,7 +1,7 @@
 //! The program itself: from command-line words and files to the printed answer.
 //!
 //! `requests` checks a request and finds its vehicle, and `networks` makes the net of a trip over a network that `network_folder` has loaded:
-//! `net_for` does both, and `net_within` for a shorter time.
+//! `net_for` does both, and `net_within` for a shorter time. `batch_trips` plans the jobs of a batch over nets that trips share (`shared_nets`).
 //! Each command has a module of its own, `plan`, `judgement` (of certificates), `bans`, `latest`, `batch`, `generation` (of networks), `tour`,
 //! `breaks` and `explain`; `commands` has one case for each. `desk` has the top call, `run`, and `run_gated`, whose workers go through a
 //! gate; `outcome` says how a command may end; `laws` has the numbers of the limits, the law that `check` accepts what `plan` writes, and the
@@ -18,6 +18,7 @@
 
 mod bans;
 mod batch;
+mod batch_trips;
 mod breaks;
 mod commands;
 mod desk;
@@ -30,6 +31,7 @@ mod networks;
 mod outcome;
 mod plan;
 mod requests;
+mod shared_nets;
 mod tour;
 
 pub use desk::{run, run_gated};

@@ -2,7 +2,6 @@
 ghost use Rattle.std.specs.Prelude.{◌≡◌, ◌≤◌, ◌+◌, None, IfOk, OnOk, IfErr};
 ghost use Rattle.front_desk.specs.Words.{IsGoodNetwork, failed_check, trip_in, IsChecked, IsGoodTrip, IsTimed, StopsTrip};
 ghost use Rattle.front_desk.specs.Words.{failed_check_within, StopsAtCheck};
-ghost use Rattle.ban_expansion.specs.ArcGroups.{AreGroups};
 ghost use Rattle.front_desk.specs.Words.{IsTripNet, trip_setting, trip_window};
 ghost use Rattle.route_base.specs.Matching.{StandsFor};
 ghost use Rattle.route_base.specs.Net.{setting_of};
@@ -10,7 +9,7 @@ ghost use Rattle.route_base.specs.declared.limits.TheConstants.{LONGEST_HORIZON}
 
 use crate::outcome::Halt;
 use crate::requests::{Trip, vehicle_within};
-use ban_expansion::{ArcGroups, expand, expand_groups};
+use ban_expansion::expand;
 use network_tables::Network;
 use plan_certificate::certificates_agree;
 use plan_report::Refusal;
@@ -20,20 +19,19 @@ use std::alloc::Global;
 use std::thread::Threads;
 use vehicle_classes::Vehicle;
 
-// A net that stands for the network's roads in the trip's minutes, as the net of the trip.
-fn trip_net(network: &Network, trip: Trip<'_>, net: TimedNet) -> TimedNet
+/// The law that a net which stands for the network's roads in the trip's minutes is the net of the trip. The call does nothing.
+pub fn is_trip_net(network: &Network, trip: Trip<'_>, net: &TimedNet)
     requires network { IsGoodNetwork network.now }
     requires good { IsGoodTrip network.now.graph.nodes (trip_in trip) }
     requires timed { IsTimed (trip_in trip) }
-    requires stands { StandsFor (setting_of net) (trip_setting network.now (trip_in trip))
+    requires stands { StandsFor (setting_of net.now) (trip_setting network.now (trip_in trip))
         (trip_window (trip_in trip)) }
-    ensures { IsTripNet network.now (trip_in trip.entry) result }
+    ensures { IsTripNet network.now (trip_in trip.entry) net.now }
 {
     let graph = network.graph();
     let _nodes = graph.node_count();
     settings_agree();
     certificates_agree();
-    net
 }
 
 // The minutes of a trip.
@@ -46,25 +44,8 @@ fn window_of(trip: Trip<'_>) -> Run
     }
 }
 
-/// The net of a trip that passes the checks, for its vehicle, over groups of arcs that are found once for a network: it stands for the
-/// network's roads in the trip's minutes.
-pub fn net_of_trip(
-    alloc: Global,
-    network: &Network,
-    groups: &ArcGroups,
-    vehicle: &Vehicle,
-    trip: Trip<'_>,
-) -> Result<TimedNet, OutOfMemory>
-    requires groups { AreGroups network.now groups.now }
-    requires checked { IsChecked network.now (trip_in trip) vehicle.now }
-    requires timed { IsTimed (trip_in trip) }
-    ensures { IfOk result (IsTripNet network.now (trip_in trip.entry)) }
-{
-    let net = expand_groups(alloc, network, groups, vehicle, window_of(trip))?;
-    Ok(trip_net(network, trip, net))
-}
-
-/// The same net, whose closed minutes several workers make at once; a worker goes through the gate before it begins its part.
+/// The net of a trip that passes the checks, for its vehicle: it stands for the network's roads in the trip's minutes. Several workers make
+/// its closed minutes at once; a worker goes through the gate before it begins its part.
 pub fn net_at_once<R: Threads + Sync, G: Gate>(
     rt: &R,
     alloc: Global,
@@ -78,7 +59,8 @@ pub fn net_at_once<R: Threads + Sync, G: Gate>(
     ensures { IfOk result (IsTripNet network.now (trip_in trip.entry)) }
 {
     let net = expand(rt, alloc, network, vehicle, window_of(trip), gate)?;
-    Ok(trip_net(network, trip, net))
+    is_trip_net(network, trip, &net);
+    Ok(net)
 }
 
 /// The net of a trip over a network, which is given back, or why there is none: the first check that the trip fails, whose time may have at

@@ -1,5 +1,5 @@
 -- Parts of right texts put together.
-use Rattle.std.proofs.Common.{◌≡◌, ⊎_elim, ℕ, zero, suc, ◌+◌, ◌-◌, ◌≤◌, ◌<◌, Some, List, [], ◌∷◌, ◌++◌, length, sym}
+use Rattle.std.proofs.Common.{◌≡◌, ⊎_elim, ℕ, zero, suc, ◌+◌, ◌-◌, ◌≤◌, ◌<◌, Some, None, List, [], ◌∷◌, ◌++◌, length, sym}
 use Rattle.std.proofs.Common.{subst, arith, length-append}
 use Rattle.std.specs.Prelude.{slice_get}
 use Rattle.std.proofs.lemmas.Bool.{cases_lt}
@@ -27,3 +27,18 @@ right-append R from middle to xs ys left right = record {
       subst (λ (n : ℕ). R n text) same (right.each (k - length xs) text (get_right xs ys k text is above)))
       (cases_lt k (length xs));
 }
+
+one_right : (R : ℕ → List ℕ → Type 0) (n : ℕ) (text : List ℕ) → R n text → (k : ℕ) (x : List ℕ) → slice_get (text ∷ []) k ≡ Some x → R (n + k) x
+one_right R n text right zero x is =
+    let here : text ≡ x = cc in
+    let same : n ≡ n + 0 = omega arith in
+    subst (λ (m : ℕ). R m x) same (subst (R n) here right)
+one_right R n text right (suc k) x is = let bad : None ≡ Some x = is in cc
+
+-- one right text more
+pub right-push : (R : ℕ → List ℕ → Type 0) (from to : ℕ) (texts : List (List ℕ)) (text : List ℕ) → AreRight R from to texts → R to text
+    → AreRight R from (to + 1) (texts ++ text ∷ [])
+right-push R from to texts text right more = right-append R from to (to + 1) texts (text ∷ []) right (record {
+  count = omega arith;
+  each = one_right R to text more;
+})

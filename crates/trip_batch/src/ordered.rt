@@ -21,11 +21,7 @@ fn no_texts(alloc: Global, count: usize) -> Result<Vec<JobText>, OutOfMemory>
 }
 
 // The texts by job, where `order` has the job of each place. Each text is moved.
-fn by_job(
-    alloc: Global,
-    order: &[usize],
-    texts: Vec<JobText>,
-) -> Result<Vec<JobText>, OutOfMemory>
+fn by_job(alloc: Global, order: &[usize], texts: Vec<JobText>) -> Result<Vec<JobText>, OutOfMemory>
     requires count { length texts.items ≡ length order.now }
     requires each { All (λ job. job < length order.now) order.now }
     ensures count { IfOk result (λ placed. length placed.items ≡ length order.now) }

@@ -8,8 +8,8 @@ use Rattle.front_desk.specs.Inside.Planning.{trip_window}
 use Rattle.front_desk.specs.Trips.{trip_in}
 use Rattle.front_desk.proofs.networks.net_at_once.Goals as goal
 
-pub trip_net-requires-clause-stands : goal.trip_net-requires-clause-stands
-trip_net-requires-clause-stands g c =
+pub is_trip_net-requires-clause-stands : goal.is_trip_net-requires-clause-stands
+is_trip_net-requires-clause-stands g c =
     subst (λ (m : VehicleModel). StandsFor (setting_of c.in_ok-net.net) (road_setting c.args.network.now m) (trip_window (trip_in c.args.trip)))
     c.requires.checked.named
     (subst (λ (window : Run). StandsFor (setting_of c.in_ok-net.net) (road_setting c.args.network.now c.args.vehicle.now) window)

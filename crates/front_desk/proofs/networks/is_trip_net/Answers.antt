@@ -7,13 +7,13 @@ use Rattle.front_desk.specs.Inside.Planning.{trip_window}
 use Rattle.front_desk.specs.Plan.{trip_setting}
 use Rattle.front_desk.specs.Trips.{request_of, trip_in, vehicle_named}
 use Rattle.front_desk.proofs.CheapRoads.{cheap, cheap_arcs, cheap_roads}
-use Rattle.front_desk.proofs.networks.trip_net.Goals as goal
+use Rattle.front_desk.proofs.networks.is_trip_net.Goals as goal
 
 pub returns : goal.returns
 returns c =
     let network = c.args.network.now in
     let trip = trip_in c.args.trip in
-    let net = c.args.net in
+    let net = c.args.net.now in
     let road = trip_setting network trip in
     let vehicle = vehicle_named network trip.vehicle in
     let request = request_of trip in
