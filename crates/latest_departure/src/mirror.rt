@@ -34,7 +34,7 @@ fn mirrored_lists(
     ensures { IfOk result (λ out. map (λ v. v.items) out.items
         ≡ mirrored_lists_of sum (map (λ v. v.items) lists.now)) }
 {
-    let mut out = Vec::new(alloc);
+    let mut out = Vec::with_capacity(alloc, lists.len() + 1)?;
     for list in lists {
         out.push(mirrored_list(alloc, list.as_slice(), sum)?)?;
     }
@@ -50,7 +50,7 @@ fn turned_arcs(
 ) -> Result<Vec<TimedArc>, OutOfMemory>
     ensures { IfOk result (λ out. out.items ≡ map turned arcs.now ++ last ∷ []) }
 {
-    let mut out = Vec::new(alloc);
+    let mut out = Vec::with_capacity(alloc, arcs.len() + 1)?;
     for arc in arcs {
         out.push(TimedArc {
             tail: arc.head,

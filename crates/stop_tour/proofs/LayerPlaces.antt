@@ -14,13 +14,13 @@ use Rattle.front_transport.proofs.Places.{at_left, at_right, at_both}
 use Rattle.stop_tour.specs.Inside.Layers.{lifted, layered, copies, service, services}
 use Rattle.stop_tour.specs.declared.stops.Stop.{Stop}
 
-module _ (nodes : ℕ) (arcs : List TimedArc) where
-  pub length_layered : (k : ℕ) → length (layered nodes arcs k) ≡ k * length arcs
+module _ (nodes lists last : ℕ) (arcs : List TimedArc) where
+  pub length_layered : (k : ℕ) → length (layered nodes lists last arcs k) ≡ k * length arcs
   length_layered zero = omega arith
   length_layered (suc k) = omega (
     arith,
-    length-append (layered nodes arcs k) (map (lifted (k * nodes)) arcs),
-    length-map arcs (lifted (k * nodes)),
+    length-append (layered nodes lists last arcs k) (map (lifted (k * nodes) ((last - k) * lists)) arcs),
+    length-map arcs (lifted (k * nodes) ((last - k) * lists)),
     length_layered k,
   )
 
@@ -32,31 +32,39 @@ module _ (nodes : ℕ) (arcs : List TimedArc) where
     pub number : x ≡ j * length arcs + a
     pub base : TimedArc
     pub is : at_number arcs a ≡ Some base
-    pub same : lifted (j * nodes) base ≡ arc
+    pub same : lifted (j * nodes) ((last - j) * lists) base ≡ arc
 
-  pub in_layer : (k x : ℕ) (arc : TimedArc) → at_number (layered nodes arcs k) x ≡ Some arc → IsInLayer k x arc
+  pub in_layer : (k x : ℕ) (arc : TimedArc) → at_number (layered nodes lists last arcs k) x ≡ Some arc → IsInLayer k x arc
   in_layer zero zero arc is = absurd (cc)
   in_layer zero (suc x) arc is = absurd (cc)
   in_layer (suc k) x arc is = ⊎_elim
-      (λ (early : at_number (layered nodes arcs k) x ≡ Some arc).
+      (λ (early : at_number (layered nodes lists last arcs k) x ≡ Some arc).
       (let one = in_layer k x arc early in
       record { j = one.j; below = omega (arith, one.below); a = one.a; number = one.number; base = one.base; is = one.is; same = one.same }))
-      (λ (last : (i : ℕ) × (x ≡ length (layered nodes arcs k) + i) × (at_number (map (lifted (k * nodes)) arcs) i ≡ Some arc)).
-      (let found = map_some (at_number arcs last.0) (lifted (k * nodes)) arc (sym (at_number-map (lifted (k * nodes)) arcs last.0) ∙ last.2) in
-      record { j = k; below = omega arith; a = last.0; number = omega (arith, last.1, length_layered k); base = found.0; is = found.1; same = found.2 }))
-      (at_both (layered nodes arcs k) (map (lifted (k * nodes)) arcs) x arc is)
+      (λ (behind : (i : ℕ) × (x ≡ length (layered nodes lists last arcs k) + i) × (at_number (map (lifted (k * nodes) ((last - k) * lists)) arcs) i
+      ≡ Some arc)).
+      (let found = map_some (at_number arcs behind.0) (lifted (k * nodes) ((last - k) * lists)) arc (sym (at_number-map (lifted (k * nodes)
+      ((last - k) * lists)) arcs behind.0) ∙ behind.2) in
+      record { j = k; below = omega arith; a = behind.0; number = omega (arith, behind.1, length_layered k); base = found.0; is = found.1; same = found.2 }))
+      (at_both (layered nodes lists last arcs k) (map (lifted (k * nodes) ((last - k) * lists)) arcs) x arc is)
 
   pub layer_at : (k j a : ℕ) (base : TimedArc) → j < k → at_number arcs a ≡ Some base
-      → at_number (layered nodes arcs k) (j * length arcs + a) ≡ Some (lifted (j * nodes) base)
+      → at_number (layered nodes lists last arcs k) (j * length arcs + a) ≡ Some (lifted (j * nodes) ((last - j) * lists) base)
   layer_at zero j a base below is = absurd (omega (arith, below))
   layer_at (suc k) j a base below is = ⊎_elim
-      (λ (last : j ≡ k).
-      (let number : j * length arcs + a ≡ length (layered nodes arcs k) + a = omega (arith, ap (λ (w : ℕ). w * length arcs) last, length_layered k) in
-      ap (at_number (layered nodes arcs (suc k))) number
-      ∙ at_right (layered nodes arcs k) (map (lifted (k * nodes)) arcs) a (lifted (k * nodes) base)
-      (at_number-map (lifted (k * nodes)) arcs a ∙ ap (option_map (lifted (k * nodes))) is)
-      ∙ ap (λ (w : ℕ). Some (lifted (w * nodes) base)) (sym last)))
-      (λ (other : j ≡ k → ⊥). at_left (layered nodes arcs k) (map (lifted (k * nodes)) arcs) (j * length arcs + a) (lifted (j * nodes) base)
+      (λ (same : j ≡ k).
+      (let number : j * length arcs + a ≡ length (layered nodes lists last arcs k) + a = omega (
+        arith,
+        ap (λ
+            (w : ℕ). w * length arcs) same,
+        length_layered k,
+      ) in
+      ap (at_number (layered nodes lists last arcs (suc k))) number
+      ∙ at_right (layered nodes lists last arcs k) (map (lifted (k * nodes) ((last - k) * lists)) arcs) a (lifted (k * nodes) ((last - k) * lists) base)
+      (at_number-map (lifted (k * nodes) ((last - k) * lists)) arcs a ∙ ap (option_map (lifted (k * nodes) ((last - k) * lists))) is)
+      ∙ ap (λ (w : ℕ). Some (lifted (w * nodes) ((last - w) * lists) base)) (sym same)))
+      (λ (other : j ≡ k → ⊥). at_left (layered nodes lists last arcs k) (map (lifted (k * nodes) ((last - k) * lists)) arcs) (j * length arcs + a) (lifted
+      (j * nodes) ((last - j) * lists) base)
       (layer_at k j a base (omega (arith, below, other)) is))
       (cases_eq j k)
 

@@ -1,14 +1,15 @@
 -- Walks of the layered net are tours, step by step.
 use Rattle.std.proofs.Common.{◌≡◌, ◌⊎◌, inl, inr, ⊎_elim, ℕ, zero, suc, ◌+◌, ◌-◌, ◌*◌, ◌%◌, ◌≤◌, ◌<◌, Option, Some, None, List, [], ◌∷◌, ◌++◌, length, map}
-use Rattle.std.proofs.Common.{get_or, All, refl, sym, ◌∙◌, ap, subst, arith}
+use Rattle.std.proofs.Common.{false, get_or, All, refl, sym, ◌∙◌, ap, subst, arith}
 use Rattle.std.specs.Prelude.{slice_get, unwrap_or}
 use Rattle.std.specs.Option.{option_map, option_flatten}
 use Rattle.route_base.specs.Setting.{Setting, Road}
 use Rattle.route_base.specs.Itinerary.{Position, Step, drive, wait, Moves, Walks}
 use Rattle.route_base.specs.Legs.{start_of, end_of, steps_of, Achieves, HasNoNeighbouringWaits}
 use Rattle.route_base.specs.Front.{IsFront, IsAchieved, IsNoWorse, IsRight, pairs_of}
-use Rattle.route_base.specs.Runs.{any_has}
-use Rattle.route_base.specs.Net.{Net, at_number, park_at, road_of, runs_by, shut_by, setting_of, IsGoodArc, IsGoodNet, IsGoodRequest}
+use Rattle.route_base.specs.Runs.{any_has, AreRuns}
+use Rattle.std.proofs.lemmas.Option.{unwrap_or-slice_get}
+use Rattle.route_base.specs.Net.{Net, at_number, park_at, road_of, runs_of, runs_by, shut_by, setting_of, IsGoodArc, IsGoodNet, IsGoodRequest}
 use Rattle.route_base.specs.declared.types.Pair.{Pair}
 use Rattle.route_base.specs.declared.types.Park.{Park}
 use Rattle.route_base.specs.declared.types.Request.{Request}
@@ -26,7 +27,7 @@ use Rattle.front_transport.proofs.ListPlaces.{list_kept, list_behind}
 use Rattle.front_transport.proofs.NetParts.{road_arc}
 use Rattle.front_transport.proofs.Places.{at_left, at_right, at_both}
 use Rattle.front_transport.proofs.Transport.{carried}
-use Rattle.stop_tour.specs.Inside.Layers.{lifted, layered, copies, service, services, outside, tour_net, tour_request}
+use Rattle.stop_tour.specs.Inside.Layers.{lifted, layered, copies, service, services, outside, last_minute, layered_lists, tour_net, tour_request}
 use Rattle.stop_tour.specs.Tours.{IsGoodStop, TourPosition, TourStep, go, serve, TourMoves, TourWalks, tour_start, tour_end, IsTourAchieved, IsTourFront}
 use Rattle.stop_tour.specs.Tours.{AchievesTour, AreRightTours}
 use Rattle.stop_tour.specs.Inside.Unlayering.{step_over, route_over}
@@ -37,6 +38,8 @@ use Rattle.route_base.specs.declared.types.Route.{Route}
 use Rattle.stop_tour.specs.declared.stops.Stop.{Stop}
 use Rattle.stop_tour.proofs.LayerPlaces.{length_layered, IsInLayer, in_layer, layer_at, copy_at, one_place, service_of, service_at}
 use Rattle.stop_tour.proofs.Unlayered.{steps_over, no_empty_over, apart_over}
+use Rattle.stop_tour.proofs.LayerLists.{length_lists, place_fits, runs_in_layer, list_in_layer, list_first, open_in_layer, closed_in_layer}
+use Rattle.stop_tour.proofs.LayerLists.{last_next, last_end}
 use Rattle.stop_tour.proofs.Windows.{within_window, open_within}
 
 list_of : (until : ℕ) (stops : List Stop) (i : ℕ) (stop : Stop) → at_number stops i ≡ Some stop
@@ -71,31 +74,59 @@ module _ (net : Net) (good : IsGoodNet net) (stops : List Stop) (each_stop : All
     pub served : p.served ≤ length stops
 
   lists : ℕ → List Run
-  lists k = unwrap_or (slice_get (net.closed ++ map (outside until) stops) k) []
+  lists k = unwrap_or (slice_get (layered_lists until net.closed stops ++ map (outside until) stops) k) []
 
   shut_is : (x t : ℕ) (arc : TimedArc) → at_number (tour_net net stops until).arcs x ≡ Some arc → z.shut x t ≡ any_has (lists arc.closed) t
   unfolding z lists
   shut_is x t arc is = ap (λ (o : Option TimedArc). any_has (runs_by (tour_net net stops until) o) t) is
 
-  shut_base : (a t : ℕ) (base : TimedArc) → at_number net.arcs a ≡ Some base → any_has (lists base.closed) t ≡ s.shut a t
-  unfolding s lists
-  shut_base a t base is =
+  -- the runs of an arc in a layer
+  runs_here : (j a : ℕ) (base : TimedArc) → j ≤ length stops → at_number net.arcs a ≡ Some base
+      → lists ((length stops - j) * length net.closed + base.closed) ≡ runs_in_layer until stops j (runs_of net base)
+  unfolding lists
+  runs_here j a base below is =
       let fine : IsGoodArc net base = good_arc net good a base is in
-      ap (λ (w : List Run). any_has w t) (list_kept net.closed (map (outside until) stops) base.closed fine.closed)
-      ∙ ap (λ (o : Option TimedArc). any_has (runs_by net o) t) (sym is)
+      list_kept (layered_lists until net.closed stops) (map (outside until) stops) ((length stops - j) * length net.closed + base.closed)
+      (subst (λ (n : ℕ). (length stops - j) * length net.closed + base.closed < n) (sym (length_lists until net.closed stops))
+      (place_fits (length stops - j) (length stops) (length net.closed) base.closed (omega arith) fine.closed))
+      ∙ list_in_layer until net.closed stops j base.closed below fine.closed
+
+  good_runs : (base : TimedArc) → IsGoodArc net base → AreRuns (runs_of net base)
+  good_runs base fine = subst AreRuns (sym (unwrap_or-slice_get net.closed base.closed [])) (good.each_runs base.closed [] fine.closed)
+
+  base_runs : (a t : ℕ) (base : TimedArc) → at_number net.arcs a ≡ Some base → s.shut a t ≡ any_has (runs_of net base) t
+  unfolding s
+  base_runs a t base is = ap (λ (o : Option TimedArc). any_has (runs_by net o) t) is
+
+  -- what is open over a layer is open
+  open_here : (j a t : ℕ) (base : TimedArc) → j ≤ length stops → at_number net.arcs a ≡ Some base → t < until
+      → any_has (lists ((length stops - j) * length net.closed + base.closed)) t ≡ false → s.shut a t ≡ false
+  open_here j a t base below is in_time free =
+      let fine : IsGoodArc net base = good_arc net good a base is in
+      base_runs a t base is ∙ closed_in_layer until t stops j (runs_of net base) (good_runs base fine) in_time
+      (ap (λ (w : List Run). any_has w t) (sym (runs_here j a base below is)) ∙ free)
+
+  -- what is open in time for the other stops is open over the layer
+  open_there : (j a t : ℕ) (base : TimedArc) → j ≤ length stops → at_number net.arcs a ≡ Some base → t < last_minute until stops j
+      → s.shut a t ≡ false → any_has (lists ((length stops - j) * length net.closed + base.closed)) t ≡ false
+  open_there j a t base below is early free =
+      ap (λ (w : List Run). any_has w t) (runs_here j a base below is)
+      ∙ open_in_layer until t stops j (runs_of net base) early (sym (base_runs a t base is) ∙ free)
 
   -- an arc of the layered net is one of a layer or a service
   pub arc_kinds : (x : ℕ) (arc : TimedArc) → at_number (tour_net net stops until).arcs x ≡ Some arc
-      → IsInLayer net.nodes net.arcs (suc (length stops)) x arc
-      ⊎ ((i : ℕ) × (stop : Stop) × (at_number stops i ≡ Some stop) × (service net.nodes (length net.closed) (0 + (i - 1)) stop ≡ arc)
+      → IsInLayer net.nodes (length net.closed) (length stops) net.arcs (suc (length stops)) x arc
+      ⊎ ((i : ℕ) × (stop : Stop) × (at_number stops i ≡ Some stop) × (service net.nodes (suc (length stops) * length net.closed) (0 + (i - 1)) stop ≡ arc)
       × (x ≡ suc (length stops) * length net.arcs + i))
   arc_kinds x arc is = ⊎_elim
-      (λ (layer : at_number (layered net.nodes net.arcs (suc (length stops))) x ≡ Some arc). inl (in_layer net.nodes net.arcs (suc (length stops)) x arc layer))
-      (λ (behind : (i : ℕ) × (x ≡ length (layered net.nodes net.arcs (suc (length stops))) + i)
-      × (at_number (services net.nodes (length net.closed) 0 stops) i ≡ Some arc)).
-      (let one = service_of net.nodes (length net.closed) 0 stops behind.0 arc behind.2 in
-      inr (behind.0, one.0, one.1, one.2, omega (arith, behind.1, length_layered net.nodes net.arcs (suc (length stops))))))
-      (at_both (layered net.nodes net.arcs (suc (length stops))) (services net.nodes (length net.closed) 0 stops) x arc is)
+      (λ (layer : at_number (layered net.nodes (length net.closed) (length stops) net.arcs (suc (length stops))) x ≡ Some arc). inl (in_layer net.nodes
+      (length net.closed) (length stops) net.arcs (suc (length stops)) x arc layer))
+      (λ (behind : (i : ℕ) × (x ≡ length (layered net.nodes (length net.closed) (length stops) net.arcs (suc (length stops))) + i)
+      × (at_number (services net.nodes (suc (length stops) * length net.closed) 0 stops) i ≡ Some arc)).
+      (let one = service_of net.nodes (suc (length stops) * length net.closed) 0 stops behind.0 arc behind.2 in
+      inr (behind.0, one.0, one.1, one.2, omega (arith, behind.1, length_layered net.nodes (length net.closed) (length stops) net.arcs (suc (length stops))))))
+      (at_both (layered net.nodes (length net.closed) (length stops) net.arcs (suc (length stops))) (services net.nodes (suc
+      (length stops) * length net.closed) 0 stops) x arc is)
 
   -- a step of a tour for a step over layers
   record Toured (over : Step) (big : Position) (p : TourPosition) : Type 0 where
@@ -130,7 +161,8 @@ module _ (net : Net) (good : IsGoodNet net) (stops : List Stop) (each_stop : All
       rw (lt-leb x (suc (length stops) * length net.arcs) (omega (arith, number, some))) (ap serve (omega (arith, number)))
 
   by_layer : (x : ℕ) (arc : TimedArc) (big next : Position) (p : TourPosition) → IsInTour big p → (move : Moves z until (drive x) big next)
-      → at_number (tour_net net stops until).arcs x ≡ Some arc → road_of arc ≡ move.road → IsInLayer net.nodes net.arcs (suc (length stops)) x arc
+      → at_number (tour_net net stops until).arcs x ≡ Some arc → road_of arc ≡ move.road → IsInLayer net.nodes (length net.closed) (length stops) net.arcs
+      (suc (length stops)) x arc
       → Toured (drive x) next p
   unfolding s
   by_layer x arc big next p at move is road_is layer =
@@ -150,9 +182,10 @@ module _ (net : Net) (good : IsGoodNet net) (stops : List Stop) (each_stop : All
             road = road_of base;
             is = ap (option_map road_of) layer.is;
             tail = here.1;
-            is_open = λ t early late. sym (shut_base layer.a t base layer.is)
-                ∙ ap (λ (k : ℕ). any_has (lists k) t) (ap (λ (w : TimedArc). w.closed) layer.same) ∙ sym (shut_is x t arc is)
-                ∙ move.is_open t (omega (arith, early, at.minute)) (omega (arith, late, at.minute, minutes));
+            is_open = λ t early late. open_here layer.j layer.a t base (omega (arith, layer.below)) layer.is
+                (omega (arith, late, move.in_time, at.minute, minutes))
+                (ap (λ (k : ℕ). any_has (lists k) t) (ap (λ (w : TimedArc). w.closed) layer.same) ∙ sym (shut_is x t arc is)
+                ∙ move.is_open t (omega (arith, early, at.minute)) (omega (arith, late, at.minute, minutes)));
             in_time = omega (arith, move.in_time, at.minute, minutes);
             node = refl;
             minute = omega (arith, move.minute, at.minute, minutes);
@@ -171,16 +204,19 @@ module _ (net : Net) (good : IsGoodNet net) (stops : List Stop) (each_stop : All
         };
       }
 
-  runs_of_stop : (i : ℕ) (stop : Stop) → at_number stops i ≡ Some stop → lists (length net.closed + (0 + (i - 1))) ≡ outside until stop
+  runs_of_stop : (i : ℕ) (stop : Stop) → at_number stops i ≡ Some stop
+      → lists (suc (length stops) * length net.closed + (0 + (i - 1))) ≡ outside until stop
   unfolding lists
   runs_of_stop i stop is =
-      let same : length net.closed + (0 + (i - 1)) ≡ length net.closed + (i - 1) = omega arith in
-      ap (λ (k : ℕ). unwrap_or (slice_get (net.closed ++ map (outside until) stops) k) []) same
-      ∙ list_behind net.closed (map (outside until) stops) (i - 1) ∙ list_of until stops i stop is
+      let same : suc (length stops) * length net.closed + (0 + (i - 1)) ≡ length (layered_lists until net.closed stops) + (i - 1) =
+      omega (arith, length_lists until net.closed stops) in
+      ap (λ (k : ℕ). unwrap_or (slice_get (layered_lists until net.closed stops ++ map (outside until) stops) k) []) same
+      ∙ list_behind (layered_lists until net.closed stops) (map (outside until) stops) (i - 1) ∙ list_of until stops i stop is
 
   by_service : (x : ℕ) (arc : TimedArc) (big next : Position) (p : TourPosition) → IsInTour big p → (move : Moves z until (drive x) big next)
       → at_number (tour_net net stops until).arcs x ≡ Some arc → road_of arc ≡ move.road → (i : ℕ) → (stop : Stop) → at_number stops i ≡ Some stop
-      → service net.nodes (length net.closed) (0 + (i - 1)) stop ≡ arc → x ≡ suc (length stops) * length net.arcs + i → Toured (drive x) next p
+      → service net.nodes (suc (length stops) * length net.closed) (0 + (i - 1)) stop ≡ arc → x ≡ suc (length stops) * length net.arcs + i → Toured
+      (drive x) next p
   by_service x arc big next p at move is road_is i stop stop_is same at_x =
       let fine : IsGoodStop net stop = at_number-all (IsGoodStop net) stops i stop each_stop stop_is in
       let inside = number_within stops i stop stop_is in
@@ -244,7 +280,9 @@ module _ (net : Net) (good : IsGoodNet net) (stops : List Stop) (each_stop : All
   shut_here big p at w t rated =
       let found = rated_park net good p.at.node w rated in
       ap (λ (o : Option Park). any_has (shut_by (tour_net net stops until) o) t) (park_here big p at ∙ found.1)
-      ∙ ap (λ (l : List Run). any_has l t) (list_kept net.closed (map (outside until) stops) found.0.shut found.3.shut)
+      ∙ ap (λ (l : List Run). any_has l t)
+      (list_kept (layered_lists until net.closed stops) (map (outside until) stops) found.0.shut
+      (omega (arith, found.3.shut, length_lists until net.closed stops)) ∙ list_first until net.closed stops found.0.shut found.3.shut)
       ∙ ap (λ (o : Option Park). any_has (shut_by net o) t) (sym found.1)
 
   road_at : (y : ℕ) (road : Road) → z.road y ≡ Some road → option_map road_of (at_number (tour_net net stops until).arcs y) ≡ Some road
@@ -255,8 +293,10 @@ module _ (net : Net) (good : IsGoodNet net) (stops : List Stop) (each_stop : All
   toured (drive x) big next p at move =
       let found = map_some (at_number (tour_net net stops until).arcs x) road_of move.road (road_at x move.road move.is) in
       ⊎_elim
-      (λ (layer : IsInLayer net.nodes net.arcs (suc (length stops)) x found.0). by_layer x found.0 big next p at move found.1 found.2 layer)
-      (λ (one : (i : ℕ) × (stop : Stop) × (at_number stops i ≡ Some stop) × (service net.nodes (length net.closed) (0 + (i - 1)) stop ≡ found.0)
+      (λ (layer : IsInLayer net.nodes (length net.closed) (length stops) net.arcs (suc
+      (length stops)) x found.0). by_layer x found.0 big next p at move found.1 found.2 layer)
+      (λ (one : (i : ℕ) × (stop : Stop) × (at_number stops i ≡ Some stop) × (service net.nodes (suc (length stops) * length net.closed) (0 + (i - 1)) stop
+      ≡ found.0)
       × (x ≡ suc (length stops) * length net.arcs + i)).
       by_service x found.0 big next p at move found.1 found.2 one.0 one.1 one.2 one.3 one.4)
       (arc_kinds x found.0 found.1)
@@ -308,16 +348,18 @@ module _ (net : Net) (good : IsGoodNet net) (stops : List Stop) (each_stop : All
   unfolding z
   road_from y arc is = ap (option_map road_of) is
 
-  placed : (step : TourStep) (big : Position) (p q : TourPosition) → IsInTour big p → TourMoves s stops until step p q → Placed big q
+  placed : (step : TourStep) (big : Position) (p q : TourPosition) → IsInTour big p → TourMoves s stops until step p q
+      → q.at.minute ≤ last_minute until stops q.served → Placed big q
   unfolding s
-  placed (go (drive a)) big p q at moves =
+  placed (go (drive a)) big p q at moves early_enough =
       let move = moves.0 in
       let base = road_arc net good a move.road move.is in
       let x : ℕ = p.served * length net.arcs + a in
-      let arc : TimedArc = lifted (p.served * net.nodes) base.0 in
+      let arc : TimedArc = lifted (p.served * net.nodes) ((length stops - p.served) * length net.closed) base.0 in
       let is : at_number (tour_net net stops until).arcs x ≡ Some arc =
-      at_left (layered net.nodes net.arcs (suc (length stops))) (services net.nodes (length net.closed) 0 stops) x arc
-      (layer_at net.nodes net.arcs (suc (length stops)) p.served a base.0 (omega (arith, at.served)) base.1) in
+      at_left (layered net.nodes (length net.closed) (length stops) net.arcs (suc (length stops))) (services net.nodes (suc
+      (length stops) * length net.closed) 0 stops) x arc
+      (layer_at net.nodes (length net.closed) (length stops) net.arcs (suc (length stops)) p.served a base.0 (omega (arith, at.served)) base.1) in
       let minutes : base.0.minutes ≡ move.road.minutes = ap (λ (w : Road). w.minutes) base.2 in
       record {
         x = drive x;
@@ -326,8 +368,9 @@ module _ (net : Net) (good : IsGoodNet net) (stops : List Stop) (each_stop : All
           road = road_of arc;
           is = road_from x arc is;
           tail = ap (λ (v : ℕ). p.served * net.nodes + v) (ap (λ (w : Road). w.tail) base.2 ∙ move.tail) ∙ sym at.node;
-          is_open = λ t early late. shut_is x t arc is ∙ shut_base a t base.0 base.1
-              ∙ move.is_open t (omega (arith, early, at.minute)) (omega (arith, late, at.minute, minutes));
+          is_open = λ t early late. shut_is x t arc is ∙ open_there p.served a t base.0 at.served base.1
+              (omega (arith, late, at.minute, minutes, move.minute, early_enough, ap (last_minute until stops) moves.1))
+              (move.is_open t (omega (arith, early, at.minute)) (omega (arith, late, at.minute, minutes)));
           in_time = omega (arith, move.in_time, at.minute, minutes);
           node = refl;
           minute = omega (arith, move.minute, at.minute, minutes);
@@ -343,7 +386,7 @@ module _ (net : Net) (good : IsGoodNet net) (stops : List Stop) (each_stop : All
           served = omega (arith, at.served, moves.1);
         };
       }
-  placed (go wait) big p q at moves =
+  placed (go wait) big p q at moves early_enough =
       let move = moves.0 in
       record {
         x = wait;
@@ -366,15 +409,16 @@ module _ (net : Net) (good : IsGoodNet net) (stops : List Stop) (each_stop : All
           served = omega (arith, at.served, moves.1);
         };
       }
-  placed (serve i) big p q at move =
+  placed (serve i) big p q at move early_enough =
       let stop : Stop = move.stop in
       let fine : IsGoodStop net stop = at_number-all (IsGoodStop net) stops i stop each_stop move.is in
       let inside = number_within stops i stop move.is in
-      let x : ℕ = length (layered net.nodes net.arcs (suc (length stops))) + i in
-      let arc : TimedArc = service net.nodes (length net.closed) (0 + (i - 1)) stop in
+      let x : ℕ = length (layered net.nodes (length net.closed) (length stops) net.arcs (suc (length stops))) + i in
+      let arc : TimedArc = service net.nodes (suc (length stops) * length net.closed) (0 + (i - 1)) stop in
       let is : at_number (tour_net net stops until).arcs x ≡ Some arc =
-      at_right (layered net.nodes net.arcs (suc (length stops))) (services net.nodes (length net.closed) 0 stops) i arc
-      (service_at net.nodes (length net.closed) 0 stops i stop move.is) in
+      at_right (layered net.nodes (length net.closed) (length stops) net.arcs (suc (length stops))) (services net.nodes (suc
+      (length stops) * length net.closed) 0 stops) i arc
+      (service_at net.nodes (suc (length stops) * length net.closed) 0 stops i stop move.is) in
       let layer : 0 + (i - 1) ≡ p.served = omega (arith, move.next) in
       let after : 0 + (i - 1) + 1 ≡ q.served = omega (arith, move.next, move.served) in
       record {
@@ -408,11 +452,46 @@ module _ (net : Net) (good : IsGoodNet net) (stops : List Stop) (each_stop : All
     pub walk : Walks z until steps big last
     pub in_tour : IsInTour last q
 
-  pub placed_walk : (steps : List TourStep) (big : Position) (p q : TourPosition) → IsInTour big p → TourWalks s stops until steps p q → IsPlacedWalk big q
-  placed_walk [] big p q at walk = record { steps = []; last = big; walk = refl; in_tour = subst (λ (w : TourPosition). IsInTour big w) walk at }
-  placed_walk (step ∷ steps) big p q at walk =
-      let one = placed step big p walk.0 at walk.1 in
-      let more = placed_walk steps one.next walk.0 q one.in_tour walk.2 in
+  -- a step is in time for the other stops where its end is
+  step_before : (step : TourStep) (p q : TourPosition) → TourMoves s stops until step p q → q.at.minute ≤ last_minute until stops q.served
+      → p.at.minute ≤ last_minute until stops p.served
+  step_before (go (drive a)) p q moves early = omega (arith, early, moves.0.minute, ap (last_minute until stops) moves.1)
+  step_before (go wait) p q moves early = omega (arith, early, moves.0.minute, ap (last_minute until stops) moves.1)
+  step_before (serve i) p q move early =
+      let number : i ≡ suc p.served = omega (arith, move.next) in
+      let next = last_next until stops p.served move.stop (ap (at_number stops) (sym number) ∙ move.is) in
+      omega (arith, next, move.to, move.minute, early, ap (last_minute until stops) (move.served ∙ number))
+
+  -- each position of a tour is in time for the other stops
+  before_stops : (steps : List TourStep) (p q : TourPosition) → TourWalks s stops until steps p q → q.served ≡ length stops → q.at.minute ≤ until
+      → p.at.minute ≤ last_minute until stops p.served
+  before_stops [] p q walk all in_time =
+      omega (
+        arith,
+        in_time,
+        ap (λ (w : TourPosition). w.at.minute) walk,
+        ap (last_minute until stops) (ap (λ (w : TourPosition). w.served) walk ∙ all),
+        last_end until stops,
+      )
+  before_stops (step ∷ steps) p q walk all in_time = step_before step p walk.0 walk.1 (before_stops steps walk.0 q walk.2 all in_time)
+
+  step_in_time : (step : TourStep) (p q : TourPosition) → TourMoves s stops until step p q → q.at.minute ≤ until
+  step_in_time (go (drive a)) p q moves = omega (arith, moves.0.in_time, moves.0.minute)
+  step_in_time (go wait) p q moves = omega (arith, moves.0.in_time, moves.0.minute)
+  step_in_time (serve i) p q move = omega (arith, move.in_time, move.minute)
+
+  -- a tour that begins by the horizon ends by it
+  pub tour_in_time : (steps : List TourStep) (p q : TourPosition) → TourWalks s stops until steps p q → p.at.minute ≤ until → q.at.minute ≤ until
+  tour_in_time [] p q walk early = subst (λ (w : TourPosition). w.at.minute ≤ until) walk early
+  tour_in_time (step ∷ steps) p q walk early = tour_in_time steps walk.0 q walk.2 (step_in_time step p walk.0 walk.1)
+
+  pub placed_walk : (steps : List TourStep) (big : Position) (p q : TourPosition) → IsInTour big p → TourWalks s stops until steps p q
+      → q.served ≡ length stops → q.at.minute ≤ until → IsPlacedWalk big q
+  placed_walk [] big p q at walk all in_time =
+      record { steps = []; last = big; walk = refl; in_tour = subst (λ (w : TourPosition). IsInTour big w) walk at }
+  placed_walk (step ∷ steps) big p q at walk all in_time =
+      let one = placed step big p walk.0 at walk.1 (before_stops steps walk.0 q walk.2 all in_time) in
+      let more = placed_walk steps one.next walk.0 q one.in_tour walk.2 all in_time in
       record { steps = one.x ∷ more.steps; last = more.last; walk = (one.next, one.move, more.walk); in_tour = more.in_tour }
 
 tour_position : ℕ → ℕ → ℕ → ℕ → TourPosition
@@ -451,7 +530,8 @@ module _ (net : Net) (good : IsGoodNet net) (stops : List Stop) (each_stop : All
   unfolding zt z s
   covers p can =
       let one = placed_walk net good stops each_stop r.until can.steps (start_of (tour_request net stops r)) (tour_start r)
-      (tour_end r (length stops) p) begins can.walk in (
+      (tour_end r (length stops) p) begins can.walk refl
+      (tour_in_time net good stops each_stop r.until can.steps (tour_start r) (tour_end r (length stops) p) can.walk can.in_time) in (
         p,
         record {
           in_time = can.in_time;

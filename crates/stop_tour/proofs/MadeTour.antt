@@ -17,7 +17,7 @@ use Rattle.route_base.specs.declared.types.TimedArc.{TimedArc}
 use Rattle.route_base.proofs.Numbered.{number_within}
 use Rattle.route_base.proofs.Costs.{fits}
 use Rattle.route_base.proofs.Logic.{map_some}
-use Rattle.stop_tour.specs.Inside.Layers.{layered, copies, services, outside, tour_net, tour_request}
+use Rattle.stop_tour.specs.Inside.Layers.{layered, copies, services, outside, layered_lists, tour_net, tour_request}
 use Rattle.stop_tour.specs.Tours.{IsGoodStop, size_of}
 use Rattle.front_transport.specs.CheapArcs.{HasCheapArcs}
 use Rattle.front_transport.specs.declared.limits.TheConstants.{MOST_STATES}
@@ -28,27 +28,38 @@ use Rattle.stop_tour.specs.Inside.Unlayering.{IsNumbered}
 use Rattle.stop_tour.specs.declared.stops.Stop.{Stop}
 use Rattle.stop_tour.proofs.GoodLayers.{cheap_tour}
 
-pub made_tour : (net : Net) (stops : List Stop) (until seen place : ℕ) (arcs made : List TimedArc) (closed lists old : List (Vec Run Global))
+pub made_tour : (net : Net) (stops : List Stop) (until seen place held : ℕ) (arcs made : List TimedArc) (closed lists old : List (Vec Run Global))
     (parks rated : List (Option Park))
-    → seen ≡ net.nodes → place ≡ length net.closed → arcs ≡ layered net.nodes net.arcs (length stops + 1) → made ≡ arcs ++ services seen place 0 stops
-    → map (λ v. v.items) lists ≡ map (λ v. v.items) old → map (λ v. v.items) old ≡ net.closed
+    → seen ≡ net.nodes → held ≡ length net.closed → place ≡ (length stops + 1) * held
+    → arcs ≡ layered net.nodes held (length stops) net.arcs (length stops + 1) → made ≡ arcs ++ services seen place 0 stops
+    → map (λ v. v.items) lists ≡ layered_lists until (map (λ v. v.items) old) stops → map (λ v. v.items) old ≡ net.closed
     → map (λ v. v.items) closed ≡ map (λ v. v.items) lists ++ map (outside until) stops → rated ≡ net.parks → parks ≡ copies rated (length stops + 1)
     → net_from ((length stops + 1) * seen) made closed parks ≡ tour_net net stops until
 unfolding net_of
-made_tour net stops until seen place arcs made closed lists old rows rated seen_is place_is arcs_is made_is lists_is old_is closed_is rated_is rows_is =
+made_tour net stops until seen place held arcs made closed lists old rows rated seen_is held_is place_is arcs_is made_is lists_is old_is closed_is rated_is
+    rows_is =
     let next : length stops + 1 ≡ suc (length stops) = omega arith in
-    let all : made ≡ layered net.nodes net.arcs (suc (length stops)) ++ services net.nodes (length net.closed) 0 stops =
-    made_is ∙ ap (λ (w : List TimedArc). w ++ services seen place 0 stops) (arcs_is ∙ ap (layered net.nodes net.arcs) next)
-    ∙ ap (λ (k : ℕ). layered net.nodes net.arcs (suc (length stops)) ++ services k place 0 stops) seen_is
-    ∙ ap (λ (k : ℕ). layered net.nodes net.arcs (suc (length stops)) ++ services net.nodes k 0 stops) place_is in
+    let behind : place ≡ suc (length stops) * length net.closed =
+    place_is ∙ ap (λ (k : ℕ). k * held) next ∙ ap (λ (k : ℕ). suc (length stops) * k) held_is in
+    let roads : arcs ≡ layered net.nodes (length net.closed) (length stops) net.arcs (suc (length stops)) =
+    arcs_is ∙ ap (λ (h : ℕ). layered net.nodes h (length stops) net.arcs (length stops + 1)) held_is
+    ∙ ap (layered net.nodes (length net.closed) (length stops) net.arcs) next in
+    let all : made ≡ layered net.nodes (length net.closed) (length stops) net.arcs (suc (length stops))
+    ++ services net.nodes (suc (length stops) * length net.closed) 0 stops =
+    made_is ∙ ap (λ (w : List TimedArc). w ++ services seen place 0 stops) roads
+    ∙ ap (λ (k : ℕ). layered net.nodes (length net.closed) (length stops) net.arcs (suc (length stops)) ++ services k place 0 stops) seen_is
+    ∙ ap (λ (k : ℕ). layered net.nodes (length net.closed) (length stops) net.arcs (suc (length stops)) ++ services net.nodes k 0 stops) behind in
     ap (λ (k : ℕ). net_of k made (map (λ v. v.items) closed) rows) (ap (λ (k : ℕ). k * seen) next ∙ ap (λ (k : ℕ). suc (length stops) * k) seen_is)
     ∙ ap (λ (w : List TimedArc). net_of (suc (length stops) * net.nodes) w (map (λ v. v.items) closed) rows) all
     ∙ ap (λ (w : List (List Run)). net_of (suc (length stops) * net.nodes)
-    (layered net.nodes net.arcs (suc (length stops)) ++ services net.nodes (length net.closed) 0 stops) w rows)
-    (closed_is ∙ ap (λ (w : List (List Run)). w ++ map (outside until) stops) (lists_is ∙ old_is))
+    (layered net.nodes (length net.closed) (length stops) net.arcs (suc (length stops)) ++ services net.nodes (suc (length stops) * length net.closed) 0 stops)
+    w rows)
+    (closed_is ∙ ap (λ (w : List (List Run)). w ++ map (outside until) stops)
+    (lists_is ∙ ap (λ (w : List (List Run)). layered_lists until w stops) old_is))
     ∙ ap (λ (w : List (Option Park)). net_of (suc (length stops) * net.nodes)
-    (layered net.nodes net.arcs (suc (length stops)) ++ services net.nodes (length net.closed) 0 stops)
-    (net.closed ++ map (outside until) stops) w) (rows_is ∙ ap (λ (w : List (Option Park)). copies w (length stops + 1)) rated_is ∙ ap (copies net.parks) next)
+    (layered net.nodes (length net.closed) (length stops) net.arcs (suc (length stops)) ++ services net.nodes (suc (length stops) * length net.closed) 0 stops)
+    (layered_lists until net.closed stops ++ map (outside until) stops) w)
+    (rows_is ∙ ap (λ (w : List (Option Park)). copies w (length stops + 1)) rated_is ∙ ap (copies net.parks) next)
 
 -- each drive of a walk has a number from 1 on
 pub numbered : (net : Net) (until : ℕ) (legs : List Leg) (p q : Position) → Walks (setting_of net) until (steps_of legs) p q → All IsNumbered legs

@@ -13,14 +13,14 @@ front stop = if nat_lt 0 stop.from then record { lo = 0; hi = stop.from } ∷ []
 behind : ℕ → Stop → List Run
 behind until stop = if nat_lt stop.to until then record { lo = stop.to; hi = until } ∷ [] else []
 
-or_none : (a b : Bool) → a ≡ false → b ≡ false → (a || b) ≡ false
+pub or_none : (a b : Bool) → a ≡ false → b ≡ false → (a || b) ≡ false
 or_none a b first second = ap (λ x. x || b) first ∙ second
 
-or_first : (a b : Bool) → (a || b) ≡ false → a ≡ false
+pub or_first : (a b : Bool) → (a || b) ≡ false → a ≡ false
 or_first false b is = refl
 or_first true b is = is
 
-or_second : (a b : Bool) → (a || b) ≡ false → b ≡ false
+pub or_second : (a b : Bool) → (a || b) ≡ false → b ≡ false
 or_second false b is = is
 or_second true b is = absurd (both_ways true is refl)
 

@@ -1,6 +1,7 @@
 // The layered net: one layer for each number of served stops.
 ghost use Rattle.std.specs.Prelude.{◌≡◌, ◌+◌, ◌*◌, ◌^◌, ◌≤◌, ◌<◌, ◌++◌, length, map, All, IfOk, OnOk};
-ghost use Rattle.stop_tour.specs.Words.{lifted, layered, copies, services, outside, tour_net, IsGoodStop, size_of};
+ghost use Rattle.stop_tour.specs.Words.{lifted, layered, copies, services, outside, closed_from, runs_and_rest, layered_lists};
+ghost use Rattle.stop_tour.specs.Words.{tour_net, IsGoodStop, size_of};
 ghost use Rattle.front_transport.specs.declared.limits.TheConstants.{MOST_STATES};
 
 use crate::Stop;
@@ -8,31 +9,49 @@ use front_transport::copied_lists;
 use route_base::{Minute, NodeId, OutOfMemory, Park, Run, TimedArc, TimedNet};
 use std::alloc::Global;
 
-// Adds the arcs of a layer, whose nodes have numbers that are higher by this.
-fn push_layer(out: &mut Vec<TimedArc>, arcs: &[TimedArc], by: u32) -> Result<(), OutOfMemory>
-    requires { All (λ a. (by + a.tail.0 < 2 ^ 32) × (by + a.head.0 < 2 ^ 32)) arcs.now }
-    ensures { OnOk result (out.new.items ≡ out.old.items ++ map (lifted by) arcs.now) }
+// Adds the arcs of a layer, whose nodes have numbers that are higher by this, and whose lists of closed runs are further on.
+fn push_layer(
+    out: &mut Vec<TimedArc>,
+    arcs: &[TimedArc],
+    by: u32,
+    place: u32,
+) -> Result<(), OutOfMemory>
+    requires nodes { All (λ a. (by + a.tail.0 < 2 ^ 32) × (by + a.head.0 < 2 ^ 32)) arcs.now }
+    requires closed { All (λ a. place + a.closed < 2 ^ 32) arcs.now }
+    ensures { OnOk result (out.new.items ≡ out.old.items ++ map (lifted by place) arcs.now) }
 {
     for arc in arcs {
         out.push(TimedArc {
             tail: NodeId(by + arc.tail.0),
             head: NodeId(by + arc.head.0),
+            closed: place + arc.closed,
             ..*arc
         })?;
     }
     Ok(())
 }
 
-// The arcs of all layers.
-fn layered_arcs(alloc: Global, net: &TimedNet, layers: u32) -> Result<Vec<TimedArc>, OutOfMemory>
-    requires { layers * net.now.nodes ≤ MOST_STATES }
-    ensures { IfOk result (λ out. out.items ≡ layered net.now.nodes net.now.arcs layers) }
+// The arcs of all layers, with room for a service of each.
+fn layered_arcs(
+    alloc: Global,
+    net: &TimedNet,
+    lists: u32,
+    last: u32,
+) -> Result<Vec<TimedArc>, OutOfMemory>
+    requires lists { lists ≡ length net.now.closed }
+    requires few { last < MOST_STATES }
+    requires nodes { (last + 1) * net.now.nodes ≤ MOST_STATES }
+    requires arcs { (last + 1) * length net.now.arcs ≤ MOST_STATES }
+    requires closed { (last + 1) * lists < 2 ^ 32 }
+    ensures { IfOk result (λ out. out.items
+        ≡ layered net.now.nodes lists last net.now.arcs (last + 1)) }
 {
-    let mut out = Vec::new(alloc);
     let nodes = net.node_count();
     let arcs = net.arcs();
-    for k in 0..layers {
-        push_layer(&mut out, arcs, k * nodes)?;
+    let layers = last as usize + 1;
+    let mut out = Vec::with_capacity(alloc, layers * arcs.len() + layers)?;
+    for k in 0..last + 1 {
+        push_layer(&mut out, arcs, k * nodes, (last - k) * lists)?;
     }
     Ok(out)
 }
@@ -69,9 +88,10 @@ fn copied_parks(
     parks: &[Option<Park>],
     layers: u32,
 ) -> Result<Vec<Option<Park>>, OutOfMemory>
+    requires { layers * length parks.now ≤ MOST_STATES }
     ensures { IfOk result (λ out. out.items ≡ copies parks.now layers) }
 {
-    let mut out = Vec::new(alloc);
+    let mut out = Vec::with_capacity(alloc, layers as usize * parks.len())?;
     for _k in 0..layers {
         out.extend_from_slice(parks)?;
     }
@@ -98,6 +118,80 @@ fn outside_runs(alloc: Global, until: Minute, stop: Stop) -> Result<Vec<Run>, Ou
     Ok(out)
 }
 
+// Adds a run from a minute to the horizon, if there is any.
+fn push_rest(out: &mut Vec<Run>, late: Minute, horizon: Minute) -> Result<(), OutOfMemory>
+    ensures { OnOk result (out.new.items ≡ out.old.items ++ closed_from late horizon) }
+{
+    if late < horizon {
+        out.push(Run {
+            lo: late,
+            hi: horizon,
+        })?;
+    }
+    Ok(())
+}
+
+// The runs, and all minutes from one on to the horizon.
+fn runs_with_rest(
+    alloc: Global,
+    runs: &[Run],
+    late: Minute,
+    until: Minute,
+) -> Result<Vec<Run>, OutOfMemory>
+    ensures { IfOk result (λ out. out.items ≡ runs_and_rest late until runs.now) }
+{
+    let mut out = Vec::new(alloc);
+    for i in 0..runs.len() {
+        let run = runs[i];
+        if run.hi >= late {
+            push_rest(&mut out, run.lo.min(late), until)?;
+            return Ok(out);
+        }
+        out.push(run)?;
+    }
+    push_rest(&mut out, late, until)?;
+    Ok(out)
+}
+
+// Adds the lists of a layer, closed from a minute on.
+fn push_lists(
+    alloc: Global,
+    out: &mut Vec<Vec<Run>>,
+    lists: &[Vec<Run>],
+    late: Minute,
+    until: Minute,
+) -> Result<(), OutOfMemory>
+    ensures { OnOk result (map (λ v. v.items) out.new.items ≡ map (λ v. v.items) out.old.items
+        ++ map (runs_and_rest late until) (map (λ v. v.items) lists.now)) }
+{
+    for list in lists {
+        out.push(runs_with_rest(alloc, list.as_slice(), late, until)?)?;
+    }
+    Ok(())
+}
+
+// The lists of closed runs of all layers, the last layer first.
+fn layer_lists(
+    alloc: Global,
+    lists: &[Vec<Run>],
+    until: Minute,
+    stops: &[Stop],
+) -> Result<Vec<Vec<Run>>, OutOfMemory>
+    ensures { IfOk result (λ out. map (λ v. v.items) out.items
+        ≡ layered_lists until (map (λ v. v.items) lists.now) stops.now) }
+{
+    let mut out = copied_lists(alloc, lists)?;
+    let mut late = until;
+    let mut left = stops.len();
+    while left > 0 {
+        left -= 1;
+        let stop = stops[left];
+        late = stop.to.min(late).saturating_sub(stop.service);
+        push_lists(alloc, &mut out, lists, late, until)?;
+    }
+    Ok(out)
+}
+
 // Adds a list for each stop, in which its service is closed.
 fn push_windows(
     alloc: Global,
@@ -114,8 +208,8 @@ fn push_windows(
     Ok(())
 }
 
-/// The layered net of a net and stops. Linear in the net, for each number of served stops. `OutOfMemory` also where the lists of
-/// closed runs that it adds would have no numbers.
+/// The layered net of a net and stops. Linear in the net and its closed runs, for each number of served stops. `OutOfMemory` also where
+/// the lists of closed runs would have no numbers.
 pub fn layered_net(
     alloc: Global,
     net: &TimedNet,
@@ -128,15 +222,16 @@ pub fn layered_net(
     ensures { IfOk result (λ made. made ≡ tour_net net.now stops.now until) }
 {
     let old = net.closed_lists();
-    if old.len() + stops.len() > u32::MAX as usize {
+    let last = stops.len() as u32;
+    let nodes = net.node_count();
+    let count = (last as u64 + 1) * old.len() as u64;
+    if count + last as u64 > u32::MAX as u64 {
         return Err(OutOfMemory);
     }
-    let nodes = net.node_count();
-    let layers = stops.len() as u32 + 1;
-    let mut arcs = layered_arcs(alloc, net, layers)?;
-    push_services(&mut arcs, nodes, old.len() as u32, stops)?;
-    let mut closed = copied_lists(alloc, old)?;
+    let mut arcs = layered_arcs(alloc, net, old.len() as u32, last)?;
+    push_services(&mut arcs, nodes, count as u32, stops)?;
+    let mut closed = layer_lists(alloc, old, until, stops)?;
     push_windows(alloc, &mut closed, until, stops)?;
-    let parks = copied_parks(alloc, net.parks(), layers)?;
-    Ok(TimedNet::new(layers * nodes, arcs, closed, parks))
+    let parks = copied_parks(alloc, net.parks(), last + 1)?;
+    Ok(TimedNet::new((last + 1) * nodes, arcs, closed, parks))
 }

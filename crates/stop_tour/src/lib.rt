@@ -7,12 +7,13 @@
 //! `tour_text` writes tours as `specs/TourText` says. Tours and sizes are the same over settings that agree (`tours_agree`).
 //!
 //! `layers` builds a net with one layer for each number of served stops. A service is an arc from a layer to the next, closed outside
-//! the stop's window. So an engine's front over the layers is that of the tours (`tours`), and an arc's number tells which arc is
-//! driven or which stop is served.
+//! the stop's window, and the arcs of a layer are closed as soon as it is too late for the stops that are left, which no bound of an
+//! engine can tell. So an engine's front over the layers is that of the tours (`tours`), and an arc's number tells which arc is driven
+//! or which stop is served.
 //!
 //! `specs/Inside` is no law: it says what the layered net is (`Layers`) and how its steps are read (`Unlayering`). In `proofs/`,
-//! `LayerPlaces` is about numbers in layers, `Windows` about services, `GoodLayers` and `MadeTour` about the net, `Layered` about
-//! walks over it, and `Unlayered` about legs.
+//! `LayerPlaces` is about numbers in layers, `LayerLists` about their closed runs, `Windows` about services, `GoodLayers` and `MadeTour`
+//! about the net, `Layered` about walks over it, and `Unlayered` about legs.
 #![tactic(auto)]
 
 mod laws;

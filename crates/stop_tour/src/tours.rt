@@ -113,7 +113,8 @@ fn tours_over<E: FrontSearch>(
 /// of such a tour. Without stops it is the front of the trip. `TooManyStates` comes exactly where the number of stops plus one, times
 /// the number of nodes and arcs, is above `MOST_STATES`.
 ///
-/// It takes the time and memory of one net for each number of served stops, and of a search over all of them.
+/// It takes the time and memory of one net with its closed runs for each number of served stops, and of a search over all of them. A
+/// layer is searched only until its last minute from which the other stops can be served within their windows.
 pub fn tour<E: FrontSearch>(
     alloc: Global,
     engine: &E,
