@@ -1,5 +1,5 @@
 #!/usr/bin/env python3
-"""Runs the commands that the documents show, and compares what they print.
+"""Runs the commands that the documents show, and compares what they print. Then it runs the tests of the tools.
 
 A document shows a command in a fenced block of the kind `console`: a line that begins with `$ ` is a command, and the
 lines below it, up to the next command or the block's end, are its whole standard output. A command with `<<'EOF'` goes on
@@ -8,7 +8,11 @@ the top of the repository, in the order of the document.
 
 A block whose kind is followed by a path, such as `rust crates/uses/src/plans.rt`, has to be that whole file.
 
-The manual page and the completions of tools/package.d have to agree with docs/COMMANDS.md."""
+The manual page and the completions of tools/package.d have to agree with docs/COMMANDS.md.
+
+Tests in tools/tests whose packages aren't installed are skipped, and a line says which packages these are."""
+import collections
+import concurrent.futures
 import glob
 import os
 import re
@@ -27,6 +31,10 @@ BLOCK = re.compile(r"^```console\n(.*?)^```$", re.M | re.S)
 QUOTED = re.compile(r"^```\w+ (\S+)\n(.*?)^```$", re.M | re.S)
 HERE_DOCUMENT = re.compile(r".*<<'EOF'\n(?s:.*?)^EOF\n", re.M)
 STATUS = re.compile(r"^\[status (\d+)\]\n", re.M)
+RAN = re.compile(r"^Ran (\d+) tests? in ", re.M)
+FAILED = re.compile(r"\b(?:failures|errors)=(\d+)")
+SKIPPED = re.compile(r"\.\.\. skipped ['\"](.*)['\"]$", re.M)
+LONGEST_TESTS = 300  # (seconds of a file of tests)
 
 
 def documents():
@@ -65,6 +73,35 @@ def differs_from_file(path, shown):
         return error.strerror
 
 
+def tested(path):
+    """Runs a file of tests. Returns how many passed and failed, why others were skipped, and what it printed."""
+    words = [sys.executable, "-m", "unittest", "-v", os.path.relpath(path, TOP)]
+    how = {"cwd": TOP, "stdin": subprocess.DEVNULL, "stdout": subprocess.PIPE, "stderr": subprocess.STDOUT, "errors": "replace"}
+    try:
+        done = subprocess.run(words, env={**os.environ, "PYTHONDONTWRITEBYTECODE": "1"}, timeout=LONGEST_TESTS, **how)
+    except subprocess.TimeoutExpired:
+        return 0, 1, [], f"it takes longer than {LONGEST_TESTS} seconds"
+    last, skipped = done.stdout[-400:].splitlines()[-1:], SKIPPED.findall(done.stdout)
+    ran, failed = sum(map(int, RAN.findall(done.stdout))), sum(map(int, FAILED.findall("".join(last))))
+    return max(0, ran - failed - len(skipped)), failed or int(done.returncode != 0), skipped, done.stdout
+
+
+def test_tools():
+    """Runs all tests of the tools, several files at once, as they mostly wait. Returns how many passed and failed."""
+    paths = sorted(glob.glob(os.path.join(TOP, "tools", "tests", "test_*.py")))
+    passed, failed, reasons = 0, 0, collections.Counter()
+    with concurrent.futures.ThreadPoolExecutor() as pool:
+        for path, (good, bad, skipped, printed) in zip(paths, pool.map(tested, paths)):
+            passed, failed = passed + good, failed + bad
+            reasons.update(skipped)
+            if bad:
+                print(f"{os.path.relpath(path, TOP)}:\n{printed}")
+    print(f"tools: {passed} passed, {failed} failed, {sum(reasons.values())} skipped")
+    for reason, count in reasons.most_common():
+        print(f"  {count} skipped: {reason}")
+    return passed, failed
+
+
 def main():
     found = manual.differences()
     passed, failed = int(not found), len(found)
@@ -88,7 +125,8 @@ def main():
                     failed += 1
                     print(f"{name}: {command.splitlines()[0]}: {difference}")
     print(f"documents: {passed} passed, {failed} failed")
-    return 1 if failed or not passed else 0
+    good, bad = test_tools()
+    return 1 if failed or bad or not passed or not good else 0
 
 
 sys.exit(main())
