@@ -1,5 +1,5 @@
 #!/usr/bin/env python3
-"""Runs the commands that the documents show, and compares what they print.
+"""Runs the commands that the documents show, and compares what they print. Then it runs the tests of the tools.
 
 A document shows a command in a fenced block of the kind `console`: a line that begins with `$ ` is a command, and the
 lines below it, up to the next command or the block's end, are its whole standard output. A command with `<<'EOF'` goes on
@@ -8,12 +8,18 @@ the top of the repository, in the order of the document.
 
 A block whose kind is followed by a path, such as `rust crates/uses/src/plans.rt`, has to be that whole file.
 
-The manual page and the completions of tools/package.d have to agree with docs/COMMANDS.md."""
+The manual page and the completions of tools/package.d have to agree with docs/COMMANDS.md.
+
+Tests in tools/tests whose packages aren't installed are skipped, and so are those that the gate has no time for; a line says which."""
+import collections
+import concurrent.futures
 import glob
 import os
 import re
+import signal
 import subprocess
 import sys
+import tempfile
 
 TOP = os.path.dirname(os.path.dirname(os.path.abspath(__file__)))
 
@@ -27,6 +33,10 @@ BLOCK = re.compile(r"^```console\n(.*?)^```$", re.M | re.S)
 QUOTED = re.compile(r"^```\w+ (\S+)\n(.*?)^```$", re.M | re.S)
 HERE_DOCUMENT = re.compile(r".*<<'EOF'\n(?s:.*?)^EOF\n", re.M)
 STATUS = re.compile(r"^\[status (\d+)\]\n", re.M)
+PASSED = re.compile(r"(?:^|\.\.\. )ok$", re.M)
+FAILED = re.compile(r"(?:^|\.\.\. )(?:FAIL|ERROR)$", re.M)
+SKIPPED = re.compile(r"\.\.\. skipped ['\"](.*)['\"]$", re.M)
+LONGEST_TESTS = 60  # (seconds: the gate takes no longer for them)
 
 
 def documents():
@@ -65,6 +75,50 @@ def differs_from_file(path, shown):
         return error.strerror
 
 
+def output_of_tests(path, folder):
+    """Runs a file of tests with a folder for temporary files. Returns what it printed, and its status, or None where it took too long."""
+    words = [sys.executable, "-m", "unittest", "-v", os.path.relpath(path, TOP)]
+    environment = {**os.environ, "PYTHONDONTWRITEBYTECODE": "1", "TMPDIR": folder}
+    with tempfile.TemporaryFile("w+", errors="replace") as log:
+        how = {"stdin": subprocess.DEVNULL, "stdout": log, "stderr": subprocess.STDOUT, "start_new_session": True}
+        run = subprocess.Popen(words, cwd=TOP, env=environment, **how)
+        try:
+            status = run.wait(LONGEST_TESTS)
+        except subprocess.TimeoutExpired:
+            # (with the servers that the tests have started)
+            os.killpg(run.pid, signal.SIGKILL)
+            run.wait()
+            status = None
+        log.seek(0)
+        return log.read(), status
+
+
+def tested(path):
+    """Runs a file of tests. Returns how many passed and failed, why others were skipped, and what it printed."""
+    with tempfile.TemporaryDirectory(prefix="lorry_plan-tests-") as folder:
+        printed, status = output_of_tests(path, folder)
+    passed, failed, skipped = len(PASSED.findall(printed)), len(FAILED.findall(printed)), SKIPPED.findall(printed)
+    if status is None:
+        skipped.append(f"{os.path.relpath(path, TOP)} was stopped after {LONGEST_TESTS} seconds: run it by itself")
+    return passed, failed or int(bool(status)), skipped, printed
+
+
+def test_tools():
+    """Runs all tests of the tools, several files at once, as they mostly wait. Returns how many failed."""
+    paths = sorted(glob.glob(os.path.join(TOP, "tools", "tests", "test_*.py")))
+    passed, failed, reasons = 0, 0, collections.Counter()
+    with concurrent.futures.ThreadPoolExecutor() as pool:
+        for path, (good, bad, skipped, printed) in zip(paths, pool.map(tested, paths)):
+            passed, failed = passed + good, failed + bad
+            reasons.update(skipped)
+            if bad:
+                print(f"{os.path.relpath(path, TOP)}:\n{printed}")
+    print(f"tools: {passed} passed, {failed} failed, {sum(reasons.values())} skipped")
+    for reason, count in reasons.most_common():
+        print(f"  {count} skipped: {reason}")
+    return failed
+
+
 def main():
     found = manual.differences()
     passed, failed = int(not found), len(found)
@@ -88,6 +142,7 @@ def main():
                     failed += 1
                     print(f"{name}: {command.splitlines()[0]}: {difference}")
     print(f"documents: {passed} passed, {failed} failed")
+    failed += test_tools()
     return 1 if failed or not passed else 0
 
 

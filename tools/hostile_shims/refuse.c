@@ -8,6 +8,11 @@
 //   HOSTILE_DRIP   1 where each read and write moves at most one byte
 //   HOSTILE_TOLD   a file of the size of struct told, which tells afterwards what was counted and refused
 //
+// A single run by hand, with the 17th request for memory refused:
+//   gcc -shared -fPIC -o /tmp/refuse.so tools/hostile_shims/refuse.c -ldl && head -c 5000 /dev/zero > /tmp/told
+//   LD_PRELOAD=/tmp/refuse.so HOSTILE_TOLD=/tmp/told HOSTILE_WATCH=memory HOSTILE_AT=17 HOSTILE_ERROR=12
+//       crates/lorry_plan/out/lorry_plan plan examples/first-trip any 1 3 26563680 26564080
+//
 // What the C library calls inside itself passes by: the pages behind malloc and a thread's stack are refused at malloc and at
 // pthread_create alone.
 #define _GNU_SOURCE

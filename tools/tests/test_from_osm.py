@@ -3,8 +3,8 @@
 
     tools/tests/test_from_osm.py [--program PROGRAM] [TEST..]
 
-Those that need python3-pyosmium, python3-holidays or the built program (crates/lorry_plan/out/lorry_plan, if it isn't named) are skipped where these
-aren't there. The last line says how many passed, and why others were skipped."""
+Those that need python3-pyosmium, python3-holidays or the built program (LORRY_PLAN_PROGRAM or crates/lorry_plan/out/lorry_plan, if it isn't named) are
+skipped where these aren't there. The last line says how many passed, and why others were skipped."""
 import argparse
 import csv
 import itertools
@@ -19,7 +19,7 @@ sys.dont_write_bytecode = True
 TOP = os.path.dirname(os.path.dirname(os.path.dirname(os.path.abspath(__file__))))
 TOOLS = os.path.join(TOP, "tools")
 TESTS = os.path.join(TOOLS, "tests")
-PROGRAM = os.path.join(TOP, "crates", "lorry_plan", "out", "lorry_plan")
+PROGRAM = os.environ.get("LORRY_PLAN_PROGRAM") or os.path.join(TOP, "crates", "lorry_plan", "out", "lorry_plan")
 sys.path[:0] = [TOOLS, TESTS]
 
 import small_extract
