@@ -1,14 +1,14 @@
 -- The lines of the commands pass `clap`, which gives back their words.
-use Rattle.std.proofs.Common.{◌≡◌, refl, codes, false, true, map, List, Option, Some, None, [], ◌∷◌, ◌++◌, length, arith}
+use Rattle.std.proofs.Common.{ℕ, ◌≡◌, refl, codes, false, true, map, List, Option, Some, None, [], ◌∷◌, ◌++◌, length, arith}
 use Rattle.std.specs.Prelude.{IfSome}
 use Rattle.clap.specs.Walk.{Held, Text, nothing_held}
 use Rattle.clap.specs.Simple.{App, built}
 use Rattle.clap.proofs.OnLiterals.{clap_on_literals}
-use Rattle.front_words.specs.ClapCommands.{Passes, app_with, bans_app, bans_places, batch_app, batch_choices, batch_places, check_app, check_places}
-use Rattle.front_words.specs.ClapCommands.{gen_app, gen_places, line_of_batch, line_of_plan, option_line, plan_app, plan_choices, plan_places, written_out}
-use Rattle.front_words.specs.ClapCommands.{explain_app, latest_app, tour_app}
-use Rattle.front_words.specs.Commands.{bans_usage, check_usage, explain_usage, gen_usage, latest_usage, tour_usage}
-use Rattle.front_words.specs.Inside.{ArePlain, TakesPlaces}
+use Rattle.front_words.specs.ClapCommands.{Passes, app_with, bans_places, batch_app, batch_choices, batch_places, check_places}
+use Rattle.front_words.specs.ClapCommands.{gen_places, line_of_batch, line_of_plan, option_line, plan_app, plan_choices, plan_places, written_out}
+use Rattle.front_words.specs.Inside.{ArePlain, TakesPlaces, ids_in, usage_in}
+use Rattle.front_words.specs.declared.positional.PositionalCommand.{PositionalCommand}
+use Rattle.front_words.specs.declared.positional.PositionalCommand.TheVariants.{Check, Bans, Gen, Latest, Tour, Explain}
 use Rattle.front_words.specs.Splitting.{is_dashed}
 use Rattle.front_words.proofs.ClapWalk.{IsLeaf, Opens, WalksOn, due_from, held_behind, met_from, passes_at, passes_line, rule_by_id, texts_in}
 use Rattle.front_words.proofs.ClapWalk.{then_reaches, walk_at, walks_nowhere, walks_option, with_option}
@@ -27,53 +27,36 @@ unfolding app_with
 passes_alone name ids words leaf plain fills passes places =
     passes_line (written_out name ids []) _ _ _ _ _ _ nothing_held leaf walks_nowhere plain fills passes places refl
 
--- `bans DIR VEHICLE ARC DEPART UNTIL`
-pub bans_takes : TakesPlaces bans_usage bans_places
-bans_takes = record { counted = refl; alone = refl; passes = passes }
-  where
-    passes : (words : List Text) → length words ≡ 5 → ArePlain words → Passes bans_app (codes "bans" ∷ words) bans_places words [] []
-    passes (a ∷ b ∷ c ∷ d ∷ e ∷ []) n plain = passes_alone _ _ _ (record { simple = refl; named = refl; alone = refl }) plain refl refl refl
-    passes words n plain = absurd (omega arith)
+-- `clap` takes each line of a name and of this many words without a dash, and gives back the words
+abbrev TakesWords : ℕ → List Text → Type 0
+TakesWords count ids =
+    (name : Text) (words : List Text) → length words ≡ count → ArePlain words → Passes (app_with name ids []) (name ∷ words) ids words [] []
 
--- `check DIR VEHICLE FROM TO DEPART UNTIL NAME`
-pub check_takes : TakesPlaces check_usage check_places
-check_takes = record { counted = refl; alone = refl; passes = passes }
-  where
-    passes : (words : List Text) → length words ≡ 7 → ArePlain words → Passes check_app (codes "check" ∷ words) check_places words [] []
-    passes (a ∷ b ∷ c ∷ d ∷ e ∷ f ∷ g ∷ []) n plain = passes_alone _ _ _ (record { simple = refl; named = refl; alone = refl }) plain refl refl refl
-    passes words n plain = absurd (omega arith)
+bans_words : TakesWords 5 bans_places
+bans_words name (a ∷ b ∷ c ∷ d ∷ e ∷ []) n plain = passes_alone _ _ _ (record { simple = refl; named = refl; alone = refl }) plain refl refl refl
+bans_words name words n plain = absurd (omega arith)
 
--- `gen DIR NUMBER ROWS COLUMNS`
-pub gen_takes : TakesPlaces gen_usage gen_places
-gen_takes = record { counted = refl; alone = refl; passes = passes }
-  where
-    passes : (words : List Text) → length words ≡ 4 → ArePlain words → Passes gen_app (codes "gen" ∷ words) gen_places words [] []
-    passes (a ∷ b ∷ c ∷ d ∷ []) n plain = passes_alone _ _ _ (record { simple = refl; named = refl; alone = refl }) plain refl refl refl
-    passes words n plain = absurd (omega arith)
+drawn_words : TakesWords 4 gen_places
+drawn_words name (a ∷ b ∷ c ∷ d ∷ []) n plain = passes_alone _ _ _ (record { simple = refl; named = refl; alone = refl }) plain refl refl refl
+drawn_words name words n plain = absurd (omega arith)
 
--- `latest DIR VEHICLE FROM TO DEPART UNTIL`
-pub latest_takes : TakesPlaces latest_usage plan_places
-latest_takes = record { counted = refl; alone = refl; passes = passes }
-  where
-    passes : (words : List Text) → length words ≡ 6 → ArePlain words → Passes latest_app (codes "latest" ∷ words) plan_places words [] []
-    passes (a ∷ b ∷ c ∷ d ∷ e ∷ f ∷ []) n plain = passes_alone _ _ _ (record { simple = refl; named = refl; alone = refl }) plain refl refl refl
-    passes words n plain = absurd (omega arith)
+trip_words : TakesWords 6 plan_places
+trip_words name (a ∷ b ∷ c ∷ d ∷ e ∷ f ∷ []) n plain = passes_alone _ _ _ (record { simple = refl; named = refl; alone = refl }) plain refl refl refl
+trip_words name words n plain = absurd (omega arith)
 
--- `tour DIR VEHICLE FROM TO DEPART UNTIL STOPS`
-pub tour_takes : TakesPlaces tour_usage check_places
-tour_takes = record { counted = refl; alone = refl; passes = passes }
-  where
-    passes : (words : List Text) → length words ≡ 7 → ArePlain words → Passes tour_app (codes "tour" ∷ words) check_places words [] []
-    passes (a ∷ b ∷ c ∷ d ∷ e ∷ f ∷ g ∷ []) n plain = passes_alone _ _ _ (record { simple = refl; named = refl; alone = refl }) plain refl refl refl
-    passes words n plain = absurd (omega arith)
+named_words : TakesWords 7 check_places
+named_words name (a ∷ b ∷ c ∷ d ∷ e ∷ f ∷ g ∷ []) n plain =
+    passes_alone _ _ _ (record { simple = refl; named = refl; alone = refl }) plain refl refl refl
+named_words name words n plain = absurd (omega arith)
 
--- `explain DIR VEHICLE FROM TO DEPART UNTIL ITINERARY`
-pub explain_takes : TakesPlaces explain_usage check_places
-explain_takes = record { counted = refl; alone = refl; passes = passes }
-  where
-    passes : (words : List Text) → length words ≡ 7 → ArePlain words → Passes explain_app (codes "explain" ∷ words) check_places words [] []
-    passes (a ∷ b ∷ c ∷ d ∷ e ∷ f ∷ g ∷ []) n plain = passes_alone _ _ _ (record { simple = refl; named = refl; alone = refl }) plain refl refl refl
-    passes words n plain = absurd (omega arith)
+-- the line of each command that has positional words alone
+pub takes_places : (command : PositionalCommand) → TakesPlaces (usage_in command) (ids_in command)
+takes_places Check = record { counted = refl; alone = refl; passes = named_words _ }
+takes_places Bans = record { counted = refl; alone = refl; passes = bans_words _ }
+takes_places Gen = record { counted = refl; alone = refl; passes = drawn_words _ }
+takes_places Latest = record { counted = refl; alone = refl; passes = trip_words _ }
+takes_places Tour = record { counted = refl; alone = refl; passes = named_words _ }
+takes_places Explain = record { counted = refl; alone = refl; passes = named_words _ }
 
 -- `batch`, as `clap` builds it
 abbrev batch_written : App

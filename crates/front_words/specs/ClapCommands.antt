@@ -51,17 +51,9 @@ plan_app = app_with (codes "plan") plan_places plan_choices
 abbrev pub check_places : List (List ℕ)
 check_places = codes "dir" ∷ (trip_places ++ codes "name" ∷ [])
 
--- `check DIR VEHICLE FROM TO DEPART UNTIL NAME`
-abbrev pub check_app : App
-check_app = app_with (codes "check") check_places []
-
 -- the positional words of `bans`
 abbrev pub bans_places : List (List ℕ)
 bans_places = codes "dir" ∷ codes "vehicle" ∷ codes "arc" ∷ codes "depart" ∷ codes "until" ∷ []
-
--- `bans DIR VEHICLE ARC DEPART UNTIL`
-abbrev pub bans_app : App
-bans_app = app_with (codes "bans") bans_places []
 
 -- the positional words of `batch`
 abbrev pub batch_places : List (List ℕ)
@@ -79,18 +71,6 @@ batch_app = app_with (codes "batch") batch_places batch_choices
 abbrev pub gen_places : List (List ℕ)
 gen_places = codes "dir" ∷ codes "number" ∷ codes "rows" ∷ codes "columns" ∷ []
 
--- `gen DIR NUMBER ROWS COLUMNS`
-abbrev pub gen_app : App
-gen_app = app_with (codes "gen") gen_places []
-
--- `latest DIR VEHICLE FROM TO DEPART UNTIL`
-abbrev pub latest_app : App
-latest_app = app_with (codes "latest") plan_places []
-
--- `tour DIR VEHICLE FROM TO DEPART UNTIL STOPS`
-abbrev pub tour_app : App
-tour_app = app_with (codes "tour") check_places []
-
 -- the options of `breaks`
 abbrev pub breaks_choices : List (List ℕ)
 breaks_choices = codes "drive" ∷ codes "rest" ∷ []
@@ -98,10 +78,6 @@ breaks_choices = codes "drive" ∷ codes "rest" ∷ []
 -- `breaks DIR VEHICLE FROM TO DEPART UNTIL [--drive B] [--rest L]`
 abbrev pub breaks_app : App
 breaks_app = app_with (codes "breaks") plan_places breaks_choices
-
--- `explain DIR VEHICLE FROM TO DEPART UNTIL ITINERARY`
-abbrev pub explain_app : App
-explain_app = app_with (codes "explain") check_places []
 
 -- `clap` refuses the words for want of memory alone
 unfoldable pub IsTaken : App → List (List ℕ) → Type 0

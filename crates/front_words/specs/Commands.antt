@@ -57,11 +57,15 @@ plan_of (of_text dir ∷ of_text lorry ∷ of_number from ∷ of_number to ∷ o
     Some (to_plan (record { dir = dir; trip = trip_to lorry from to start end; form = report_in form; certificate = name_in name }))
 plan_of places options = None
 
+-- what the values of the words of a trip, and of a name behind them, make
+abbrev pub named_trip_of : (List ℕ → Trip → List ℕ → Command) → List Value → List (Option Value) → Option Command
+named_trip_of make (of_text dir ∷ of_text lorry ∷ of_number from ∷ of_number to ∷ of_number start ∷ of_number end ∷ of_text name ∷ []) [] =
+    Some (make dir (trip_to lorry from to start end) name)
+named_trip_of make places options = None
+
 -- the check that the values of its words make
 abbrev pub check_of : List Value → List (Option Value) → Option Command
-check_of (of_text dir ∷ of_text lorry ∷ of_number from ∷ of_number to ∷ of_number start ∷ of_number end ∷ of_text name ∷ []) [] =
-    Some (to_check (record { dir = dir; trip = trip_to lorry from to start end; name = name }))
-check_of places options = None
+check_of = named_trip_of (λ dir trip name. to_check (record { dir = dir; trip = trip; name = name }))
 
 -- the bans that the values of its words make
 abbrev pub bans_of : List Value → List (Option Value) → Option Command
@@ -91,9 +95,7 @@ latest_of places options = None
 
 -- the tour that the values of its words make
 abbrev pub tour_of : List Value → List (Option Value) → Option Command
-tour_of (of_text dir ∷ of_text lorry ∷ of_number from ∷ of_number to ∷ of_number start ∷ of_number end ∷ of_text stops ∷ []) [] =
-    Some (to_tour (record { dir = dir; trip = trip_to lorry from to start end; stops = stops }))
-tour_of places options = None
+tour_of = named_trip_of (λ dir trip stops. to_tour (record { dir = dir; trip = trip; stops = stops }))
 
 -- the plan with breaks that the values of its words make
 abbrev pub breaks_of : List Value → List (Option Value) → Option Command
@@ -108,9 +110,11 @@ breaks_of places options = None
 
 -- the explanation that the values of its words ask for
 abbrev pub explain_of : List Value → List (Option Value) → Option Command
-explain_of (of_text dir ∷ of_text lorry ∷ of_number from ∷ of_number to ∷ of_number start ∷ of_number end ∷ of_text name ∷ []) [] =
-    Some (to_explain (record { dir = dir; trip = trip_to lorry from to start end; itinerary = name }))
-explain_of places options = None
+explain_of = named_trip_of (λ dir trip name. to_explain (record { dir = dir; trip = trip; itinerary = name }))
+
+-- a command without options: its name, the forms of its words, and what their values make
+abbrev pub without_options : List ℕ → List WordForm → (List Value → List (Option Value) → Option Command) → Usage Command
+without_options name places make = record { name = name; places = places; options = []; make = make }
 
 -- `plan DIR VEHICLE FROM TO DEPART UNTIL [--form F] [--certificate NAME]`
 abbrev pub plan_usage : Usage Command
@@ -123,21 +127,11 @@ plan_usage = record {
 
 -- `check DIR VEHICLE FROM TO DEPART UNTIL NAME`
 abbrev pub check_usage : Usage Command
-check_usage = record {
-  name = codes "check";
-  places = folder ∷ (trip_forms ++ certificate ∷ []);
-  options = [];
-  make = check_of;
-}
+check_usage = without_options (codes "check") (folder ∷ (trip_forms ++ certificate ∷ [])) check_of
 
 -- `bans DIR VEHICLE ARC DEPART UNTIL`
 abbrev pub bans_usage : Usage Command
-bans_usage = record {
-  name = codes "bans";
-  places = folder ∷ vehicle ∷ number ∷ instant ∷ instant ∷ [];
-  options = [];
-  make = bans_of;
-}
+bans_usage = without_options (codes "bans") (folder ∷ vehicle ∷ number ∷ instant ∷ instant ∷ []) bans_of
 
 -- `batch DIR JOBS [--workers N]`
 abbrev pub batch_usage : Usage Command
@@ -150,30 +144,15 @@ batch_usage = record {
 
 -- `gen DIR NUMBER ROWS COLUMNS`
 abbrev pub gen_usage : Usage Command
-gen_usage = record {
-  name = codes "gen";
-  places = folder ∷ count LAST_NUMBER ∷ count MOST_LINES ∷ count MOST_LINES ∷ [];
-  options = [];
-  make = gen_of;
-}
+gen_usage = without_options (codes "gen") (folder ∷ count LAST_NUMBER ∷ count MOST_LINES ∷ count MOST_LINES ∷ []) gen_of
 
 -- `latest DIR VEHICLE FROM TO DEPART UNTIL`
 abbrev pub latest_usage : Usage Command
-latest_usage = record {
-  name = codes "latest";
-  places = folder ∷ trip_forms;
-  options = [];
-  make = latest_of;
-}
+latest_usage = without_options (codes "latest") (folder ∷ trip_forms) latest_of
 
 -- `tour DIR VEHICLE FROM TO DEPART UNTIL STOPS`
 abbrev pub tour_usage : Usage Command
-tour_usage = record {
-  name = codes "tour";
-  places = folder ∷ (trip_forms ++ file ∷ []);
-  options = [];
-  make = tour_of;
-}
+tour_usage = without_options (codes "tour") (folder ∷ (trip_forms ++ file ∷ [])) tour_of
 
 -- `breaks DIR VEHICLE FROM TO DEPART UNTIL [--drive B] [--rest L]`
 abbrev pub breaks_usage : Usage Command
@@ -186,12 +165,7 @@ breaks_usage = record {
 
 -- `explain DIR VEHICLE FROM TO DEPART UNTIL ITINERARY`
 abbrev pub explain_usage : Usage Command
-explain_usage = record {
-  name = codes "explain";
-  places = folder ∷ (trip_forms ++ file ∷ []);
-  options = [];
-  make = explain_of;
-}
+explain_usage = without_options (codes "explain") (folder ∷ (trip_forms ++ file ∷ [])) explain_of
 
 -- the commands, in the order of their table
 abbrev pub usages : List (Usage Command)

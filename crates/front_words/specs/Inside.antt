@@ -2,8 +2,8 @@
 use Rattle.std.specs.Prelude.{ℕ, ◌≡◌, ◌≤◌, ⊤, false, Option, Some, None, List, [], ◌∷◌, ◌++◌, length, map, option_map, Result, Ok, Err}
 use Rattle.std.specs.Borrow.{Bor}
 use Rattle.clap.specs.Words.{Rule}
-use Rattle.front_words.specs.ClapCommands.{Passes, app_with, choice, place}
-use Rattle.front_words.specs.Commands.{Gen, Trip}
+use Rattle.front_words.specs.ClapCommands.{Passes, app_with, choice, place, bans_places, check_places, gen_places, plan_places}
+use Rattle.front_words.specs.Commands.{Command, Gen, Trip, bans_usage, check_usage, explain_usage, gen_usage, latest_usage, tour_usage}
 use Rattle.front_words.specs.Forms.{Value, of_text, of_number}
 use Rattle.front_words.specs.Splitting.{Given, Split, is_dashed, split_of, Piece, plain, named, assigned, stray}
 use Rattle.front_words.specs.Usages.{Usage}
@@ -12,6 +12,8 @@ use Rattle.front_words.specs.declared.clap_words.ArgKind.{ArgKind}
 use Rattle.front_words.specs.declared.clap_words.ArgKind.TheVariants.{Place, Choice}
 use Rattle.front_words.specs.declared.commands.WordsFault.{WordsFault}
 use Rattle.front_words.specs.declared.commands.WordsFault.TheVariants.{NotACommand, OutOfMemory}
+use Rattle.front_words.specs.declared.positional.PositionalCommand.{PositionalCommand}
+use Rattle.front_words.specs.declared.positional.PositionalCommand.TheVariants.{Check, Bans, Gen as Draws, Latest, Tour, Explain}
 use Rattle.front_words.specs.declared.splitting.Given.{Given as GivenWords}
 use Rattle.front_words.specs.declared.splitting.Split.{Split as SplitWords}
 use Rattle.front_words.specs.declared.splitting.Piece.{Piece as PieceWord}
@@ -50,6 +52,22 @@ ArePlain (word ∷ words) = (is_dashed word ≡ false) × ArePlain words
 abbrev pub rule_in : ArgKind → List ℕ → Rule
 rule_in Place id = place id
 rule_in Choice id = choice id
+
+-- the row of the table of a command that has positional words alone
+abbrev pub usage_in : PositionalCommand → Usage Command
+usage_in Check = check_usage
+usage_in Bans = bans_usage
+usage_in Draws = gen_usage
+usage_in Latest = latest_usage
+usage_in Tour = tour_usage
+usage_in Explain = explain_usage
+
+-- the names that `clap` has for its words
+abbrev pub ids_in : PositionalCommand → List (List ℕ)
+ids_in Bans = bans_places
+ids_in Draws = gen_places
+ids_in Latest = plan_places
+ids_in command = check_places
 
 -- a command has no option, and `clap` takes each line of its name and of as many words without a dash as it has places
 pub record TakesPlaces {A : Type 0} (usage : Usage A) (ids : List (List ℕ)) : Type 0 where

@@ -1,12 +1,11 @@
 // The words of `gen DIR NUMBER ROWS COLUMNS`.
-ghost use Rattle.std.specs.Prelude.{◌≡◌, ◌*◌, IfOk, nat_le};
-ghost use Rattle.front_words.specs.ClapCommands.{gen_places, values_at};
-ghost use Rattle.front_words.specs.Commands.{gen_usage};
-ghost use Rattle.front_words.specs.Inside.{AnswersWith, AreCounted, gen_values};
+ghost use Rattle.std.specs.Prelude.{◌≡◌, ◌*◌, [], IfOk, nat_le};
+ghost use Rattle.front_words.specs.ClapCommands.{gen_places, made_at, values_at};
+ghost use Rattle.front_words.specs.Commands.{AsksSupported, gen_usage};
+ghost use Rattle.front_words.specs.Inside.{Answers, AnswersWith, AreCounted, gen_values};
 ghost use Rattle.net_generator.specs.declared.limits.TheConstants.{MOST_GENERATED_NODES};
 
 use crate::found::{count_at, folder_at, small_count_at};
-use crate::positional::PositionalCommand;
 use crate::{Gen, Invocation, WordsFault};
 use clap::ArgMatches;
 use net_generator::{LAST_NUMBER, MOST_GENERATED_NODES, MOST_LINES};
@@ -34,29 +33,15 @@ fn has_few_nodes(network: &Gen) -> bool
     network.rows * network.columns <= MOST_GENERATED_NODES
 }
 
-/// The words of `gen`.
-#[derive(Clone, Copy)]
-pub struct GenWords;
-
-impl PositionalCommand for GenWords {
-    ghost usage = { gen_usage };
-
-    ghost ids = { gen_places };
-
-    fn name(&self) -> &'static str {
-        "gen"
-    }
-
-    fn places(&self) -> &'static [&'static str] {
-        &["dir", "number", "rows", "columns"]
-    }
-
-    fn found(&self, alloc: Global, matches: &ArgMatches) -> Result<Invocation, WordsFault> {
-        let network = counts_found(alloc, matches)?;
-        if has_few_nodes(&network) {
-            Ok(Invocation::Gen(network))
-        } else {
-            Err(WordsFault::NotACommand)
-        }
+// The network that the words say, where its nodes are few enough.
+pub fn gen_found(alloc: Global, matches: &ArgMatches) -> Result<Invocation, WordsFault>
+    ensures made { Answers (made_at matches.now gen_usage gen_places []) result }
+    ensures supported { IfOk result AsksSupported }
+{
+    let network = counts_found(alloc, matches)?;
+    if has_few_nodes(&network) {
+        Ok(Invocation::Gen(network))
+    } else {
+        Err(WordsFault::NotACommand)
     }
 }

@@ -8,7 +8,7 @@
 //! `options` finds the value of an option. `plan`, `check`, `bans`, `batch`, `generate`, `latest`, `tour`, `breaks` and `explain` have one
 //! row of the table each: where the words are as many as its forms, they go to one simple command of `clap` in one order, the options with
 //! their values and then the positional words. `clap` then fails only when it is out of memory (`refused` of `parse_line`). `positional`
-//! does this for the commands without options, each a `PositionalCommand`. `found` reads the values of the words that `clap` gives back, in
+//! does this for the commands without options, each a `PositionalCommand`, whose values are in `positional_values`. `found` reads the values of the words that `clap` gives back, in
 //! the forms of `forms`; `trip_words` reads those of a trip, in all commands that have one.
 //!
 //! `limits` bounds the workers of a batch, and has the usual values of options; a number, rows and columns are those from which
@@ -19,25 +19,21 @@
 //! `proofs/ClapLines` has the line of each command, `proofs/BreaksLine` that of `breaks`.
 #![tactic(auto)]
 
-mod bans;
 mod batch;
 mod breaks;
-mod check;
 mod clap_words;
 mod commands;
-mod explain;
 mod flat;
 mod forms;
 mod found;
 mod generate;
-mod latest;
 mod limits;
 mod options;
 mod plan;
 mod positional;
+mod positional_values;
 mod reading;
 mod splitting;
-mod tour;
 mod trip_words;
 
 pub use commands::{

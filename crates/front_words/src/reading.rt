@@ -3,18 +3,12 @@ ghost use Rattle.std.specs.Prelude.{◌≡◌, None, Some, IfErr, IfOk, map};
 ghost use Rattle.front_words.specs.Commands.{AsksSupported, command_in, command_of, usages};
 ghost use Rattle.front_words.specs.Usages.{options_named};
 
-use crate::bans::BansWords;
 use crate::batch::read_batch;
 use crate::breaks::read_breaks;
-use crate::check::CheckWords;
-use crate::explain::ExplainWords;
 use crate::flat::side_by_side;
-use crate::generate::GenWords;
-use crate::latest::LatestWords;
 use crate::plan::read_plan;
-use crate::positional::read_places;
+use crate::positional::{PositionalCommand, read_places};
 use crate::splitting::split_words;
-use crate::tour::TourWords;
 use crate::{Command, Invocation, WordsFault};
 use route_base::Text;
 use std::alloc::Global;
@@ -57,14 +51,14 @@ pub fn read_invocation(alloc: Global, words: &[Text]) -> Result<Invocation, Word
     let places = split.places.as_slice();
     match name.as_str() {
         "plan" => read_plan(alloc, places, split.given.as_slice()),
-        "check" => read_places(alloc, &CheckWords, places),
-        "bans" => read_places(alloc, &BansWords, places),
+        "check" => read_places(alloc, PositionalCommand::Check, places),
+        "bans" => read_places(alloc, PositionalCommand::Bans, places),
         "batch" => read_batch(alloc, places, split.given.as_slice()),
-        "gen" => read_places(alloc, &GenWords, places),
-        "latest" => read_places(alloc, &LatestWords, places),
-        "tour" => read_places(alloc, &TourWords, places),
+        "gen" => read_places(alloc, PositionalCommand::Gen, places),
+        "latest" => read_places(alloc, PositionalCommand::Latest, places),
+        "tour" => read_places(alloc, PositionalCommand::Tour, places),
         "breaks" => read_breaks(alloc, places, split.given.as_slice()),
-        "explain" => read_places(alloc, &ExplainWords, places),
+        "explain" => read_places(alloc, PositionalCommand::Explain, places),
         _ => Err(WordsFault::NotACommand),
     }
 }

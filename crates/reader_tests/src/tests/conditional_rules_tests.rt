@@ -1,4 +1,5 @@
 // Texts with their canonical texts, and the access that clauses give vehicles.
+use super::is_printed;
 use conditional_rules::{
     Access, Conditional, ConditionalFault, decide, lets_in, parse, print, read_value,
 };
@@ -6,18 +7,10 @@ use opening_hours::Holidays;
 use std::alloc::{AllocError, Global};
 use vehicle_classes::{Vehicle, Vehicles, read_vehicles};
 
-// Whether the value has this canonical text.
-fn is_printed(alloc: Global, conditional: &Conditional, canonical: &str) -> bool {
-    match print(alloc, conditional) {
-        Ok(text) => text.as_slice() == canonical.as_bytes(),
-        Err(_) => false,
-    }
-}
-
 // Whether this is the canonical text of a text, or the text has no clauses and this is empty.
 fn has_canonical(alloc: Global, text: &str, canonical: &str) -> bool {
     match parse(alloc, text.as_bytes()) {
-        Ok(conditional) => is_printed(alloc, &conditional, canonical),
+        Ok(conditional) => is_printed(&print(alloc, &conditional), canonical),
         Err(fault) => fault == ConditionalFault::NotConditional && canonical.is_empty(),
     }
 }

@@ -2,6 +2,7 @@
 use dimacs_reader::{GraphArc, GraphFault, read_graph};
 use route_base::{ArcId, Cause, Minute, NodeId};
 use std::alloc::Global;
+use std::process::Abort;
 
 // A file, the numbers of its nodes and arcs, and the ends and the minutes of the last arc.
 #[derive(Clone, Copy)]
@@ -76,39 +77,60 @@ fn reads_what_the_format_allows(rt: HostRuntime) {
     }
 }
 
-// Files, and the line and the cause of each refusal.
-const REFUSED: &[(&str, u64, Cause)] = &[
-    ("", 1, Cause::NoProblemLine),
-    ("c comment\n\n", 3, Cause::NoProblemLine),
-    ("a 1 1 60\n", 1, Cause::NoProblemLine),
-    ("p sp 0 0\n", 1, Cause::SizeLimit),
-    ("p sp 500001 0\n", 1, Cause::SizeLimit),
-    ("p sp 3 1000001\n", 1, Cause::SizeLimit),
-    ("p sp 3 0\n\np sp 0 0\n", 3, Cause::SecondProblemLine),
-    ("p sp 3 1\n", 2, Cause::ArcCount),
-    ("p sp 3 2\na 1 2 60\na 1 4 60\n", 3, Cause::NodeRange),
-    ("p sp 3 1\na 0 1 60\n", 2, Cause::NodeRange),
-    ("p sp 3 2\na 1 2 60\n", 3, Cause::ArcCount),
-    ("p sp 3 2\na 1 2 60\na 1 3", 3, Cause::BadForm),
-    ("p sp 3 1\na 1 2 0\n", 2, Cause::WeightRange),
-    ("p sp 3 1\na 1 2 10081\n", 2, Cause::WeightRange),
-    ("p sp 3 1\na 1 2 60\nc more\na 1 3 60\n", 4, Cause::ArcCount),
-    ("p sp 3 1\na 1 2 -1\n", 2, Cause::BadForm),
-    ("p sp 3 1\na 1 2 60 1\n", 2, Cause::BadForm),
-    ("p sp 3 1\na 1 2 0000000000000000060\n", 2, Cause::BadForm),
-    ("p sp 3 1\nb 1 2 60\n", 2, Cause::BadForm),
-    ("p sp 1 0\r", 1, Cause::BadForm),
-    ("x\np sp 3 0\np sp 3 0\n", 1, Cause::BadForm),
+// The line and the cause of a refusal, and files that are refused so.
+const REFUSED: &[(u64, Cause, &[&str])] = &[
+    (1, Cause::NoProblemLine, &["", "a 1 1 60\n"]),
+    (3, Cause::NoProblemLine, &["c comment\n\n"]),
+    (
+        1,
+        Cause::SizeLimit,
+        &["p sp 0 0\n", "p sp 500001 0\n", "p sp 3 1000001\n"],
+    ),
+    (3, Cause::SecondProblemLine, &["p sp 3 0\n\np sp 0 0\n"]),
+    (2, Cause::ArcCount, &["p sp 3 1\n"]),
+    (3, Cause::NodeRange, &["p sp 3 2\na 1 2 60\na 1 4 60\n"]),
+    (2, Cause::NodeRange, &["p sp 3 1\na 0 1 60\n"]),
+    (3, Cause::ArcCount, &["p sp 3 2\na 1 2 60\n"]),
+    (3, Cause::BadForm, &["p sp 3 2\na 1 2 60\na 1 3"]),
+    (
+        2,
+        Cause::WeightRange,
+        &["p sp 3 1\na 1 2 0\n", "p sp 3 1\na 1 2 10081\n"],
+    ),
+    (
+        4,
+        Cause::ArcCount,
+        &["p sp 3 1\na 1 2 60\nc more\na 1 3 60\n"],
+    ),
+    (
+        2,
+        Cause::BadForm,
+        &[
+            "p sp 3 1\na 1 2 -1\n",
+            "p sp 3 1\na 1 2 60 1\n",
+            "p sp 3 1\na 1 2 0000000000000000060\n",
+            "p sp 3 1\nb 1 2 60\n",
+        ],
+    ),
+    (
+        1,
+        Cause::BadForm,
+        &["p sp 1 0\r", "x\np sp 3 0\np sp 3 0\n"],
+    ),
 ];
+
+// Reads each file, and compares the fault.
+fn expect_refused<R: Abort + AllocGlobal>(rt: &R, files: &[&str], due: GraphFault) {
+    for file in files {
+        let fault = read_graph(rt.alloc(), file.as_bytes()).err();
+        assert!(rt; fault == Some(due), "{file}");
+    }
+}
 
 #[test]
 fn refuses_with_the_first_fault(rt: HostRuntime) {
-    for (file, line, cause) in REFUSED {
-        let due = GraphFault::BadLine {
-            line: *line,
-            cause: *cause,
-        };
-        let fault = read_graph(rt.alloc(), file.as_bytes()).err();
-        assert!(rt; fault == Some(due), "{file}");
+    for (line, cause, files) in REFUSED {
+        let (line, cause) = (*line, *cause);
+        expect_refused(&rt, files, GraphFault::BadLine { line, cause });
     }
 }

@@ -1,4 +1,5 @@
 // Texts with their canonical texts, and days with what is covered on them.
+use super::is_printed;
 use opening_hours::{Holidays, Hours, HoursFault, covers, parse, print, spans_on};
 use std::alloc::{AllocError, Global};
 
@@ -138,18 +139,10 @@ const TEXTS: &[(&str, &str)] = &[
     ("Sa 22:00-Su[1] 06:00", ""),
 ];
 
-// Whether the hours have this canonical text.
-fn are_printed(alloc: Global, hours: &Hours, canonical: &str) -> bool {
-    match print(alloc, hours) {
-        Ok(text) => text.as_slice() == canonical.as_bytes(),
-        Err(_) => false,
-    }
-}
-
 // Whether this is the canonical text of a text, or the text has no rules and this is empty.
 fn has_canonical(alloc: Global, text: &str, canonical: &str) -> bool {
     match parse(alloc, text.as_bytes()) {
-        Ok(hours) => are_printed(alloc, &hours, canonical),
+        Ok(hours) => is_printed(&print(alloc, &hours), canonical),
         Err(fault) => fault == HoursFault::NotHours && canonical.is_empty(),
     }
 }
@@ -215,104 +208,80 @@ fn the_governing_rule_of_a_day_has_its_spans(rt: HostRuntime) {
     assert!(rt; has_one_night(rt.alloc(), &holidays));
 }
 
-// Hours, and whether they cover minutes of days. Day 18447 is 2020-07-04, a Saturday.
-const COVERED: &[(&str, &[(u32, u32, bool)])] = &[
+// Minutes of days, each behind its day.
+type Minutes<'a> = &'a [(u32, u32)];
+
+// Hours, minutes that they cover, and minutes that they don't. Day 18447 is 2020-07-04, a Saturday.
+const COVERED: &[(&str, Minutes<'static>, Minutes<'static>)] = &[
     // An off day doesn't cut the evening before.
     (
         "Mo-Fr 22:00-06:00; PH off",
-        &[
-            (18451, 1319, false),
-            (18451, 1320, true),
-            (18452, 359, true),
-            (18452, 360, false),
-            (18452, 1320, false),
-            (18453, 100, false),
-            (18453, 1320, true),
-            (18454, 359, true),
-        ],
+        &[(18451, 1320), (18452, 359), (18453, 1320), (18454, 359)],
+        &[(18451, 1319), (18452, 360), (18452, 1320), (18453, 100)],
     ),
     // A weekend.
     (
         "Sa 22:00-Su 22:00",
-        &[
-            (18447, 1319, false),
-            (18447, 1320, true),
-            (18448, 1319, true),
-            (18448, 1320, false),
-        ],
+        &[(18447, 1320), (18448, 1319)],
+        &[(18447, 1319), (18448, 1320)],
     ),
     // A whole week.
     (
         "Jul 06: Mo 08:00-Mo 08:00",
-        &[
-            (18449, 479, false),
-            (18449, 480, true),
-            (18456, 479, true),
-            (18456, 480, false),
-        ],
+        &[(18449, 480), (18456, 479)],
+        &[(18449, 479), (18456, 480)],
     ),
     // Dates across the end of the year.
     (
         "Dec 24-Jan 06 08:00-09:00",
-        &[
-            (18619, 480, false),
-            (18620, 480, true),
-            (18627, 539, true),
-            (18628, 480, true),
-            (18633, 480, true),
-            (18634, 480, false),
-        ],
+        &[(18620, 480), (18627, 539), (18628, 480), (18633, 480)],
+        &[(18619, 480), (18634, 480)],
     ),
     // In July 2020 the first Sunday is the 5th, day 18448, and the last Friday, the fifth, is the 31st; there is no fifth Monday.
     (
         "Su[1]",
-        &[
-            (18447, 1439, false),
-            (18448, 0, true),
-            (18448, 1439, true),
-            (18449, 0, false),
-            (18455, 0, false),
-            (18476, 0, true),
-        ],
+        &[(18448, 0), (18448, 1439), (18476, 0)],
+        &[(18447, 1439), (18449, 0), (18455, 0)],
     ),
     (
         "Fr[-1] 22:00-26:00; Fr[-5],Mo[5] 08:00-09:00",
-        &[
-            (18446, 480, true),
-            (18467, 1320, false),
-            (18470, 480, false),
-            (18474, 1319, false),
-            (18474, 1320, true),
-            (18475, 119, true),
-            (18475, 120, false),
-            (18505, 480, true),
-        ],
+        &[(18446, 480), (18474, 1320), (18475, 119), (18505, 480)],
+        &[(18467, 1320), (18470, 480), (18474, 1319), (18475, 120)],
     ),
     // A later rule replaces the whole day.
     (
         "Mo-Fr 08:00-12:00; Mo 13:00-17:00",
-        &[(18449, 500, false), (18449, 800, true), (18450, 500, true)],
+        &[(18449, 800), (18450, 500)],
+        &[(18449, 500)],
     ),
 ];
 
-// Whether a minute of a day is covered just as the row says.
+// Whether a minute of a day is covered, or isn't, as is told.
 fn is_as_told(
     hours: &Hours,
     holidays: &Holidays,
-    (day, minute, covered): (u32, u32, bool),
+    (day, minute): (u32, u32),
+    covered: bool,
 ) -> bool {
     7 <= day && day <= 84370 && minute < 1440 && covers(hours, day, minute, holidays) == covered
 }
 
-// Whether the minutes of the days are covered just as the rows say.
+// Whether the hours of a text cover all minutes of the first list, and none of the second.
 fn covers_as_told(
     alloc: Global,
     text: &str,
     holidays: &Holidays,
-    rows: &[(u32, u32, bool)],
+    (covered, uncovered): (Minutes<'_>, Minutes<'_>),
 ) -> bool {
     match parse(alloc, text.as_bytes()) {
-        Ok(hours) => rows.iter().all(|row| is_as_told(&hours, holidays, *row)),
+        Ok(hours) => {
+            covered
+                .iter()
+                .all(|row| is_as_told(&hours, holidays, *row, true))
+                && uncovered
+                    .iter()
+                    .all(|row| is_as_told(&hours, holidays, *row, false))
+        }
         Err(_) => false,
     }
 }
@@ -320,8 +289,8 @@ fn covers_as_told(
 #[test]
 fn these_minutes_are_covered_and_those_are_not(rt: HostRuntime) {
     let holidays = one_holiday(rt.alloc(), 18452).expect(&rt, "memory");
-    for (text, rows) in COVERED {
-        let told = covers_as_told(rt.alloc(), text, &holidays, rows);
+    for (text, covered, uncovered) in COVERED {
+        let told = covers_as_told(rt.alloc(), text, &holidays, (*covered, *uncovered));
         assert!(rt; told, "{text}");
     }
 }

@@ -1,6 +1,7 @@
 // A table of values by number, read from its text.
 ghost use Rattle.std.specs.Prelude.{codes};
 
+use super::bad_row;
 use route_base::{Cause, TableFault, is_name_field};
 use std::alloc::Global;
 use table_reader::{FieldValues, NameIndex, NumberedTable, read_table};
@@ -88,12 +89,8 @@ fn reads_values_by_number(rt: HostRuntime) {
 #[test]
 fn refuses_texts_with_their_first_fault(rt: HostRuntime) {
     for (text, row, cause) in BAD_TEXTS {
-        let due = TableFault::BadRow {
-            row: *row,
-            cause: *cause,
-        };
         let fault = sizes_of(rt.alloc(), text).err();
-        assert!(rt; fault == Some(due), "{text}");
+        assert!(rt; fault == Some(bad_row(*row, *cause)), "{text}");
     }
 }
 

@@ -1,6 +1,8 @@
 // Rows of the table as they are read, a fault for each cause, and the keys of each class.
+use super::bad_row;
 use route_base::{Cause, TableFault};
 use std::alloc::Global;
+use std::process::Abort;
 use vehicle_classes::{Class, Key, Purpose, Quantity, Vehicle, Vehicles, chain_at, read_vehicles};
 
 const HEADER: &str =
@@ -75,35 +77,44 @@ fn reads_flags_purposes_and_large_sizes(rt: HostRuntime) {
     assert!(rt; are_the_bus_and_the_van(&vehicles));
 }
 
-// Rows, and the record and the cause of each refusal.
-const REFUSED: &[(&str, u64, Cause)] = &[
-    ("a,hgv,,,,,,,\n", 2, Cause::FieldCount),
-    ("a,HGV,,,,,,,,\n", 2, Cause::BadField),
-    ("a,,,,,,,,,\n", 2, Cause::BadField),
-    ("-a,hgv,,,,,,,,\n", 2, Cause::BadField),
-    (",hgv,,,,,,,,\n", 2, Cause::BadField),
-    ("a,hgv,1000001,,,,,,,\n", 2, Cause::BadField),
-    ("a,hgv,,00000000001,,,,,,\n", 2, Cause::BadField),
-    ("a,hgv,,,4.0,,,,,\n", 2, Cause::BadField),
-    ("a,hgv,,,,,,,Through,\n", 2, Cause::BadField),
-    ("a,hgv,,,,,,,, hazmat\n", 2, Cause::BadField),
-    ("a,hgv,,,,,,,,hazmat\t\n", 2, Cause::BadField),
-    ("a,hgv,,,,,,,, \n", 2, Cause::BadField),
-    ("a,hgv,,,,,,,,Hazmat\n", 2, Cause::BadField),
-    ("any,bus,,,,,,,,\n", 2, Cause::Duplicate),
-    ("a,hgv,,,,,,,,\na,bus,,,,,,,,\n", 3, Cause::Duplicate),
-    ("a,hgv,,,,,,,,\na,lorry,,,,,,,,\n", 3, Cause::BadField),
+// The record and the cause of a refusal, and rows that are refused so.
+const REFUSED: &[(u64, Cause, &[&str])] = &[
+    (2, Cause::FieldCount, &["a,hgv,,,,,,,\n"]),
+    (
+        2,
+        Cause::BadField,
+        &[
+            "a,HGV,,,,,,,,\n",
+            "a,,,,,,,,,\n",
+            "-a,hgv,,,,,,,,\n",
+            ",hgv,,,,,,,,\n",
+            "a,hgv,1000001,,,,,,,\n",
+            "a,hgv,,00000000001,,,,,,\n",
+            "a,hgv,,,4.0,,,,,\n",
+            "a,hgv,,,,,,,Through,\n",
+            "a,hgv,,,,,,,, hazmat\n",
+            "a,hgv,,,,,,,,hazmat\t\n",
+            "a,hgv,,,,,,,, \n",
+            "a,hgv,,,,,,,,Hazmat\n",
+        ],
+    ),
+    (2, Cause::Duplicate, &["any,bus,,,,,,,,\n"]),
+    (3, Cause::Duplicate, &["a,hgv,,,,,,,,\na,bus,,,,,,,,\n"]),
+    (3, Cause::BadField, &["a,hgv,,,,,,,,\na,lorry,,,,,,,,\n"]),
 ];
+
+// Reads the rows of each text, and compares the fault.
+fn expect_refused<R: Abort + AllocGlobal>(rt: &R, texts: &[&str], due: TableFault) {
+    for rows in texts {
+        let fault = vehicles_of(rt.alloc(), rows).err();
+        assert!(rt; fault == Some(due), "{rows}");
+    }
+}
 
 #[test]
 fn refuses_rows(rt: HostRuntime) {
-    for (rows, row, cause) in REFUSED {
-        let due = TableFault::BadRow {
-            row: *row,
-            cause: *cause,
-        };
-        let fault = vehicles_of(rt.alloc(), rows).err();
-        assert!(rt; fault == Some(due), "{rows}");
+    for (row, cause, texts) in REFUSED {
+        expect_refused(&rt, texts, bad_row(*row, *cause));
     }
 }
 
