@@ -9,4 +9,5 @@ loop-i-preserved c =
 
 pub returns-clause-same : goal.returns-clause-same
 returns-clause-same c =
-    all_rules c.args.at c.args.most c.args.hours.now c.loop-i.i c.loop-i.count (omega (arith, c.loop-i-test.false, c.len-i-end.ensures.value)) c.loop-i.invariant
+    all_rules c.args.at c.args.most c.args.hours.now c.loop-i.i c.loop-i.count
+    (omega (arith, c.loop-i-test.false, c.len-i-end.ensures.value)) c.loop-i.invariant
