@@ -36,11 +36,23 @@ fn times_hold(at: u32, times: &RuleTimes) -> bool
     }
 }
 
-// Whether a span of the day's governing rule holds the minute, counted from the day's start.
+// Whether a span of one of the rules holds a minute, on whatever day.
+fn any_day_holds(at: u32, rules: &[HoursRule]) -> bool
+    ensures { result ≡ list_any (λ r. list_any (holds at) (spans_of_times r.times)) rules.now }
+{
+    rules.iter().any(|rule| times_hold(at, &rule.times))
+}
+
+// Whether a span of the day's governing rule holds the minute, counted from the day's start. The date is looked up only where a rule
+// has a span that holds the minute.
+#[tactic(auto, using(crate::proofs::CoverTests::none_governs))]
 fn day_holds(rules: &[HoursRule], day: u32, at: u32, holidays: &Holidays) -> bool
     requires { day ≤ 84370 }
     ensures { result ≡ list_any (holds at) (day_spans rules.now holidays.now day) }
 {
+    if !any_day_holds(at, rules) {
+        return false;
+    }
     match last_match(day_facts(day, holidays), rules) {
         None => false,
         Some(rule) => times_hold(at, &rule.times),
@@ -48,7 +60,7 @@ fn day_holds(rules: &[HoursRule], day: u32, at: u32, holidays: &Holidays) -> boo
 }
 
 /// Whether the hours cover a minute of local time: a day number (days since 1970-01-01) and the minute of that day. It looks at
-/// at most eight days, each in time linear in the rules, and takes no memory.
+/// at most eight days, each in time linear in the rules and their spans, and takes no memory.
 #[tactic(auto, using(crate::proofs::CoverTests::one_covers, crate::proofs::CoverTests::none_covers))]
 pub fn covers(hours: &Hours, day: u32, minute: u32, holidays: &Holidays) -> bool
     requires from { 7 ≤ day }

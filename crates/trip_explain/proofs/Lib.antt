@@ -9,3 +9,6 @@ pub mod OnlyReason
 pub mod OnlyExplanation
 pub mod OpenParks
 pub mod ItineraryLines
+pub mod SteadyHours
+pub mod SteadyClauses
+pub mod SteadyRulings

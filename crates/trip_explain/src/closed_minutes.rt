@@ -1,26 +1,39 @@
 // Why an arc is closed, and the first minute of a drive at which it is.
-ghost use Rattle.std.specs.Prelude.{◌≡◌, ◌≤◌, ◌<◌, ◌+◌, ◌^◌, None, true, false, ℕ, IfSome, length};
+ghost use Rattle.std.specs.Prelude.{◌≡◌, ◌≤◌, ◌<◌, ◌+◌, ◌^◌, None, true, false, ℕ, length};
+ghost use Rattle.std.specs.Prelude.{IfSome, IfOk, OnOk, IfErr};
 ghost use Rattle.route_base.specs.Open.{IsOpen};
 ghost use Rattle.route_base.specs.Runs.{any_has, has_minute};
 ghost use Rattle.route_base.specs.Time.{IsInstant, first_instant, last_instant};
-ghost use Rattle.network_tables.specs.Access.{is_closed, is_let_in};
+ghost use Rattle.zone_rules.specs.Zones.{wall_at};
+ghost use Rattle.network_tables.specs.Access.{area_at, area_place, is_closed, is_let_in};
 ghost use Rattle.network_tables.specs.NetworkModel.{closures_of};
 ghost use Rattle.network_tables.specs.RoadSetting.{road_setting};
 ghost use Rattle.trip_explain.specs.Inside.{IsBarredFirst, IsFirstWithin};
 ghost use Rattle.trip_explain.specs.Reasons.{ClosesFirst, IsBarredBy, IsClosedBy, IsFirstRun};
+ghost use Rattle.trip_explain.specs.Steadiness.{LetsInAmid};
 
 use crate::explanation::Why;
 use crate::rulings::arc_ruling;
+use crate::steady_rulings::ruling_steady;
 use conditional_rules::lets_in;
 use network_tables::Network;
 use route_base::{ArcId, Minute, Run};
 use vehicle_classes::Vehicle;
+use zone_rules::Wall;
 
 // A closed minute, with the reason.
 #[derive(Clone, Copy)]
 pub struct Closing {
     pub minute: Minute,
     pub why: Why,
+}
+
+// Minutes of a local day.
+#[derive(Clone, Copy)]
+pub struct Quiet {
+    pub day: u32,
+    pub from: u32,
+    pub to: u32,
 }
 
 fn is_within(run: Run, t: Minute) -> bool
@@ -112,6 +125,84 @@ fn earlier_in(run: Run, from: Minute, first: Minute) -> Minute
     }
 }
 
+// The day and the minute that clocks in the arc's area show.
+fn wall_of(network: &Network, a: ArcId, t: Minute) -> Wall
+    requires low { 1 ≤ a.0 }
+    requires high { a.0 ≤ length network.now.graph.arcs }
+    requires instant { IsInstant t }
+    ensures value { result ≡ wall_at (area_at network.now (area_place network.now a.0)).zone t }
+    ensures minute { result.minute < 1440 }
+{
+    network.zone_of(network.area_of(a)).wall(t)
+}
+
+// Whether clocks that show this show one of the minutes.
+fn is_amid(wall: Wall, quiet: Quiet) -> bool
+    ensures day { result ≡ true → wall.day ≡ quiet.day }
+    ensures from { result ≡ true → quiet.from ≤ wall.minute }
+    ensures to { result ≡ true → wall.minute < quiet.to }
+{
+    wall.day == quiet.day && quiet.from <= wall.minute && wall.minute < quiet.to
+}
+
+// The minutes of the day from this instant on, at most as many as are left, at which the same rule lets the vehicle in.
+fn quiet_from(
+    network: &Network,
+    vehicle: &Vehicle,
+    a: ArcId,
+    t: Minute,
+    wall: Wall,
+    left: u64,
+) -> Quiet
+    requires low { 1 ≤ a.0 }
+    requires high { a.0 ≤ length network.now.graph.arcs }
+    requires minute { wall.minute < 1440 }
+    requires wall { wall ≡ wall_at (area_at network.now (area_place network.now a.0)).zone t }
+    requires left { 1 ≤ left }
+    requires let_in { is_let_in network.now vehicle.now a.0 t ≡ true }
+    ensures { LetsInAmid network.now vehicle.now a.0 result }
+{
+    let most = left.min(1440) as u32;
+    let count = ruling_steady(network, vehicle, a, wall.minute, most);
+    Quiet {
+        day: wall.day,
+        from: wall.minute,
+        to: wall.minute + count,
+    }
+}
+
+// Looks at the first of the minutes that are left: minutes of a day at which the arc lets the vehicle in, or the rule that doesn't
+// let it in. It decides the access anew only at a minute that isn't among the quiet ones.
+fn after_minute(
+    network: &Network,
+    vehicle: &Vehicle,
+    a: ArcId,
+    t: Minute,
+    left: u64,
+    quiet: Quiet,
+) -> Result<Quiet, Why>
+    requires low { 1 ≤ a.0 }
+    requires high { a.0 ≤ length network.now.graph.arcs }
+    requires instant { IsInstant t }
+    requires left { 1 ≤ left }
+    requires quiet { LetsInAmid network.now vehicle.now a.0 quiet }
+    ensures quiet { IfOk result (LetsInAmid network.now vehicle.now a.0) }
+    ensures let_in { OnOk result (is_let_in network.now vehicle.now a.0 t ≡ true) }
+    ensures barred { IfErr result (IsBarredBy network.now vehicle.now a.0 t) }
+{
+    let wall = wall_of(network, a, t);
+    if is_amid(wall, quiet) {
+        return Ok(quiet);
+    }
+    if let Some(why) = barring(network, vehicle, a, t) {
+        return Err(why);
+    }
+    if left == 1 {
+        return Ok(quiet);
+    }
+    Ok(quiet_from(network, vehicle, a, t, wall, left))
+}
+
 // The first minute from `from` on, before `end`, at which a rule doesn't let the vehicle in.
 fn first_barring(
     network: &Network,
@@ -129,16 +220,22 @@ fn first_barring(
     ensures none { result ≡ None → (u : ℕ) → from ≤ u → u < end
         → is_let_in network.now vehicle.now a.0 u ≡ true }
 {
+    let mut quiet = Quiet {
+        day: 0,
+        from: 0,
+        to: 0,
+    };
     for t in from..end {
-        if let Some(why) = barring(network, vehicle, a, t) {
-            return Some(Closing { minute: t, why });
+        match after_minute(network, vehicle, a, t, end - t, quiet) {
+            Ok(next) => quiet = next,
+            Err(why) => return Some(Closing { minute: t, why }),
         }
     }
     None
 }
 
 // The first closed minute of those from `from` on, as many as `minutes`, with the reason. It goes through the closures once, and
-// decides the access at each minute up to the first closure.
+// up to the first closure decides the access at the minutes at which another rule may decide than before.
 pub fn first_closing(
     network: &Network,
     vehicle: &Vehicle,

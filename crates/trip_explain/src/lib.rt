@@ -12,7 +12,9 @@
 //! its first bad line. `explain_text` writes an explanation as `specs/ExplanationText` says.
 //!
 //! `specs/Inside` is no law: it is what `legs`, `closed_minutes` and `open_parks` say of one leg, of the minutes of a drive and of those
-//! of a wait. In `proofs/`, `OnlyReason`, `OneExplanation` and `OnlyExplanation` are about the laws, from steps to legs.
+//! of a wait. Nor is `specs/Steadiness`: it says for how long hours, conditional values and rulings stay the same, so that the access of
+//! a long drive is decided once for each change of its rules' hours, without memory. In `proofs/`, `OnlyReason`, `OneExplanation` and
+//! `OnlyExplanation` are about the laws, from steps to legs.
 #![tactic(auto)]
 
 mod closed_minutes;
@@ -24,6 +26,9 @@ mod laws;
 mod legs;
 mod open_parks;
 mod rulings;
+mod steady_clauses;
+mod steady_hours;
+mod steady_rulings;
 mod text;
 mod text_laws;
 mod trips;
