@@ -10,8 +10,8 @@ ghost use Rattle.function_merge.specs.Moves.{kept_at, moved_at, CanMove};
 ghost use Rattle.function_merge.specs.Pruning.{IsPruned};
 ghost use Rattle.function_merge.specs.Inside.Prefixes.{HaveArrived, IsPrunedUpTo};
 
-use crate::pruning::{add_before, clear_until, pass_arrived};
-use crate::suffixes::{find_pieces, find_runs, pieces_from, runs_from};
+use crate::pruning::{add_before, arrived_at, clear_until, pass_arrived};
+use crate::suffixes::{pieces_from, pieces_since, runs_from, runs_since};
 use cost_functions::{Builder, CostFn, Piece};
 use minute_sets::MinuteSet;
 use route_base::{Bound, Cost, Minute, OutOfMemory, Pair, Run};
@@ -66,10 +66,11 @@ pub fn moved_and_pruned(
     ensures built { IfOk result AreBuilt }
 {
     let mut built = Builder::again(spare);
-    let mut arrived = 0;
     let mut from = first_common(pieces, runs);
-    let mut left = find_pieces(pieces, from);
-    let mut open = find_runs(runs, from);
+    let begin = from.saturating_add(minutes);
+    let mut arrived = arrived_at(pairs, begin, bound);
+    let mut left = pieces_since(pieces, from);
+    let mut open = runs_since(runs, from);
     'sweep: while let [piece, ..] = left {
         let [run, ..] = open else {
             break;

@@ -27,6 +27,7 @@ impl Segment {
 }
 
 // The next segment from a minute on, where no piece ends before the minute; `None` where no value is left.
+#[inline(always)]
 pub fn next_segment(f: &[Piece], g: &[Piece], from: Minute) -> Option<Segment>
     requires first { AreLeftFrom from f.now }
     requires second { AreLeftFrom from g.now }
@@ -74,6 +75,7 @@ fn part(piece: Piece, lo: Minute, hi: Minute) -> Piece
 
 // The segment from a minute on that both pieces have: the lesser piece, as long as it stays the lesser, and the first where they
 // are equal.
+#[inline(always)]
 fn lesser(p: Piece, q: Piece, lo: Minute) -> Segment
     requires first { IsPiece p }
     requires second { IsPiece q }
@@ -101,6 +103,7 @@ fn lesser(p: Piece, q: Piece, lo: Minute) -> Segment
 }
 
 // The part of a piece from a minute on, as long as the other piece costs at least this much more.
+#[inline(always)]
 fn part_below(piece: Piece, other: Piece, lo: Minute, more: Cost) -> Piece
     requires piece { IsPiece piece }
     requires other { IsPiece other }

@@ -137,6 +137,16 @@ pub fn add_before(built: &mut Builder, piece: Piece, end: Minute) -> Result<(), 
     Ok(())
 }
 
+// The number of pairs that have arrived by the minute with the bound to the goal, by a binary search.
+pub fn arrived_at(pairs: &[Pair], minute: Minute, bound: Bound) -> usize
+    requires { RiseAndFall pairs.now }
+    ensures within { result ≤ length pairs.now }
+    ensures before { HaveArrived bound minute pairs.now result }
+{
+    let last = minute.saturating_add(bound.minutes);
+    pairs.partition_point(|pair| pair.arrival <= last)
+}
+
 // The number of pairs that have arrived by the minute with the bound to the goal, from a number of them on.
 pub fn pass_arrived(pairs: &[Pair], arrived: usize, minute: Minute, bound: Bound) -> usize
     requires within { arrived ≤ length pairs.now }
@@ -156,6 +166,7 @@ pub fn pass_arrived(pairs: &[Pair], arrived: usize, minute: Minute, bound: Bound
 
 // The first minute of the piece at which it is late or dominated; a minute behind the piece, if there is none. Of the pairs as many
 // as this have arrived when the piece begins.
+#[inline(always)]
 pub fn clear_until(
     piece: Piece,
     until: Minute,
@@ -179,6 +190,7 @@ pub fn clear_until(
 // The first minute of the piece at which a pair dominates it. Mostly its first and its last cost tell. Else the pairs that arrive
 // while the piece is still cheaper come first: of these the last, as the cheapest, is the first to dominate. Of the others the
 // first is, as soon as it arrives.
+#[inline(always)]
 fn undominated_until(piece: Piece, pairs: &[Pair], arrived: usize, bound: Bound) -> Minute
     requires trade { RiseAndFall pairs.now }
     requires piece { IsPiece piece }

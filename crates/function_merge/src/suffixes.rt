@@ -71,6 +71,18 @@ pub fn find_pieces(pieces: &[Piece], from: Minute) -> &[Piece]
     &pieces[ending_before(pieces, from)..]
 }
 
+// The same, where mostly the first piece does not end before the minute.
+pub fn pieces_since(pieces: &[Piece], from: Minute) -> &[Piece]
+    requires { ArePieces pieces.now }
+    ensures pieces { ArePieces result.now }
+    ensures values { (t : ℕ) → from ≤ t → value_at result.now t ≡ value_at pieces.now t }
+{
+    match pieces {
+        [first, ..] if from <= first.hi => pieces,
+        _ => find_pieces(pieces, from),
+    }
+}
+
 // The number of pieces that end before the minute. Most minutes that are asked for lie in the last pieces, so a few of these are
 // passed one by one before the binary search.
 pub fn ending_before(pieces: &[Piece], minute: Minute) -> usize
@@ -115,4 +127,16 @@ pub fn find_runs(runs: &[Run], from: Minute) -> &[Run]
     ensures reach { All (λ r. from < r.hi) result.now }
 {
     &runs[runs.partition_point(|run| run.hi <= from)..]
+}
+
+// The same, where mostly the first run does not end by the minute.
+pub fn runs_since(runs: &[Run], from: Minute) -> &[Run]
+    requires { AreRuns runs.now }
+    ensures runs { AreRuns result.now }
+    ensures minutes { (t : ℕ) → from ≤ t → any_has result.now t ≡ any_has runs.now t }
+{
+    match runs {
+        [first, ..] if from < first.hi => runs,
+        _ => find_runs(runs, from),
+    }
 }

@@ -28,6 +28,7 @@ pub struct OutgoingArc {
 }
 
 // The costs with which drives of the part over the arc end, where the goal is still worth reaching from there.
+#[inline(always)]
 fn driven(
     alloc: Global,
     task: Task<'_>,
@@ -69,6 +70,7 @@ fn driven(
 }
 
 // The costs at a node from which the goal is still worth reaching.
+#[inline(always)]
 pub fn cleared(task: Task<'_>, pairs: &[Pair], h: NodeId, bound: Bound, costs: CostFn) -> CostFn
     requires is { bound_at task.bounds.now h.0 ≡ Some bound }
     requires trade { RiseAndFall pairs.now }
@@ -81,6 +83,7 @@ pub fn cleared(task: Task<'_>, pairs: &[Pair], h: NodeId, bound: Bound, costs: C
 }
 
 // The costs with waits at a park, from these costs on until a minute.
+#[inline(always)]
 fn waited(
     alloc: Global,
     task: Task<'_>,
@@ -114,6 +117,7 @@ fn waited(
 }
 
 // Clear costs, and where the node is rated those of waiting there.
+#[inline(always)]
 pub fn with_waits(
     alloc: Global,
     task: Task<'_>,
@@ -152,6 +156,7 @@ pub fn with_waits(
 }
 
 // The offer that drives of the part over the arc make to its head.
+#[inline(always)]
 pub fn offered(
     alloc: Global,
     task: Task<'_>,

@@ -32,6 +32,7 @@ pub fn no_entry_sets(alloc: Global) -> EntrySets
 
 // The place of the set for drives of this length that avoid the list of closed runs at a place of the net; it is made if it isn't
 // there.
+#[inline(always)]
 pub fn ready_set(
     alloc: Global,
     task: Task<'_>,
@@ -56,6 +57,7 @@ pub fn ready_set(
 }
 
 // Makes room for the sets that avoid the list of closed runs at this place.
+#[inline(always)]
 fn make_room(alloc: Global, sets: &mut EntrySets, list: usize) -> Result<(), OutOfMemory>
     ensures within { OnOk result (list < length sets.new.lists.items) }
     ensures kept { OnOk result ((net : Net) (until : ℕ) → AreEntrySets net until sets.old
@@ -68,6 +70,7 @@ fn make_room(alloc: Global, sets: &mut EntrySets, list: usize) -> Result<(), Out
 }
 
 // The place of the set for drives of this length that avoid these runs, which is made if it isn't there.
+#[inline(always)]
 fn place_of(
     alloc: Global,
     list: &mut Vec<EntrySet>,
@@ -91,6 +94,7 @@ fn place_of(
 }
 
 // Whether the set at a place is one for drives of this length.
+#[inline(always)]
 fn is_for(list: &[EntrySet], place: usize, minutes: u64) -> bool
     ensures within { IsTrue result → place < length list.now }
     ensures minutes { IsTrue result → (d : EntrySet) → (slice_index_or list.now place d).minutes

@@ -24,6 +24,7 @@ pub struct Progress {
 }
 
 // Takes the lesser of the node's costs and the offered ones, in place, and answers where the offered ones are better.
+#[inline(always)]
 pub fn lower_at(
     alloc: Global,
     functions: &mut Vec<CostFn>,
@@ -45,6 +46,7 @@ pub fn lower_at(
 }
 
 // Adds minutes to those that are pending at a node, which is then in the queue, with no larger key than this.
+#[inline(always)]
 pub fn await_at(
     alloc: Global,
     pending: &mut Vec<MinuteSet>,
@@ -72,6 +74,7 @@ pub fn await_at(
 }
 
 // Adds the minutes of the second set to the first, which becomes the second where it has none.
+#[inline(always)]
 fn add_improved(alloc: Global, own: &mut MinuteSet, more: MinuteSet) -> Result<(), OutOfMemory>
     ensures { OnOk result ((t : ℕ) → any_has own.new t ≡ (any_has own.old t || any_has more t)) }
 {

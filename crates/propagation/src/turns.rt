@@ -25,6 +25,7 @@ use route_base::{ArcId, Bound, NodeId, OutOfMemory};
 use std::alloc::Global;
 
 // A turn at a node that has left the queue.
+#[inline(always)]
 pub fn turn(
     alloc: Global,
     task: Task<'_>,
@@ -62,6 +63,7 @@ pub fn turn(
 }
 
 // Relaxes each arc that leaves the node, for the part.
+#[inline(always)]
 fn drive_all(
     alloc: Global,
     task: Task<'_>,
@@ -95,6 +97,7 @@ fn drive_all(
 }
 
 // Relaxes one arc that leaves the node, for the part.
+#[inline(always)]
 fn drive_one(
     alloc: Global,
     task: Task<'_>,
@@ -136,6 +139,7 @@ fn drive_one(
 }
 
 // Gives the offer to its node; what is better there is pending, or at the goal a pair.
+#[inline(always)]
 pub fn take_at(
     alloc: Global,
     task: Task<'_>,

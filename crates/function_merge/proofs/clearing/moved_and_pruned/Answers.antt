@@ -23,8 +23,9 @@ sweep-init c =
     let wanted = moved_at m c.args.cost kept in
     let start = c.first_common-from.result in
     record {
-      count = omega arith;
-      arrived = λ k d from lt. absurd (omega (arith, lt));
+      count = c.arrived_at-arrived.ensures.within;
+      arrived = arrived_later c.args.bound c.args.pairs.now c.arrived_at-arrived.result c.saturating_add-begin.result (start + m)
+          (omega (arith, c.saturating_add-begin.ensures)) c.arrived_at-arrived.ensures.before;
       pruned =
           subst (λ ps. IsPrunedUpTo c.args.until c.args.pairs.now c.args.bound wanted ps (start + m)) (sym c.again-built.ensures)
           (pruned_skip c.args.until c.args.pairs.now c.args.bound wanted [] 0 (pruned_nothing c.args.until c.args.pairs.now c.args.bound wanted) (start + m)
@@ -35,10 +36,10 @@ sweep-init c =
           (λ (late : m ≤ u). moved_late m c.args.cost kept u (u - m) (omega (arith, late))
           ∙ ap (option_map (λ v. v + c.args.cost)) (c.first_common-from.ensures (u - m) (omega (arith, before, late))))
           (cases_lt u m)));
-      pieces = c.find_pieces-left.ensures.pieces;
-      runs = c.find_runs-open.ensures.runs;
-      values = c.find_pieces-left.ensures.values;
-      minutes = c.find_runs-open.ensures.minutes;
+      pieces = c.pieces_since-left.ensures.pieces;
+      runs = c.runs_since-open.ensures.runs;
+      values = c.pieces_since-left.ensures.values;
+      minutes = c.runs_since-open.ensures.minutes;
     }
 
 -- the minutes at which the first piece and the first run are next
