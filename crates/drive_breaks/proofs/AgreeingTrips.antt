@@ -1,5 +1,5 @@
 -- Trips that keep a rule are the same over settings that agree.
-use Rattle.std.proofs.Common.{◌≡◌, ℕ, Option, List, [], get_or, sym, ◌∙◌, subst}
+use Rattle.std.proofs.Common.{◌≡◌, ℕ, Option, List, [], get_or, sym, subst}
 use Rattle.std.specs.Prelude.{All}
 use Rattle.route_base.specs.Setting.{Setting, Road}
 use Rattle.route_base.specs.Itinerary.{Position, Step, Walks}

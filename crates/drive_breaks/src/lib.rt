@@ -6,13 +6,15 @@
 //! of one. `specs/StateSize` of `drive_states` says what the states of a trip are, and when there are too many. Both are the same over
 //! settings that agree (`rested_trips_agree`).
 //!
-//! A state is a node and the minutes driven since the last break; `drive_states` finds all states. `states_as_net` makes a net in which each state is a node, and each drive and each
-//! break an arc; one further node, which is entered by a copy of each drive to the goal, is the goal of that net. An engine's front
-//! of it is the front (`rested_trips`), and `sources` turns its legs into legs of the net.
+//! A state is a node and the minutes driven since the last break; `drive_states` finds all states and the ways between them, or that
+//! there are too many. `states_as_net` makes a net in which each state is a node, and each drive and each break an arc; one further
+//! node, which is entered by a copy of each drive to the goal, is the goal of that net. An engine's front of it is the front
+//! (`rested_trips`), and `sources` turns its legs into legs of the net.
 //!
 //! `specs/Inside` is no law. `WithinRule` has the rule in the form that the proof keeps, since the start or *some* break: it is the
-//! same by `proofs/LastBreak`. `StateNet` says what the net is, and `Unpacking` what its steps, legs and routes are in the net below. In `proofs/`, `SoundBreaks` reads a walk over states as one of that net,
-//! `FoundBreaks` goes the other way, and `BreakFronts` puts them together, by `front_transport`.
+//! same by `proofs/LastBreak`. `StateNet` says what the net over states is, and `Unpacking` what its steps, legs and routes are in the
+//! net below. In `proofs/`, `SoundBreaks` reads a walk over states as one of that net, `FoundBreaks` goes the other way, and
+//! `BreakFronts` puts them together, by `front_transport`.
 #![tactic(auto)]
 
 mod laws;
@@ -23,4 +25,3 @@ mod states_as_net;
 pub use drive_states::{BreakFault, BreakRule};
 pub use laws::rested_trips_agree;
 pub use rested_trips::plan_breaks;
-

@@ -5,10 +5,9 @@ ghost use Rattle.drive_breaks.specs.Words.{AreRightRested, HasTooManyStates, IsE
 ghost use Rattle.drive_states.specs.declared.rule.BreakFault.TheVariants.{TooManyStates};
 ghost use Rattle.route_base.specs.declared.limits.TheConstants.{LONGEST_HORIZON};
 
-use drive_states::{Explored, Plan, State, Way, explore};
 use crate::sources::unpacked_routes;
 use crate::states_as_net::{Ground, state_arcs, state_net};
-use drive_states::{BreakFault, BreakRule};
+use drive_states::{BreakFault, BreakRule, Explored, Plan, State, Way, explore};
 use node_arcs::NodeArcs;
 use route_base::{
     FrontSearch, Legs, Minute, NodeId, OutOfMemory, Pair, Request, Route, Routes, TimedNet,
