@@ -19,8 +19,8 @@ use Rattle.route_base.specs.declared.types.Route.{Route}
 use Rattle.std.proofs.lemmas.List.Elements.{All-push, All-nil}
 use Rattle.drive_breaks.specs.Inside.StateNet.{IsStateNet}
 use Rattle.drive_breaks.specs.Inside.Unpacking.{unpacked, stay_at}
-use Rattle.drive_breaks.specs.declared.rule.BreakRule.{BreakRule}
-use Rattle.drive_breaks.specs.declared.rule.State.{State}
+use Rattle.drive_states.specs.declared.rule.BreakRule.{BreakRule}
+use Rattle.drive_states.specs.declared.rule.State.{State}
 use Rattle.drive_breaks.proofs.FoundBreaks.{arrives}
 use Rattle.drive_breaks.proofs.LastBreak.{rested_from, within_from}
 use Rattle.drive_breaks.proofs.SoundBreaks.{GoesOn, from_start}

@@ -8,8 +8,8 @@ use Rattle.route_base.specs.declared.types.Leg.TheVariants.{Drive, Wait}
 use Rattle.route_base.specs.declared.types.TimedArc.{TimedArc}
 use Rattle.front_transport.proofs.Places.{at_left, at_either, at_last}
 use Rattle.drive_breaks.specs.Inside.StateNet.{IsArcFor, Arrives, IsBuiltArc, AreBuilt, AddsWay}
-use Rattle.drive_breaks.specs.declared.rule.State.{State}
-use Rattle.drive_breaks.specs.declared.rule.Way.{Way}
+use Rattle.drive_states.specs.declared.rule.State.{State}
+use Rattle.drive_states.specs.declared.rule.Way.{Way}
 
 -- the arc with another head
 abbrev pub headed : TimedArc → ℕ → TimedArc

@@ -12,8 +12,8 @@ use Rattle.route_base.proofs.Walking.{walk-append, walk-push}
 use Rattle.drive_breaks.specs.Rested.{minutes_of}
 use Rattle.drive_breaks.specs.Inside.WithinRule.{IsWithinRule, IsWithinRuleFrom}
 use Rattle.drive_breaks.specs.Inside.StateNet.{IsStateNet, CanDrive, HasRoad}
-use Rattle.drive_breaks.specs.declared.rule.BreakRule.{BreakRule}
-use Rattle.drive_breaks.specs.declared.rule.State.{State}
+use Rattle.drive_states.specs.declared.rule.BreakRule.{BreakRule}
+use Rattle.drive_states.specs.declared.rule.State.{State}
 use Rattle.drive_breaks.proofs.Since.{IsLeast, least_drive, least_wait, least_within, EndsWaiting, few_waits, waits_more, by_drive}
 use Rattle.drive_breaks.proofs.SoundBreaks.{at_place}
 

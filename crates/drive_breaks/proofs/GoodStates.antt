@@ -21,11 +21,11 @@ use Rattle.front_transport.specs.CheapArcs.{HasCheapArcs}
 use Rattle.front_transport.proofs.NetParts.{flat_some}
 use Rattle.front_transport.proofs.Places.{at_either, by_numbers}
 use Rattle.drive_breaks.specs.Inside.StateNet.{IsArcFor, AreBuilt, net_over}
-use Rattle.drive_breaks.specs.StateSize.{IsDeparture}
-use Rattle.drive_breaks.specs.Inside.StateSearch.{IsSoundWay, IsExplored}
-use Rattle.drive_breaks.specs.declared.rule.BreakRule.{BreakRule}
-use Rattle.drive_breaks.specs.declared.rule.State.{State}
-use Rattle.drive_breaks.specs.declared.rule.Way.{Way}
+use Rattle.drive_states.specs.StateSize.{IsDeparture}
+use Rattle.drive_states.specs.Inside.StateSearch.{IsSoundWay, IsExplored}
+use Rattle.drive_states.specs.declared.rule.BreakRule.{BreakRule}
+use Rattle.drive_states.specs.declared.rule.State.{State}
+use Rattle.drive_states.specs.declared.rule.Way.{Way}
 use Rattle.drive_breaks.proofs.OverStates.{all_in}
 
 none_some : (park : Park) → None ≡ Some park → ⊥

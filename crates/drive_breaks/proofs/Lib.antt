@@ -1,14 +1,11 @@
 pub mod AgreeingTrips
 pub mod BreakFronts
 pub mod Built
-pub mod Counting
-pub mod Found
 pub mod FoundBreaks
 pub mod GoodStates
 pub mod LastBreak
 pub mod OverStates
 pub mod Routed
-pub mod SameStates
 pub mod Since
 pub mod SoundBreaks
 pub mod Unpacked

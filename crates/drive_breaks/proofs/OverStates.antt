@@ -15,12 +15,12 @@ use Rattle.route_base.proofs.Numbered.{at_number-map}
 use Rattle.route_base.proofs.Logic.{map_some}
 use Rattle.front_transport.proofs.Places.{at_left, at_last}
 use Rattle.drive_breaks.specs.Inside.StateNet.{IsDriveWay, IsBreakWay, IsWay, CanDrive, HasRoad, IsStateNet, IsArcFor, Arrives, AreBuilt, net_over}
-use Rattle.drive_breaks.specs.StateSize.{IsDeparture}
-use Rattle.drive_breaks.specs.Inside.StateSearch.{HasWay, IsSoundWay, IsExplored}
-use Rattle.drive_breaks.specs.declared.rule.BreakRule.{BreakRule}
-use Rattle.drive_breaks.specs.declared.rule.State.{State}
-use Rattle.drive_breaks.specs.declared.rule.Way.{Way}
-use Rattle.drive_breaks.proofs.Found.{way_of}
+use Rattle.drive_states.specs.StateSize.{IsDeparture}
+use Rattle.drive_states.specs.Inside.StateSearch.{HasWay, IsSoundWay, IsExplored}
+use Rattle.drive_states.specs.declared.rule.BreakRule.{BreakRule}
+use Rattle.drive_states.specs.declared.rule.State.{State}
+use Rattle.drive_states.specs.declared.rule.Way.{Way}
+use Rattle.drive_states.proofs.Found.{way_of}
 
 some_state : (x y : State) → Some x ≡ Some y → x ≡ y
 some_state x y is = cc

@@ -17,10 +17,10 @@ use Rattle.front_transport.specs.CheapArcs.{HasCheapArcs}
 use Rattle.drive_breaks.specs.Rested.{AreRightRested, IsRestedFront}
 use Rattle.drive_breaks.specs.Inside.StateNet.{AreBuilt, IsStateNet, net_over}
 use Rattle.drive_breaks.specs.Inside.Unpacking.{unpacked, IsSourcedRoute, AreUnpacked, IsUnpackable}
-use Rattle.drive_breaks.specs.Inside.StateSearch.{IsExplored}
-use Rattle.drive_breaks.specs.declared.rule.BreakRule.{BreakRule}
-use Rattle.drive_breaks.specs.declared.rule.State.{State}
-use Rattle.drive_breaks.specs.declared.rule.Way.{Way}
+use Rattle.drive_states.specs.Inside.StateSearch.{IsExplored}
+use Rattle.drive_states.specs.declared.rule.BreakRule.{BreakRule}
+use Rattle.drive_states.specs.declared.rule.State.{State}
+use Rattle.drive_states.specs.declared.rule.Way.{Way}
 use Rattle.drive_breaks.proofs.BreakFronts.{over_states, unpacks, break_front}
 use Rattle.drive_breaks.proofs.GoodStates.{cheap_over}
 use Rattle.drive_breaks.proofs.LastBreak.{rested_from}

@@ -4,7 +4,7 @@ use Rattle.route_base.specs.Setting.{Road}
 use Rattle.route_base.specs.Itinerary.{Step, drive, wait}
 use Rattle.drive_breaks.specs.Rested.{driven, minutes_of, IsSinceBreak}
 use Rattle.drive_breaks.specs.Inside.WithinRule.{IsWithinRule, IsWithinRuleFrom}
-use Rattle.drive_breaks.specs.declared.rule.BreakRule.{BreakRule}
+use Rattle.drive_states.specs.declared.rule.BreakRule.{BreakRule}
 
 head_same : (x y : Step) (xs ys : List Step) → x ∷ xs ≡ y ∷ ys → x ≡ y
 head_same x y xs ys is = cc

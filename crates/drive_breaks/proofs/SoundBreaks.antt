@@ -12,8 +12,8 @@ use Rattle.drive_breaks.specs.Rested.{minutes_of}
 use Rattle.drive_breaks.specs.Inside.WithinRule.{IsWithinRuleFrom}
 use Rattle.drive_breaks.specs.Inside.StateNet.{IsDriveWay, IsBreakWay, IsStateNet}
 use Rattle.drive_breaks.specs.Inside.Unpacking.{steps_by, unpacked}
-use Rattle.drive_breaks.specs.declared.rule.BreakRule.{BreakRule}
-use Rattle.drive_breaks.specs.declared.rule.State.{State}
+use Rattle.drive_states.specs.declared.rule.BreakRule.{BreakRule}
+use Rattle.drive_states.specs.declared.rule.State.{State}
 use Rattle.drive_breaks.proofs.Since.{HasSince, has_first, has_drive, has_wait, has_break, within_since, rested_waits}
 
 abbrev pub at_place : ℕ → Position → Position

@@ -20,8 +20,8 @@ use Rattle.front_transport.proofs.Growing.{walk_after}
 use Rattle.drive_breaks.specs.Inside.StateNet.{IsStateNet}
 use Rattle.drive_breaks.specs.Inside.Unpacking.{steps_by, unpacked, IsSourced, IsUnpackedRoute, AreUnpacked, IsUnpackable}
 use Rattle.drive_breaks.specs.Rested.{AchievesRested, IsRestedFrom}
-use Rattle.drive_breaks.specs.declared.rule.BreakRule.{BreakRule}
-use Rattle.drive_breaks.specs.declared.rule.State.{State}
+use Rattle.drive_states.specs.declared.rule.BreakRule.{BreakRule}
+use Rattle.drive_states.specs.declared.rule.State.{State}
 
 some_leg : (x y : Leg) → Some x ≡ Some y → x ≡ y
 some_leg x y is = cc

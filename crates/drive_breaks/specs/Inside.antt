@@ -1,5 +1,4 @@
--- What the search for states and the net over them keep, which is no law (source: own).
+-- What the net over states keeps, which is no law (source: own).
 pub mod StateNet
-pub mod StateSearch
 pub mod Unpacking
 pub mod WithinRule

@@ -1,4 +1,3 @@
 pub mod Inside
 pub mod Rested
-pub mod StateSize
 pub mod Words

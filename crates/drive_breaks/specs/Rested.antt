@@ -10,7 +10,7 @@ use Rattle.route_base.specs.declared.types.Route.{Route}
 use Rattle.route_base.specs.declared.types.Pair.{Pair}
 use Rattle.route_base.specs.declared.types.Request.{Request}
 use Rattle.front_transport.specs.ParetoFronts.{IsParetoFront, ArrivesBefore}
-use Rattle.drive_breaks.specs.declared.rule.BreakRule.{BreakRule}
+use Rattle.drive_states.specs.declared.rule.BreakRule.{BreakRule}
 
 -- no number of the rule is above the minutes of a day, and a break has some
 pub record IsGoodRule (rule : BreakRule) : Type 0 where

@@ -5,9 +5,8 @@ pub use Rattle.node_arcs.specs.Stars.{EndsAt, AreOutgoing, arcs_of}
 pub use Rattle.front_transport.specs.CheapArcs.{HasCheapArcs}
 pub use Rattle.front_transport.specs.Inside.Tidiness.{IsTidy}
 pub use Rattle.drive_breaks.specs.Rested.{IsGoodRule, AreRightRested}
-pub use Rattle.drive_breaks.specs.StateSize.{HasTooManyStates}
+pub use Rattle.drive_states.specs.StateSize.{HasTooManyStates}
 pub use Rattle.drive_breaks.specs.Inside.StateNet.{IsArcFor, Arrives, AreBuilt, AddsWay, net_over}
-pub use Rattle.drive_breaks.specs.Inside.StateSearch.{Grows, Reaches, TakesLeg, OverflowsAt, IsExploring, IsExplored, IsStart}
-pub use Rattle.drive_breaks.specs.Inside.StateSearch.{IsSoundWay, drives_over}
+pub use Rattle.drive_states.specs.Inside.StateSearch.{IsSoundWay, IsExplored}
 pub use Rattle.drive_breaks.specs.Inside.Unpacking.{unpacked, IsSourced, IsSourcedRoute, IsUnpackedRoute, AreUnpacked}
 pub use Rattle.drive_breaks.specs.Inside.Unpacking.{stay_at}

@@ -2,14 +2,12 @@
 ghost use Rattle.std.specs.Prelude.{◌≡◌, ◌≢◌, ◌≤◌, ◌-◌, Err, IfOk};
 ghost use Rattle.drive_breaks.specs.Words.{IsGoodRequest, setting_of, HasCheapArcs, IsGoodRule};
 ghost use Rattle.drive_breaks.specs.Words.{AreRightRested, HasTooManyStates, IsExplored, stay_at};
-ghost use Rattle.drive_breaks.specs.declared.rule.BreakFault.TheVariants.{TooManyStates};
+ghost use Rattle.drive_states.specs.declared.rule.BreakFault.TheVariants.{TooManyStates};
 ghost use Rattle.route_base.specs.declared.limits.TheConstants.{LONGEST_HORIZON};
 
-use crate::exploration::{Explored, Plan, explore};
-use crate::rule::{State, Way};
 use crate::sources::unpacked_routes;
 use crate::states_as_net::{Ground, state_arcs, state_net};
-use crate::{BreakFault, BreakRule};
+use drive_states::{BreakFault, BreakRule, Explored, Plan, State, Way, explore};
 use node_arcs::NodeArcs;
 use route_base::{
     FrontSearch, Legs, Minute, NodeId, OutOfMemory, Pair, Request, Route, Routes, TimedNet,
@@ -39,7 +37,7 @@ fn routes_over<E: FrontSearch>(
     request: Request,
     rule: BreakRule,
     states: &[State],
-    ways: &[Way],
+    ways: Vec<Way>,
 ) -> Result<Vec<Route>, OutOfMemory>
     requires good { IsGoodRequest net.now request }
     requires in_time { request.depart ≤ request.until }
@@ -48,7 +46,7 @@ fn routes_over<E: FrontSearch>(
     requires cheap { HasCheapArcs net.now }
     requires away { request.origin.0 ≢ request.goal.0 }
     requires explored { IsExplored (setting_of net.now) request.origin.0 rule states.now
-        ways.now }
+        ways.items }
     ensures { IfOk result (λ routes.
         AreRightRested (setting_of net.now) request rule routes.items) }
 {
@@ -77,7 +75,7 @@ fn routes_of<E: FrontSearch>(
     net: &TimedNet,
     request: Request,
     rule: BreakRule,
-    explored: &Explored,
+    explored: Explored,
 ) -> Result<Vec<Route>, OutOfMemory>
     requires good { IsGoodRequest net.now request }
     requires in_time { request.depart ≤ request.until }
@@ -85,23 +83,16 @@ fn routes_of<E: FrontSearch>(
     requires rule { IsGoodRule rule }
     requires cheap { HasCheapArcs net.now }
     requires explored { IsExplored (setting_of net.now) request.origin.0 rule
-        explored.now.states explored.now.ways.items }
+        explored.states explored.ways.items }
     ensures { IfOk result (λ routes.
         AreRightRested (setting_of net.now) request rule routes.items) }
 {
     if request.origin.0 == request.goal.0 {
         return stay(alloc, request.depart);
     }
+    let ways = explored.ways;
     let states = explored.states.as_slice();
-    routes_over(
-        alloc,
-        engine,
-        net,
-        request,
-        rule,
-        states,
-        explored.ways.as_slice(),
-    )
+    routes_over(alloc, engine, net, request, rule, states, ways)
 }
 
 /// The Pareto front of arrival and cost over all lawful itineraries that keep the break rule, by rising arrival, each pair with the
@@ -138,7 +129,7 @@ pub fn plan_breaks<E: FrontSearch>(
         rule,
     };
     let explored = explore(alloc, plan)?;
-    match routes_of(alloc, engine, net, request, rule, &explored) {
+    match routes_of(alloc, engine, net, request, rule, explored) {
         Ok(routes) => Ok(Routes::from_vec(routes)),
         Err(_) => Err(BreakFault::OutOfMemory),
     }

@@ -5,8 +5,7 @@ ghost use Rattle.drive_breaks.specs.Words.{AreBuilt, AddsWay, net_over};
 ghost use Rattle.front_transport.specs.declared.limits.TheConstants.{MOST_STATES};
 ghost use Rattle.route_base.specs.declared.limits.TheConstants.{DAY_MINUTES};
 
-use crate::BreakRule;
-use crate::rule::{State, Way};
+use drive_states::{BreakRule, State, Way};
 use front_transport::copied_lists;
 use route_base::{ArcId, Leg, NodeId, OutOfMemory, Park, TimedArc, TimedNet};
 use std::alloc::Global;
@@ -130,8 +129,24 @@ fn push_way(ground: Ground<'_>, built: &mut StateArcs, way: Way) -> Result<(), O
     push_arc(built, TimedArc { head: last, ..arc }, way.leg)
 }
 
-/// The arcs of all ways, each with its leg, and copies of those that arrive. Linear in the ways.
-pub fn state_arcs(alloc: Global, ground: Ground<'_>, ways: &[Way]) -> Result<StateArcs, OutOfMemory>
+/// The arcs of all ways, each with its leg, and copies of those that arrive. Linear in the ways, whose memory is given back.
+pub fn state_arcs(
+    alloc: Global,
+    ground: Ground<'_>,
+    ways: Vec<Way>,
+) -> Result<StateArcs, OutOfMemory>
+    requires sound { All (IsSoundWay (setting_of ground.net.now) ground.rule ground.states.now)
+        ways.items }
+    requires rest { ground.rule.rest ≤ DAY_MINUTES }
+    requires small { length ground.states.now ≤ MOST_STATES }
+    ensures { IfOk result (λ built. AreBuilt ground.entry.net.now ground.entry.states.now
+        ground.entry.goal.0 ways.items built.arcs.items built.sources.items) }
+{
+    way_arcs(alloc, ground, ways.as_slice())
+}
+
+// The arcs of these ways.
+fn way_arcs(alloc: Global, ground: Ground<'_>, ways: &[Way]) -> Result<StateArcs, OutOfMemory>
     requires sound { All (IsSoundWay (setting_of ground.net.now) ground.rule ground.states.now)
         ways.now }
     requires rest { ground.rule.rest ≤ DAY_MINUTES }

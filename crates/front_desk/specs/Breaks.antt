@@ -7,8 +7,8 @@ use Rattle.route_base.specs.declared.faults.RequestFault.{RequestFault}
 use Rattle.route_base.specs.declared.faults.RequestFault.TheVariants.{TooManyStates}
 use Rattle.route_base.specs.declared.types.Route.{Route}
 use Rattle.drive_breaks.specs.Rested.{AreRightRested}
-use Rattle.drive_breaks.specs.StateSize.{HasTooManyStates}
-use Rattle.drive_breaks.specs.declared.rule.BreakRule.{BreakRule}
+use Rattle.drive_states.specs.StateSize.{HasTooManyStates}
+use Rattle.drive_states.specs.declared.rule.BreakRule.{BreakRule}
 use Rattle.plan_report.specs.Plain.{plain_text_of}
 use Rattle.front_words.specs.declared.commands.Breaks.{Breaks}
 use Rattle.network_folder.specs.ReadingOrder.{first_folder_fault, network_held}

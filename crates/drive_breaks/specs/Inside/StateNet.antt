@@ -7,9 +7,9 @@ use Rattle.route_base.specs.declared.types.Leg.{Leg}
 use Rattle.route_base.specs.declared.types.Leg.TheVariants.{Drive, Wait}
 use Rattle.route_base.specs.declared.types.Park.{Park}
 use Rattle.route_base.specs.declared.types.TimedArc.{TimedArc}
-use Rattle.drive_breaks.specs.declared.rule.BreakRule.{BreakRule}
-use Rattle.drive_breaks.specs.declared.rule.State.{State}
-use Rattle.drive_breaks.specs.declared.rule.Way.{Way}
+use Rattle.drive_states.specs.declared.rule.BreakRule.{BreakRule}
+use Rattle.drive_states.specs.declared.rule.State.{State}
+use Rattle.drive_states.specs.declared.rule.Way.{Way}
 
 -- this road over states is a drive from the state, which ends in a state or in the node behind all states
 pub record IsDriveWay (s z : Setting) (rule : BreakRule) (goal : ℕ) (states : List State) (from : State) (x : ℕ) (road : Road) (leg : Leg) : Type 0 where

@@ -10,7 +10,7 @@ use Rattle.route_base.specs.declared.types.Request.{Request}
 use Rattle.route_base.specs.declared.types.Route.{Route}
 use Rattle.front_transport.specs.Inside.Tidiness.{IsTidy}
 use Rattle.drive_breaks.specs.Rested.{IsRestedFrom}
-use Rattle.drive_breaks.specs.declared.rule.BreakRule.{BreakRule}
+use Rattle.drive_states.specs.declared.rule.BreakRule.{BreakRule}
 
 -- the steps of an arc's leg
 abbrev pub steps_by : Option Leg → List Step

@@ -3,7 +3,7 @@ use Rattle.std.specs.Prelude.{◌⊎◌, ℕ, ◌+◌, ◌≤◌, ⊤, Option, L
 use Rattle.route_base.specs.Setting.{Road}
 use Rattle.route_base.specs.Itinerary.{Step, drive, wait}
 use Rattle.drive_breaks.specs.Rested.{driven, minutes_of, IsSinceBreak}
-use Rattle.drive_breaks.specs.declared.rule.BreakRule.{BreakRule}
+use Rattle.drive_states.specs.declared.rule.BreakRule.{BreakRule}
 
 -- a drive of these minutes behind steps, the last first, is within the rule since the start, or since some break
 abbrev pub IsWithinRule : (ℕ → Option Road) → BreakRule → List Step → ℕ → Type 0

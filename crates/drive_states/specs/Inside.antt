@@ -1,0 +1,3 @@
+-- What the search for states keeps, which is no law (source: own).
+pub mod Numbering
+pub mod StateSearch
