@@ -1,4 +1,5 @@
 pub mod Cuts
+pub mod PlainArcs
 pub mod ReadSoFar
 pub mod Rows
 pub mod Says

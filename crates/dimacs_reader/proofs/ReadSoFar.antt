@@ -9,6 +9,7 @@ use Rattle.dimacs_reader.specs.declared.graph.GraphArc.{GraphArc}
 use Rattle.dimacs_reader.specs.declared.lines.Line.{Line}
 use Rattle.dimacs_reader.specs.declared.lines.Line.TheVariants.{Ignored, Problem, Arc, Bad}
 use Rattle.dimacs_reader.specs.Inside.Builder.{stated_after}
+use Rattle.dimacs_reader.specs.Inside.PlainLines.{IsFirstLine}
 use Rattle.dimacs_reader.specs.Faults.{cause_in, end_cause_in, cause_of, cause_of_problem, cause_at_end, fault_from, first_fault, fault_of}
 use Rattle.dimacs_reader.specs.Lines.{line_of, lines_of, lines_in}
 use Rattle.dimacs_reader.specs.Stated.{Stated, stated_in, sizes_in, arcs_in, arc_with}
@@ -64,7 +65,7 @@ pub read_none : (bytes : List ℕ) → HasReadLines bytes bytes 1 (record { size
 unfolding stated_in fault_of first_fault
 read_none bytes = record { before = []; number_is = refl; stated_is = refl; lines = refl; fault = refl; few = omega arith }
 
-lines_next : (rest text more : List ℕ) (line : Line) → lines_of rest ≡ text ∷ lines_of more → line ≡ line_of text
+pub lines_next : (rest text more : List ℕ) (line : Line) → lines_of rest ≡ text ∷ lines_of more → line ≡ line_of text
     → lines_in rest ≡ line ∷ lines_in more
 unfolding lines_in
 lines_next rest text more line cuts says = ap (map line_of) cuts ∙ ap (λ l. l ∷ lines_in more) (sym says)
@@ -80,12 +81,11 @@ unfolding cause_of
 fault_here before line more cause e = ap (λ o. option_or (option_map (λ why. (length before + 1, why)) o) (fault_from (before ++ line ∷ []) more)) e
 
 -- one line more, without a fault
-pub read_more : (bytes rest text more : List ℕ) (number : ℕ) (stated : Stated) (line : Line) → HasReadLines bytes rest number stated
-    → lines_of rest ≡ text ∷ lines_of more → length more < length rest → line ≡ line_of text → cause_in stated line ≡ None
-    → HasReadLines bytes more (number + 1) (stated_after stated line)
-read_more bytes rest text more number stated line h cuts less says none =
+pub read_more : (bytes rest more : List ℕ) (number : ℕ) (stated : Stated) (line : Line) → HasReadLines bytes rest number stated
+    → IsFirstLine rest line more → cause_in stated line ≡ None → HasReadLines bytes more (number + 1) (stated_after stated line)
+read_more bytes rest more number stated line h first none =
     let here : cause_in (stated_in h.before) line ≡ None = sym (ap (λ s. cause_in s line) h.stated_is) ∙ none in
-    let next : lines_in rest ≡ line ∷ lines_in more = lines_next rest text more line cuts says in
+    let next : lines_in rest ≡ line ∷ lines_in more = first.cut in
     let count : length (h.before ++ line ∷ []) ≡ length h.before + 1 = length-append h.before (line ∷ []) in
     record {
       before = h.before ++ line ∷ [];
@@ -93,17 +93,17 @@ read_more bytes rest text more number stated line h cuts less says none =
       stated_is = ap (λ s. stated_after s line) h.stated_is ∙ stated_more h.before line here;
       lines = h.lines ∙ ap (λ ls. h.before ++ ls) next ∙ sym (append_assoc h.before (line ∷ []) (lines_in more));
       fault = h.fault ∙ ap (fault_from h.before) next ∙ fault_next h.before line (lines_in more) here;
-      few = let e = h.few in omega arith;
+      few = let e = h.few in let less = first.less in omega arith;
     }
 
 -- a line with a fault
-pub line_refused : (bytes rest text more : List ℕ) (number : ℕ) (stated : Stated) (line : Line) (cause : Cause)
-    → HasReadLines bytes rest number stated → lines_of rest ≡ text ∷ lines_of more → line ≡ line_of text → cause_in stated line ≡ Some cause
+pub line_refused : (bytes rest more : List ℕ) (number : ℕ) (stated : Stated) (line : Line) (cause : Cause)
+    → HasReadLines bytes rest number stated → IsFirstLine rest line more → cause_in stated line ≡ Some cause
     → fault_of bytes ≡ Some (number, cause)
-line_refused bytes rest text more number stated line cause h cuts says why =
+line_refused bytes rest more number stated line cause h first why =
     let here : cause_in (stated_in h.before) line ≡ Some cause = sym (ap (λ s. cause_in s line) h.stated_is) ∙ why in
     h.fault
-    ∙ ap (fault_from h.before) (lines_next rest text more line cuts says)
+    ∙ ap (fault_from h.before) first.cut
     ∙ fault_here h.before line (lines_in more) cause here
     ∙ ap (λ n. Some (n, cause)) (sym h.number_is)
 

@@ -4,7 +4,7 @@ ghost use Rattle.dimacs_reader.specs.Faults.{fault_of, IsRefusal, HasCauseOfCont
 ghost use Rattle.dimacs_reader.specs.GraphModel.{graph_of};
 
 use crate::builder::GraphBuilder;
-use crate::lines::{next_line, read_line};
+use crate::plain_lines::read_first_line;
 use crate::{Graph, GraphFault};
 use std::alloc::Global;
 
@@ -24,8 +24,7 @@ pub fn read_graph(alloc: Global, bytes: &[u8]) -> Result<Graph, GraphFault>
     let mut builder = GraphBuilder::new(alloc);
     let mut rest = bytes;
     let mut number: u64 = 1;
-    'lines: while let Some((text, more)) = next_line(rest) {
-        let line = read_line(text);
+    'lines: while let Some((line, more)) = read_first_line(rest) {
         if let Some(cause) = builder.cause(line) {
             return Err(GraphFault::BadLine {
                 line: number,

@@ -5,7 +5,8 @@
 //! `Faults` (the first fault of a file, with its line and cause) and `GraphModel` (the graph that the lines state, and the limits
 //! of each graph). `read_graph` meets it for every list of bytes: it returns the graph of a file without a fault, and refuses
 //! any other with its first fault. Only running out of memory can take the place of either. `next_line` gives lines one by one, for
-//! readers of other files too. `Inside` is no law: it has the invariant of the builder.
+//! readers of other files too. `plain_lines` reads the common form of an arc line in one pass over its bytes. `Inside` is no law: it
+//! has the invariant of the builder, and says when a line is read off the front of a file.
 #![tactic(auto)]
 
 mod builder;
@@ -13,6 +14,7 @@ mod faults;
 mod graph;
 mod graph_file;
 mod lines;
+mod plain_lines;
 mod threads;
 
 pub use faults::GraphFault;

@@ -9,14 +9,14 @@ lines-init c = subst (λ (s : Stated). HasReadLines c.args.bytes.now c.args.byte
 pub lines-preserved : goal.lines-preserved
 lines-preserved c =
     subst (λ (s : Stated). HasReadLines c.args.bytes.now c.in-Some.more.now (c.lines.number + 1) s) (sym c.in_ok-add.ensures.added)
-    (read_more c.args.bytes.now c.lines.rest.now c.in-Some.text.now c.in-Some.more.now c.lines.number c.lines.builder
-    c.read_line-line.result c.lines.invariant c.in-Some.ensures.cut c.in-Some.ensures.less c.read_line-line.ensures
+    (read_more c.args.bytes.now c.lines.rest.now c.in-Some.more.now c.lines.number c.lines.builder
+    c.in-Some.line c.lines.invariant c.in-Some.ensures.first
     (sym c.cause.ensures ∙ c.in_default-cause.is))
 
 pub returns-in-Some-cause-clause-refused : goal.returns-in-Some-cause-clause-refused
 returns-in-Some-cause-clause-refused c =
-    line_refused c.args.bytes.now c.lines.rest.now c.in-Some.text.now c.in-Some.more.now c.lines.number c.lines.builder
-    c.read_line-line.result c.in-Some-cause.cause c.lines.invariant c.in-Some.ensures.cut c.read_line-line.ensures
+    line_refused c.args.bytes.now c.lines.rest.now c.in-Some.more.now c.lines.number c.lines.builder
+    c.in-Some.line c.in-Some-cause.cause c.lines.invariant c.in-Some.ensures.first
     (sym c.cause.ensures ∙ c.in-Some-cause.is)
 
 pub overflow_add-number : goal.overflow_add-number

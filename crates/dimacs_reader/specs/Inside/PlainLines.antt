@@ -1,0 +1,16 @@
+-- Plain lines: the first line of a file, and the digits before a mark (source: own; no law).
+use Rattle.std.specs.Prelude.{◌≡◌, ◌<◌, ℕ, Option, Some, List, ◌∷◌, ◌++◌, length}
+use Rattle.route_base.specs.Digits.{number_of}
+use Rattle.dimacs_reader.specs.declared.lines.Line.{Line}
+use Rattle.dimacs_reader.specs.Lines.{lines_in}
+
+-- the meaning of the first line of a file, and what follows the line
+pub record IsFirstLine (bytes : List ℕ) (line : Line) (rest : List ℕ) : Type 0 where
+  pub cut : lines_in bytes ≡ line ∷ lines_in rest
+  pub less : length rest < length bytes
+
+-- the number of the digits before the mark, and what follows the mark
+pub record IsNumberBefore (mark : ℕ) (bytes : List ℕ) (n : ℕ) (rest : List ℕ) : Type 0 where
+  pub digits : List ℕ
+  pub parts : bytes ≡ digits ++ mark ∷ rest
+  pub number : number_of digits ≡ Some n
