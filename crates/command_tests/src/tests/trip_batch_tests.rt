@@ -1,10 +1,10 @@
 // The texts of jobs on several numbers of workers.
 ghost use Rattle.std.specs.Prelude.{◌≡◌, ◌≤◌, length};
 
-use route_base::{JobText, NoGate, OutOfMemory};
+use route_base::{Gate, JobText, NoGate, OutOfMemory};
 use std::alloc::Global;
 use std::thread::Threads;
-use trip_batch::{JobPlanner, run_batch};
+use trip_batch::{JobPlanner, PartPlanner, run_batch, run_in_order};
 
 // Plans job k as a text of k bytes.
 #[derive(Drop)]
@@ -21,6 +21,34 @@ impl JobPlanner for Lengths {
     fn plan_job(&self, job: usize) -> Result<JobText, OutOfMemory> {
         let text = vec![in self.alloc; b'x'; job]?;
         Ok(JobText::from_vec(text))
+    }
+}
+
+// Plans at place k the job of the eleven that is as far from the last one, as a text of so many bytes as its number.
+#[derive(Drop)]
+struct LastFirst {
+    alloc: Global,
+}
+
+impl PartPlanner for LastFirst {
+    ghost use Rattle.std.specs.Prelude.{◌≡◌, ◌+◌, length};
+
+    ghost jobs = { λ _. 11 };
+
+    ghost is_right = { λ _ place text. place + length text ≡ 10 };
+
+    fn plan_part<G: Gate>(
+        &self,
+        from: usize,
+        to: usize,
+        gate: &G,
+    ) -> Result<Vec<JobText>, OutOfMemory> {
+        let mut texts = Vec::new(self.alloc);
+        for place in from..to {
+            gate.enter(10 - place);
+            texts.push(JobText::from_vec(vec![in self.alloc; b'x'; 10 - place]?))?;
+        }
+        Ok(texts)
     }
 }
 
@@ -50,6 +78,36 @@ fn gives_the_texts_in_the_order_of_the_jobs(rt: HostRuntime) {
     for workers in [1, 2, 3, 11, 64] {
         assert!(rt;
             plan_in_order(&rt, rt.alloc(), workers),
+            "{workers} workers"
+        );
+    }
+}
+
+// The eleven jobs, the last one first.
+const LAST_FIRST: &[usize] = &[10, 9, 8, 7, 6, 5, 4, 3, 2, 1, 0];
+
+// Whether this many workers, who plan the last of eleven jobs first, give their texts in the order of the jobs.
+fn plan_last_first<R: Threads + Sync>(rt: &R, alloc: Global, workers: usize) -> bool
+    requires { 1 ≤ workers }
+{
+    match run_in_order(
+        rt,
+        alloc,
+        &LastFirst { alloc },
+        LAST_FIRST,
+        workers,
+        &NoGate,
+    ) {
+        Ok(texts) => are_in_order(texts.as_slice()),
+        Err(_) => false,
+    }
+}
+
+#[test]
+fn gives_texts_in_the_order_of_jobs_that_are_planned_in_another(rt: HostRuntime) {
+    for workers in [1, 2, 3, 11, 64] {
+        assert!(rt;
+            plan_last_first(&rt, rt.alloc(), workers),
             "{workers} workers"
         );
     }
