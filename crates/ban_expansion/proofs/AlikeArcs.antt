@@ -15,12 +15,13 @@ use Rattle.conditional_rules.specs.Decisions.{last_given}
 use Rattle.conditional_rules.specs.declared.access.Access.{Access}
 use Rattle.conditional_rules.specs.declared.access.Access.TheVariants.{Free}
 use Rattle.conditional_rules.specs.declared.conditional.Clause.{Clause}
-use Rattle.network_tables.specs.Access.{access_given, area_at, area_place, decision_at, given_at, is_closed, places_of}
+use Rattle.network_tables.specs.Access.{access_given, area_at, area_place, decision_at, given_at, is_closed, is_let_in, places_of}
 use Rattle.network_tables.specs.NetworkModel.{NetworkModel, closures_of}
 use Rattle.network_tables.specs.Rules.{access_in, clauses_in, conditional_at, has_arc_rules, plain_at}
 use Rattle.network_tables.specs.declared.rules.place.RulePlace.{RulePlace}
 use Rattle.network_tables.specs.declared.rules.place.Scope.TheVariants as scopes
 use Rattle.network_tables.proofs.ArcRules.{no_arc_value}
+use Rattle.ban_expansion.specs.Inside.AreaBans.{IsPlainIn}
 use Rattle.ban_expansion.specs.Inside.Grouping.{AreAlike, HaveSameRules, every_key, has_own, has_own_rule}
 use Rattle.ban_expansion.proofs.ItemLists.{got_fails}
 
@@ -73,46 +74,59 @@ module _ (net : NetworkModel) (vehicle : VehicleModel) (a b t : ℕ) where
   abbrev decides : ℕ → Option (List Clause) → Option Access
   decides n = option_and_then (decision_at vehicle (area_at net n).zone (area_at net n).holidays t)
 
-  same_given : (n : ℕ) (chain : List Key) → AreAlike net a b
+  same_given : (n : ℕ) (chain : List Key) → ((key : Key) → HaveSameRules net a b key)
       → last_given (given n) (places_of n a chain) ≡ last_given (given n) (places_of n b chain)
   same_given n [] same = refl
   same_given n (key ∷ chain) same =
       let rest = same_given n chain same in
-      λ i. option_or (option_or (option_or (option_or (rest i) (decides n (same.conditional key i))) (same.plain key i))
+      λ i. option_or (option_or (option_or (option_or (rest i) (decides n ((same key).conditional i))) ((same key).plain i))
       (decides n (conditional_at net.rules (scopes.Area n) key))) (plain_at net.rules (scopes.Area n) key)
+
+  pub let_in_alike : area_place net a ≡ area_place net b → ((key : Key) → HaveSameRules net a b key)
+      → is_let_in net vehicle a t ≡ is_let_in net vehicle b t
+  let_in_alike area same =
+      let chain = keys_of vehicle.class in
+      let access : access_given net vehicle a t chain ≡ access_given net vehicle b t chain =
+      ap (λ (n : ℕ). last_given (given n) (places_of n a chain)) area ∙ same_given (area_place net b) chain same in
+      λ i. lets_purpose_in (unwrap_or (access i) Free) vehicle.purpose
 
   pub closed_alike : AreAlike net a b → is_closed net vehicle a t ≡ is_closed net vehicle b t
   closed_alike same =
-      let chain = keys_of vehicle.class in
-      let access : access_given net vehicle a t chain ≡ access_given net vehicle b t chain =
-      ap (λ (n : ℕ). last_given (given n) (places_of n a chain)) same.area ∙ same_given (area_place net b) chain same in
-      λ i. not (lets_purpose_in (unwrap_or (access i) Free) vehicle.purpose) || any_has (same.closures i) t
+      let inside = let_in_alike same.area (λ key. record { plain = same.plain key; conditional = same.conditional key }) in
+      λ i. not (inside i) || any_has (same.closures i) t
 
 module _ (net : NetworkModel) where
-  record HasNothing (a : ℕ) : Type 0 where
-    closures : closures_of net a ≡ []
-    plain : (key : Key) → plain_at net.rules (scopes.Arc a) key ≡ None
-    conditional : (key : Key) → conditional_at net.rules (scopes.Arc a) key ≡ None
+  has_no_rules : (a : ℕ) → list_any (has_own_rule net a) every_key ≡ false → (key : Key)
+      → (plain_at net.rules (scopes.Arc a) key ≡ None) × (conditional_at net.rules (scopes.Arc a) key ≡ None)
+  has_no_rules a none key =
+      let values = or_parts (is_some (plain_at net.rules (scopes.Arc a) key)) (is_some (conditional_at net.rules (scopes.Arc a) key))
+      (no_key (has_own_rule net a) none key) in
+      (
+        none_from_test (plain_at net.rules (scopes.Arc a) key) values.0,
+        none_from_test (conditional_at net.rules (scopes.Arc a) key) values.1,
+      )
 
-  has_nothing : (a : ℕ) → has_own net a ≡ false → HasNothing a
-  has_nothing a none =
-      let parts = or_parts (ltb 0 (length (closures_of net a))) (list_any (has_own_rule net a) every_key) none in
-      let values : (key : Key) → (is_some (plain_at net.rules (scopes.Arc a) key) ≡ false) × (is_some (conditional_at net.rules (scopes.Arc a) key) ≡ false) =
-      λ key. or_parts (is_some (plain_at net.rules (scopes.Arc a) key)) (is_some (conditional_at net.rules (scopes.Arc a) key))
-      (no_key (has_own_rule net a) parts.1 key) in
-      record {
-        closures = no_items (closures_of net a) parts.0;
-        plain = λ key. none_from_test (plain_at net.rules (scopes.Arc a) key) (values key).0;
-        conditional = λ key. none_from_test (conditional_at net.rules (scopes.Arc a) key) (values key).1;
-      }
+  -- arcs without rules of their own have the same ones
+  same_without : (a b : ℕ) → list_any (has_own_rule net a) every_key ≡ false → list_any (has_own_rule net b) every_key ≡ false
+      → (key : Key) → HaveSameRules net a b key
+  same_without a b none_a none_b key = record {
+    plain = (has_no_rules a none_a key).0 ∙ sym (has_no_rules b none_b key).0;
+    conditional = (has_no_rules a none_a key).1 ∙ sym (has_no_rules b none_b key).1;
+  }
+
+  -- arcs of one area without rules of their own let a vehicle in at the same minutes
+  pub let_in_same : (vehicle : VehicleModel) (area a b t : ℕ) → IsPlainIn net area a → IsPlainIn net area b
+      → is_let_in net vehicle a t ≡ is_let_in net vehicle b t
+  let_in_same vehicle area a b t one two = let_in_alike net vehicle a b t (one.place ∙ sym two.place) (same_without a b one.rules two.rules)
 
   pub nothing_own : (a b : ℕ) → area_place net a ≡ area_place net b → has_own net a ≡ false → has_own net b ≡ false → AreAlike net a b
   nothing_own a b area none_a none_b =
-      let of_a = has_nothing a none_a in
-      let of_b = has_nothing b none_b in
+      let of_a = or_parts (ltb 0 (length (closures_of net a))) (list_any (has_own_rule net a) every_key) none_a in
+      let of_b = or_parts (ltb 0 (length (closures_of net b))) (list_any (has_own_rule net b) every_key) none_b in
+      let rules = same_without a b of_a.1 of_b.1 in
       record {
         area = area;
-        closures = of_a.closures ∙ sym of_b.closures;
-        plain = λ key. of_a.plain key ∙ sym (of_b.plain key);
-        conditional = λ key. of_a.conditional key ∙ sym (of_b.conditional key);
+        closures = no_items (closures_of net a) of_a.0 ∙ sym (no_items (closures_of net b) of_b.0);
+        plain = λ key. (rules key).plain;
+        conditional = λ key. (rules key).conditional;
       }

@@ -1,3 +1,4 @@
+pub mod AreaBans
 pub mod GroupedNets
 pub mod Grouping
 pub mod ShutLists

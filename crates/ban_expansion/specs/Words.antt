@@ -11,6 +11,7 @@ pub use Rattle.network_tables.specs.NetworkModel.{NetworkModel, closures_of, par
 pub use Rattle.network_tables.specs.Parks.{HasTimetable, IsTimedIn}
 pub use Rattle.ban_expansion.specs.ArcGroups.{AreGroups, IsArc, IsInGroup}
 pub use Rattle.ban_expansion.specs.Bans.{HasThose, IsNetFor, Lays}
+pub use Rattle.ban_expansion.specs.Inside.AreaBans.{AreBarred}
 pub use Rattle.ban_expansion.specs.Inside.GroupedNets.{AreClosedLists, AreClosedOnce, AreTimed, IsTimedArc, timed_over}
 pub use Rattle.ban_expansion.specs.Inside.ShutLists.{AreParks, AreShutLists, park_over}
 pub use Rattle.ban_expansion.specs.Inside.Grouping.{AreAlike, AreGrouped, AreShared, HaveSameRules, IsNext}

@@ -3,7 +3,7 @@ ghost use Rattle.std.specs.Prelude.{◌<◌, ◌+◌, ◌≤◌, All, map, IfOk}
 ghost use Rattle.std.specs.Thread.{IsSync};
 ghost use Rattle.ban_expansion.specs.Words.{AreClosedLists, IsArc, IsWindow};
 
-use crate::closed_sets::closed_set;
+use crate::area_bans::AreaBans;
 use network_tables::Network;
 use route_base::{ArcId, Gate, OutOfMemory, Run};
 use std::alloc::Global;
@@ -26,9 +26,10 @@ pub fn closed_lists(
     ensures { IfOk result (λ lists. AreClosedLists network.now vehicle.now window firsts.now
         (map (λ v. v.items) lists.items)) }
 {
+    let mut bans = AreaBans::new(alloc, network.area_count())?;
     let mut lists = Vec::with_capacity(alloc, firsts.len())?;
     for first in firsts {
-        let set = closed_set(alloc, network, vehicle, *first, window)?;
+        let set = bans.closed_to(alloc, network, vehicle, *first, window)?;
         lists.push(set.into_runs())?;
     }
     Ok(lists)

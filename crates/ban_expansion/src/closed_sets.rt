@@ -1,6 +1,6 @@
 // The minutes of a window at which an arc is closed to a vehicle.
-ghost use Rattle.std.specs.Prelude.{◌≤◌, ◌<◌, not, length, IfOk};
-ghost use Rattle.ban_expansion.specs.Words.{any_has, AreRuns, last_given, closures_of, IsWindow};
+ghost use Rattle.std.specs.Prelude.{◌≡◌, ◌≤◌, ◌<◌, ◌&&◌, ℕ, not, length, IfOk};
+ghost use Rattle.ban_expansion.specs.Words.{any_has, has_minute, AreRuns, last_given, closures_of, IsWindow, VehicleModel};
 ghost use Rattle.ban_expansion.specs.Words.{area_at, given_at, places_of_key, is_let_in, is_closed, HasThose, Lays};
 
 use crate::circumstances::Circumstances;
@@ -40,8 +40,8 @@ fn lay_key(
     Ok(closed)
 }
 
-// The minutes of the window at which the arc's access doesn't let the vehicle in.
-fn barred_set(
+/// The minutes of the window at which the arc's access doesn't let the vehicle in.
+pub fn barred_set(
     alloc: Global,
     network: &Network,
     vehicle: &Vehicle,
@@ -63,8 +63,18 @@ fn barred_set(
     Ok(closed)
 }
 
-// The minutes of the window that are in closures of the arc.
-fn closure_set(
+// The minutes of the window that a run has.
+fn clipped(run: Run, window: Run) -> Run
+    ensures { (t : ℕ) → has_minute t result ≡ (has_minute t window && has_minute t run) }
+{
+    Run {
+        lo: run.lo.max(window.lo),
+        hi: run.hi.min(window.hi),
+    }
+}
+
+// The minutes of the window that are in closures of the arc, of any number.
+fn merged_closures(
     alloc: Global,
     network: &Network,
     a: ArcId,
@@ -72,7 +82,8 @@ fn closure_set(
 ) -> Result<MinuteSet, OutOfMemory>
     requires low { 1 ≤ a.0 }
     requires high { a.0 ≤ length network.now.graph.arcs }
-    ensures { IfOk result (HasThose window (any_has (closures_of network.now a.0))) }
+    ensures minutes { IfOk result (HasThose window (any_has (closures_of network.now a.0))) }
+    ensures runs { IfOk result AreRuns }
 {
     let count = network.closure_count(a);
     let mut runs = Vec::with_capacity(alloc, count)?;
@@ -82,6 +93,53 @@ fn closure_set(
     let closures = MinuteSet::from_runs(alloc, runs.as_slice())?;
     let set = MinuteSet::whole(alloc, window)?.intersection(alloc, &closures)?;
     Ok(set)
+}
+
+// The minutes of the window that are in closures of the arc.
+fn closure_set(
+    alloc: Global,
+    network: &Network,
+    a: ArcId,
+    window: Run,
+) -> Result<MinuteSet, OutOfMemory>
+    requires low { 1 ≤ a.0 }
+    requires high { a.0 ≤ length network.now.graph.arcs }
+    ensures minutes { IfOk result (HasThose window (any_has (closures_of network.now a.0))) }
+    ensures runs { IfOk result AreRuns }
+{
+    let count = network.closure_count(a);
+    if count == 0 {
+        return Ok(MinuteSet::empty(alloc));
+    }
+    if count == 1 {
+        let run = network.closure(a, 0);
+        let set = MinuteSet::whole(alloc, clipped(run, window))?;
+        return Ok(set);
+    }
+    merged_closures(alloc, network, a, window)
+}
+
+/// The minutes of the window at which the arc is closed to a vehicle, of which the barred ones are those at which its access doesn't
+/// let the vehicle in. Linear in their runs; beside, n log n for n closures.
+pub fn closed_over(
+    alloc: Global,
+    network: &Network,
+    barred: &MinuteSet,
+    a: ArcId,
+    window: Run,
+) -> Result<MinuteSet, OutOfMemory>
+    requires low { 1 ≤ a.0 }
+    requires high { a.0 ≤ length network.now.graph.arcs }
+    ensures minutes { IfOk result (λ set. (vehicle : VehicleModel) →
+        HasThose window (λ t. not (is_let_in network.now vehicle a.0 t)) barred.now
+        → HasThose window (is_closed network.now vehicle a.0) set) }
+    ensures runs { IfOk result AreRuns }
+{
+    let closures = closure_set(alloc, network, a, window)?;
+    if barred.runs().is_empty() {
+        return Ok(closures);
+    }
+    barred.union(alloc, &closures)
 }
 
 /// The minutes of the window at which the arc is closed to the vehicle.
@@ -103,5 +161,5 @@ pub fn closed_set(
     ensures runs { IfOk result AreRuns }
 {
     let barred = barred_set(alloc, network, vehicle, a, window)?;
-    barred.union(alloc, &closure_set(alloc, network, a, window)?)
+    closed_over(alloc, network, &barred, a, window)
 }

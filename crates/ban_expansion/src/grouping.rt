@@ -38,8 +38,8 @@ fn has_rule(network: &Network, a: ArcId, key: Key) -> bool
     network.arc_plain(a, key).is_some() || network.arc_conditional(a, key).is_some()
 }
 
-// Whether the arc has a rule of its own for any key.
-fn has_rules(network: &Network, a: ArcId) -> bool
+/// Whether the arc has a rule of its own for any key. In constant time on average.
+pub fn has_rules(network: &Network, a: ArcId) -> bool
     ensures { result ≡ list_any (has_own_rule network.now a.0) every_key }
 {
     network.has_arc_rules() && EVERY_KEY.iter().any(|key| has_rule(network, a, *key))
@@ -52,6 +52,14 @@ fn has_any(network: &Network, a: ArcId) -> bool
     ensures { result ≡ has_own network.now a.0 }
 {
     network.closure_count(a) > 0 || has_rules(network, a)
+}
+
+// Whether the arc has one or two closures and no rules of its own, as no arc has: its set takes less than a digest.
+fn has_short_set(network: &Network, a: ArcId) -> bool
+    requires low { 1 ≤ a.0 }
+    requires high { a.0 ≤ length network.now.graph.arcs }
+{
+    !network.has_arc_rules() && network.closure_count(a) <= 2
 }
 
 // No group for each of these areas.
@@ -138,12 +146,17 @@ impl Grouping {
         Ok(())
     }
 
-    // Groups the arc at place k from 0, which has something of its own. It shares the group of an arc like it, or begins a group.
+    // Groups the arc at place k from 0, which has something of its own. It shares the group of an arc like it, or begins a group; an
+    // arc with a short set begins one without a look for such an arc.
     fn add_own(&mut self, alloc: Global, network: &Network, k: u32) -> Result<(), OutOfMemory>
         requires { IsNext network.now k self.old }
         ensures { OnOk result (AreGrouped network.now (k + 1) self.new) }
     {
         let a = ArcId(k + 1);
+        if has_short_set(network, a) {
+            self.all.begin(a)?;
+            return Ok(());
+        }
         let digest = arc_digest(alloc, network, a)?;
         if let Some(group) = self.group_of_alike(alloc, network, a, digest)? {
             self.all.join(group)?;
@@ -182,7 +195,8 @@ impl Grouping {
 
 /// The arcs of the network in groups, so that one `closed_set` for each group serves all its arcs, for every vehicle and every
 /// window. Arcs of one area that have the same closures and the same rules of their own, or none, share a group. They are found by
-/// digests, so where arcs that differ have one digest there may be more groups than that.
+/// digests, so where arcs that differ have one digest there may be more groups than that; and where no arc has rules of its own, each
+/// arc with one or two closures has a group of its own, which takes less than its digest.
 ///
 /// Where some arc has rules of its own, it takes fourteen look-ups of rules for an arc; and some more for an arc that has closures or
 /// rules of its own. It is linear in areas, arcs, the closures of single arcs, and the bytes of the canonical texts of their

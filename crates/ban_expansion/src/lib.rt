@@ -5,7 +5,8 @@
 //! closed to it. `closed_at` meets it for one instant, `closed_set` for all minutes of a window at once, and `expand_plain` makes
 //! a net of all arcs that stands for `road_setting` within the window.
 //!
-//! Arcs of one area with the same closures and the same rules of their own share a set. `arc_digests` finds arcs that may be
+//! Arcs of one area with the same closures and the same rules of their own share a set; and arcs of one area without rules of their
+//! own share its barred minutes (`area_bans`). `arc_digests` finds arcs that may be
 //! alike, and `arc_comparison` compares them exactly. The grouping serves all vehicles and windows: `group_arcs` finds it once
 //! for a network, and `expand_groups` makes the net of a vehicle and a window over these groups. Where many nets of one network
 //! are made, call these two in place of `expand_plain`; threads may share the groups. `expand` is `expand_plain` on several
@@ -28,6 +29,7 @@ mod access;
 mod arc_comparison;
 mod arc_digests;
 mod arc_groups;
+mod area_bans;
 mod circumstances;
 mod closed_lists;
 mod closed_sets;

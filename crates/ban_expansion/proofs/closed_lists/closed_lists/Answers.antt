@@ -10,6 +10,12 @@ use Rattle.ban_expansion.proofs.closed_lists.closed_lists.Goals as goal
 abbrev no_arc : ArcId
 no_arc = record { 0 = 0 }
 
+pub loop-first-init : goal.loop-first-init
+loop-first-init c = record {
+  lists = rw c.in_ok-lists.ensures.items tt;
+  known = c.in_ok-bans.ensures c.args.network.now c.args.vehicle.now c.args.window (sym c.area_count.ensures);
+}
+
 pub loop-first-preserved : goal.loop-first-preserved
 loop-first-preserved c =
     let net = c.args.network.now in
@@ -26,7 +32,9 @@ loop-first-preserved c =
       runs = c.into_runs.ensures.runs;
       minutes = λ t. ap (λ (rs : List Run). any_has rs t) c.into_runs.ensures.items ∙ c.in_ok-set.ensures.minutes t;
     } in
-    let more = zip_push (HasClosed net vehicle window) (take i firsts) before first runs c.loop-first.invariant has in
+    let more = zip_push (HasClosed net vehicle window) (take i firsts) before first runs c.loop-first.invariant.lists has in
+    let all : AreClosedLists net vehicle window (take (i + 1) firsts) (map (λ v. v.items) c.push.new.self.items) =
     subst (λ (sets : List (List Run)). AreClosedLists net vehicle window (take (i + 1) firsts) sets) (sym lists)
     (subst (λ (arcs : List ArcId). AreClosedLists net vehicle window arcs (before ++ runs ∷ []))
-    (sym (take_more firsts i no_arc c.loop-first-test.true)) more)
+    (sym (take_more firsts i no_arc c.loop-first-test.true)) more) in
+    record { lists = all; known = c.in_ok-set.ensures.known }

@@ -23,3 +23,16 @@ returns c =
       groups = begun_groups net k a all refl c.requires.within before.groups;
       shares = stays_shared net all.firsts a shared before.shares;
     }))
+
+pub returns-then-has_short_set : goal.returns-then-has_short_set
+returns-then-has_short_set c =
+    let net = c.args.network.now in
+    let k = c.args.k in
+    let a : ArcId = record { 0 = k + 1 } in
+    let all = c.self.inside.all in
+    let shared = c.self.inside.shared.items in
+    let before : AreGrouped net k (record { all = all; shared = shared }) = subst (AreGrouped net k) (sym c.self.view_is) c.requires.grouped in
+    subst (λ (g : GroupsModel). AreGrouped net (k + 1) (record { all = g; shared = shared })) (sym c.in_ok-begin.ensures.begun) (record {
+      groups = begun_groups net k a all refl c.requires.within before.groups;
+      shares = stays_shared net all.firsts a shared before.shares;
+    })
