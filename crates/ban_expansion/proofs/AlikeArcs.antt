@@ -100,8 +100,7 @@ module _ (net : NetworkModel) where
       → (plain_at net.rules (scopes.Arc a) key ≡ None) × (conditional_at net.rules (scopes.Arc a) key ≡ None)
   has_no_rules a none key =
       let values = or_parts (is_some (plain_at net.rules (scopes.Arc a) key)) (is_some (conditional_at net.rules (scopes.Arc a) key))
-      (no_key (has_own_rule net a) none key) in
-      (
+      (no_key (has_own_rule net a) none key) in (
         none_from_test (plain_at net.rules (scopes.Arc a) key) values.0,
         none_from_test (conditional_at net.rules (scopes.Arc a) key) values.1,
       )
