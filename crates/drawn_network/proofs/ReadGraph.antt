@@ -17,7 +17,7 @@ use Rattle.dimacs_reader.specs.declared.builder.Sizes.{Sizes}
 use Rattle.dimacs_reader.specs.declared.graph.GraphArc.{GraphArc}
 use Rattle.dimacs_reader.specs.declared.lines.Line.{Line}
 use Rattle.dimacs_reader.specs.declared.lines.Line.TheVariants.{Ignored, Problem}
-use Rattle.dimacs_reader.proofs.ReadSoFar.{HasReadLines, read_none, read_more, end_faultless, end_graph}
+use Rattle.dimacs_reader.proofs.ReadSoFar.{HasReadLines, lines_next, read_none, read_more, end_faultless, end_graph}
 use Rattle.net_generator.specs.Generated.{graph_file, graph_text, road_text}
 use Rattle.net_generator.specs.Layout.{roads_drawn}
 use Rattle.net_generator.specs.Sizes.{IsDrawable}
@@ -33,8 +33,11 @@ line_read : (bytes rest : List ℕ) (number : ℕ) (stated : Stated) (token : Li
     → HasReadLines bytes (line_before token more rest) number stated → AllByRecursion IsVisible (token ∷ more) → line_of_tokens (token ∷ more) ≡ line
     → cause_in stated line ≡ None → HasReadLines bytes rest (number + 1) (stated_after stated line)
 line_read bytes rest number stated token more line h tokens says none =
-    read_more bytes (line_before token more rest) (line_with token more) rest number stated line h (line_cut_off token more rest tokens)
-    (line_shortens token more rest) (sym (line_means token more tokens ∙ says)) none
+    read_more bytes (line_before token more rest) rest number stated line h (record {
+      cut = lines_next (line_before token more rest) (line_with token more) rest line (line_cut_off token more rest tokens)
+          (sym (line_means token more tokens ∙ says));
+      less = line_shortens token more rest;
+    }) none
 
 -- a good road has no cause where it is announced
 road_passes : (stated : Stated) (sizes : Sizes) (road : Road) → stated.sizes ≡ Some sizes → IsGoodRoad sizes.nodes road
