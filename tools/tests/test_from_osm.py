@@ -539,6 +539,8 @@ class Folders(unittest.TestCase):
                 "3",
                 "--arcs",
                 "6",
+                "--trips",
+                "2",
                 roads,
                 folder,
                 check=False,
