@@ -52,7 +52,7 @@ impl PartPlanner for LastFirst {
     }
 }
 
-// Whether each text is as long as its place tells, and there are so many.
+// Whether each text is as long as its place tells, and there are `count` of them.
 fn are_in_order(texts: &[JobText], count: usize) -> bool {
     for (job, text) in texts.iter().enumerate() {
         if text.len() != job {
