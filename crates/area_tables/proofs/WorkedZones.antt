@@ -1,5 +1,5 @@
 -- Worked rows of zones: what the definitions say of them, by computing.
-use Rattle.std.proofs.Common.{◌≡◌, ℕ, List, [], ◌∷◌, map, Some, None, pos, negsuc, refl}
+use Rattle.std.proofs.Common.{◌≡◌, List, [], ◌∷◌, map, Some, None, pos, negsuc, refl}
 use Rattle.std.specs.Prelude.{codes}
 use Rattle.calendar_days.specs.Texts.{instant_of}
 use Rattle.route_base.specs.declared.faults.Cause.TheVariants.{BadField, NotRising}

@@ -1,6 +1,6 @@
 -- The place of the last element that passes a test, where one element more stands at the end; and the value of that element.
 use Rattle.std.proofs.Common.{◌≡◌, ℕ, suc, Bool, true, false, Option, Some, None, List, [], ◌∷◌, ◌++◌, length}
-use Rattle.std.proofs.Common.{slice_get, refl, sym, ap, subst, ◌∙◌, if◌then◌else◌}
+use Rattle.std.proofs.Common.{slice_get, refl, ap, subst, ◌∙◌, if◌then◌else◌}
 use Rattle.std.specs.Option.{option_or, option_map, option_and_then}
 use Rattle.conditional_rules.specs.Decisions.{last_given, last_place}
 

@@ -1,6 +1,6 @@
 -- Arc lines with one space between their tokens.
-use Rattle.std.proofs.Common.{◌≡◌, ℕ, zero, suc, ◌+◌, ◌-◌, ◌*◌, ◌<◌, ◌≤◌, ◌==◌, ◌^◌, Bool, true, false, Some, List, [], ◌∷◌, ◌++◌, length, All}
-use Rattle.std.proofs.Common.{take, drop, get_or, refl, ap, sym, subst, ◌∙◌, arith, add-one, append_assoc, length-append, length-drop, take-append-drop}
+use Rattle.std.proofs.Common.{◌≡◌, ℕ, zero, suc, ◌+◌, ◌-◌, ◌*◌, ◌<◌, ◌≤◌, ◌==◌, Bool, true, false, Some, List, [], ◌∷◌, ◌++◌, length, All}
+use Rattle.std.proofs.Common.{take, drop, get_or, refl, ap, sym, ◌∙◌, arith, add-one, append_assoc, length-append, length-drop, take-append-drop}
 use Rattle.std.specs.Prelude.{nat_le}
 use Rattle.std.specs.List.{slice_split, filter}
 use Rattle.std.specs.Str.Lines.{strip_carriage_return}

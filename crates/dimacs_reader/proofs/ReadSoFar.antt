@@ -1,5 +1,5 @@
 -- A file whose first lines are read.
-use Rattle.std.proofs.Common.{◌≡◌, ℕ, ◌+◌, ◌<◌, ◌≤◌, List, [], ◌∷◌, ◌++◌, length, map, Option, Some, None, refl, subst, ap, sym}
+use Rattle.std.proofs.Common.{◌≡◌, ℕ, ◌+◌, ◌≤◌, List, [], ◌∷◌, ◌++◌, length, map, Option, Some, None, refl, subst, ap, sym}
 use Rattle.std.proofs.Common.{◌∙◌, arith, append_assoc, length-append, append-nil}
 use Rattle.std.specs.Option.{option_map, option_or}
 use Rattle.route_base.specs.declared.faults.Cause.{Cause}

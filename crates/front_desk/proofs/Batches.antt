@@ -1,5 +1,5 @@
 -- A table of jobs that was read, and the texts of its jobs.
-use Rattle.std.proofs.Common.{◌≡◌, ℕ, ◌+◌, false, Some, None, Option, List, Ok, length, refl, ap, sym, subst, ◌∙◌, arith}
+use Rattle.std.proofs.Common.{◌≡◌, ℕ, false, Some, None, Option, List, Ok, length, refl, ap, sym, subst, ◌∙◌}
 use Rattle.std.specs.Option.{option_or}
 use Rattle.std.specs.Prelude.{IfSome}
 use Rattle.route_base.specs.Causes.{IsOfContents}

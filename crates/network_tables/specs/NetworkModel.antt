@@ -1,5 +1,5 @@
 -- Road networks as contracts see them (source: own).
-use Rattle.std.specs.Prelude.{◌≡◌, ℕ, ◌≤◌, ◌<◌, Option, Some, List, [], length, unwrap_or, All}
+use Rattle.std.specs.Prelude.{◌≡◌, ℕ, ◌≤◌, ◌<◌, Option, List, [], length, unwrap_or, All}
 use Rattle.std.specs.Option.{option_map}
 use Rattle.route_base.specs.Net.{at_number}
 use Rattle.route_base.specs.declared.limits.TheConstants.{HEAVIEST_WEIGHT, HIGHEST_TOLL}

@@ -1,5 +1,5 @@
 -- Parks while their table is being read; this is machinery, and no law (source: own).
-use Rattle.std.specs.Prelude.{◌≡◌, ◌<◌, ◌⊎◌, ℕ, Option, Some, Result, Ok, List, [], ◌∷◌, ◌++◌, length, map, All, IfSome, slice_get, option_and_then}
+use Rattle.std.specs.Prelude.{◌≡◌, ◌<◌, ◌⊎◌, ℕ, Option, Some, Ok, List, [], ◌∷◌, ◌++◌, length, map, All, IfSome, slice_get, option_and_then}
 use Rattle.opening_hours.specs.declared.types.HoursRule.{HoursRule}
 use Rattle.table_reader.specs.NameIndex.{names_of}
 use Rattle.table_reader.specs.Records.{Record}

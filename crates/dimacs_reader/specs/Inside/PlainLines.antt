@@ -1,5 +1,5 @@
 -- Plain lines: the first line of a file, and the digits before a mark (source: own; no law).
-use Rattle.std.specs.Prelude.{◌≡◌, ◌<◌, ℕ, Option, Some, List, ◌∷◌, ◌++◌, length}
+use Rattle.std.specs.Prelude.{◌≡◌, ◌<◌, ℕ, Some, List, ◌∷◌, ◌++◌, length}
 use Rattle.route_base.specs.Digits.{number_of}
 use Rattle.dimacs_reader.specs.declared.lines.Line.{Line}
 use Rattle.dimacs_reader.specs.Lines.{lines_in}

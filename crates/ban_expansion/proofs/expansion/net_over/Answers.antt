@@ -1,4 +1,4 @@
-use Rattle.std.proofs.Common.{◌≡◌, ◌+◌, ◌<◌, ◌^◌, ◌++◌, List, length, ap, sym, ◌∙◌, subst, map, arith}
+use Rattle.std.proofs.Common.{◌+◌, ◌<◌, ◌^◌, length, ap, sym, ◌∙◌, subst, map, arith}
 use Rattle.std.proofs.lemmas.List.{length-map, map-append}
 use Rattle.route_base.specs.Net.{Net, setting_of}
 use Rattle.dimacs_reader.specs.GraphModel.{GraphModel, IsGoodGraph}

@@ -1,4 +1,4 @@
-use Rattle.std.proofs.Common.{◌≡◌, ℕ, Option, List, ap, sym, ◌∙◌}
+use Rattle.std.proofs.Common.{ℕ, Option, List, ap, sym, ◌∙◌}
 use Rattle.std.specs.Option.{option_map}
 use Rattle.opening_hours.specs.declared.types.HoursRule.{HoursRule}
 use Rattle.network_tables.specs.Access.{area_at, is_open_by, is_park_open}

@@ -1,4 +1,4 @@
-use Rattle.std.proofs.Common.{◌≡◌, ℕ, Option, slice_get, sym, ap, ◌∙◌}
+use Rattle.std.proofs.Common.{ℕ, Option, slice_get, sym, ap, ◌∙◌}
 use Rattle.std.specs.Option.{option_map, option_and_then}
 use Rattle.conditional_rules.specs.Decisions.{clause_holds}
 use Rattle.conditional_rules.specs.declared.access.Access.{Access}

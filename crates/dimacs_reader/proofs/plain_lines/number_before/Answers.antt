@@ -21,7 +21,8 @@ pub returns-then-i-gt0 : goal.returns-then-i-gt0
 returns-then-i-gt0 c =
     let within : c.loop-i.i < length c.args.bytes.now = omega arith in
     let few : c.loop-i.i ≤ 18 = omega arith in
-    number_cut c.args.bytes.now (take (length c.args.bytes.now - (c.loop-i.i + 1)) (drop (c.loop-i.i + 1) c.args.bytes.now)) c.loop-i.i c.loop-i.n c.args.mark c.loop-i.invariant.read (omega arith) few within (cc) refl
+    number_cut c.args.bytes.now (take (length c.args.bytes.now - (c.loop-i.i + 1)) (drop (c.loop-i.i + 1) c.args.bytes.now))
+    c.loop-i.i c.loop-i.n c.args.mark c.loop-i.invariant.read (omega arith) few within (cc) refl
 
 pub loop-i-preserved : goal.loop-i-preserved
 loop-i-preserved c =

@@ -1,4 +1,3 @@
-use Rattle.std.proofs.Common.{◌≡◌}
 use Rattle.dimacs_reader.proofs.ReadSoFar.{lines_next}
 use Rattle.dimacs_reader.proofs.plain_lines.read_any_line.Goals as goal
 

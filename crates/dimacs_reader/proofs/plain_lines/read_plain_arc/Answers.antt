@@ -1,4 +1,4 @@
-use Rattle.std.proofs.Common.{◌≡◌, ◌≤◌, ◌∷◌, ◌-◌, arith, length, take, drop, refl}
+use Rattle.std.proofs.Common.{◌≡◌, ◌∷◌, ◌-◌, arith, length, take, drop, refl}
 use Rattle.dimacs_reader.proofs.PlainArcs.{arc_front, arc_first}
 use Rattle.dimacs_reader.proofs.plain_lines.read_plain_arc.Goals as goal
 

@@ -1,7 +1,5 @@
-use Rattle.std.proofs.Common.{ℕ, ◌<◌, List, ap, sym, subst, ◌∙◌, length, arith}
-use Rattle.std.specs.Prelude.{All, Contains}
+use Rattle.std.proofs.Common.{ap, sym, ◌∙◌, length, arith}
 use Rattle.plan_report.specs.Batch.{batch_text_of}
-use Rattle.front_desk.specs.Inside.Sharing.{HasEachJob}
 use Rattle.front_desk.proofs.Batches.{batch_by}
 use Rattle.front_desk.proofs.Grouping.{kept_groups}
 use Rattle.front_desk.proofs.JobOrders.{ordered_alike}

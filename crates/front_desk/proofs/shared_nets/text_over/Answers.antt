@@ -1,6 +1,6 @@
-use Rattle.std.proofs.Common.{◌≡◌, ap, sym, subst, ◌∙◌, arith}
+use Rattle.std.proofs.Common.{◌≡◌, ap, subst, ◌∙◌, arith}
 use Rattle.route_base.specs.Front.{IsRight}
-use Rattle.route_base.specs.Matching.{IsInWindow, StandsFor}
+use Rattle.route_base.specs.Matching.{IsInWindow}
 use Rattle.route_base.specs.Net.{setting_of}
 use Rattle.route_base.specs.declared.types.Form.TheVariants.{Plain}
 use Rattle.route_base.specs.declared.types.Request.{Request}

@@ -1,4 +1,4 @@
-use Rattle.std.proofs.Common.{map, Option, ℕ, List, length, subst, ap, sym, ◌∙◌, arith}
+use Rattle.std.proofs.Common.{map, ℕ, List, length, subst, ap, sym, ◌∙◌, arith}
 use Rattle.std.specs.Prelude.{◌≤◌, All, unwrap_or}
 use Rattle.std.proofs.lemmas.List.{length-map}
 use Rattle.std.proofs.lemmas.Result.{err_from_is_err_and}

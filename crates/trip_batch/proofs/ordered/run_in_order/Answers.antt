@@ -1,4 +1,3 @@
-use Rattle.trip_batch.specs.Right.{AreRightByJob}
 use Rattle.trip_batch.proofs.Placing.{placed_right}
 use Rattle.trip_batch.proofs.ordered.run_in_order.Goals as goal
 

@@ -1,4 +1,4 @@
-use Rattle.std.proofs.Common.{◌≡◌, ◌∙◌, ℕ, Option, List, Some, option_map, slice_get, sym, ap, unwrap_or}
+use Rattle.std.proofs.Common.{◌∙◌, ℕ, Option, Some, option_map, sym, ap, unwrap_or}
 use Rattle.ban_expansion.specs.Inside.AreaBans.{IsPlainIn}
 use Rattle.ban_expansion.proofs.area_bans.AreaBans.closed_to.Goals as goal
 

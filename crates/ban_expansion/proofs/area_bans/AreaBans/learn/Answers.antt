@@ -1,5 +1,4 @@
-use Rattle.std.proofs.Common.{◌≡◌, ℕ, Option, unwrap_or, ap}
-use Rattle.network_tables.specs.Access.{area_place}
+use Rattle.std.proofs.Common.{ℕ, Option, unwrap_or, ap}
 use Rattle.ban_expansion.specs.Inside.AreaBans.{IsPlainIn}
 use Rattle.ban_expansion.proofs.AreaSets.{learned}
 use Rattle.ban_expansion.proofs.area_bans.AreaBans.learn.Goals as goal

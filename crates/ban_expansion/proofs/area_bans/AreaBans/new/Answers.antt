@@ -1,4 +1,4 @@
-use Rattle.std.proofs.Common.{◌≡◌, ◌∙◌, ◌++◌, ◌∷◌, [], None, Option, List, ap, subst, arith, replicate}
+use Rattle.std.proofs.Common.{◌≡◌, ◌∙◌, ◌++◌, ◌∷◌, [], None, Option, List, ap, arith}
 use Rattle.route_base.specs.declared.types.Run.{Run}
 use Rattle.ban_expansion.proofs.AreaSets.{none_barred, none_more, none_yet}
 use Rattle.ban_expansion.proofs.area_bans.AreaBans.new.Goals as goal

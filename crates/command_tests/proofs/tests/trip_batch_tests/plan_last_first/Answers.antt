@@ -1,4 +1,4 @@
-use Rattle.std.proofs.Common.{◌≡◌, ◌<◌, ℕ, zero, suc, [], ◌∷◌, refl, arith}
+use Rattle.std.proofs.Common.{◌<◌, ℕ, zero, suc, [], ◌∷◌, refl, arith}
 use Rattle.std.specs.Prelude.{Contains}
 use Rattle.command_tests.proofs.tests.trip_batch_tests.plan_last_first.Goals as goal
 

@@ -1,10 +1,10 @@
-use Rattle.std.proofs.Common.{◌≡◌, ℕ, ◌<◌, Option, Some, ap, sym, subst, ◌∙◌, length, arith}
+use Rattle.std.proofs.Common.{ℕ, ◌<◌, Option, Some, ap, subst, ◌∙◌, length}
 use Rattle.std.specs.Option.{option_map}
 use Rattle.std.specs.Prelude.{IfSome}
 use Rattle.network_tables.specs.NetworkModel.{NetworkModel, park_of}
 use Rattle.network_tables.specs.NetworkParts.{network_with}
 use Rattle.network_tables.specs.Parking.{ParkRow}
-use Rattle.network_tables.specs.Parks.{HasTimetable, Timetable, park_with, timetable_at}
+use Rattle.network_tables.specs.Parks.{HasTimetable, Timetable, park_with}
 use Rattle.network_tables.specs.declared.parks.RatedNode.{RatedNode}
 use Rattle.network_tables.proofs.ParkLists.{area_there, rated_there, row_in}
 use Rattle.network_tables.proofs.network.Network.park_area.Goals as goal

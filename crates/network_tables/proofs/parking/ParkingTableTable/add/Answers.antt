@@ -1,7 +1,6 @@
-use Rattle.std.proofs.Common.{◌≡◌, ℕ, None, Some, ap, sym, subst, ◌∙◌, arith}
+use Rattle.std.proofs.Common.{◌≡◌, None, Some, ap, sym, subst, ◌∙◌, arith}
 use Rattle.std.proofs.lemmas.Result.{on_ok_weaker, IfErr-weaker}
 use Rattle.csv.specs.Records.{fields_of}
-use Rattle.route_base.specs.declared.faults.Cause.TheVariants.{Duplicate}
 use Rattle.table_reader.specs.NameIndex.{names_of}
 use Rattle.network_tables.specs.Parking.{cause_of_parking, parked_in, parked_of}
 use Rattle.network_tables.specs.ParkRows.{HaveParks, ParkingSoFar}
