@@ -36,7 +36,7 @@ use Rattle.ban_expansion.specs.Bans.{HasNoDearMinute, IsNetFor, IsShutWithin}
 use Rattle.ban_expansion.specs.Inside.GroupedNets.{HasClosed, AreClosedLists, IsTimedArc, AreTimed, timed_over}
 use Rattle.ban_expansion.specs.Inside.ShutLists.{AreParks, AreShutLists, HasShut, park_over}
 use Rattle.ban_expansion.proofs.ItemLists.{got_pushed, zip_all, zip_at, zip_length}
-use Rattle.ban_expansion.proofs.ShutParks.{row_of}
+use Rattle.network_tables.proofs.RatedRows.{row_of}
 
 -- an arc that nothing has
 no_timed_arc : TimedArc

@@ -1,5 +1,6 @@
 pub mod ArcRules
 pub mod AreaLists
+pub mod ArcPlaces
 pub mod AreaRows
 pub mod ClosureRows
 pub mod FirstFaults
@@ -8,6 +9,7 @@ pub mod HeldClosures
 mod JobRows
 pub mod NetLists
 pub mod ParkNodes
+pub mod RatedRows
 pub mod RoadRows
 pub mod RuleRows
 pub mod SamePlaces

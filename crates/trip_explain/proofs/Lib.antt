@@ -1,4 +1,3 @@
-pub mod Places
 pub mod RulingAccess
 pub mod StuckSteps
 pub mod OneExplanation
@@ -7,7 +6,6 @@ pub mod Undominated
 pub mod FirstMinutes
 pub mod OnlyReason
 pub mod OnlyExplanation
-pub mod OpenParks
 pub mod ItineraryLines
 pub mod SteadyHours
 pub mod SteadyClauses

@@ -15,7 +15,7 @@ use Rattle.network_tables.specs.RoadSetting.{road_setting}
 use Rattle.trip_explain.specs.declared.explanation.Why.{Why}
 use Rattle.trip_explain.specs.Explanations.{IsUnlawfulAt}
 use Rattle.trip_explain.specs.Reasons.{IsStuck, elsewhere, late, closed, unrated, late_wait, shut_wait}
-use Rattle.trip_explain.proofs.Places.{some_same}
+use Rattle.network_tables.proofs.ArcPlaces.{some_same}
 
 module _ (s : Setting) (until : ℕ) where
   -- a step leads to one position

@@ -15,7 +15,7 @@ use Rattle.trip_explain.specs.Explanations.{IsUnlawfulAt, StopsIn}
 use Rattle.trip_explain.specs.Reasons.{IsStuck}
 use Rattle.trip_explain.proofs.OneExplanation.{moves_same, walks_same, walk_parts, walk_on, legs_split, no_move}
 use Rattle.trip_explain.proofs.OnlyReason.{stuck_once}
-use Rattle.trip_explain.proofs.Places.{some_same, taken}
+use Rattle.network_tables.proofs.ArcPlaces.{some_same, taken}
 
 module _ (net : NetworkModel) (vehicle : VehicleModel) (until : ℕ) where
   stuck_from : (p q : Position) (x y : Step) (t u : ℕ) (why other : Why) → p ≡ q → x ≡ y

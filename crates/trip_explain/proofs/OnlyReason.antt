@@ -13,7 +13,7 @@ use Rattle.trip_explain.specs.declared.explanation.Why.{Why}
 use Rattle.trip_explain.specs.declared.explanation.Why.TheVariants.{Closure}
 use Rattle.trip_explain.specs.Reasons.{Begins, ClosesFirst, IsClosedBy, IsElsewhere, IsFirstRun, IsStuck, elsewhere, late, closed, unrated, late_wait}
 use Rattle.trip_explain.specs.Reasons.{shut_wait, rule_of}
-use Rattle.trip_explain.proofs.Places.{any_found, some_same, taken}
+use Rattle.network_tables.proofs.ArcPlaces.{any_found, some_same, taken}
 
 not_later : (runs : List Run) (t k n : ℕ) → IsFirstRun runs t k → IsFirstRun runs t n → k < n → ⊥
 not_later runs t k n one two less =

@@ -21,7 +21,7 @@ use Rattle.network_tables.specs.declared.rules.place.RulePlace.{RulePlace}
 use Rattle.trip_explain.specs.declared.rulings.Ruling.{Ruling}
 use Rattle.trip_explain.specs.declared.explanation.Why.{Why}
 use Rattle.trip_explain.specs.Reasons.{IsClosedBy}
-use Rattle.trip_explain.proofs.Places.{any_found}
+use Rattle.network_tables.proofs.ArcPlaces.{any_found}
 use Rattle.trip_explain.specs.Rulings.{clause_ruling, deciding_at, plain_ruling, ruling_at, ruling_given}
 
 over_or : {A B : Type 0} (g : A → B) (o p : Option A) → option_map g (option_or o p) ≡ option_or (option_map g o) (option_map g p)

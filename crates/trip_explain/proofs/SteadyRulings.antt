@@ -1,5 +1,5 @@
 -- Instants that are so close that the same rule decides.
-use Rattle.std.proofs.Common.{◌≡◌, ℕ, zero, suc, ◌+◌, ◌-◌, ◌≤◌, true, false, Bool, Option, Some, None, List, [], ◌∷◌, take, slice_get, unwrap_or, arith}
+use Rattle.std.proofs.Common.{◌≡◌, ℕ, ◌+◌, ◌-◌, ◌≤◌, true, false, Bool, Option, Some, None, List, take, slice_get, unwrap_or, arith}
 use Rattle.std.proofs.Common.{refl, sym, ap, subst, ◌∙◌}
 use Rattle.std.specs.Option.{option_or, option_map, option_and_then}
 use Rattle.opening_hours.specs.Holidays.{HolidayLists}
@@ -19,7 +19,7 @@ use Rattle.network_tables.specs.declared.rules.place.Scope.TheVariants as scopes
 use Rattle.trip_explain.specs.declared.closed_minutes.Quiet.{Quiet}
 use Rattle.trip_explain.specs.Steadiness.{AreClose, DecidesSteadily, LetsInAmid, RuleSteadily}
 use Rattle.trip_explain.specs.Rulings.{clause_ruling, deciding_at, ruling_at, ruling_given}
-use Rattle.trip_explain.proofs.Places.{given_next, mapped_there}
+use Rattle.network_tables.proofs.ArcPlaces.{given_next, take_none, zone_there}
 use Rattle.trip_explain.proofs.RulingAccess.{let_in_by}
 
 same_clause : (vehicle : VehicleModel) (zone : List ZoneRow) (holidays : HolidayLists) (minute count t u : ℕ) (clauses : List Clause)
@@ -83,12 +83,6 @@ one_key_more net vehicle area a keys k key minute count less there within before
     ∙ (λ i. option_or (here t u close i) (before t u far i))
     ∙ sym (given_next (ruling_at net (area_at net area) vehicle t) area a keys k key there)
 
-take_none : {A : Type 0} (xs : List A) (k : ℕ) → slice_get xs k ≡ None → take k xs ≡ xs
-take_none [] zero none = refl
-take_none [] (suc k) none = refl
-take_none (x ∷ xs) zero none = absurd (cc)
-take_none (x ∷ xs) (suc k) none = ap (λ ys. x ∷ ys) (take_none xs k none)
-
 -- the values of all keys
 pub all_keys : (net : NetworkModel) (vehicle : VehicleModel) (area a : ℕ) (keys : List Key) (k minute count : ℕ) → slice_get keys k ≡ None
     → RuleSteadily net (area_at net area) vehicle (places_of area a (take k keys)) minute count
@@ -115,9 +109,6 @@ let_in_amid net vehicle a t quiet count day first to steady let_in u amid =
     ∙ sym (let_in_by net vehicle a t (ruling_given net vehicle a t (keys_of vehicle.class)) refl)
     ∙ let_in
 
-abbrev no_area : Area
-no_area = record { zone = []; holidays = record { public = []; school = [] } }
-
 -- clocks in the arc's area show what those of its zone do
 pub shown_in_area : (net : NetworkModel) (a t area : ℕ) (zone : List ZoneRow) (wall : Wall) → at_number net.roads a ≡ Some area
     → option_map (λ (x : Area). x.zone) (slice_get net.areas area) ≡ Some zone → wall ≡ wall_at zone t
@@ -125,7 +116,7 @@ pub shown_in_area : (net : NetworkModel) (a t area : ℕ) (zone : List ZoneRow) 
 shown_in_area net a t area zone wall there zoned shown =
     let place : area_place net a ≡ area = ap (λ (o : Option ℕ). unwrap_or o 0) there in
     shown
-    ∙ ap (λ (z : List ZoneRow). wall_at z t) (sym (mapped_there (λ (x : Area). x.zone) (slice_get net.areas area) no_area zone zoned))
+    ∙ ap (λ (z : List ZoneRow). wall_at z t) (sym (zone_there net area zone zoned))
     ∙ ap (λ (n : ℕ). wall_at (area_at net n).zone t) (sym place)
 
 -- nothing is among no minutes

@@ -3,7 +3,7 @@ use Rattle.route_base.specs.Runs.{any_has, has_minute}
 use Rattle.route_base.specs.declared.types.Run.{Run}
 use Rattle.network_tables.specs.NetworkModel.{closures_of}
 use Rattle.covered_minutes.proofs.Algebra.{any_pushed}
-use Rattle.ban_expansion.proofs.Places.{any_found, take_next}
+use Rattle.network_tables.proofs.ArcPlaces.{any_found, take_next}
 use Rattle.ban_expansion.proofs.access.in_closure.Goals as goal
 
 pub returns-then-is_within : goal.returns-then-is_within

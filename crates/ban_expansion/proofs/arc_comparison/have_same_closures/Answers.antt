@@ -1,7 +1,7 @@
 use Rattle.std.proofs.Common.{◌≡◌, sym, ◌∙◌, ◌++◌, ◌∷◌, [], arith, rules}
 use Rattle.std.proofs.lemmas.List.{take_all}
 use Rattle.network_tables.specs.NetworkModel.{closures_of}
-use Rattle.ban_expansion.proofs.Places.{take_next}
+use Rattle.network_tables.proofs.ArcPlaces.{take_next}
 use Rattle.ban_expansion.proofs.arc_comparison.have_same_closures.Goals as goal
 
 pub loop-k-preserved : goal.loop-k-preserved

@@ -3,7 +3,7 @@ use Rattle.std.proofs.lemmas.List.{take_all}
 use Rattle.route_base.specs.Runs.{any_has, has_minute}
 use Rattle.route_base.specs.declared.types.Run.{Run}
 use Rattle.network_tables.specs.NetworkModel.{closures_of}
-use Rattle.ban_expansion.proofs.Places.{take_next}
+use Rattle.network_tables.proofs.ArcPlaces.{take_next}
 use Rattle.ban_expansion.proofs.closed_sets.merged_closures.Goals as goal
 
 pub loop-k-preserved : goal.loop-k-preserved

@@ -3,7 +3,7 @@ use Rattle.route_base.specs.Runs.{any_has}
 use Rattle.route_base.specs.declared.types.Run.{Run}
 use Rattle.network_tables.specs.NetworkModel.{closures_of}
 use Rattle.covered_minutes.proofs.Algebra.{any_pushed}
-use Rattle.trip_explain.proofs.Places.{take_next}
+use Rattle.network_tables.proofs.ArcPlaces.{take_next}
 use Rattle.trip_explain.proofs.closed_minutes.first_closure.Goals as goal
 
 pub loop-k-preserved : goal.loop-k-preserved

@@ -2,7 +2,7 @@ use Rattle.std.proofs.Common.{take, List, sym, subst}
 use Rattle.route_base.specs.declared.types.Run.{Run}
 use Rattle.network_tables.specs.NetworkModel.{closures_of}
 use Rattle.trip_explain.specs.Inside.{IsFirstWithin}
-use Rattle.trip_explain.proofs.Places.{take_next}
+use Rattle.network_tables.proofs.ArcPlaces.{take_next}
 use Rattle.trip_explain.proofs.FirstMinutes.{one_run_more}
 use Rattle.trip_explain.proofs.closed_minutes.first_in_closure.Goals as goal
 

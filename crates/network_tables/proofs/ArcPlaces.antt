@@ -1,15 +1,18 @@
 -- Places of keys, one key after another, and items at places.
-use Rattle.std.proofs.Common.{◌≡◌, ℕ, zero, suc, ◌+◌, Bool, true, Option, Some, None, unwrap_or, List, [], ◌∷◌, ◌++◌, take, slice_get, append_assoc}
-use Rattle.std.proofs.Common.{◌<◌, sym, ◌∙◌, ap, refl, arith}
+use Rattle.std.proofs.Common.{◌≡◌, ℕ, zero, suc, ◌+◌, ◌<◌, Bool, true, Option, Some, None, unwrap_or, List, [], ◌∷◌, ◌++◌, take, slice_get, append_assoc}
+use Rattle.std.proofs.Common.{sym, ◌∙◌, ap, refl, arith}
 use Rattle.std.specs.List.{list_any}
 use Rattle.std.specs.Option.{option_or, option_map}
 use Rattle.std.proofs.lemmas.Bool.{or_left, or_right}
 use Rattle.std.proofs.lemmas.List.{take_more}
 use Rattle.std.proofs.lemmas.Option.{get_or_from_slice_get, slice_get_within}
+use Rattle.zone_rules.specs.declared.rows.ZoneRow.{ZoneRow}
+use Rattle.opening_hours.specs.Holidays.{HolidayLists}
 use Rattle.vehicle_classes.specs.declared.classes.Key.{Key}
 use Rattle.conditional_rules.specs.Decisions.{last_given}
 use Rattle.conditional_rules.proofs.LastGiven.{last_append}
-use Rattle.network_tables.specs.Access.{places_of, places_of_key}
+use Rattle.network_tables.specs.Access.{area_at, places_of, places_of_key}
+use Rattle.network_tables.specs.NetworkModel.{Area, NetworkModel}
 use Rattle.network_tables.specs.declared.rules.place.RulePlace.{RulePlace}
 
 -- the items before the next place are one more
@@ -55,3 +58,22 @@ taken (y ∷ ys) zero (suc n) x less there = there
 taken (y ∷ ys) zero zero x less there = absurd (omega (arith, less))
 taken (y ∷ ys) (suc k) zero x less there = absurd (omega (arith, less))
 taken (y ∷ ys) (suc k) (suc n) x less there = taken ys k n x (omega (arith, less)) there
+
+-- past the last item nothing is left out
+pub take_none : {A : Type 0} (xs : List A) (k : ℕ) → slice_get xs k ≡ None → take k xs ≡ xs
+take_none [] zero none = refl
+take_none [] (suc k) none = refl
+take_none (x ∷ xs) zero none = absurd (cc)
+take_none (x ∷ xs) (suc k) none = ap (λ ys. x ∷ ys) (take_none xs k none)
+
+abbrev no_area : Area
+no_area = record { zone = []; holidays = record { public = []; school = [] } }
+
+-- the zone and the holidays of an area that is there
+pub zone_there : (net : NetworkModel) (area : ℕ) (zone : List ZoneRow)
+    → option_map (λ (a : Area). a.zone) (slice_get net.areas area) ≡ Some zone → (area_at net area).zone ≡ zone
+zone_there net area zone is = mapped_there (λ (a : Area). a.zone) (slice_get net.areas area) no_area zone is
+
+pub holidays_there : (net : NetworkModel) (area : ℕ) (holidays : HolidayLists)
+    → option_map (λ (a : Area). a.holidays) (slice_get net.areas area) ≡ Some holidays → (area_at net area).holidays ≡ holidays
+holidays_there net area holidays is = mapped_there (λ (a : Area). a.holidays) (slice_get net.areas area) no_area holidays is

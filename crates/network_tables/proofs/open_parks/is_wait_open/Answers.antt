@@ -4,8 +4,8 @@ use Rattle.opening_hours.specs.declared.types.HoursRule.{HoursRule}
 use Rattle.network_tables.specs.Access.{area_at, is_open_by, is_park_open}
 use Rattle.network_tables.specs.Parking.{ParkRow}
 use Rattle.network_tables.specs.Parks.{park_with, timetable_at}
-use Rattle.ban_expansion.proofs.ShutParks.{row_of}
-use Rattle.ban_expansion.proofs.shut_lists.wait_open_at.Goals as goal
+use Rattle.network_tables.proofs.RatedRows.{row_of}
+use Rattle.network_tables.proofs.open_parks.is_wait_open.Goals as goal
 
 pub returns-in-None : goal.returns-in-None
 returns-in-None c =
