@@ -34,7 +34,7 @@ module _ (s : Setting) (r : Request) (legs : List Leg) where
   pair_by arrival cost = record { arrival = arrival; cost = cost }
 
   -- lawful legs have one pair
-  one_pair : (p q : Pair) → Achieves s r legs p → Achieves s r legs q → p ≡ q
+  pub one_pair : (p q : Pair) → Achieves s r legs p → Achieves s r legs q → p ≡ q
   unfolding pair_by
   one_pair p q one two =
       let same : end_of r p ≡ end_of r q = walks_same s r.until (steps_of legs) (start_of r) (end_of r p) (end_of r q) one.walk two.walk in

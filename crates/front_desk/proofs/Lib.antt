@@ -12,6 +12,7 @@ pub mod JobOrders
 pub mod Judgements
 pub mod Leaving
 pub mod NamedVehicles
+pub mod OneText
 pub mod ReadyPlans
 pub mod RefusalTexts
 pub mod ReportedBans

@@ -7,6 +7,7 @@ pub mod Explain
 pub mod Gen
 pub mod Inside
 pub mod Latest
+pub mod OneText
 pub mod Plan
 pub mod Run
 pub mod Tour

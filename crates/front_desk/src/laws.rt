@@ -1,7 +1,12 @@
-// The numbers of the limits, and the laws of certificates and of explanations.
-ghost use Rattle.std.specs.Prelude.{◌≡◌, ◌↔◌, ℕ, List, Some, None, true};
+// The numbers of the limits, and the laws of certificates, of explanations and of texts.
+ghost use Rattle.std.specs.Prelude.{◌≡◌, ◌↔◌, ℕ, List, Option, Some, None, true};
+ghost use Rattle.front_desk.specs.Batch.{IsBatchReport};
 ghost use Rattle.front_desk.specs.Check.{HasGoodCertificate, check_of};
+ghost use Rattle.front_desk.specs.Commands.{Answers};
 ghost use Rattle.front_desk.specs.Explain.{IsExplainText};
+ghost use Rattle.front_desk.specs.OneText.{TellsOneText};
+ghost use Rattle.front_words.specs.declared.commands.Batch.{Batch};
+ghost use Rattle.front_words.specs.declared.commands.Invocation.{Invocation as Command};
 ghost use Rattle.front_words.specs.declared.commands.Plan.{Plan};
 ghost use Rattle.front_desk.specs.Plan.{IsCertified};
 ghost use Rattle.front_words.specs.Forms.{is_certificate_name};
@@ -90,4 +95,16 @@ pub fn explanations_are_exact()
         → IsExplainText network vehicle request legs text
         → IsUnlawfulAt network vehicle request legs leg minute why
         → text ≡ explanation_text (Unlawful leg minute why) None }
+{}
+
+/// The law of one text: over the same files, `plan`, `check`, `bans`, `batch`, `gen` and `explain` print no other text where they are done;
+/// and batches of the same table of jobs print one text, whatever the number of workers. So another run, another version that meets
+/// `run`, and either engine print the same, byte for byte. The call does nothing.
+pub fn one_text()
+    ensures command { (command : Command) (held : Contents) (after other : Option Contents)
+        → (x y : List ℕ) → TellsOneText command
+        → Answers command held after x → Answers command held other y → x ≡ y }
+    ensures workers { (batch other : Batch) (held : Contents) (x y : List ℕ)
+        → batch.dir ≡ other.dir → batch.jobs ≡ other.jobs
+        → IsBatchReport batch held x → IsBatchReport other held y → x ≡ y }
 {}

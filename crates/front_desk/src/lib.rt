@@ -35,4 +35,4 @@ mod shared_nets;
 mod tour;
 
 pub use desk::{run, run_gated};
-pub use laws::{explanations_are_exact, limits_are_these, written_certificates_are_good};
+pub use laws::{explanations_are_exact, limits_are_these, one_text, written_certificates_are_good};

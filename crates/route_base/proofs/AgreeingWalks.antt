@@ -98,4 +98,6 @@ module _ (s z : Setting) (window : Run) (r : Request) (same : StandsFor s z wind
   right_too routes right = record {
     front = front_too _ right.front;
     legs = right_legs_too s z window r same within routes right.legs;
+    first = λ k d inside steps walk. right.first k d inside steps
+        (walks_too z s window back r.until within.1 steps (start_of r) (end_of r _) within.0 walk);
   }

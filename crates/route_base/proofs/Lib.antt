@@ -9,13 +9,16 @@ pub mod FolderStates
 pub mod FormRows
 pub mod FreeRuns
 pub mod Fronts
+pub mod GoingBack
 pub mod Items
 pub mod LegLists
 pub mod Lists
 pub mod Logic
 pub mod Numbered
+pub mod OneAnswer
 pub mod Parks
 pub mod ShortNumbers
 pub mod SoFar
+pub mod StepOrder
 pub mod Waiting
 pub mod Walking

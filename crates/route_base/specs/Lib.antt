@@ -2,6 +2,7 @@ pub mod Causes
 pub mod Contents
 pub mod Counts
 pub mod Digits
+pub mod FirstItinerary
 pub mod FolderState
 pub mod Forms
 pub mod Front
@@ -18,5 +19,6 @@ pub mod Runs
 pub mod Setting
 pub mod SinkState
 pub mod Statuses
+pub mod StepsBack
 pub mod Time
 pub mod WholeFile

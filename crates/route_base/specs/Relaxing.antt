@@ -2,8 +2,8 @@
 -- It is the core that searches and the checker share, and not by itself what a certificate has to meet.
 use Rattle.std.specs.Prelude.{◌≡◌, ◌⊎◌, ℕ, ◌+◌, ◌≤◌, ◌<◌, ⊤, Option, Some, None, List, Contains}
 use Rattle.route_base.specs.Setting.{Setting, Road}
-use Rattle.route_base.specs.Itinerary.{Position, Step, Moves}
-use Rattle.route_base.specs.Legs.{start_of}
+use Rattle.route_base.specs.Itinerary.{Position, Step, Moves, Walks}
+use Rattle.route_base.specs.Legs.{start_of, end_of}
 use Rattle.route_base.specs.declared.types.Pair.{Pair}
 use Rattle.route_base.specs.declared.types.Bound.{Bound}
 use Rattle.route_base.specs.declared.types.Request.{Request}
@@ -49,3 +49,8 @@ pub record IsComplete (s : Setting) (r : Request) (pairs : List Pair) (bounds : 
       → IsDominatedOrLate r.until pairs (bounds p.node) p
       ⊎ ((x : Step) (q : Position) → Moves s r.until x p q → IsRelaxed r.until pairs bounds value q)
   pub end : (t x : ℕ) → value r.goal.0 t ≡ Some x → HasPair pairs t x
+
+-- each position of each lawful itinerary of a pair has its cost as value
+abbrev pub HasEveryWay : Setting → Request → List Pair → (ℕ → ℕ → Option ℕ) → Type 0
+HasEveryWay s r pairs value = (pair : Pair) (before after : List Step) (p : Position) → Contains pairs pair
+    → Walks s r.until before (start_of r) p → Walks s r.until after p (end_of r pair) → value p.node p.minute ≡ Some p.cost

@@ -5,7 +5,7 @@
 //! SEA 2020, in whole minutes).
 //!
 //! The law is in `specs/`. The problem: `Setting` (roads, closed minutes, weights), `Itinerary` (lawful steps), `Legs`,
-//! `Front` (the Pareto front, and right routes), `Net` (a timed net as a setting), `Matching` (settings that agree within a
+//! `FirstItinerary` (which of a pair's itineraries is printed), `Front` (the Pareto front, and right routes), `Net` (a timed net as a setting), `Matching` (settings that agree within a
 //! window), `Open`, `Runs` and `Time` (minutes). The outside: `Contents`, `FolderState`, `SinkState`, `Counts`, `WholeFile`,
 //! `MemoryFiles` (the objects in memory), `Statuses`, `Causes` and `Labels` (faults and their words). Texts: `Digits` and
 //! `Forms` (numbers, names, minutes and weights).
@@ -17,6 +17,7 @@
 //! searches share, and `proofs/` has their common lemmas (`Walking`, `Waiting`, `Covering`, `Fronts`, `LegLists`).
 #![tactic(auto)]
 
+mod answers;
 mod bounds;
 mod digits;
 mod faults;
@@ -39,6 +40,7 @@ mod threads;
 mod types;
 mod whole_file;
 
+pub use answers::one_answer;
 pub use bounds::Bounds;
 pub use digits::{read_number, read_plain_number};
 pub use faults::{BadInput, Cause, FileKind, OutOfMemory, RequestFault, TableFault};

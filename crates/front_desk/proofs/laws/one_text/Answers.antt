@@ -1,0 +1,19 @@
+use Rattle.std.proofs.Common.{List, ℕ, sym, subst}
+use Rattle.table_reader.specs.Records.{rows_of}
+use Rattle.network_tables.specs.Jobs.{jobs_in}
+use Rattle.network_folder.specs.Files.{bytes_at}
+use Rattle.network_folder.specs.ReadingOrder.{jobs_file, network_held}
+use Rattle.front_desk.specs.Batch.{IsBatchText, jobs_held}
+use Rattle.front_desk.proofs.OneText.{one_batch, one_text as only_text}
+use Rattle.front_desk.proofs.laws.one_text.Goals as goal
+
+pub returns-clause-command : goal.returns-clause-command
+returns-clause-command c = λ command held after other x y tells first second. only_text command held after other x y tells first second
+
+pub returns-clause-workers : goal.returns-clause-workers
+returns-clause-workers c = λ batch other held x y dir jobs first second.
+    let by_jobs = subst (λ (name : List ℕ). IsBatchText (network_held held other.dir) (jobs_in (rows_of (bytes_at held other.dir (jobs_file name)))) y)
+    (sym jobs) second in
+    one_batch (network_held held batch.dir) (jobs_held batch held) x y first
+    (subst (λ (folder : List ℕ). IsBatchText (network_held held folder) (jobs_in (rows_of (bytes_at held folder (jobs_file batch.jobs)))) y)
+    (sym dir) by_jobs)

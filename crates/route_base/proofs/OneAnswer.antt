@@ -1,0 +1,151 @@
+-- There is one list of right routes.
+use Rattle.std.proofs.Common.{◌≡◌, ◌⊎◌, inl, inr, ⊎_elim, ℕ, zero, suc, ◌<◌, List, [], ◌∷◌, ◌++◌, replicate}
+use Rattle.std.proofs.Common.{refl, sym, ◌∙◌, ap, subst, arith}
+use Rattle.std.specs.Prelude.{⊤, All, AllPairs, Contains}
+use Rattle.std.proofs.lemmas.Map.Made.{Contains-tail}
+use Rattle.route_base.specs.Setting.{Setting}
+use Rattle.route_base.specs.Itinerary.{Step, drive, wait}
+use Rattle.route_base.specs.Legs.{steps_of, HasNoEmptyWait, HasNoNeighbouringWaits, DrivesFirst, Achieves}
+use Rattle.route_base.specs.FirstItinerary.{IsFirst}
+use Rattle.route_base.specs.Front.{IsFront, IsRight, pairs_of}
+use Rattle.route_base.specs.declared.types.ArcId.{ArcId}
+use Rattle.route_base.specs.declared.types.Leg.{Leg}
+use Rattle.route_base.specs.declared.types.Leg.TheVariants.{Drive, Wait}
+use Rattle.route_base.specs.declared.types.Pair.{Pair}
+use Rattle.route_base.specs.declared.types.Request.{Request}
+use Rattle.route_base.specs.declared.types.Route.{Route}
+use Rattle.route_base.proofs.GoingBack.{first_is_one}
+
+-- the first step is no wait
+abbrev IsNoWait : List Step → Type 0
+IsNoWait [] = ⊤
+IsNoWait (wait ∷ xs) = ⊥
+IsNoWait (drive a ∷ xs) = ⊤
+
+same_tail : {A : Type 0} {x y : A} {xs ys : List A} → x ∷ xs ≡ y ∷ ys → xs ≡ ys
+same_tail same = cc
+
+-- waits before other steps are as many
+same_waits : (j k : ℕ) (xs ys : List Step) → IsNoWait xs → IsNoWait ys → replicate j wait ++ xs ≡ replicate k wait ++ ys → (j ≡ k) × (xs ≡ ys)
+same_waits zero zero xs ys x y same = (refl, same)
+same_waits zero (suc k) [] ys x y same = absurd (cc)
+same_waits zero (suc k) (wait ∷ xs) ys x y same = absurd x
+same_waits zero (suc k) (drive a ∷ xs) ys x y same = absurd (cc)
+same_waits (suc j) zero xs [] x y same = absurd (cc)
+same_waits (suc j) zero xs (wait ∷ ys) x y same = absurd y
+same_waits (suc j) zero xs (drive a ∷ ys) x y same = absurd (cc)
+same_waits (suc j) (suc k) xs ys x y same =
+    let rest = same_waits j k xs ys x y (same_tail same) in
+    (ap suc rest.0, rest.1)
+
+-- legs that begin with no wait are steps that do
+no_wait_first : (legs : List Leg) → DrivesFirst legs → IsNoWait (steps_of legs)
+no_wait_first [] first = tt
+no_wait_first (Drive a ∷ legs) first = tt
+no_wait_first (Wait k ∷ legs) first = absurd (first k refl)
+
+-- legs that are no empty waits, without neighbouring waits, are told by their steps
+pub same_legs : (xs ys : List Leg) → HasNoEmptyWait xs → HasNoEmptyWait ys → HasNoNeighbouringWaits xs → HasNoNeighbouringWaits ys
+    → steps_of xs ≡ steps_of ys → xs ≡ ys
+same_legs [] [] some_x some_y apart_x apart_y same = refl
+same_legs [] (Drive b ∷ ys) some_x some_y apart_x apart_y same = absurd (cc)
+same_legs [] (Wait zero ∷ ys) some_x some_y apart_x apart_y same = absurd (some_y.0 refl)
+same_legs [] (Wait (suc k) ∷ ys) some_x some_y apart_x apart_y same = absurd (cc)
+same_legs (Drive a ∷ xs) [] some_x some_y apart_x apart_y same = absurd (cc)
+same_legs (Wait zero ∷ xs) [] some_x some_y apart_x apart_y same = absurd (some_x.0 refl)
+same_legs (Wait (suc j) ∷ xs) [] some_x some_y apart_x apart_y same = absurd (cc)
+same_legs (Drive a ∷ xs) (Drive b ∷ ys) some_x some_y apart_x apart_y same =
+    let number : a.0 ≡ b.0 = cc in
+    let arc : a ≡ b = ap (λ (n : ℕ). record { 0 = n }) number in
+    let rest = same_legs xs ys some_x.1 some_y.1 apart_x apart_y (same_tail same) in
+    ap (λ (c : ArcId). Drive c ∷ xs) arc ∙ ap (λ (w : List Leg). Drive b ∷ w) rest
+same_legs (Drive a ∷ xs) (Wait zero ∷ ys) some_x some_y apart_x apart_y same = absurd (some_y.0 refl)
+same_legs (Drive a ∷ xs) (Wait (suc k) ∷ ys) some_x some_y apart_x apart_y same = absurd (cc)
+same_legs (Wait zero ∷ xs) (Drive b ∷ ys) some_x some_y apart_x apart_y same = absurd (some_x.0 refl)
+same_legs (Wait (suc j) ∷ xs) (Drive b ∷ ys) some_x some_y apart_x apart_y same = absurd (cc)
+same_legs (Wait j ∷ xs) (Wait k ∷ ys) some_x some_y apart_x apart_y same =
+    let waits = same_waits j k (steps_of xs) (steps_of ys) (no_wait_first xs apart_x.0) (no_wait_first ys apart_y.0) same in
+    let rest = same_legs xs ys some_x.1 some_y.1 apart_x.1 apart_y.1 waits.1 in
+    ap (λ (n : ℕ). Wait n ∷ xs) waits.0 ∙ ap (λ (w : List Leg). Wait k ∷ w) rest
+
+abbrev Rise : Pair → Pair → Type 0
+Rise p q = p.arrival < q.arrival
+
+-- the first pair of a list that rises is no later than any of it
+least_first : (p : Pair) (ps : List Pair) → AllPairs Rise (p ∷ ps) → (q : Pair) → Contains (p ∷ ps) q → (p ≡ q) ⊎ (p.arrival < q.arrival)
+least_first p ps rising q (zero, within, is) = inl is
+least_first p ps rising q (suc k, within, is) =
+    inr (subst (λ (w : Pair). p.arrival < w.arrival) is (rising 0 (suc k) q (omega arith) within))
+
+rising_tail : (p : Pair) (ps : List Pair) → AllPairs Rise (p ∷ ps) → AllPairs Rise ps
+rising_tail p ps rising i j d less within = rising (suc i) (suc j) d (omega (arith, less)) (omega (arith, within))
+
+one_more : (p : Pair) (ps : List Pair) (q : Pair) → Contains ps q → Contains (p ∷ ps) q
+one_more p ps q (k, within, is) = (suc k, omega (arith, within), is)
+
+first_is_in : (p : Pair) (ps : List Pair) → Contains (p ∷ ps) p
+first_is_in p ps = (0, omega arith, refl)
+
+-- lists that rise and have the same pairs are one
+one_list : (ps qs : List Pair) → AllPairs Rise ps → AllPairs Rise qs → ((p : Pair) → Contains ps p → Contains qs p)
+    → ((p : Pair) → Contains qs p → Contains ps p) → ps ≡ qs
+one_list [] [] rise_p rise_q there back = refl
+one_list [] (q ∷ qs) rise_p rise_q there back = let none = back q (first_is_in q qs) in absurd (omega (arith, none.1))
+one_list (p ∷ ps) [] rise_p rise_q there back = let none = there p (first_is_in p ps) in absurd (omega (arith, none.1))
+one_list (p ∷ ps) (q ∷ qs) rise_p rise_q there back =
+    λ i. first i ∷ one_list ps qs (rising_tail p ps rise_p) (rising_tail q qs rise_q) later back_later i
+  where
+    first : p ≡ q
+    first = ⊎_elim
+        (λ (same : p ≡ q). same)
+        (λ (before : p.arrival < q.arrival). ⊎_elim
+        (λ (same : q ≡ p). sym same)
+        (λ (after : q.arrival < p.arrival). absurd (omega (arith, before, after)))
+        (least_first q qs rise_q p (there p (first_is_in p ps))))
+        (least_first p ps rise_p q (back q (first_is_in q qs)))
+
+    behind : (u : Pair) (us : List Pair) → AllPairs Rise (u ∷ us) → (v : Pair) → Contains us v → u.arrival < v.arrival
+    behind u us rising v (k, within, is) =
+        subst (λ (w : Pair). u.arrival < w.arrival) is (rising 0 (suc k) v (omega arith) (omega (arith, within)))
+
+    later : (v : Pair) → Contains ps v → Contains qs v
+    later v one = Contains-tail q qs v (λ same. omega (arith, behind p ps rise_p v one, ap (λ (w : Pair). w.arrival) (first ∙ same)))
+        (there v (one_more p ps v one))
+
+    back_later : (v : Pair) → Contains qs v → Contains ps v
+    back_later v one = Contains-tail p ps v (λ same. omega (arith, behind q qs rise_q v one, ap (λ (w : Pair). w.arrival) (sym first ∙ same)))
+        (back v (one_more q qs v one))
+
+module _ (s : Setting) (r : Request) where
+  -- two fronts are one
+  pub one_front : (ps qs : List Pair) → IsFront s r ps → IsFront s r qs → ps ≡ qs
+  one_front ps qs front_p front_q =
+      one_list ps qs front_p.rising front_q.rising (λ p one. (front_q.each p).1 ((front_p.each p).0 one)) (λ p one. (front_p.each p).1 ((front_q.each p).0 one))
+
+  abbrev IsRightRoute : Route → Type 0
+  IsRightRoute x = (Achieves s r x.legs x.pair × HasNoNeighbouringWaits x.legs) × IsFirst s r x.legs x.pair
+
+  same_route : (x y : Route) → IsRightRoute x → IsRightRoute y → x.pair ≡ y.pair → x ≡ y
+  same_route x y right_x right_y pair =
+      let achieved : Achieves s r y.legs x.pair = subst (λ (p : Pair). Achieves s r y.legs p) (sym pair) right_y.0.0 in
+      let first : IsFirst s r y.legs x.pair = subst (λ (p : Pair). IsFirst s r y.legs p) (sym pair) right_y.1 in
+      let steps = first_is_one s r x.pair x.legs y.legs right_x.0.0 achieved right_x.1 first in
+      let legs = same_legs x.legs y.legs right_x.0.0.no_empty_wait right_y.0.0.no_empty_wait right_x.0.1 right_y.0.1 steps in
+      λ i. record { pair = pair i; legs = legs i }
+
+  same_routes : (xs ys : List Route) → All IsRightRoute xs → All IsRightRoute ys → pairs_of xs ≡ pairs_of ys → xs ≡ ys
+  same_routes [] [] right_x right_y pairs = refl
+  same_routes [] (y ∷ ys) right_x right_y pairs = absurd (cc)
+  same_routes (x ∷ xs) [] right_x right_y pairs = absurd (cc)
+  same_routes (x ∷ xs) (y ∷ ys) right_x right_y pairs =
+      let pair : x.pair ≡ y.pair = cc in
+      let first = same_route x y (right_x 0 x (omega arith)) (right_y 0 y (omega arith)) pair in
+      let rest = same_routes xs ys (λ k d within. right_x (suc k) d (omega (arith, within))) (λ k d within. right_y (suc k) d (omega (arith, within)))
+      (same_tail pairs) in
+      λ i. first i ∷ rest i
+
+  -- two lists of right routes are one
+  pub one_answer : (xs ys : List Route) → IsRight s r xs → IsRight s r ys → xs ≡ ys
+  one_answer xs ys right_x right_y =
+      same_routes xs ys (λ k d within. (right_x.legs k d within, right_x.first k d within)) (λ k d within. (right_y.legs k d within, right_y.first k d within))
+      (one_front (pairs_of xs) (pairs_of ys) right_x.front right_y.front)
