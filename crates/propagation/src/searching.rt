@@ -105,7 +105,7 @@ fn begun(
         return Ok(progress);
     };
     let first = CostFn::single(alloc, task.request.depart, 0)?;
-    let clear = cleared(task, &progress.pairs, origin, bound, first);
+    let clear = cleared(task, &progress, origin, bound, first);
     let offer = with_waits(alloc, task, sets, spares, &progress, origin, bound, clear)?;
     take_at(alloc, task, spares, &mut progress, origin, bound, &offer)?;
     Ok(progress)
@@ -121,6 +121,7 @@ fn blank(alloc: Global, net: &TimedNet) -> Result<Progress, OutOfMemory>
         functions: no_costs(alloc, nodes)?,
         pending: no_minutes(alloc, nodes)?,
         pairs: Vec::new(alloc),
+        borders: Vec::new(alloc),
         queue: LabelQueue::new(alloc, nodes)?,
     })
 }
