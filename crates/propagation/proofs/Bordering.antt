@@ -1,21 +1,11 @@
 -- The borders of pairs, as pairs go in.
-use Rattle.std.proofs.Common.{◌≡◌, ◌⊎◌, inl, inr, ⊎_elim, ℕ, ◌+◌, ◌≤◌, ◌<◌, List, [], ap, subst, arith}
+use Rattle.std.proofs.Common.{◌≡◌, ◌⊎◌, inl, inr, ⊎_elim, ℕ, ◌+◌, ◌≤◌, ◌<◌, List, ap, subst, arith}
 use Rattle.std.specs.Prelude.{Contains}
 use Rattle.route_base.specs.Relaxing.{HasPair}
 use Rattle.route_base.specs.declared.types.Pair.{Pair}
 use Rattle.route_base.proofs.Covering.{pair_later}
 use Rattle.propagation.specs.Inside.Pairs.{AreBorders, HasBetter, IsBetter, TakesBorders, TakesPair}
 use Rattle.propagation.proofs.Pruning.{has_better_kept}
-
--- no pairs have no borders
-pub no_borders : (pairs borders : List Pair) → pairs ≡ [] → borders ≡ [] → AreBorders pairs borders
-no_borders pairs borders none empty = record {
-  trade = λ i j d before within. absurd (omega (arith, within, ap (λ (w : List Pair). length w) empty));
-  each = λ t x. (
-    (λ had. let bad = subst (λ w. Contains w had.pair) empty had.is_one in absurd (omega (arith, bad.1))),
-    (λ had. let bad = subst (λ w. Contains w had.pair) none had.is_one in absurd (omega (arith, bad.1))),
-  );
-}
 
 -- a list that takes one more pair has it or what it had
 had_or_is : (pair : Pair) (old new : List Pair) (t x : ℕ) → TakesPair pair old new → HasPair new t x

@@ -5,7 +5,7 @@ use Rattle.std.proofs.lemmas.Bool.{cases_lt}
 use Rattle.route_base.specs.Itinerary.{Position, Step, drive, wait, Moves, Walks}
 use Rattle.route_base.specs.Legs.{start_of, end_of}
 use Rattle.route_base.specs.Front.{IsAchieved}
-use Rattle.route_base.specs.Relaxing.{HasWithin, HasPair, AreBounds}
+use Rattle.route_base.specs.Relaxing.{HasWithin, AreBounds}
 use Rattle.route_base.specs.declared.types.Pair.{Pair}
 use Rattle.route_base.proofs.Covering.{covered}
 use Rattle.route_base.proofs.Fronts.{no_worse_one}

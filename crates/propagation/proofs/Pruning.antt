@@ -1,11 +1,9 @@
 -- What is prunable stays so: later, at a larger cost, over lawful steps, and by better pairs.
-use Rattle.std.proofs.Common.{◌≡◌, ◌⊎◌, inl, inr, ⊎_elim, ℕ, ◌+◌, ◌≤◌, ◌<◌, Option, Some, None, List, refl, sym, ◌∙◌, ap, subst, arith}
-use Rattle.route_base.specs.Setting.{Setting}
+use Rattle.std.proofs.Common.{◌≡◌, inl, inr, ⊎_elim, ℕ, ◌+◌, ◌≤◌, ◌<◌, Option, Some, None, List, refl, sym, ◌∙◌, ap, subst, arith}
 use Rattle.route_base.specs.Itinerary.{Position, Step, drive, wait, Moves}
 use Rattle.route_base.specs.Relaxing.{HasPair, IsDominatedOrLate, AreBounds}
 use Rattle.route_base.specs.declared.types.Bound.{Bound}
 use Rattle.route_base.specs.declared.types.Pair.{Pair}
-use Rattle.route_base.specs.declared.types.Request.{Request}
 use Rattle.propagation.specs.Inside.Invariants.{IsPrunable, IsWorseOrLate, Task, point}
 use Rattle.propagation.specs.Inside.Pairs.{AreBorders, HasBetter, IsBetter}
 

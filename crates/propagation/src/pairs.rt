@@ -11,8 +11,7 @@ use cost_functions::CostFn;
 use route_base::{Minute, OutOfMemory, Pair};
 
 // Adds the pairs of the costs that are offered to the goal, and takes out those that are worse. Only the first minute of a piece
-// can be one, since the later ones cost no less. The borders of a pair are what is one thousandth dearer, and what is one minute
-// later: they are no worse than all that the pair is better than, and than nothing else.
+// can be one, since the later ones cost no less. The borders follow.
 pub fn add_pairs(
     pairs: &mut Vec<Pair>,
     borders: &mut Vec<Pair>,
@@ -36,7 +35,8 @@ pub fn add_pairs(
     Ok(())
 }
 
-// Adds the borders of a pair, where none is as good.
+// Adds the borders of a pair: it a thousandth dearer, and it a minute later. One of the two is no worse exactly where the pair is
+// better.
 fn add_borders(borders: &mut Vec<Pair>, pair: Pair) -> Result<(), OutOfMemory>
     requires trade { RiseAndFall borders.old.items }
     requires arrival { pair.arrival ≤ LAST_INSTANT }

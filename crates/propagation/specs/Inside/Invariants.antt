@@ -31,12 +31,12 @@ point v t x = record { node = v; minute = t; cost = x }
 abbrev pub IsLabel : Progress → Position → Type 0
 IsLabel now p = now.cost p.node p.minute ≡ Some p.cost
 
--- every way on from here is late, or some pair is better; a pair excuses no way to itself
+-- every way on from here is late, or some pair is better: no pair excuses a way to itself
 abbrev pub IsWorseOrLate : ℕ → List Pair → Option Bound → Position → Type 0
 IsWorseOrLate until pairs None p = ⊤
 IsWorseOrLate until pairs (Some b) p = (until < p.minute + b.minutes) ⊎ HasBetter pairs (p.minute + b.minutes) (p.cost + b.cost)
 
--- no way on from the position is in time and one to a pair of the front, so that it needn't be followed
+-- every way on from the position is late or worse than some pair, so that it needn't be followed
 abbrev pub IsPrunable : Task → List Pair → Position → Type 0
 IsPrunable k pairs p = IsWorseOrLate k.request.until pairs (k.bounds p.node) p
 

@@ -26,7 +26,7 @@ pub record IsPutIn (pair : Pair) (old new : List Pair) : Type 0 where
   pub after : (k : ℕ) (d : Pair) → place ≤ k → k < length old → pair.arrival ≤ (slice_index_or old k d).arrival
   pub put : new ≡ insert old place pair
 
--- the pair arrives by t and costs at most x, and isn't just that
+-- the pair arrives by t and costs at most x, and one of these is less
 pub record IsBetter (pair : Pair) (t x : ℕ) : Type 0 where
   pub arrival : pair.arrival ≤ t
   pub cost : pair.cost ≤ x
@@ -38,12 +38,12 @@ pub record HasBetter (pairs : List Pair) (t x : ℕ) : Type 0 where
   pub is_one : Contains pairs pair
   pub better : IsBetter pair t x
 
--- a border is no worse where a pair is better, and nowhere else
+-- a border is no worse where a pair is better, and nowhere else: what borders dominate is what pairs are better than
 pub record AreBorders (pairs borders : List Pair) : Type 0 where
   pub trade : RiseAndFall borders
   pub each : (t x : ℕ) → HasPair borders t x ↔ HasBetter pairs t x
 
--- a border is no worse also where this pair is better, and nowhere else
+-- the borders of this pair go in: a border is no worse where one was, or where this pair is better
 pub record TakesBorders (pair : Pair) (old new : List Pair) : Type 0 where
   pub trade : RiseAndFall new
   pub each : (t x : ℕ) → HasPair new t x ↔ (HasPair old t x ⊎ IsBetter pair t x)
