@@ -2,11 +2,10 @@
 use Rattle.std.proofs.Common.{◌≡◌, ⊎_elim, ℕ, ◌+◌, ◌≤◌, ◌<◌, Option, Some, None, List, [], ◌∷◌, ◌++◌, length, replicate, refl, sym, ◌∙◌, ap, subst}
 use Rattle.std.proofs.Common.{arith, append_assoc}
 use Rattle.std.specs.Prelude.{Contains, reverse, unwrap_or}
-use Rattle.std.proofs.lemmas.Bool.{cases_lt, cases_eq}
+use Rattle.std.proofs.lemmas.Bool.{cases_lt}
 use Rattle.std.proofs.lemmas.List.{reverse-append, replicate-append-replicate}
 use Rattle.route_base.specs.Setting.{Setting}
 use Rattle.route_base.specs.Itinerary.{Position, Step, wait, Walks}
-use Rattle.route_base.specs.Front.{IsAchieved, IsFront}
 use Rattle.route_base.specs.Legs.{steps_of, steps_of_leg, start_of, end_of, CostsFit, IsReachable}
 use Rattle.route_base.specs.Net.{Net, setting_of, at_number}
 use Rattle.route_base.specs.declared.limits.TheConstants.{HIGHEST_COST}
@@ -14,10 +13,9 @@ use Rattle.route_base.specs.declared.types.Leg.{Leg}
 use Rattle.route_base.specs.declared.types.Leg.TheVariants.{Wait}
 use Rattle.route_base.specs.declared.types.Pair.{Pair}
 use Rattle.route_base.specs.declared.types.Request.{Request}
-use Rattle.route_base.proofs.Walking.{along, cheaper, walk-append, moves_later}
+use Rattle.route_base.proofs.Walking.{along, moves_later}
 use Rattle.route_base.proofs.Arcs.{TakesTime, takes_time}
 use Rattle.route_base.proofs.Numbered.{number_past}
-use Rattle.first_itinerary.specs.FirstItinerary.{HasEveryWay}
 use Rattle.first_itinerary.specs.StepsBack.{HasWaysTo, HasSource, LeadsFirst}
 use Rattle.first_itinerary.proofs.GoingBack.{leads_at_end, leads_before_leg, has_source}
 use Rattle.cost_functions.specs.Pieces.{value_at}
@@ -78,10 +76,9 @@ leads_before s r cost pair v t x steps from takes ways begun leads at first =
           first.first (subst (λ n. LeadsFirst s r pair (point v t n) steps) e leads.leads);
     }
 
-module _ (net : Net) (r : Request) (found : Finding) (good : IsFoundFor net r found) (in_time : r.depart ≤ r.until)
-    (ways : HasEveryWay (setting_of net) r found.pairs (cost_at found.functions)) (pair : Pair) (one : Contains found.pairs pair) where
+module _ (net : Net) (r : Request) (found : Finding) (good : IsFoundFor net r found) (pair : Pair) (one : Contains found.pairs pair) where
   pub ways_to : HasWaysTo (setting_of net) r pair (cost_at found.functions)
-  ways_to before after p from to = ways pair before after p one from to
+  ways_to before after p from to = good.optimal.ways pair before after p one from to
 
   -- at the pair
   pub at_pair : LeadsToPair (setting_of net) r (cost_at found.functions) pair r.goal.0 pair.arrival []

@@ -1,12 +1,12 @@
 -- Where a cost comes from: by a wait, or by a drive.
-use Rattle.std.proofs.Common.{◌≡◌, ⊎_elim, ℕ, ◌+◌, ◌-◌, ◌*◌, ◌≤◌, ◌<◌, Option, Some, List, length, get_or, replicate, refl, sym, ◌∙◌, ap, subst, arith}
+use Rattle.std.proofs.Common.{◌≡◌, ⊎_elim, ℕ, ◌+◌, ◌-◌, ◌*◌, ◌≤◌, ◌<◌, Option, Some, List, length, get_or, replicate, refl, sym, ap, subst, arith}
 use Rattle.std.specs.Prelude.{AllPairs, slice_get}
 use Rattle.std.proofs.lemmas.Bool.{cases_lt, cases_eq}
 use Rattle.std.proofs.lemmas.Option.{get_or_from_slice_get}
 use Rattle.std.specs.Option.{option_map}
 use Rattle.std.proofs.lemmas.List.{length-replicate}
 use Rattle.route_base.specs.Setting.{Setting}
-use Rattle.route_base.specs.Itinerary.{Position, Step, drive, wait, Moves, Drives, Walks}
+use Rattle.route_base.specs.Itinerary.{Position, drive, wait, Drives, Walks}
 use Rattle.route_base.specs.Net.{Net, road_of, setting_of, at_number}
 use Rattle.route_base.specs.Open.{IsOpen, IsWaitOpen}
 use Rattle.route_base.specs.declared.types.ArcId.{ArcId}

@@ -3,13 +3,11 @@ use Rattle.std.specs.Prelude.{◌≤◌}
 use Rattle.route_base.specs.Legs.{CostsFit}
 use Rattle.route_base.specs.Net.{Net, IsGoodRequest, setting_of}
 use Rattle.route_base.specs.declared.types.Request.{Request}
-use Rattle.first_itinerary.specs.FirstItinerary.{HasEveryWay}
-use Rattle.propagation.specs.Found.{Finding, IsFoundFor, cost_at}
+use Rattle.propagation.specs.Found.{Finding, IsFoundFor}
 
--- the request is one over the net whose costs fit, and the finding answers it and has every way to its pairs
+-- the request is one over the net whose costs fit, and the finding answers it
 pub record IsAnswered (net : Net) (r : Request) (finding : Finding) : Type 0 where
   pub good : IsGoodRequest net r
   pub in_time : r.depart ≤ r.until
   pub fit : CostsFit (setting_of net) r
   pub found : IsFoundFor net r finding
-  pub ways : HasEveryWay (setting_of net) r finding.pairs (cost_at finding.functions)

@@ -3,19 +3,17 @@ use Rattle.std.specs.Prelude.{ℕ, ◌≤◌, Option}
 use Rattle.route_base.specs.Legs.{CostsFit}
 use Rattle.route_base.specs.Net.{IsGoodRequest, setting_of}
 use Rattle.route_base.specs.Setting.{Setting}
-use Rattle.first_itinerary.specs.FirstItinerary.{HasEveryWay}
 use Rattle.node_arcs.specs.Stars.{AreIncoming}
 use Rattle.propagation.specs.Found.{IsFoundFor, cost_at}
 use Rattle.itinerary_unpack.specs.declared.solved.Solved.{Solved}
 
--- the request is one over the net, the arcs are those of the net, and the finding answers the request and has every way to its pairs
+-- the request is one over the net, the arcs are those of the net, and the finding answers the request
 pub record IsSolved (solved : Solved) : Type 0 where
   pub ends : IsGoodRequest solved.net.now solved.request
   pub in_time : solved.request.depart ≤ solved.request.until
   pub fit : CostsFit (setting_of solved.net.now) solved.request
   pub incoming : AreIncoming solved.net.now solved.incoming.now
   pub found : IsFoundFor solved.net.now solved.request solved.found.now
-  pub ways : HasEveryWay (setting_of solved.net.now) solved.request solved.found.now.pairs (cost_at solved.found.now.functions)
 
 -- the setting of the net
 abbrev pub setting_in : Solved → Setting

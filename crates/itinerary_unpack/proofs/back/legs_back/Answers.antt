@@ -20,7 +20,7 @@ back-init c =
     let solved = c.requires.solved in
     let s = setting_in c.args.solved in
     let cost = solved_cost c.args.solved in
-    let start = at_pair c.args.solved.net.now r found solved.found solved.in_time solved.ways c.args.pair c.requires.one in
+    let start = at_pair c.args.solved.net.now r found solved.found c.args.pair c.requires.one in
     let tight = solved.found.justified.tight (point r.goal.0 c.args.pair.arrival start.here) start.known in
     let none : [] ≡ c.new-legs.result.items = sym c.new-legs.ensures.items in
     record {
@@ -43,7 +43,7 @@ source_of-source-requires-clause-comes c =
       | then-node-solved w ↦ w.if-node-solved.true node
       | else-node-solved+then-minute-solved w ↦ w.if-minute-solved.true minute
     ] in
-    comes_by_step c.args.solved.net.now c.args.solved.request found solved.found solved.in_time solved.ways c.args.pair c.requires.one
+    comes_by_step c.args.solved.net.now c.args.solved.request found solved.found c.args.pair c.requires.one
     c.back.node.0 c.back.minute c.unwrap_or-cost.result (steps_of (reverse c.back.legs.items)) leads known later
 
 pub back-preserved : goal.back-preserved
@@ -75,7 +75,7 @@ back-preserved c =
       leads = subst (λ (w : List Step). LeadsToPair s r cost c.args.pair from.node.0 from.minute w) (sym steps)
           (leads_before s r cost c.args.pair c.back.node.0 c.back.minute c.unwrap_or-cost.result
           (steps_of (reverse c.back.legs.items)) from (takes_time net solved.found.good)
-          (ways_to net r found solved.found solved.in_time solved.ways c.args.pair c.requires.one)
+          (ways_to net r found solved.found c.args.pair c.requires.one)
           (solved.found.justified.begun (point from.node.0 from.minute comes.before) comes.known) leads known c.source_of-source.ensures);
     }
 
@@ -87,7 +87,7 @@ from_start c =
     let cost = solved_cost c.args.solved in
     let solved = c.requires.solved in
     let steps = steps_of (reverse c.back.legs.items) in
-    leads_from_start c.args.solved.net.now r c.args.solved.found.now solved.found solved.in_time solved.ways c.args.pair c.requires.one steps
+    leads_from_start c.args.solved.net.now r c.args.solved.found.now solved.found c.args.pair c.requires.one steps
     (subst (λ n. LeadsToPair s r cost c.args.pair n r.depart steps) c.if-node-solved.false
     (subst (λ n. LeadsToPair s r cost c.args.pair c.back.node.0 n steps) c.if-minute-solved.false c.back.invariant.leads))
 
