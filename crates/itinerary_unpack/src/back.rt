@@ -4,6 +4,7 @@ ghost use Rattle.route_base.specs.Net.{setting_of};
 ghost use Rattle.route_base.specs.Itinerary.{Walks};
 ghost use Rattle.route_base.specs.Legs.{steps_of, start_of, end_of, Achieves, HasNoNeighbouringWaits};
 ghost use Rattle.route_base.specs.declared.types.Pair.{Pair};
+ghost use Rattle.first_itinerary.specs.FirstItinerary.{IsFirst};
 ghost use Rattle.node_arcs.specs.Stars.{AreIncoming};
 ghost use Rattle.itinerary_unpack.specs.Answered.{IsAnswered};
 ghost use Rattle.itinerary_unpack.specs.Inside.Requests.{IsSolved, setting_in};
@@ -17,8 +18,9 @@ use propagation::Found;
 use route_base::{Leg, Legs, OutOfMemory, Pair, Request, TimedNet};
 use std::alloc::Global;
 
-/// The legs of pair k, counted from 0, in the order of travel: lawful ones without neighbouring waits. Takes two binary searches
-/// for each arc that comes into a node of the itinerary, and memory for the arcs by node.
+/// The legs of pair k, counted from 0, in the order of travel: lawful ones without neighbouring waits, and the first of the pair's
+/// itineraries. Takes two binary searches for each arc that comes into the end of a drive, a few more for each drive and for each
+/// piece that a wait goes over, and memory for the arcs by node.
 pub fn unpack(
     alloc: Global,
     net: &TimedNet,
@@ -31,6 +33,8 @@ pub fn unpack(
     ensures achieves { IfOk result (λ legs. (d : Pair)
         → Achieves (setting_of net.now) request legs (slice_index_or found.now.pairs k d)) }
     ensures tidy { IfOk result HasNoNeighbouringWaits }
+    ensures first { IfOk result (λ legs. (d : Pair)
+        → IsFirst (setting_of net.now) request legs (slice_index_or found.now.pairs k d)) }
 {
     let incoming = NodeArcs::incoming(alloc, net)?;
     unpack_over(alloc, net, &incoming, request, found, k)
@@ -51,6 +55,8 @@ pub fn unpack_over(
     ensures achieves { IfOk result (λ legs. (d : Pair)
         → Achieves (setting_of net.now) request legs (slice_index_or found.now.pairs k d)) }
     ensures tidy { IfOk result HasNoNeighbouringWaits }
+    ensures first { IfOk result (λ legs. (d : Pair)
+        → IsFirst (setting_of net.now) request legs (slice_index_or found.now.pairs k d)) }
 {
     let solved = Solved {
         net,
@@ -70,6 +76,8 @@ fn legs_back(alloc: Global, solved: Solved<'_>, pair: Pair) -> Result<Vec<Leg>, 
     ensures tidy { IfOk result (λ legs. IsTidyBack legs.items) }
     ensures walk { IfOk result (λ legs. Walks (setting_in solved.entry) solved.entry.request.until
         (steps_of (reverse legs.items)) (start_of solved.entry.request) (end_of solved.entry.request pair)) }
+    ensures first { IfOk result (λ legs. IsFirst (setting_in solved.entry) solved.entry.request
+        (reverse legs.items) pair) }
 {
     let mut legs = Vec::new(alloc);
     let mut node = solved.request.goal;

@@ -1,9 +1,12 @@
 // Where the cost of a node at a minute comes from.
-ghost use Rattle.std.specs.Prelude.{◌≡◌, ◌≤◌, ◌<◌, ◌-◌, Some, IfSome, IsNone};
+ghost use Rattle.std.specs.Prelude.{◌≡◌, ◌+◌, ◌≤◌, IfSome, IsNone};
 ghost use Rattle.node_arcs.specs.Stars.{EndsAt};
 ghost use Rattle.node_arcs.specs.declared.links.End.TheVariants.{Head};
-ghost use Rattle.route_base.specs.declared.types.Leg.TheVariants.{Wait};
-ghost use Rattle.itinerary_unpack.specs.Inside.Sources.{ComesFrom, HasNoDrive};
+ghost use Rattle.route_base.specs.Itinerary.{drive, wait};
+ghost use Rattle.route_base.specs.declared.types.Leg.TheVariants.{Drive};
+ghost use Rattle.first_itinerary.specs.StepsBack.{HasSource, HasNoMove};
+ghost use Rattle.propagation.specs.Inside.Invariants.{point};
+ghost use Rattle.itinerary_unpack.specs.Inside.Sources.{ComesFrom, ComesFirst};
 ghost use Rattle.itinerary_unpack.specs.Inside.Requests.{IsSolved, setting_in, solved_cost};
 
 use crate::solved::Solved;
@@ -18,36 +21,39 @@ pub struct Source {
     pub minute: Minute,
 }
 
-// The leg by which the cost of the node at this minute comes.
+// The leg by which the cost of the node at this minute comes: a wait where one does, else the drive over the arc of the smallest
+// number.
 pub fn source_of(solved: Solved<'_>, v: NodeId, t: Minute, x: Cost) -> Source
     requires solved { IsSolved solved }
     requires low { 1 ≤ v.0 }
     requires high { v.0 ≤ solved.net.now.nodes }
     requires upto { t ≤ solved.request.until }
-    requires known { solved_cost solved v.0 t ≡ Some x }
-    requires later { v.0 ≡ solved.request.origin.0 → t ≡ solved.request.depart → ⊥ }
-    ensures { ComesFrom (setting_in solved.entry) solved.entry.request.until
+    requires comes { HasSource (setting_in solved) solved.request.until (solved_cost solved)
+        (point v.0 t x) }
+    ensures { ComesFirst (setting_in solved.entry) solved.entry.request.until
         (solved_cost solved.entry) v.0 t x result }
 {
+    if let Some(source) = wait_into(solved, v, t, x) {
+        return source;
+    }
     for a in solved.incoming.of(v) {
         if let Some(source) = drive_into(solved, *a, v, t, x) {
             return source;
         }
     }
-    wait_into(solved, v, t, x)
+    unreachable!()
 }
 
-// The start of a drive over the arc that ends here at no higher cost.
+// The start of a drive over the arc that ends here at exactly this cost.
 fn drive_into(solved: Solved<'_>, a: ArcId, v: NodeId, t: Minute, x: Cost) -> Option<Source>
     requires solved { IsSolved solved }
     requires ends { EndsAt solved.net.now Head v.0 a.0 }
     requires upto { t ≤ solved.request.until }
-    ensures some { IfSome result
-        (ComesFrom (setting_in solved.entry) solved.entry.request.until
-        (solved_cost solved.entry) v.0 t x) }
-    ensures none { IsNone result
-        → HasNoDrive (setting_in solved.entry) solved.entry.request.until
-        (solved_cost solved.entry) a.0 v.0 t x }
+    ensures leg { IfSome result (λ from. from.leg ≡ Drive a) }
+    ensures some { IfSome result (ComesFrom (setting_in solved.entry)
+        solved.entry.request.until (solved_cost solved.entry) v.0 t x) }
+    ensures none { IsNone result → HasNoMove (setting_in solved.entry)
+        solved.entry.request.until (solved_cost solved.entry) (drive a.0) (point v.0 t x) }
 {
     let arc = solved.net.arc(a)?;
     if arc.minutes > t {
@@ -55,7 +61,7 @@ fn drive_into(solved: Solved<'_>, a: ArcId, v: NodeId, t: Minute, x: Cost) -> Op
     }
     let minute = t - arc.minutes;
     let before = solved.found.function(arc.tail).at(minute)?;
-    if before + arc.cost > x {
+    if before + arc.cost != x {
         return None;
     }
     if !solved.net.is_open(a, minute, arc.minutes) {
@@ -68,27 +74,26 @@ fn drive_into(solved: Solved<'_>, a: ArcId, v: NodeId, t: Minute, x: Cost) -> Op
     })
 }
 
-// The wait by which the cost comes, from the first minute of the piece on, or from the last minute before which it is shut, if that
-// costs no more.
-fn wait_into(solved: Solved<'_>, v: NodeId, t: Minute, x: Cost) -> Source
+// The wait by which the cost comes, where one does: from the first minute of the piece on, or from the last minute before which it is
+// shut, or else of one minute.
+fn wait_into(solved: Solved<'_>, v: NodeId, t: Minute, x: Cost) -> Option<Source>
     requires solved { IsSolved solved }
     requires low { 1 ≤ v.0 }
     requires high { v.0 ≤ solved.net.now.nodes }
     requires upto { t ≤ solved.request.until }
-    requires later { 1 ≤ t }
-    requires waits { ComesFrom (setting_in solved) solved.request.until (solved_cost solved) v.0 t x
-        (record { leg = Wait 1; node = v; minute = t - 1 }) }
-    ensures { ComesFrom (setting_in solved.entry) solved.entry.request.until
-        (solved_cost solved.entry) v.0 t x result }
+    ensures some { IfSome result (ComesFirst (setting_in solved.entry)
+        solved.entry.request.until (solved_cost solved.entry) v.0 t x) }
+    ensures none { IsNone result → HasNoMove (setting_in solved.entry)
+        solved.entry.request.until (solved_cost solved.entry) wait (point v.0 t x) }
 {
+    if t == 0 {
+        return None;
+    }
+    let last = wait_since(solved, v, t - 1, t, x)?;
     let since = begins_at(solved.found.function(v).pieces(), t).max(open_since(solved.net, v, t));
     match wait_since(solved, v, since, t, x) {
-        Some(source) => source,
-        None => Source {
-            leg: Leg::Wait(1),
-            node: v,
-            minute: t - 1,
-        },
+        Some(source) => Some(source),
+        None => Some(last),
     }
 }
 
@@ -121,14 +126,16 @@ fn end_before(runs: &[Run], t: Minute) -> Minute {
     }
 }
 
-// A wait since an earlier minute, where it costs no more than what is known.
+// A wait since an earlier minute, where it ends here at exactly this cost.
 fn wait_since(solved: Solved<'_>, v: NodeId, since: Minute, t: Minute, x: Cost) -> Option<Source>
     requires solved { IsSolved solved }
     requires low { 1 ≤ v.0 }
     requires high { v.0 ≤ solved.net.now.nodes }
     requires upto { t ≤ solved.request.until }
-    ensures { IfSome result (ComesFrom (setting_in solved.entry) solved.entry.request.until
-        (solved_cost solved.entry) v.0 t x) }
+    ensures some { IfSome result (ComesFirst (setting_in solved.entry)
+        solved.entry.request.until (solved_cost solved.entry) v.0 t x) }
+    ensures none { IsNone result → since + 1 ≡ t → HasNoMove (setting_in solved.entry)
+        solved.entry.request.until (solved_cost solved.entry) wait (point v.0 t x) }
 {
     if since >= t {
         return None;
@@ -136,7 +143,7 @@ fn wait_since(solved: Solved<'_>, v: NodeId, since: Minute, t: Minute, x: Cost) 
     let weight = solved.net.weight(v)?;
     let before = solved.found.function(v).at(since)?;
     let minutes = t - since;
-    if before + weight * minutes > x {
+    if before + weight * minutes != x {
         return None;
     }
     if !solved.net.is_wait_open(v, since, minutes) {

@@ -11,6 +11,7 @@ use Rattle.potentials.specs.Sums.{AreLeastBounds}
 use Rattle.propagation.specs.Found.{IsOptimal, IsJustified}
 use Rattle.propagation.specs.Inside.Invariants.{Task, Progress, point, IsResting}
 use Rattle.propagation.proofs.Parting.{finished, front}
+use Rattle.propagation.proofs.EveryWay.{every_way}
 
 walk_forward : (s : Setting) (until : ℕ) (xs : List Step) (p q : Position) → Walks s until xs p q → p.minute ≤ q.minute
 walk_forward s until [] p q walk = omega (arith, ap (λ (w : Position). w.minute) walk)
@@ -29,6 +30,7 @@ module _ (k : Task) (now : Progress) (facts : IsResting k now) (done : (v t : �
         omega (arith, tight.2);
     least = least;
     complete = finished k now bound facts done;
+    ways = every_way k now in_time bound facts done;
   }
 
   pub justified_at_end : IsJustified k.setting k.request now.pairs k.bounds now.cost

@@ -12,6 +12,7 @@ use Rattle.cost_functions.specs.Pieces.{value_at}
 use Rattle.route_base.specs.Runs.{any_has}
 use Rattle.propagation.specs.Inside.Invariants.{Progress, Task, point}
 use Rattle.propagation.specs.Inside.Offers.{IsSource}
+use Rattle.propagation.specs.Inside.Pairs.{AreBorders}
 use Rattle.propagation.specs.Found.{cost_at, cost_by}
 use Rattle.propagation.specs.Inside.States.{IsShaped, is_pending, set_has}
 use Rattle.cost_functions.specs.declared.pieces.Piece.{Piece}
@@ -70,8 +71,8 @@ module _ (k : Task) where
 
 -- the node that is taken out of the queue is at work
 pub shaped_taken : (nodes v key : ℕ) (old new : ProgressHeld) → IsShaped nodes 0 old → new.functions ≡ old.functions → new.pending ≡ old.pending
-    → IsLeastTaken old.queue new.queue v key → IsShaped nodes v new
-shaped_taken nodes v key old new shape functions pending taken = record {
+    → AreBorders new.pairs.items new.borders.items → IsLeastTaken old.queue new.queue v key → IsShaped nodes v new
+shaped_taken nodes v key old new shape functions pending are taken = record {
   functions = ap (λ w. length w.items) functions ∙ shape.functions;
   built = subst (λ w. All AreBuilt w.items) (sym functions) shape.built;
   pending = ap (λ w. length w.items) pending ∙ shape.pending;
@@ -83,6 +84,7 @@ shaped_taken nodes v key old new shape functions pending taken = record {
       (λ (here : u ≡ v). let bad : None ≡ Some at = sym taken.now.here ∙ (ap (key_at new.queue) (sym here) ∙ is) in cc)
       (λ (other : u ≡ v → ⊥). let w = shape.waiting u at (sym (taken.now.others u other) ∙ is) in (w.0, ap (λ x. is_pending x.items u w.0) pending ∙ w.1))
       (cases_eq u v);
+  borders = are;
 }
   where
     none : (u t : ℕ) → u ≡ 0 → is_pending new.pending.items u t ≡ true → ⊥

@@ -1,27 +1,16 @@
 -- How the facts of a search are kept when a node takes an offer.
-use Rattle.std.proofs.Common.{◌≡◌, ◌⊎◌, inl, inr, ⊎_elim, ℕ, ◌+◌, ◌≤◌, ◌<◌, true, false, Option, Some, None, List, [], refl, sym, ◌∙◌, ap, subst, arith}
+use Rattle.std.proofs.Common.{◌≡◌, ◌⊎◌, inl, inr, ⊎_elim, ℕ, ◌+◌, ◌≤◌, ◌<◌, true, false, Option, Some, None, [], refl, sym, ◌∙◌, ap, subst, arith}
 use Rattle.std.specs.Prelude.{Contains}
 use Rattle.std.proofs.lemmas.Bool.{cases_eq, cases_lt}
 use Rattle.route_base.specs.Itinerary.{Position, wait, Waits}
 use Rattle.route_base.specs.Front.{RiseAndFall}
 use Rattle.route_base.specs.Legs.{start_of, end_of}
-use Rattle.route_base.specs.Relaxing.{HasWithin, HasPair, IsDominatedOrLate}
-use Rattle.route_base.specs.declared.types.Pair.{Pair}
+use Rattle.route_base.specs.Relaxing.{HasWithin}
 use Rattle.route_base.specs.declared.types.Bound.{Bound}
 use Rattle.propagation.specs.Inside.Invariants.{ArePartStepsRelaxed, ComesBy, DrivesRelaxed, HasIn, Improves, InPart, IsLabel, IsLower, IsOffer, IsPaired}
-use Rattle.propagation.specs.Inside.Invariants.{IsPrunable, IsRelaxedIn, IsSearching, IsSound, AreInReach, Progress, Reaches, TakesOffer, Task, no_part, point}
+use Rattle.propagation.specs.Inside.Invariants.{IsPrunable, IsWorseOrLate, IsRelaxedIn, IsSearching, IsSound, AreInReach, Progress, Reaches, TakesOffer, Task, no_part, point}
 use Rattle.propagation.specs.Found.{IsStart}
-
--- an excuse by pairs is one by better pairs
-pub prunable_kept : (k : Task) (old new : List Pair) (p : Position) → ((t x : ℕ) → HasPair old t x → HasPair new t x) → IsPrunable k old p → IsPrunable k new p
-prunable_kept k old new p better = by (k.bounds p.node)
-  where
-    by : (o : Option Bound) → IsDominatedOrLate k.request.until old o p → IsDominatedOrLate k.request.until new o p
-    by None h = tt
-    by (Some b) h = ⊎_elim
-        (λ (late : k.request.until < p.minute + b.minutes). inl late)
-        (λ (had : HasPair old (p.minute + b.minutes) (p.cost + b.cost)). inr (better _ _ had))
-        h
+use Rattle.propagation.proofs.Pruning.{prunable_kept}
 
 module _ (k : Task) where
   pub within_kept : (old new : Progress) (p : Position) → Improves k old new → HasWithin old.cost p → HasWithin new.cost p
@@ -72,12 +61,12 @@ module _ (k : Task) where
     fresh = λ p is. ⊎_elim
         (λ (same : IsLabel b p). ⊎_elim
         (λ (first : IsLabel a p). inl first)
-        (λ (new : (b.pending p.node p.minute ≡ true) ⊎ IsPrunable k b.pairs p). inr (⊎_elim
+        (λ (new : (b.pending p.node p.minute ≡ true) ⊎ DrivesRelaxed k b p). inr (⊎_elim
         (λ (h : b.pending p.node p.minute ≡ true). inl (two.stays _ _ h))
-        (λ (e : IsPrunable k b.pairs p). inr (prunable_kept k b.pairs c.pairs p two.pairs e))
+        (λ (all : DrivesRelaxed k b p). inr (λ m q step. relaxed_kept b c q two (all m q step)))
         new))
         (one.fresh p same))
-        (λ (new : (c.pending p.node p.minute ≡ true) ⊎ IsPrunable k c.pairs p). inr new)
+        (λ (new : (c.pending p.node p.minute ≡ true) ⊎ DrivesRelaxed k c p). inr new)
         (two.fresh p is);
     stays = λ v t is. two.stays v t (one.stays v t is);
     cause = λ v t is. ⊎_elim
@@ -132,15 +121,15 @@ module _ (k : Task) where
       pairs = takes.pairs;
     }
       where
-        at_node : (p : Position) → p.node ≡ h → (new.pending h p.minute ≡ true) ⊎ IsPrunable k new.pairs (point h p.minute p.cost)
-            → (new.pending p.node p.minute ≡ true) ⊎ IsPrunable k new.pairs p
-        at_node p here = subst (λ w. (new.pending w p.minute ≡ true) ⊎ IsPrunable k new.pairs (point w p.minute p.cost)) (sym here)
+        at_node : (p : Position) → p.node ≡ h → (new.pending h p.minute ≡ true) ⊎ DrivesRelaxed k new (point h p.minute p.cost)
+            → (new.pending p.node p.minute ≡ true) ⊎ DrivesRelaxed k new p
+        at_node p here = subst (λ w. (new.pending w p.minute ≡ true) ⊎ DrivesRelaxed k new (point w p.minute p.cost)) (sym here)
 
     -- what is not excused has bounds, and is in time
     open_bound : IsOffer k old h offer → (t x : ℕ) → offer t ≡ Some x → (b : Bound) × (k.bounds h ≡ Some b) × (t + b.minutes ≤ k.request.until)
     open_bound offers t x is = by (k.bounds h) (offers.clear t x is)
       where
-        by : (o : Option Bound) → (IsDominatedOrLate k.request.until old.pairs o (point h t x) → ⊥) → (b : Bound) × (o ≡ Some b)
+        by : (o : Option Bound) → (IsWorseOrLate k.request.until old.pairs o (point h t x) → ⊥) → (b : Bound) × (o ≡ Some b)
             × (t + b.minutes ≤ k.request.until)
         by None clear = absurd (clear tt)
         by (Some b) clear = (
@@ -211,10 +200,10 @@ module _ (k : Task) where
               more))
               rest))
               (landing.drives p same))
-              (λ (fresh : (new.pending p.node p.minute ≡ true) ⊎ IsPrunable k new.pairs p). ⊎_elim
-              (λ (w : new.pending p.node p.minute ≡ true). inr (inl w))
-              (λ (e : IsPrunable k new.pairs p). inl e)
-              fresh)
+              (λ (fresh : (new.pending p.node p.minute ≡ true) ⊎ DrivesRelaxed k new p). inr (⊎_elim
+              (λ (w : new.pending p.node p.minute ≡ true). inl w)
+              (λ (all : DrivesRelaxed k new p). inr (inr all))
+              fresh))
               (better.fresh p is);
         }
 

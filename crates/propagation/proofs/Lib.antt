@@ -14,3 +14,6 @@ pub mod Waited
 pub mod EntryLists
 pub mod PieceStarts
 pub mod AtEnd
+pub mod Pruning
+pub mod Bordering
+pub mod EveryWay

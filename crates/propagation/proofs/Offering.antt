@@ -6,15 +6,16 @@ use Rattle.std.proofs.lemmas.Bool.{cases_lt}
 use Rattle.route_base.specs.Itinerary.{Position, drive, wait, Waits, Walks}
 use Rattle.route_base.specs.Legs.{start_of}
 use Rattle.route_base.specs.Open.{IsWaitOpen}
-use Rattle.route_base.specs.Relaxing.{HasPair, IsDominatedOrLate, AreBounds}
+use Rattle.route_base.specs.Relaxing.{IsDominatedOrLate, AreBounds}
 use Rattle.route_base.specs.declared.types.Bound.{Bound}
 use Rattle.route_base.specs.declared.types.Pair.{Pair}
 use Rattle.function_merge.specs.Pruning.{IsPruned}
 use Rattle.route_base.proofs.Walking.{walk-push, walk-append}
 use Rattle.route_base.proofs.Waiting.{waits, same_position}
-use Rattle.route_base.proofs.Covering.{excuse_moves}
+use Rattle.propagation.proofs.Pruning.{by_worse, prunable_dearer, prunable_moves, worse_by_borders}
 use Rattle.propagation.specs.Inside.Offers.{IsOpenUntil, Covers, CoversDrives, IsCleared, IsDriven, IsKnownPart, IsSource, IsWaited}
-use Rattle.propagation.specs.Inside.Invariants.{ComesBy, HasIn, IsOffer, IsPrunable, Progress, Reaches, Task, point}
+use Rattle.propagation.specs.Inside.Invariants.{ComesBy, HasIn, IsOffer, IsPrunable, IsWorseOrLate, Progress, Reaches, Task, point}
+use Rattle.propagation.specs.Inside.Pairs.{AreBorders}
 use Rattle.propagation.specs.Found.{IsStart}
 
 one_more : (w s t : ℕ) → s ≤ t → w * (t + 1 - s) ≡ w * (t - s) + w
@@ -23,35 +24,25 @@ one_more w s t le = let e : t + 1 - s ≡ suc (t - s) = omega arith in ap (λ n.
 one_less : (w s t : ℕ) → s < t → w * (t - s) ≡ w * (t - 1 - s) + w
 one_less w s t le = let e : t - s ≡ suc (t - 1 - s) = omega arith in ap (λ n. w * n) e ∙ omega arith
 
--- what is pruned is cleared at a node with the bound
-pub cleared_of : (k : Task) (pairs : List Pair) (h : ℕ) (b : Bound) (f g : ℕ → Option ℕ) → k.bounds h ≡ Some b → IsPruned k.request.until pairs b f g
-    → IsCleared k pairs h f g
-cleared_of k pairs h b f g is pruned = record {
+-- what is pruned by borders is cleared at a node with the bound
+pub cleared_of : (k : Task) (pairs borders : List Pair) (h : ℕ) (b : Bound) (f g : ℕ → Option ℕ) → k.bounds h ≡ Some b → AreBorders pairs borders
+    → IsPruned k.request.until borders b f g → IsCleared k pairs h f g
+cleared_of k pairs borders h b f g is are pruned = record {
   kept = pruned.kept;
-  clear = λ t x there e. pruned.clear (point h t x) there (subst (λ o. IsDominatedOrLate k.request.until pairs o (point h t x)) is e);
+  clear = λ t x there e. pruned.clear (point h t x) there (by_worse k.request.until pairs borders b (point h t x) are
+      (subst (λ o. IsWorseOrLate k.request.until pairs o (point h t x)) is e));
   left = λ t x there. ⊎_elim
       (λ (stays : g t ≡ Some x). inl stays)
-      (λ (e : IsDominatedOrLate k.request.until pairs (Some b) (point h t x)).
-      inr (subst (λ o. IsDominatedOrLate k.request.until pairs o (point h t x)) (sym is) e))
+      (λ (e : IsDominatedOrLate k.request.until borders (Some b) (point h t x)).
+      inr (subst (λ o. IsWorseOrLate k.request.until pairs o (point h t x)) (sym is)
+      (worse_by_borders k.request.until pairs borders b (point h t x) are e)))
       (pruned.left (point h t x) there);
 }
 
 module _ (k : Task) (now : Progress) where
-  -- what is excused is so at a larger cost
-  pub prunable_dearer : (h t x y : ℕ) → x ≤ y → IsPrunable k now.pairs (point h t x) → IsPrunable k now.pairs (point h t y)
-  prunable_dearer h t x y le = by (k.bounds h)
-    where
-      by : (o : Option Bound) → IsDominatedOrLate k.request.until now.pairs o (point h t x) → IsDominatedOrLate k.request.until now.pairs o (point h t y)
-      by None e = tt
-      by (Some b) e = ⊎_elim
-          (λ (late : k.request.until < t + b.minutes). inl late)
-          (λ (had : HasPair now.pairs (t + b.minutes) (x + b.cost)).
-          inr (record { pair = had.pair; is_one = had.is_one; arrival = had.arrival; cost = omega (arith, had.cost) }))
-          e
-
   -- what is late by the bound is excused
   prunable_late : (h : ℕ) (b : Bound) (q : Position) → k.bounds h ≡ Some b → q.node ≡ h → k.request.until < q.minute + b.minutes → IsPrunable k now.pairs q
-  prunable_late h b q is here late = subst (λ o. IsDominatedOrLate k.request.until now.pairs o q) (sym (ap k.bounds here ∙ is)) (inl late)
+  prunable_late h b q is here late = subst (λ o. IsWorseOrLate k.request.until now.pairs o q) (sym (ap k.bounds here ∙ is)) (inl late)
 
   -- what isn't excused is in time
   in_time : (h : ℕ) (b : Bound) (t x : ℕ) → k.bounds h ≡ Some b → (IsPrunable k now.pairs (point h t x) → ⊥) → t + b.minutes ≤ k.request.until
@@ -155,10 +146,9 @@ module _ (k : Task) (now : Progress) where
               ⊎_elim
               (λ (there : offer (t - 1) ≡ Some before.0). inr (point h (t - 1 + 1) (before.0 + weight), t - 1, before.0, there, move, same, le))
               (λ (e : IsPrunable k now.pairs (point h (t - 1) before.0)).
-              absurd (second.clear t x is (prunable_dearer h t (before.0 + weight) x le
+              absurd (second.clear t x is (prunable_dearer k now.pairs h t (before.0 + weight) x le
               (subst (λ n. IsPrunable k now.pairs (point h n (before.0 + weight))) same
-              (excuse_moves k.setting k.request now.pairs k.bounds now.cost bound wait (point h (t - 1) before.0)
-              (point h (t - 1 + 1) (before.0 + weight)) move e)))))
+              (prunable_moves k now.pairs bound wait (point h (t - 1) before.0) (point h (t - 1 + 1) (before.0 + weight)) move e)))))
               (second.left (t - 1) before.0 before.1))
               (λ (now_ : t ≤ s).
               let same : s ≡ t = omega (arith, w.3) in
@@ -186,7 +176,7 @@ module _ (k : Task) (now : Progress) where
               (λ (there : offer (t + 1) ≡ Some after.0). inl (record { least = after.0; is = ap offer minute ∙ there; within = le }))
               (λ (e : IsPrunable k now.pairs (point h (t + 1) after.0)).
               inr (subst (λ p. IsPrunable k now.pairs p) (same_position (point h (t + 1) q.cost) q (sym step.node) (sym minute) refl)
-              (prunable_dearer h (t + 1) after.0 q.cost le e)))
+              (prunable_dearer k now.pairs h (t + 1) after.0 q.cost le e)))
               (second.left (t + 1) after.0 after.1))
               (cases_lt (k.request.until - b.minutes) (t + 1))
 
@@ -202,7 +192,7 @@ module _ (k : Task) (now : Progress) where
           let le : w.0 ≤ x = omega (arith, w.2, zero) in
           ⊎_elim
           (λ (stays : offer t ≡ Some w.0). inl (record { least = w.0; is = stays; within = le }))
-          (λ (e : IsPrunable k now.pairs (point h t w.0)). inr (prunable_dearer h t w.0 x le e))
+          (λ (e : IsPrunable k now.pairs (point h t w.0)). inr (prunable_dearer k now.pairs h t w.0 x le e))
           (second.left t w.0 w.1))
           (λ (e : IsPrunable k now.pairs (point h t x)). inr e)
           (first.left t x is)

@@ -4,7 +4,7 @@ use Rattle.std.specs.Prelude.{Contains}
 use Rattle.route_base.specs.Itinerary.{Position, Step, drive, wait, Moves}
 use Rattle.route_base.specs.Legs.{start_of, end_of}
 use Rattle.route_base.specs.Front.{IsFront, RiseAndFall}
-use Rattle.route_base.specs.Relaxing.{HasWithin, HasPair, AreBounds, IsComplete}
+use Rattle.route_base.specs.Relaxing.{HasWithin, HasPair, AreBounds, IsComplete, IsRelaxed}
 use Rattle.route_base.specs.declared.types.Bound.{Bound}
 use Rattle.route_base.proofs.Covering.{covered}
 use Rattle.route_base.proofs.Fronts.{is_front}
@@ -13,6 +13,7 @@ use Rattle.propagation.specs.Inside.Invariants.{ComesBy, DrivesRelaxed, InPart, 
 use Rattle.propagation.specs.Inside.Invariants.{Task, no_part, point}
 use Rattle.propagation.specs.Found.{IsStart}
 use Rattle.propagation.proofs.Keeping.{comes_within}
+use Rattle.propagation.proofs.Pruning.{prunable_dominated}
 
 module _ (k : Task) where
   -- what is pending is excused, in the part, or pending still
@@ -96,9 +97,9 @@ module _ (k : Task) where
       → IsComplete k.setting k.request now.pairs k.bounds now.cost
   finished now bound facts none = record {
     bound = bound;
-    start = facts.start;
+    start = relaxed (start_of k.request) facts.start;
     goes_on = λ p is. ⊎_elim
-        (λ (e : IsPrunable k now.pairs p). inl e)
+        (λ (e : IsPrunable k now.pairs p). inl (prunable_dominated k now.pairs p e))
         (λ (rest : (now.pending p.node p.minute ≡ true) ⊎ (InPart 0 no_part p ⊎ DrivesRelaxed k now p)). inr (⊎_elim
         (λ (w : now.pending p.node p.minute ≡ true). let bad : true ≡ false = sym w ∙ none p.node p.minute in cc)
         (λ (more : InPart 0 no_part p ⊎ DrivesRelaxed k now p). ⊎_elim
@@ -110,9 +111,16 @@ module _ (k : Task) where
     end = facts.paired.matched;
   }
     where
-      each : (p : Position) → IsLabel now p → DrivesRelaxed k now p → (x : Step) (q : Position) → Moves k.setting k.request.until x p q → IsRelaxedIn k now q
-      each p is all (drive a) q step = all a q step
-      each p is all wait q step = facts.steps.waits p q is step
+      relaxed : (p : Position) → IsRelaxedIn k now p → IsRelaxed k.request.until now.pairs k.bounds now.cost p
+      relaxed p landed = ⊎_elim
+          (λ (h : HasWithin now.cost p). inl h)
+          (λ (e : IsPrunable k now.pairs p). inr (prunable_dominated k now.pairs p e))
+          landed
+
+      each : (p : Position) → IsLabel now p → DrivesRelaxed k now p → (x : Step) (q : Position) → Moves k.setting k.request.until x p q
+          → IsRelaxed k.request.until now.pairs k.bounds now.cost q
+      each p is all (drive a) q step = relaxed q (all a q step)
+      each p is all wait q step = relaxed q (facts.steps.waits p q is step)
 
   pub front : (now : Progress) → k.request.depart ≤ k.request.until → AreBounds k.setting k.request.goal.0 k.bounds → IsResting k now
       → ((v t : ℕ) → now.pending v t ≡ false) → IsFront k.setting k.request now.pairs

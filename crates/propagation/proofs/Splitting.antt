@@ -11,9 +11,12 @@ use Rattle.propagation.specs.declared.progress.Progress.{Progress as ProgressHel
 use Rattle.potentials.proofs.Lists.{number_read, number_set, number_set_other}
 use Rattle.route_base.specs.Runs.{any_has}
 use Rattle.function_merge.specs.Pruning.{IsPruned}
-use Rattle.propagation.specs.Inside.Invariants.{Progress, TakesPart, Task, point}
+use Rattle.propagation.specs.Inside.Invariants.{IsWorseOrLate, Progress, TakesPart, Task, point}
 use Rattle.propagation.specs.Inside.States.{IsAwaited, IsRequeued, IsShaped, IsSplit, is_pending, set_has}
+use Rattle.route_base.specs.declared.types.Pair.{Pair}
 use Rattle.route_base.specs.declared.types.Run.{Run}
+use Rattle.propagation.specs.Inside.Pairs.{AreBorders}
+use Rattle.propagation.proofs.Pruning.{worse_by_borders}
 
 part_or_rest : (a b : Bool) → a ≡ true → ((a && not b) ≡ true) ⊎ ((a && b) ≡ true)
 part_or_rest true true h = inr refl
@@ -85,10 +88,11 @@ some_cut : (b : Bool) (o : Option ℕ) (x : ℕ) → b ≡ true → o ≡ Some x
 some_cut true o x b h = h
 some_cut false o x b h = cc
 
-pub parts_are : (k : Task) (v : ℕ) (b : Bound) (taken : ℕ → Bool) (next : Option ℕ) (whole part : ℕ → Option ℕ) (old new : Progress)
-    → k.bounds v ≡ Some b → ((u t : ℕ) → new.cost u t ≡ old.cost u t) → new.pairs ≡ old.pairs → IsSplit v taken next old.pending new.pending
-    → ((t : ℕ) → whole t ≡ (if taken t then old.cost v t else None)) → IsPruned k.request.until old.pairs b whole part → TakesPart k v part old new
-parts_are k v b taken next whole part old new bound same pairs split cuts prunes = record {
+pub parts_are : (k : Task) (v : ℕ) (b : Bound) (borders : List Pair) (taken : ℕ → Bool) (next : Option ℕ) (whole part : ℕ → Option ℕ) (old new : Progress)
+    → k.bounds v ≡ Some b → ((u t : ℕ) → new.cost u t ≡ old.cost u t) → new.pairs ≡ old.pairs → AreBorders old.pairs borders
+    → IsSplit v taken next old.pending new.pending
+    → ((t : ℕ) → whole t ≡ (if taken t then old.cost v t else None)) → IsPruned k.request.until borders b whole part → TakesPart k v part old new
+parts_are k v b borders taken next whole part old new bound same pairs are split cuts prunes = record {
   cost = same;
   pairs = pairs;
   within = λ t x is. cut_some (taken t) (old.cost v t) x (sym (cuts t) ∙ prunes.kept t x is);
@@ -99,8 +103,9 @@ parts_are k v b taken next whole part old new bound same pairs split cuts prunes
         here,
         λ x there. ⊎_elim
             (λ (i : part t ≡ Some x). inl i)
-            (λ (e : IsDominatedOrLate k.request.until old.pairs (Some b) (point v t x)).
-            inr (subst (λ o. IsDominatedOrLate k.request.until old.pairs o (point v t x)) (sym bound) e))
+            (λ (e : IsDominatedOrLate k.request.until borders (Some b) (point v t x)).
+            inr (subst (λ o. IsWorseOrLate k.request.until old.pairs o (point v t x)) (sym bound)
+            (worse_by_borders k.request.until old.pairs borders b (point v t x) are e)))
             (prunes.left (point v t x) (cuts t ∙ some_cut (taken t) (old.cost v t) x goes there)),
       ))
       (split.pending t (subst (λ w. old.pending w t ≡ true) here is)))
@@ -133,8 +138,9 @@ module _ (keys new_keys : List (Option ℕ)) where
 
 pub shaped_again : (nodes v : ℕ) (taken : ℕ → Bool) (next : Option ℕ) (old new : ProgressHeld) → IsShaped nodes v old → key_at old.queue v ≡ None
     → IsSplit v taken next (is_pending old.pending.items) (is_pending new.pending.items) → IsRequeued v next old.queue new.queue
-    → new.functions ≡ old.functions → length new.pending.items ≡ length old.pending.items → IsShaped nodes 0 new
-shaped_again nodes v taken next old new shape absent split requeued functions pending = by next split requeued
+    → new.functions ≡ old.functions → length new.pending.items ≡ length old.pending.items → AreBorders new.pairs.items new.borders.items
+    → IsShaped nodes 0 new
+shaped_again nodes v taken next old new shape absent split requeued functions pending are = by next split requeued
   where
     by : (o : Option ℕ) → IsSplit v taken o (is_pending old.pending.items) (is_pending new.pending.items) → IsRequeued v o old.queue new.queue
         → IsShaped nodes 0 new
@@ -151,6 +157,7 @@ shaped_again nodes v taken next old new shape absent split requeued functions pe
           (λ (here : u ≡ v). let bad : None ≡ Some key = sym absent ∙ (ap (key_at old.queue) (sym here) ∙ (ap (λ w. key_at w u) (sym same) ∙ is)) in cc)
           (λ (other : u ≡ v → ⊥). let w = shape.waiting u key (ap (λ w. key_at w u) (sym same) ∙ is) in (w.0, cut.others u w.0 other ∙ w.1))
           (cases_eq u v);
+      borders = are;
     }
     by (Some t) cut put = record {
       functions = ap (λ w. length w.items) functions ∙ shape.functions;
@@ -160,14 +167,16 @@ shaped_again nodes v taken next old new shape absent split requeued functions pe
       queued = λ u s is work. key_put old.queue new.queue v put.0 u put.1 (λ other. shape.queued u s (sym (cut.others u s other) ∙ is) other);
       waiting = λ u key is. pending_put old.queue new.queue (is_pending old.pending.items) (is_pending new.pending.items) v put.0 u key put.1 cut.others
           (t, cut.left) shape.waiting is;
+      borders = are;
     }
 
 -- a node with more pending minutes is in the queue
 pub shaped_awaited : (nodes h : ℕ) (more : ℕ → Bool) (old new : ProgressHeld) → IsShaped nodes 0 old → length new.functions.items ≡ length old.functions.items
     → All AreBuilt new.functions.items
     → length new.pending.items ≡ length old.pending.items → IsAwaited h more (is_pending old.pending.items) (is_pending new.pending.items)
-    → (key : ℕ) × IsSet old.queue new.queue h (Some key) → (t : ℕ) × (more t ≡ true) → IsShaped nodes 0 new
-shaped_awaited nodes h more old new shape functions built pending awaits queue some = record {
+    → (key : ℕ) × IsSet old.queue new.queue h (Some key) → (t : ℕ) × (more t ≡ true)
+    → AreBorders new.pairs.items new.borders.items → IsShaped nodes 0 new
+shaped_awaited nodes h more old new shape functions built pending awaits queue some are = record {
   functions = functions ∙ shape.functions;
   built = built;
   pending = pending ∙ shape.pending;
@@ -175,4 +184,5 @@ shaped_awaited nodes h more old new shape functions built pending awaits queue s
   queued = λ u t is work. key_put old.queue new.queue h queue.0 u queue.1 (λ other. shape.queued u t (sym (awaits.others u t other) ∙ is) work);
   waiting = λ u key is. pending_put old.queue new.queue (is_pending old.pending.items) (is_pending new.pending.items) h queue.0 u key queue.1 awaits.others
       (some.0, awaits.here some.0 ∙ or_right (is_pending old.pending.items h some.0) (more some.0) some.1) shape.waiting is;
+  borders = are;
 }

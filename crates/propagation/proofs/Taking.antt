@@ -3,11 +3,13 @@ use Rattle.std.proofs.Common.{◌≡◌, ◌⊎◌, inl, inr, ⊎_elim, ℕ, ◌
 use Rattle.std.specs.Prelude.{Contains}
 use Rattle.std.proofs.lemmas.Bool.{cases_eq, cases_lt, lt-ltb, le-ltb, or_cases, or_left, or_right}
 use Rattle.route_base.specs.Front.{RiseAndFall}
-use Rattle.route_base.specs.Relaxing.{HasPair, IsDominatedOrLate, AreBounds}
+use Rattle.route_base.specs.Relaxing.{HasPair}
+use Rattle.route_base.proofs.Arcs.{TakesTime}
 use Rattle.function_merge.specs.Least.{least_of, is_better}
-use Rattle.propagation.specs.Inside.Invariants.{IsLower, IsMerged, IsPrunable, Progress, TakesOffer, Task, point}
+use Rattle.propagation.specs.Inside.Invariants.{DrivesRelaxed, IsLower, IsMerged, Progress, TakesOffer, Task, point}
 use Rattle.propagation.specs.Inside.States.{IsAwaited, IsLowered}
 use Rattle.propagation.specs.Inside.Pairs.{TakesPairs}
+use Rattle.propagation.proofs.Pruning.{prunable_after}
 
 kept_of : (a b : Option ℕ) (x : ℕ) → a ≡ Some x → (y : ℕ) × (least_of a b ≡ Some y) × (y ≤ x)
 kept_of None b x is = cc
@@ -49,18 +51,18 @@ merged_of h offer better old new low = record {
 }
 
 module _ (k : Task) (h : ℕ) (offer : ℕ → Option ℕ) (better : ℕ → Bool) (old new : Progress) where
-  -- a pair excuses what it is as good as, at the goal
-  goal_excused : AreBounds k.setting k.request.goal.0 k.bounds → h ≡ k.request.goal.0 → (t x : ℕ) → HasPair new.pairs t x → IsPrunable k new.pairs (point h t x)
-  goal_excused bound here t x had = subst (λ o. IsDominatedOrLate k.request.until new.pairs o (point h t x)) (sym (ap k.bounds here ∙ bound.goal))
-      (inr (record { pair = had.pair; is_one = had.is_one; arrival = omega (arith, had.arrival); cost = omega (arith, had.cost) }))
+  -- a drive from a pair's arrival ends later than the pair, and costs no less
+  driven_after : TakesTime k.setting → (t x : ℕ) → HasPair new.pairs t x → DrivesRelaxed k new (point h t x)
+  driven_after takes t x had a q step = inr (prunable_after k new.pairs t x q had
+      (omega (arith, step.minute, takes a step.road step.is)) (omega (arith, step.cost)))
 
-  pub takes_goal : AreBounds k.setting k.request.goal.0 k.bounds → h ≡ k.request.goal.0 → IsLowered h offer better old.cost new.cost
+  pub takes_goal : TakesTime k.setting → h ≡ k.request.goal.0 → IsLowered h offer better old.cost new.cost
       → TakesPairs offer old.pairs new.pairs
       → ((v t : ℕ) → new.pending v t ≡ old.pending v t) → TakesOffer k h offer old new
-  takes_goal bound here low pairs same = record {
+  takes_goal takes here low pairs same = record {
     merged = merged_of h offer better old.cost new.cost low;
     stays = λ v t is. same v t ∙ is;
-    awaits = λ t x is lower. inr (goal_excused bound here t x (pairs.here t x is));
+    awaits = λ t x is lower. inr (driven_after takes t x (pairs.here t x is));
     cause = λ v t is. inl (sym (same v t) ∙ is);
     pairs = pairs.kept;
     trade = pairs.trade;

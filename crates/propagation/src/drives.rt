@@ -1,6 +1,5 @@
 // The offer that drives over an arc make to its head.
 ghost use Rattle.std.specs.Prelude.{◌≡◌, ◌≤◌, ℕ, Option, Some, IfOk, OnOk};
-ghost use Rattle.route_base.specs.Front.{RiseAndFall};
 ghost use Rattle.route_base.specs.Net.{park_at, setting_of, IsGoodPark};
 ghost use Rattle.cost_functions.specs.Pieces.{value_at, AreSmallPieces};
 ghost use Rattle.cost_functions.specs.Building.{AreBuilt};
@@ -8,6 +7,7 @@ ghost use Rattle.potentials.specs.Sums.{bound_at};
 ghost use Rattle.propagation.specs.Inside.Invariants.{IsOffer, Reaches, point};
 ghost use Rattle.propagation.specs.Inside.Offers.{IsKnownPart, AreClearDrives, IsClearSource, IsCleared, IsWaited, Covers, CoversDrives};
 ghost use Rattle.propagation.specs.Inside.EntrySets.{AreEntrySets};
+ghost use Rattle.propagation.specs.Inside.Pairs.{AreBorders};
 ghost use Rattle.propagation.specs.Inside.States.{progress_of, task_of, IsGoodTask, IsOutgoingArc};
 
 use crate::entry_sets::{EntrySets, ready_set};
@@ -16,7 +16,7 @@ use crate::spares::Spares;
 use crate::task::Task;
 use cost_functions::CostFn;
 use function_merge::{into_pruned, shift_and_prune, wait_with_spare};
-use route_base::{ArcId, Bound, Minute, NodeId, OutOfMemory, Pair, Park, TimedArc};
+use route_base::{ArcId, Bound, Minute, NodeId, OutOfMemory, Park, TimedArc};
 use std::alloc::Global;
 
 /// An arc that leaves a node, with its number, and the bound of its head.
@@ -34,20 +34,20 @@ fn driven(
     task: Task<'_>,
     sets: &mut EntrySets,
     spares: &mut Spares,
-    pairs: &[Pair],
+    progress: &Progress,
     v: NodeId,
     part: &CostFn,
     way: OutgoingArc,
 ) -> Result<CostFn, OutOfMemory>
     requires asked { IsGoodTask task }
     requires way { IsOutgoingArc task v.0 way }
-    requires trade { RiseAndFall pairs.now }
+    requires borders { AreBorders progress.now.pairs.items progress.now.borders.items }
     requires entries { AreEntrySets task.net.now task.request.until sets.old }
     requires reached { (t x : ℕ) → value_at part.now t ≡ Some x
         → Reaches (task_of task) (point v.0 t x) }
     ensures driven { IfOk result
-        (λ g. AreClearDrives (task_of task.entry) pairs.now way.id.0 v.0 (value_at part.now)
-        way.arc.head.0 (value_at g)) }
+        (λ g. AreClearDrives (task_of task.entry) progress.now.pairs.items way.id.0 v.0
+        (value_at part.now) way.arc.head.0 (value_at g)) }
     ensures built { IfOk result AreBuilt }
     ensures entries { OnOk result
         (AreEntrySets task.entry.net.now task.entry.request.until sets.new) }
@@ -63,7 +63,7 @@ fn driven(
         way.arc.minutes,
         way.arc.cost,
         task.request.until,
-        pairs,
+        &progress.borders,
         way.bound,
     )?;
     Ok(clear)
@@ -71,15 +71,21 @@ fn driven(
 
 // The costs at a node from which the goal is still worth reaching.
 #[inline(always)]
-pub fn cleared(task: Task<'_>, pairs: &[Pair], h: NodeId, bound: Bound, costs: CostFn) -> CostFn
+pub fn cleared(
+    task: Task<'_>,
+    progress: &Progress,
+    h: NodeId,
+    bound: Bound,
+    costs: CostFn,
+) -> CostFn
     requires is { bound_at task.bounds.now h.0 ≡ Some bound }
-    requires trade { RiseAndFall pairs.now }
+    requires borders { AreBorders progress.now.pairs.items progress.now.borders.items }
     requires small { AreSmallPieces costs }
-    ensures cleared { IsCleared (task_of task.entry) pairs.now h.0 (value_at costs)
+    ensures cleared { IsCleared (task_of task.entry) progress.now.pairs.items h.0 (value_at costs)
         (value_at result) }
     ensures small { AreSmallPieces result }
 {
-    into_pruned(costs, task.request.until, pairs, bound)
+    into_pruned(costs, task.request.until, &progress.borders, bound)
 }
 
 // The costs with waits at a park, from these costs on until a minute.
@@ -132,7 +138,7 @@ pub fn with_waits(
     requires low { 1 ≤ h.0 }
     requires high { h.0 ≤ task.net.now.nodes }
     requires bound { bound_at task.bounds.now h.0 ≡ Some bound }
-    requires trade { RiseAndFall progress.now.pairs.items }
+    requires borders { AreBorders progress.now.pairs.items progress.now.borders.items }
     requires small { AreSmallPieces clear }
     requires entries { AreEntrySets task.net.now task.request.until sets.old }
     requires clear { IsClearSource (task_of task) (progress_of progress.now) h.0 (value_at clear) }
@@ -151,7 +157,7 @@ pub fn with_waits(
     let last = task.request.until.saturating_sub(bound.minutes);
     let with_waits = waited(alloc, task, sets, spares, h, park, &clear, last)?;
     spares.put(clear)?;
-    let offer = cleared(task, &progress.pairs, h, bound, with_waits);
+    let offer = cleared(task, progress, h, bound, with_waits);
     Ok(offer)
 }
 
@@ -168,7 +174,7 @@ pub fn offered(
     way: OutgoingArc,
 ) -> Result<CostFn, OutOfMemory>
     requires asked { IsGoodTask task }
-    requires trade { RiseAndFall progress.now.pairs.items }
+    requires borders { AreBorders progress.now.pairs.items progress.now.borders.items }
     requires way { IsOutgoingArc task v.0 way }
     requires entries { AreEntrySets task.net.now task.request.until sets.old }
     requires part { IsKnownPart (task_of task) (progress_of progress.now) v.0 (value_at part.now) }
@@ -181,7 +187,7 @@ pub fn offered(
     ensures entries { OnOk result
         (AreEntrySets task.entry.net.now task.entry.request.until sets.new) }
 {
-    let clear = driven(alloc, task, sets, spares, &progress.pairs, v, part, way)?;
+    let clear = driven(alloc, task, sets, spares, progress, v, part, way)?;
     let offer = with_waits(
         alloc,
         task,

@@ -3,17 +3,26 @@ ghost use Rattle.std.specs.Prelude.{◌≡◌, ◌↔◌, ◌≤◌, ◌<◌, �
 ghost use Rattle.route_base.specs.Front.{RiseAndFall};
 ghost use Rattle.route_base.specs.Relaxing.{HasPair};
 ghost use Rattle.route_base.specs.declared.types.Pair.{Pair};
-ghost use Rattle.cost_functions.specs.Pieces.{value_at};
-ghost use Rattle.propagation.specs.Inside.Pairs.{TakesPair, TakesPairs, IsPutIn, is_as_bad};
+ghost use Rattle.route_base.specs.declared.limits.TheConstants.{LAST_INSTANT, HIGHEST_COST};
+ghost use Rattle.cost_functions.specs.Pieces.{value_at, AreSmallPieces};
+ghost use Rattle.propagation.specs.Inside.Pairs.{AreBorders, TakesBorders, TakesPair, TakesPairs, IsPutIn, is_as_bad};
 
 use cost_functions::CostFn;
 use route_base::{Minute, OutOfMemory, Pair};
 
 // Adds the pairs of the costs that are offered to the goal, and takes out those that are worse. Only the first minute of a piece
-// can be one, since the later ones cost no less.
-pub fn add_pairs(pairs: &mut Vec<Pair>, offer: &CostFn) -> Result<(), OutOfMemory>
+// can be one, since the later ones cost no less. The borders follow.
+pub fn add_pairs(
+    pairs: &mut Vec<Pair>,
+    borders: &mut Vec<Pair>,
+    offer: &CostFn,
+) -> Result<(), OutOfMemory>
     requires trade { RiseAndFall pairs.old.items }
-    ensures { OnOk result (TakesPairs (value_at offer.now) pairs.old.items pairs.new.items) }
+    requires borders { AreBorders pairs.old.items borders.old.items }
+    requires small { AreSmallPieces offer.now }
+    ensures takes { OnOk result
+        (TakesPairs (value_at offer.now) pairs.old.items pairs.new.items) }
+    ensures borders { OnOk result (AreBorders pairs.new.items borders.new.items) }
 {
     for piece in offer.pieces() {
         let pair = Pair {
@@ -21,7 +30,29 @@ pub fn add_pairs(pairs: &mut Vec<Pair>, offer: &CostFn) -> Result<(), OutOfMemor
             cost: piece.cost,
         };
         add_pair(pairs, pair)?;
+        add_borders(borders, pair)?;
     }
+    Ok(())
+}
+
+// Adds the borders of a pair: it a thousandth dearer, and it a minute later. One of the two is no worse exactly where the pair is
+// better.
+fn add_borders(borders: &mut Vec<Pair>, pair: Pair) -> Result<(), OutOfMemory>
+    requires trade { RiseAndFall borders.old.items }
+    requires arrival { pair.arrival ≤ LAST_INSTANT }
+    requires cost { pair.cost ≤ HIGHEST_COST }
+    ensures { OnOk result (TakesBorders pair borders.old.items borders.new.items) }
+{
+    let dearer = Pair {
+        cost: pair.cost + 1,
+        ..pair
+    };
+    let later = Pair {
+        arrival: pair.arrival + 1,
+        ..pair
+    };
+    add_pair(borders, dearer)?;
+    add_pair(borders, later)?;
     Ok(())
 }
 

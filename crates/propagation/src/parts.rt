@@ -1,6 +1,5 @@
 // The part of a node's pending minutes whose arcs a turn relaxes.
 ghost use Rattle.std.specs.Prelude.{◌≡◌, ◌≤◌, ◌<◌, ◌&&◌, ◌||◌, not, nat_lt, max, ℕ, Option, Some, None, true, All, length, IfOk, OnOk};
-ghost use Rattle.route_base.specs.Front.{RiseAndFall};
 ghost use Rattle.route_base.specs.Runs.{any_has, has_minute, AreRuns};
 ghost use Rattle.route_base.specs.declared.limits.TheConstants.{LAST_INSTANT};
 ghost use Rattle.cost_functions.specs.Pieces.{value_at, ArePieces, AreSmallPieces};
@@ -54,7 +53,6 @@ pub fn part_of(
     requires absent { key_at progress.old.queue v.0 ≡ None }
     requires first { is_pending progress.old.pending.items v.0 first ≡ true }
     requires early { first ≤ LAST_INSTANT }
-    requires trade { RiseAndFall progress.old.pairs.items }
     ensures parts { IfOk result
         (λ part. TakesPart (task_of task.entry) v.0 (value_at part) (progress_of progress.old)
         (progress_of progress.new)) }
@@ -75,7 +73,7 @@ pub fn part_of(
         0,
         0,
         task.request.until,
-        &progress.pairs,
+        &progress.borders,
         bound,
     )?;
     requeue(&mut progress.queue, v, split.next, bound);

@@ -14,12 +14,13 @@ use minute_sets::MinuteSet;
 use route_base::{Minute, NodeId, OutOfMemory, Pair};
 use std::alloc::Global;
 
-/// A function and pending minutes for each node, the pairs so far, and the nodes with pending minutes by key.
+/// A function and pending minutes for each node, the pairs so far with their borders, and the nodes with pending minutes by key.
 #[derive(Drop)]
 pub struct Progress {
     pub functions: Vec<CostFn>,
     pub pending: Vec<MinuteSet>,
     pub pairs: Vec<Pair>,
+    pub borders: Vec<Pair>,
     pub queue: LabelQueue,
 }
 

@@ -24,10 +24,11 @@ use potentials::to_goal_over;
 use route_base::{OutOfMemory, Request, TimedNet};
 use std::alloc::Global;
 
-/// The Pareto front of arrival (Unix minutes) and cost (thousandths), with the bounds and functions that show it. For each turn and
-/// arc it takes time linear in the pieces of the part and of the head's function after the part's first minute, and no step per
-/// minute. Memory for 96 bytes a node and the arcs by node, 32 bytes a piece of the functions, 16 a pending run, and one entry set
-/// for each list of closed runs and length of an arc that is met. The only error is out of memory.
+/// The Pareto front of arrival (Unix minutes) and cost (thousandths), with the bounds and functions that show it. The functions have
+/// each position of each lawful itinerary of a pair. For each turn and arc it takes time linear in the pieces of the part and of the
+/// head's function after the part's first minute, and no step per minute. Memory for 96 bytes a node and the arcs by node, 32 bytes
+/// a piece of the functions, 48 a pair, 16 a pending run, and one entry set for each list of closed runs and length of an arc that
+/// is met. The only error is out of memory.
 pub fn search(alloc: Global, net: &TimedNet, request: Request) -> Result<Found, OutOfMemory>
     requires good { IsGoodRequest net.now request }
     requires in_time { request.depart ≤ request.until }
@@ -105,7 +106,7 @@ fn begun(
         return Ok(progress);
     };
     let first = CostFn::single(alloc, task.request.depart, 0)?;
-    let clear = cleared(task, &progress.pairs, origin, bound, first);
+    let clear = cleared(task, &progress, origin, bound, first);
     let offer = with_waits(alloc, task, sets, spares, &progress, origin, bound, clear)?;
     take_at(alloc, task, spares, &mut progress, origin, bound, &offer)?;
     Ok(progress)
@@ -121,6 +122,7 @@ fn blank(alloc: Global, net: &TimedNet) -> Result<Progress, OutOfMemory>
         functions: no_costs(alloc, nodes)?,
         pending: no_minutes(alloc, nodes)?,
         pairs: Vec::new(alloc),
+        borders: Vec::new(alloc),
         queue: LabelQueue::new(alloc, nodes)?,
     })
 }

@@ -162,7 +162,7 @@ pub fn take_at(
 {
     if h.0 == task.request.goal.0 {
         lower_at(alloc, &mut progress.functions, h, offer, &mut spares.pieces)?;
-        add_pairs(&mut progress.pairs, offer)?;
+        add_pairs(&mut progress.pairs, &mut progress.borders, offer)?;
         return Ok(());
     }
     let improved = lower_at(alloc, &mut progress.functions, h, offer, &mut spares.pieces)?;

@@ -1,20 +1,19 @@
 -- The legs of an itinerary that are found so far, the last first (source: own; no law).
-use Rattle.std.specs.Prelude.{◌≡◌, ℕ, ◌≤◌, Option, Some, List, reverse}
+use Rattle.std.specs.Prelude.{◌≡◌, ℕ, Option, Some, List, reverse}
 use Rattle.route_base.specs.Setting.{Setting}
-use Rattle.route_base.specs.Itinerary.{Step, Walks}
+use Rattle.route_base.specs.Itinerary.{Step}
 use Rattle.route_base.specs.Legs.{HasNoEmptyWait, HasNoNeighbouringWaits}
 use Rattle.route_base.specs.declared.types.Leg.{Leg}
 use Rattle.route_base.specs.declared.types.Pair.{Pair}
 use Rattle.route_base.specs.declared.types.Request.{Request}
+use Rattle.first_itinerary.specs.StepsBack.{LeadsFirst}
 use Rattle.propagation.specs.Inside.Invariants.{point}
 
--- from the cost that is known here these steps lead to the pair, at no higher cost
+-- from the cost that is known here these steps lead to the pair, as the last ones of its first itinerary
 pub record LeadsToPair (s : Setting) (r : Request) (cost : ℕ → ℕ → Option ℕ) (pair : Pair) (v t : ℕ) (steps : List Step) : Type 0 where
   pub here : ℕ
   pub known : cost v t ≡ Some here
-  pub end : ℕ
-  pub within : end ≤ pair.cost
-  pub walk : Walks s r.until steps (point v t here) (point r.goal.0 pair.arrival end)
+  pub leads : LeadsFirst s r pair (point v t here) steps
 
 -- in the order of travel no leg is an empty wait, and no two waits are neighbours
 pub record IsTidyBack (legs : List Leg) : Type 0 where

@@ -4,12 +4,13 @@ use Rattle.route_base.specs.Setting.{Setting}
 use Rattle.route_base.specs.Itinerary.{Position, Drives, Waits}
 use Rattle.route_base.specs.Front.{RiseAndFall}
 use Rattle.route_base.specs.Legs.{start_of, end_of}
-use Rattle.route_base.specs.Relaxing.{HasWithin, HasPair, IsDominatedOrLate}
+use Rattle.route_base.specs.Relaxing.{HasWithin, HasPair}
 use Rattle.route_base.specs.declared.types.Bound.{Bound}
 use Rattle.route_base.specs.declared.types.Pair.{Pair}
 use Rattle.route_base.specs.declared.types.Request.{Request}
 use Rattle.route_base.specs.Legs.{IsReachable}
 use Rattle.propagation.specs.Found.{IsStart, HasPredecessor}
+use Rattle.propagation.specs.Inside.Pairs.{HasBetter}
 
 -- what is searched
 pub record Task : Type 0 where
@@ -30,9 +31,14 @@ point v t x = record { node = v; minute = t; cost = x }
 abbrev pub IsLabel : Progress → Position → Type 0
 IsLabel now p = now.cost p.node p.minute ≡ Some p.cost
 
--- every way on from the position is dominated by a pair, or late, so that it needn't be followed
+-- every way on from here is late, or some pair is better: no pair excuses a way to itself
+abbrev pub IsWorseOrLate : ℕ → List Pair → Option Bound → Position → Type 0
+IsWorseOrLate until pairs None p = ⊤
+IsWorseOrLate until pairs (Some b) p = (until < p.minute + b.minutes) ⊎ HasBetter pairs (p.minute + b.minutes) (p.cost + b.cost)
+
+-- every way on from the position is late or worse than some pair, so that it needn't be followed
 abbrev pub IsPrunable : Task → List Pair → Position → Type 0
-IsPrunable k pairs p = IsDominatedOrLate k.request.until pairs (k.bounds p.node) p
+IsPrunable k pairs p = IsWorseOrLate k.request.until pairs (k.bounds p.node) p
 
 -- a cost is known that is no larger, or the position is prunable
 abbrev pub IsRelaxedIn : Task → Progress → Position → Type 0
@@ -101,10 +107,10 @@ IsLower None old = ⊥
 IsLower (Some x) None = ⊤
 IsLower (Some x) (Some y) = x < y
 
--- costs only fall; what is new is pending or prunable; what becomes pending has fallen; no pair is lost but to one that is no worse
+-- costs only fall; what is new is pending or relaxed; what becomes pending has fallen; no pair is lost but to one that is no worse
 pub record Improves (k : Task) (old new : Progress) : Type 0 where
   pub less : (p : Position) → IsLabel old p → HasWithin new.cost p
-  pub fresh : (p : Position) → IsLabel new p → IsLabel old p ⊎ ((new.pending p.node p.minute ≡ true) ⊎ IsPrunable k new.pairs p)
+  pub fresh : (p : Position) → IsLabel new p → IsLabel old p ⊎ ((new.pending p.node p.minute ≡ true) ⊎ DrivesRelaxed k new p)
   pub stays : (v t : ℕ) → old.pending v t ≡ true → new.pending v t ≡ true
   pub cause : (v t : ℕ) → new.pending v t ≡ true → (old.pending v t ≡ true) ⊎ IsLower (new.cost v t) (old.cost v t)
   pub pairs : (t x : ℕ) → HasPair old.pairs t x → HasPair new.pairs t x
@@ -130,7 +136,7 @@ pub record TakesOffer (k : Task) (h : ℕ) (offer : ℕ → Option ℕ) (old new
   pub merged : IsMerged h offer old.cost new.cost
   pub stays : (v t : ℕ) → old.pending v t ≡ true → new.pending v t ≡ true
   pub awaits : (t x : ℕ) → offer t ≡ Some x → IsLower (Some x) (old.cost h t)
-      → (new.pending h t ≡ true) ⊎ IsPrunable k new.pairs (point h t x)
+      → (new.pending h t ≡ true) ⊎ DrivesRelaxed k new (point h t x)
   pub cause : (v t : ℕ) → new.pending v t ≡ true → (old.pending v t ≡ true) ⊎ ((v ≡ h) × IsLower (new.cost h t) (old.cost h t))
   pub pairs : (t x : ℕ) → HasPair old.pairs t x → HasPair new.pairs t x
   pub trade : RiseAndFall new.pairs

@@ -1,6 +1,6 @@
 -- The task and the progress that the code holds, and what its parts keep of each other (source: own; no law).
 use Rattle.std.specs.Prelude.{◌≡◌, ◌⊎◌, ℕ, ◌≤◌, Bool, true, false, ◌||◌, Option, Some, None, List, length, All, IfSome, IsNone}
-use Rattle.route_base.specs.Net.{IsGoodArc, IsGoodRequest, at_number, setting_of}
+use Rattle.route_base.specs.Net.{IsGoodArc, IsGoodNet, IsGoodRequest, at_number, setting_of}
 use Rattle.route_base.specs.Legs.{CostsFit}
 use Rattle.route_base.specs.Relaxing.{AreBounds}
 use Rattle.route_base.specs.Runs.{any_has}
@@ -13,6 +13,7 @@ use Rattle.node_arcs.specs.Stars.{AreOutgoing}
 use Rattle.potentials.specs.Sums.{bound_at}
 use Rattle.propagation.specs.Found.{cost_at}
 use Rattle.propagation.specs.Inside.Invariants.{Task, Progress}
+use Rattle.propagation.specs.Inside.Pairs.{AreBorders}
 use Rattle.propagation.specs.declared.drives.OutgoingArc.{OutgoingArc}
 use Rattle.propagation.specs.declared.task.Task.{Task as TaskHeld}
 use Rattle.propagation.specs.declared.progress.Progress.{Progress as ProgressHeld}
@@ -31,8 +32,9 @@ progress_of progress = record { cost = cost_at progress.functions.items; pending
 abbrev pub task_of : TaskHeld → Task
 task_of task = record { setting = setting_of task.net.now; request = task.request; bounds = bound_at task.bounds.now }
 
--- the request is one over the net, and the bounds and the arcs are those of the net
+-- the net is well formed, the request is one over it, and the bounds and the arcs are those of the net
 pub record IsGoodTask (task : TaskHeld) : Type 0 where
+  pub good : IsGoodNet task.net.now
   pub ends : IsGoodRequest task.net.now task.request
   pub in_time : task.request.depart ≤ task.request.until
   pub fit : CostsFit (setting_of task.net.now) task.request
@@ -46,7 +48,7 @@ pub record IsOutgoingArc (task : TaskHeld) (v : ℕ) (way : OutgoingArc) : Type 
   pub begins : way.arc.tail.0 ≡ v
   pub bound : bound_at task.bounds.now way.arc.head.0 ≡ Some way.bound
 
--- a place for each node, and a key for each node with pending minutes but the one at work
+-- a place for each node, a key for each node with pending minutes but the one at work, and the borders of the pairs
 pub record IsShaped (nodes at_work : ℕ) (progress : ProgressHeld) : Type 0 where
   pub functions : length progress.functions.items ≡ nodes
   pub built : All AreBuilt progress.functions.items
@@ -54,6 +56,7 @@ pub record IsShaped (nodes at_work : ℕ) (progress : ProgressHeld) : Type 0 whe
   pub queue : length progress.queue ≡ nodes
   pub queued : (v t : ℕ) → is_pending progress.pending.items v t ≡ true → (v ≡ at_work → ⊥) → (key : ℕ) × (key_at progress.queue v ≡ Some key)
   pub waiting : (v key : ℕ) → key_at progress.queue v ≡ Some key → (t : ℕ) × (is_pending progress.pending.items v t ≡ true)
+  pub borders : AreBorders progress.pairs.items progress.borders.items
 
 -- node h takes the lesser of its costs and the offered ones, which are better at some minutes
 pub record IsLowered (h : ℕ) (offer : ℕ → Option ℕ) (better : ℕ → Bool) (old new : ℕ → ℕ → Option ℕ) : Type 0 where

@@ -1,57 +1,69 @@
-use Rattle.std.proofs.Common.{◌≡◌, ◌+◌, ◌≤◌, [], List, Some, length, sym, ◌∙◌, ap, subst, arith, length-append}
-use Rattle.std.specs.Prelude.{reverse, unwrap_or}
+use Rattle.std.proofs.Common.{◌≡◌, ◌+◌, ◌≤◌, [], List, length, sym, ap, subst, arith, length-append}
+use Rattle.std.specs.Prelude.{reverse}
 use Rattle.route_base.specs.Itinerary.{Step}
-use Rattle.route_base.specs.Legs.{steps_of, steps_of_leg}
+use Rattle.route_base.specs.Legs.{steps_of, steps_of_leg, start_of}
 use Rattle.route_base.specs.declared.types.Leg.{Leg}
+use Rattle.route_base.proofs.Arcs.{takes_time}
+use Rattle.first_itinerary.specs.StepsBack.{LeadsFirst}
+use Rattle.first_itinerary.proofs.GoingBack.{is_first}
 use Rattle.propagation.specs.Inside.Invariants.{point}
 use Rattle.itinerary_unpack.specs.Inside.Requests.{setting_in, solved_cost}
 use Rattle.itinerary_unpack.specs.Inside.Ways.{LeadsToPair, IsTidyBack}
-use Rattle.itinerary_unpack.proofs.Backwards.{at_pair, whole_walk, leads_before, node_within, cost_is}
+use Rattle.itinerary_unpack.proofs.Backwards.{ways_to, at_pair, leads_from_start, comes_by_step, leads_before, node_within, read_known}
 use Rattle.itinerary_unpack.proofs.back.legs_back.Goals as goal
+use Rattle.itinerary_unpack.proofs.back.legs_back.Goals.{then-node-solved, else-node-solved+then-minute-solved}
 
 pub back-init : goal.back-init
 back-init c =
     let r = c.args.solved.request in
     let found = c.args.solved.found.now in
-    let good = c.requires.solved.found in
+    let solved = c.requires.solved in
     let s = setting_in c.args.solved in
     let cost = solved_cost c.args.solved in
-    let start = at_pair c.args.solved.net.now r found good c.args.pair c.requires.one in
-    let tight = good.justified.tight (point r.goal.0 c.args.pair.arrival start.here) start.known in
+    let start = at_pair c.args.solved.net.now r found solved.found c.args.pair c.requires.one in
+    let tight = solved.found.justified.tight (point r.goal.0 c.args.pair.arrival start.here) start.known in
     let none : [] ≡ c.new-legs.result.items = sym c.new-legs.ensures.items in
     record {
-      low = c.requires.solved.ends.goal.0;
-      high = c.requires.solved.ends.goal.1;
+      low = solved.ends.goal.0;
+      high = solved.ends.goal.1;
       size = subst (λ (w : List Leg). length (steps_of (reverse w)) + c.args.pair.arrival ≤ r.until) none (omega (arith, tight.2));
       tidy = subst IsTidyBack none (record { no_empty_wait = tt; no_neighbours = tt });
       leads = subst (λ (w : List Leg). LeadsToPair s r cost c.args.pair r.goal.0 c.args.pair.arrival (steps_of (reverse w))) none start;
     }
 
-pub source_of-source-requires-clause-known : goal.source_of-source-requires-clause-known
-source_of-source-requires-clause-known c =
+pub source_of-source-requires-clause-comes : goal.source_of-source-requires-clause-comes
+source_of-source-requires-clause-comes c =
+    let solved = c.requires.solved in
+    let found = c.args.solved.found.now in
     let leads = c.back.invariant.leads in
-    let own = cost_is c.args.solved.found.now.functions c.back.node.0 c.back.minute c.function.result.now c.function.ensures in
-    let at : c.at.result ≡ Some leads.here = c.at.ensures ∙ (sym own ∙ leads.known) in
-    let same : c.unwrap_or-cost.result ≡ leads.here = c.unwrap_or-cost.ensures ∙ ap (λ o. unwrap_or o 0) at in
-    leads.known ∙ ap (λ n. Some n) (sym same)
+    let known = read_known found.functions c.back.node.0 c.back.minute leads.here c.function.result.now c.at.result c.unwrap_or-cost.result
+    c.function.ensures c.at.ensures c.unwrap_or-cost.ensures leads.known in
+    let later : c.back.node.0 ≡ c.args.solved.request.origin.0 → c.back.minute ≡ c.args.solved.request.depart → ⊥ = λ node minute.
+    elim c.if-node-solved.branch [
+      | then-node-solved w ↦ w.if-node-solved.true node
+      | else-node-solved+then-minute-solved w ↦ w.if-minute-solved.true minute
+    ] in
+    comes_by_step c.args.solved.net.now c.args.solved.request found solved.found c.args.pair c.requires.one
+    c.back.node.0 c.back.minute c.unwrap_or-cost.result (steps_of (reverse c.back.legs.items)) leads known later
 
 pub back-preserved : goal.back-preserved
 back-preserved c =
     let r = c.args.solved.request in
+    let solved = c.requires.solved in
+    let net = c.args.solved.net.now in
+    let found = c.args.solved.found.now in
     let s = setting_in c.args.solved in
     let cost = solved_cost c.args.solved in
     let from = c.source_of-source.result in
-    let comes = c.source_of-source.ensures in
+    let comes = c.source_of-source.ensures.comes in
     let leads = c.back.invariant.leads in
-    let own = cost_is c.args.solved.found.now.functions c.back.node.0 c.back.minute c.function.result.now c.function.ensures in
-    let at : c.at.result ≡ Some leads.here = c.at.ensures ∙ (sym own ∙ leads.known) in
-    let same : c.unwrap_or-cost.result ≡ leads.here = c.unwrap_or-cost.ensures ∙ ap (λ o. unwrap_or o 0) at in
-    let known : cost c.back.node.0 c.back.minute ≡ Some c.unwrap_or-cost.result = leads.known ∙ ap (λ n. Some n) (sym same) in
+    let known = read_known found.functions c.back.node.0 c.back.minute leads.here c.function.result.now c.at.result c.unwrap_or-cost.result
+    c.function.ensures c.at.ensures c.unwrap_or-cost.ensures leads.known in
     let steps = c.in_ok-push_before.ensures.steps in
-    let within = node_within c.args.solved.found.now.functions from.node.0 from.minute comes.before comes.known in
+    let within = node_within found.functions from.node.0 from.minute comes.before comes.known in
     record {
       low = within.0;
-      high = omega (arith, within.1, c.requires.solved.found.nodes);
+      high = omega (arith, within.1, solved.found.nodes);
       size = omega (
         arith,
         ap (λ (w : List Step). length w) steps,
@@ -62,15 +74,26 @@ back-preserved c =
       tidy = c.in_ok-push_before.ensures.tidy;
       leads = subst (λ (w : List Step). LeadsToPair s r cost c.args.pair from.node.0 from.minute w) (sym steps)
           (leads_before s r cost c.args.pair c.back.node.0 c.back.minute c.unwrap_or-cost.result
-          (steps_of (reverse c.back.legs.items)) from c.back.invariant.leads known comes);
+          (steps_of (reverse c.back.legs.items)) from (takes_time net solved.found.good)
+          (ways_to net r found solved.found c.args.pair c.requires.one)
+          (solved.found.justified.begun (point from.node.0 from.minute comes.before) comes.known) leads known c.source_of-source.ensures);
     }
 
-pub returns-clause-walk : goal.returns-clause-walk
-returns-clause-walk c =
+from_start : (c : goal.Else-minute-solved) → LeadsFirst (setting_in c.args.solved) c.args.solved.request c.args.pair
+    (start_of c.args.solved.request) (steps_of (reverse c.back.legs.items))
+from_start c =
     let r = c.args.solved.request in
     let s = setting_in c.args.solved in
     let cost = solved_cost c.args.solved in
+    let solved = c.requires.solved in
     let steps = steps_of (reverse c.back.legs.items) in
-    whole_walk c.args.solved.net.now r c.args.solved.found.now c.requires.solved.found c.args.pair c.requires.one c.requires.solved.in_time steps
+    leads_from_start c.args.solved.net.now r c.args.solved.found.now solved.found c.args.pair c.requires.one steps
     (subst (λ n. LeadsToPair s r cost c.args.pair n r.depart steps) c.if-node-solved.false
     (subst (λ n. LeadsToPair s r cost c.args.pair c.back.node.0 n steps) c.if-minute-solved.false c.back.invariant.leads))
+
+pub returns-clause-walk : goal.returns-clause-walk
+returns-clause-walk c = (from_start c).walk
+
+pub returns-clause-first : goal.returns-clause-first
+returns-clause-first c = is_first (setting_in c.args.solved) c.args.solved.request c.args.pair (takes_time c.args.solved.net.now c.requires.solved.found.good)
+    (reverse c.back.legs.items) (from_start c)

@@ -8,6 +8,7 @@ use Rattle.route_base.specs.Legs.{Achieves, HasNoNeighbouringWaits}
 use Rattle.route_base.specs.Net.{setting_of}
 use Rattle.route_base.specs.declared.types.Pair.{Pair}
 use Rattle.route_base.specs.declared.types.Route.{Route}
+use Rattle.first_itinerary.specs.FirstItinerary.{IsFirst, AreFirst}
 use Rattle.itinerary_unpack.proofs.engine.routes_of.Goals as goal
 
 pub loop-k-preserved : goal.loop-k-preserved
@@ -31,6 +32,8 @@ loop-k-preserved c =
       legs = subst (All (λ (x : Route). Achieves s r x.legs x.pair × HasNoNeighbouringWaits x.legs)) (sym items)
           (All-push (λ (x : Route). Achieves s r x.legs x.pair × HasNoNeighbouringWaits x.legs) c.loop-k.routes.items route c.loop-k.invariant.legs
           (c.in_ok-legs.ensures.achieves none, c.in_ok-legs.ensures.tidy));
+      first = subst (AreFirst s r) (sym items)
+          (All-push (λ (x : Route). IsFirst s r x.legs x.pair) c.loop-k.routes.items route c.loop-k.invariant.first (c.in_ok-legs.ensures.first none));
     }
 
 pub returns : goal.returns
@@ -47,4 +50,5 @@ returns c =
         legs = subst (All (λ (x : Route). Achieves s c.args.request x.legs x.pair × HasNoNeighbouringWaits x.legs)) (sym items) c.loop-k.invariant.legs;
       };
       pairs = same;
+      first = subst (AreFirst s c.args.request) (sym items) c.loop-k.invariant.first;
     }

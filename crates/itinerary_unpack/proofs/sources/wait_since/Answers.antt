@@ -22,8 +22,8 @@ overflow_add-before c =
     let most : minutes * weight ≤ minutes * HEAVIEST_WEIGHT = mul-le-mul_left minutes cheap in
     omega (arith, small, most, c.requires.upto, c.requires.solved.ends.until)
 
-pub returns : goal.returns
-returns c =
+pub returns-clause-some : goal.returns-clause-some
+returns-clause-some c =
     let found = c.args.solved.found.now in
     let known : cost_at found.functions c.args.v.0 c.args.since ≡ Some c.in_ok-before.before =
     cost_is found.functions c.args.v.0 c.args.since c.function.result.now c.function.ensures ∙ (sym c.at.ensures ∙ c.in_ok-before.was) in

@@ -4,6 +4,8 @@ use Rattle.route_base.specs.declared.types.Run.{Run}
 use Rattle.cost_functions.specs.Pieces.{value_at}
 use Rattle.potentials.specs.Sums.{bound_at}
 use Rattle.function_merge.specs.Moves.{kept_at, moved_at}
+use Rattle.function_merge.specs.Pruning.{IsPruned}
+use Rattle.route_base.specs.declared.types.Pair.{Pair}
 use Rattle.propagation.specs.Inside.States.{task_of}
 use Rattle.propagation.proofs.Offering.{cleared_of}
 use Rattle.propagation.specs.Inside.EntrySets.{AreEntries}
@@ -39,6 +41,8 @@ returns-clause-driven c =
       ends = ends;
       driven = entries_drive c.args.task.net.now c.args.task.request (bound_at c.args.task.bounds.now) way.id.0 c.args.v.0 way.arc leaves.is
           leaves.begins set entries (value_at c.args.part.now) ends (λ t. refl);
-      cleared = cleared_of (task_of c.args.task) c.args.pairs.now way.arc.head.0 way.bound ends (value_at c.in_ok-clear.clear) leaves.bound
-          c.in_ok-clear.ensures.values;
+      cleared = cleared_of (task_of c.args.task) c.args.progress.now.pairs.items c.args.progress.now.borders.items way.arc.head.0 way.bound ends
+          (value_at c.in_ok-clear.clear) leaves.bound c.requires.borders
+          (subst (λ (w : List Pair). IsPruned c.args.task.request.until w way.bound ends (value_at c.in_ok-clear.clear))
+          c.deref.ensures.value c.in_ok-clear.ensures.values);
     }

@@ -1,7 +1,4 @@
-use Rattle.std.proofs.Common.{List, subst}
-use Rattle.route_base.specs.declared.types.Pair.{Pair}
 use Rattle.cost_functions.specs.Pieces.{value_at}
-use Rattle.propagation.specs.Inside.Offers.{IsCleared}
 use Rattle.propagation.specs.Inside.States.{progress_of, task_of}
 use Rattle.propagation.proofs.Offering.{source_of, covers_drives}
 use Rattle.propagation.proofs.drives.offered.Goals as goal
@@ -13,8 +10,7 @@ with_waits-requires-clause-clear c =
       costs = drives.ends;
       source = source_of (task_of c.args.task) (progress_of c.args.progress.now) c.args.way.id.0 c.args.v.0 c.args.way.arc.head.0
           (value_at c.args.part.now) drives.ends c.requires.part drives.driven;
-      cleared = subst (λ (w : List Pair). IsCleared (task_of c.args.task) w c.args.way.arc.head.0 drives.ends (value_at c.in_ok-clear.clear))
-          c.deref.ensures.value drives.cleared;
+      cleared = drives.cleared;
     }
 
 pub returns-clause-covers : goal.returns-clause-covers
@@ -22,6 +18,4 @@ returns-clause-covers c =
     let drives = c.in_ok-clear.ensures.driven in
     covers_drives (task_of c.args.task) (progress_of c.args.progress.now) c.args.way.id.0 c.args.v.0 c.args.way.arc.head.0
     (value_at c.args.part.now) drives.ends (value_at c.in_ok-offer.offer) drives.driven
-    (c.in_ok-offer.ensures.covers drives.ends
-    (subst (λ (w : List Pair). IsCleared (task_of c.args.task) w c.args.way.arc.head.0 drives.ends (value_at c.in_ok-clear.clear))
-    c.deref.ensures.value drives.cleared))
+    (c.in_ok-offer.ensures.covers drives.ends drives.cleared)

@@ -1,10 +1,9 @@
-use Rattle.std.proofs.Common.{◌≡◌, ◌-◌, ℕ, Option, Some, None, List, sym, ◌∙◌, ap, subst, arith}
+use Rattle.std.proofs.Common.{◌≡◌, ◌-◌, ℕ, Option, Some, None, sym, ◌∙◌, ap, subst, arith}
 use Rattle.std.specs.Option.{option_map}
 use Rattle.route_base.specs.Net.{setting_of}
-use Rattle.route_base.specs.declared.types.Pair.{Pair}
 use Rattle.route_base.specs.declared.types.Park.{Park}
 use Rattle.cost_functions.specs.Pieces.{value_at}
-use Rattle.propagation.specs.Inside.Offers.{IsCleared, IsWaited}
+use Rattle.propagation.specs.Inside.Offers.{IsWaited}
 use Rattle.propagation.specs.Inside.States.{progress_of, task_of}
 use Rattle.propagation.proofs.Offering.{offer_unrated, covers_unrated, offer_waited, covers_waited}
 use Rattle.propagation.proofs.drives.with_waits.Goals as goal
@@ -34,9 +33,7 @@ returns-clause-offer c =
     let first = c.requires.clear.cleared in
     let waited = subst (λ n. IsWaited (value_at c.args.clear) (value_at c.in_ok-with_waits.with_waits)
     ((setting_of c.args.task.net.now).wait_shut c.args.h.0) c.in-Some.park.weight n) last c.in_ok-with_waits.ensures.waited in
-    let second = subst (λ (w : List Pair). IsCleared (task_of c.args.task) w c.args.h.0 (value_at c.in_ok-with_waits.with_waits)
-    (value_at c.cleared-offer.result))
-    c.deref.ensures.value c.cleared-offer.ensures.cleared in
+    let second = c.cleared-offer.ensures.cleared in
     offer_waited (task_of c.args.task) (progress_of c.args.progress.now) c.args.h.0 c.requires.clear.costs
     (value_at c.args.clear) (value_at c.in_ok-with_waits.with_waits) (value_at c.cleared-offer.result) c.in-Some.park.weight c.args.bound
     c.requires.asked.bound rated c.requires.bound c.requires.clear.source first waited second
@@ -46,9 +43,7 @@ returns-clause-covers c = λ costs first.
     let last : c.saturating_sub-last.result ≡ c.args.task.request.until - c.args.bound.minutes = omega (arith, c.saturating_sub-last.ensures) in
     let waited = subst (λ n. IsWaited (value_at c.args.clear) (value_at c.in_ok-with_waits.with_waits)
     ((setting_of c.args.task.net.now).wait_shut c.args.h.0) c.in-Some.park.weight n) last c.in_ok-with_waits.ensures.waited in
-    let second = subst (λ (w : List Pair). IsCleared (task_of c.args.task) w c.args.h.0 (value_at c.in_ok-with_waits.with_waits)
-    (value_at c.cleared-offer.result))
-    c.deref.ensures.value c.cleared-offer.ensures.cleared in
+    let second = c.cleared-offer.ensures.cleared in
     covers_waited (task_of c.args.task) (progress_of c.args.progress.now) c.args.h.0 costs
     (value_at c.args.clear) (value_at c.in_ok-with_waits.with_waits) (value_at c.cleared-offer.result) c.in-Some.park.weight c.args.bound
     c.requires.bound first waited second

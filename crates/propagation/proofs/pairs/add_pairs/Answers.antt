@@ -7,6 +7,7 @@ use Rattle.route_base.specs.declared.types.Pair.{Pair}
 use Rattle.cost_functions.specs.Pieces.{value_at}
 use Rattle.cost_functions.specs.declared.pieces.Piece.{Piece}
 use Rattle.propagation.proofs.PieceStarts.{start_value, piece_of}
+use Rattle.propagation.proofs.Bordering.{borders_kept}
 use Rattle.propagation.proofs.pairs.add_pairs.Goals as goal
 
 pub loop-piece-preserved : goal.loop-piece-preserved
@@ -20,6 +21,8 @@ loop-piece-preserved c =
     (start_value ps k none c.pieces-piece-items.ensures.pieces c.loop-piece-test.true) in
     record {
       trade = step.trade;
+      borders = borders_kept (record { arrival = q.lo; cost = q.cost }) c.loop-piece.pairs.items c.add_pair.new.pairs.items c.loop-piece.borders.items
+          c.add_borders.new.borders.items c.loop-piece.invariant.borders step c.in_ok-add_borders.ensures;
       kept = λ t x had. step.kept t x (c.loop-piece.invariant.kept t x had);
       each = λ p one. ⊎_elim
           (λ (was : Contains c.loop-piece.pairs.items p). c.loop-piece.invariant.each p was)
@@ -35,8 +38,8 @@ loop-piece-preserved c =
           (cases_lt i k);
     }
 
-pub returns : goal.returns
-returns c = record {
+pub returns-clause-takes : goal.returns-clause-takes
+returns-clause-takes c = record {
   trade = c.loop-piece.invariant.trade;
   kept = c.loop-piece.invariant.kept;
   each = c.loop-piece.invariant.each;

@@ -33,16 +33,29 @@ returns-clause-parts c =
     (omega (arith, c.requires.high, c.requires.shape.functions)) c.index-3.ensures in
     let kept = kept_at c.index-3.result.now c.in_ok-split.split.taken in
     let whole = moved_at 0 0 kept in
-    parts_are (task_of c.args.task) c.args.v.0 c.args.bound (any_has c.in_ok-split.split.taken) c.in_ok-split.split.next whole
+    parts_are (task_of c.args.task) c.args.v.0 c.args.bound c.args.progress.now.borders.items (any_has c.in_ok-split.split.taken) c.in_ok-split.split.next whole
     (value_at c.in_ok-part.part)
     (progress_of c.args.progress.now) (progress_of
-    (record { functions = c.args.progress.now.functions; pending = c.split_at.new.pending; pairs = c.args.progress.now.pairs; queue = c.requeue.new.queue }))
-    c.requires.bound (λ u t. refl) refl c.in_ok-split.ensures.split
+    (record {
+      functions = c.args.progress.now.functions;
+      pending = c.split_at.new.pending;
+      pairs = c.args.progress.now.pairs;
+      borders = c.args.progress.now.borders;
+      queue = c.requeue.new.queue;
+    }))
+    c.requires.bound (λ u t. refl) refl c.requires.shape.borders c.in_ok-split.ensures.split
     (λ t. stay kept t ∙ ap (λ o. if any_has c.in_ok-split.split.taken t then o else None) (sym (own t)))
     (subst (λ (w : List Pair). IsPruned c.args.task.request.until w c.args.bound whole (value_at c.in_ok-part.part))
     c.deref.ensures.value c.in_ok-part.ensures.values)
 
 pub returns-clause-shape : goal.returns-clause-shape
 returns-clause-shape c = shaped_again c.args.task.net.now.nodes c.args.v.0 (any_has c.in_ok-split.split.taken) c.in_ok-split.split.next c.args.progress.now
-    (record { functions = c.args.progress.now.functions; pending = c.split_at.new.pending; pairs = c.args.progress.now.pairs; queue = c.requeue.new.queue })
+    (record {
+      functions = c.args.progress.now.functions;
+      pending = c.split_at.new.pending;
+      pairs = c.args.progress.now.pairs;
+      borders = c.args.progress.now.borders;
+      queue = c.requeue.new.queue;
+    })
     c.requires.shape c.requires.absent c.in_ok-split.ensures.split c.requeue.ensures refl c.in_ok-split.ensures.nodes
+    c.requires.shape.borders

@@ -1,8 +1,6 @@
-use Rattle.std.proofs.Common.{List, refl, subst}
+use Rattle.std.proofs.Common.{refl}
 use Rattle.route_base.specs.Legs.{start_of}
-use Rattle.route_base.specs.declared.types.Pair.{Pair}
 use Rattle.cost_functions.specs.Pieces.{value_at}
-use Rattle.propagation.specs.Inside.Offers.{IsCleared}
 use Rattle.propagation.specs.Inside.States.{progress_of, task_of}
 use Rattle.propagation.proofs.Keeping.{covered_relaxed, takes_first}
 use Rattle.propagation.proofs.Blanks.{start_source}
@@ -13,8 +11,7 @@ with_waits-requires-clause-clear c = record {
   costs = value_at c.in_ok-first.first;
   source = start_source (task_of c.args.task) (progress_of c.in_ok-progress.progress) (value_at c.in_ok-first.first) c.in_ok-first.ensures.here
       (λ t ne. c.in_ok-first.ensures.elsewhere t ne);
-  cleared = subst (λ (w : List Pair). IsCleared (task_of c.args.task) w c.args.task.request.origin.0 (value_at c.in_ok-first.first)
-      (value_at c.cleared-clear.result)) c.deref.ensures.value c.cleared-clear.ensures.cleared;
+  cleared = c.cleared-clear.ensures.cleared;
 }
 
 pub returns-clause-facts : goal.returns-clause-facts
@@ -26,9 +23,7 @@ returns-clause-facts c =
     let offer = value_at c.in_ok-offer.offer in
     let old = progress_of c.in_ok-progress.progress in
     let new = progress_of c.take_at.new.progress in
-    let cleared = subst (λ (w : List Pair). IsCleared k w origin first (value_at c.cleared-clear.result)) c.deref.ensures.value
-    c.cleared-clear.ensures.cleared in
     takes_first k origin offer old new blank.cost blank.pending blank.pairs
     (covered_relaxed k origin offer old new c.in_ok-take_at.ensures.takes (start_of c.args.task.request) refl
-    (c.in_ok-offer.ensures.covers first cleared c.args.task.request.depart 0 c.in_ok-first.ensures.here))
+    (c.in_ok-offer.ensures.covers first c.cleared-clear.ensures.cleared c.args.task.request.depart 0 c.in_ok-first.ensures.here))
     c.in_ok-offer.ensures.offer c.in_ok-take_at.ensures.takes

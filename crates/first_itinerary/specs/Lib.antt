@@ -1,0 +1,2 @@
+pub mod FirstItinerary
+pub mod StepsBack
