@@ -1,10 +1,10 @@
 -- The text of a command follows from the files and the words.
-use Rattle.std.proofs.Common.{◌≡◌, ℕ, suc, zero, None, Some, Option, List, [], ◌∷◌, length, slice_get, ap, arith, refl, sym, subst, ◌∙◌}
+use Rattle.std.proofs.Common.{◌≡◌, ℕ, suc, None, Some, Option, List, [], ◌∷◌, length, slice_get, ap, arith, refl, sym, subst, ◌∙◌}
 use Rattle.std.specs.Prelude.{IfSome, IsSome}
 use Rattle.std.proofs.lemmas.List.{length-map}
 use Rattle.std.proofs.lemmas.Option.{slice_get_within}
 use Rattle.route_base.specs.Contents.{Contents}
-use Rattle.route_base.specs.Front.{IsFront, pairs_of}
+use Rattle.route_base.specs.Front.{pairs_of}
 use Rattle.route_base.specs.Legs.{Achieves}
 use Rattle.route_base.specs.Setting.{Setting}
 use Rattle.route_base.specs.declared.faults.RequestFault.{RequestFault}

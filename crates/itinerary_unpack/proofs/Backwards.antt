@@ -16,8 +16,8 @@ use Rattle.route_base.specs.declared.types.Request.{Request}
 use Rattle.route_base.proofs.Walking.{along, moves_later}
 use Rattle.route_base.proofs.Arcs.{TakesTime, takes_time}
 use Rattle.route_base.proofs.Numbered.{number_past}
-use Rattle.first_itinerary.specs.StepsBack.{HasWaysTo, HasSource, LeadsFirst}
-use Rattle.first_itinerary.proofs.GoingBack.{leads_at_end, leads_before_leg, has_source}
+use Rattle.route_base.specs.StepsBack.{HasWaysTo, HasSource, LeadsFirst}
+use Rattle.route_base.proofs.GoingBack.{leads_at_end, leads_before_leg, has_source}
 use Rattle.cost_functions.specs.Pieces.{value_at}
 use Rattle.cost_functions.specs.declared.pieces.Piece.{Piece}
 use Rattle.propagation.specs.Found.{cost_by, cost_at, Finding, IsFoundFor}

@@ -16,7 +16,7 @@ use Rattle.route_base.specs.declared.types.NodeId.{NodeId}
 use Rattle.route_base.specs.declared.types.TimedArc.{TimedArc}
 use Rattle.route_base.proofs.Waiting.{same_position, waits}
 use Rattle.route_base.proofs.LegLists.{some_wait}
-use Rattle.first_itinerary.specs.StepsBack.{HasNoMove, IsFirstLeg}
+use Rattle.route_base.specs.StepsBack.{HasNoMove, IsFirstLeg}
 use Rattle.node_arcs.specs.Stars.{Star, arcs_of, AreIncoming, EndsAt}
 use Rattle.node_arcs.specs.declared.links.End.TheVariants.{Head}
 use Rattle.node_arcs.proofs.StarPlaces.{ends_place}

@@ -4,7 +4,7 @@ ghost use Rattle.route_base.specs.Net.{setting_of};
 ghost use Rattle.route_base.specs.Itinerary.{Walks};
 ghost use Rattle.route_base.specs.Legs.{steps_of, start_of, end_of, Achieves, HasNoNeighbouringWaits};
 ghost use Rattle.route_base.specs.declared.types.Pair.{Pair};
-ghost use Rattle.first_itinerary.specs.FirstItinerary.{IsFirst};
+ghost use Rattle.route_base.specs.FirstItinerary.{IsFirst};
 ghost use Rattle.node_arcs.specs.Stars.{AreIncoming};
 ghost use Rattle.itinerary_unpack.specs.Answered.{IsAnswered};
 ghost use Rattle.itinerary_unpack.specs.Inside.Requests.{IsSolved, setting_in};

@@ -1,7 +1,6 @@
 // The engine over cost functions.
 ghost use Rattle.std.specs.Prelude.{◌≡◌, IfOk};
 ghost use Rattle.node_arcs.specs.Stars.{AreIncoming};
-ghost use Rattle.first_itinerary.specs.FirstItinerary.{AreFirst};
 ghost use Rattle.route_base.specs.Front.{IsRight, pairs_of};
 ghost use Rattle.route_base.specs.Net.{setting_of};
 ghost use Rattle.itinerary_unpack.specs.Answered.{IsAnswered};
@@ -30,8 +29,8 @@ impl FrontSearch for FunctionEngine {
     }
 }
 
-/// The routes of all pairs that were found, in their order: each pair with the legs of its first itinerary. Takes the time and memory of `unpack_over` for
-/// each pair.
+/// The routes of all pairs that were found, in their order: each pair with the legs of its first itinerary. Takes the time and memory
+/// of `unpack_over` for each pair.
 pub fn routes_of(
     alloc: Global,
     net: &TimedNet,
@@ -43,7 +42,6 @@ pub fn routes_of(
     requires found { IsAnswered net.now request found.now }
     ensures right { IfOk result (IsRight (setting_of net.now) request) }
     ensures pairs { IfOk result (λ routes. pairs_of routes ≡ found.now.pairs) }
-    ensures first { IfOk result (AreFirst (setting_of net.now) request) }
 {
     let pairs = found.pairs();
     let mut routes = Vec::with_capacity(alloc, pairs.len())?;

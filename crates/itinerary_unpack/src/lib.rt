@@ -5,12 +5,11 @@
 //! Minutes fall, so the walk ends at the start. All that a search finds has every way to its pairs (`HasEveryWay`), so no lawful
 //! itinerary of the pair is passed over, and the one that is found is the first.
 //!
-//! The law is in `route_base`: `Achieves` and `HasNoNeighbouringWaits`, proved at `unpack`, and `IsRight`, the clause of the trait
-//! `FrontSearch`, proved for `FunctionEngine`, which searches and unpacks each pair by `routes_of`; and in `first_itinerary`:
-//! `IsFirst`, proved at `unpack`, and `AreFirst` at `routes_of`. That costs fit, as the engine requires (`CostsFit`), is the law
-//! `costs_fit` over nets in which no minute is dear. `unpack` and `routes_of` are called with a request that the finding answers
-//! (`IsAnswered` of `specs/Answered`). `specs/Inside` is no law: it says what a leg that is found leads from, and what the legs found
-//! so far lead to.
+//! The law is in `route_base`: `Achieves`, `HasNoNeighbouringWaits` and `IsFirst`, proved at `unpack`, and `IsRight`, the clause of the
+//! trait `FrontSearch`, proved for `FunctionEngine`, which searches and unpacks each pair by `routes_of`. That costs fit, as the engine
+//! requires (`CostsFit`), is the law `costs_fit` over nets in which no minute is dear. `unpack` and `routes_of` are called with a
+//! request that the finding answers (`IsAnswered` of `specs/Answered`). `specs/Inside` is no law: it says what a leg that is found
+//! leads from, and what the legs found so far lead to.
 #![tactic(auto)]
 
 mod back;

@@ -4,7 +4,7 @@ ghost use Rattle.node_arcs.specs.Stars.{EndsAt};
 ghost use Rattle.node_arcs.specs.declared.links.End.TheVariants.{Head};
 ghost use Rattle.route_base.specs.Itinerary.{drive, wait};
 ghost use Rattle.route_base.specs.declared.types.Leg.TheVariants.{Drive};
-ghost use Rattle.first_itinerary.specs.StepsBack.{HasSource, HasNoMove};
+ghost use Rattle.route_base.specs.StepsBack.{HasSource, HasNoMove};
 ghost use Rattle.propagation.specs.Inside.Invariants.{point};
 ghost use Rattle.itinerary_unpack.specs.Inside.Sources.{ComesFrom, ComesFirst};
 ghost use Rattle.itinerary_unpack.specs.Inside.Requests.{IsSolved, setting_in, solved_cost};

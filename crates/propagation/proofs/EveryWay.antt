@@ -5,12 +5,11 @@ use Rattle.std.proofs.lemmas.Bool.{cases_lt}
 use Rattle.route_base.specs.Itinerary.{Position, Step, drive, wait, Moves, Walks}
 use Rattle.route_base.specs.Legs.{start_of, end_of}
 use Rattle.route_base.specs.Front.{IsAchieved}
-use Rattle.route_base.specs.Relaxing.{HasWithin, AreBounds}
+use Rattle.route_base.specs.Relaxing.{HasWithin, AreBounds, HasEveryWay}
 use Rattle.route_base.specs.declared.types.Pair.{Pair}
 use Rattle.route_base.proofs.Covering.{covered}
 use Rattle.route_base.proofs.Fronts.{no_worse_one}
 use Rattle.route_base.proofs.Walking.{along, cheaper, walk-append, walk_in_time}
-use Rattle.propagation.specs.Found.{HasEveryWay}
 use Rattle.propagation.specs.Inside.Invariants.{DrivesRelaxed, InPart, IsLabel, IsPrunable, IsRelaxedIn, IsResting, IsWorseOrLate, Progress, Task, no_part, point}
 use Rattle.propagation.specs.Inside.Pairs.{HasBetter}
 use Rattle.propagation.proofs.Parting.{finished}

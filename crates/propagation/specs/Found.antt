@@ -1,11 +1,11 @@
 -- The findings of a search: the front, and the bounds and cost functions that show it (source: SEA 2020; the proof that nothing is missing is own).
 use Rattle.std.specs.Prelude.{◌≡◌, ◌⊎◌, ℕ, ◌+◌, ◌≤◌, Option, Some, None, List, length, All, Contains}
 use Rattle.route_base.specs.Setting.{Setting}
-use Rattle.route_base.specs.Itinerary.{Position, Step, Moves, Walks}
+use Rattle.route_base.specs.Itinerary.{Position, Step, Moves}
 use Rattle.route_base.specs.Front.{IsFront, RiseAndFall}
-use Rattle.route_base.specs.Legs.{start_of, end_of, IsReachable}
+use Rattle.route_base.specs.Legs.{end_of, IsReachable}
 use Rattle.route_base.specs.Net.{Net, IsGoodNet, at_number, setting_of}
-use Rattle.route_base.specs.Relaxing.{HasWithin, IsComplete}
+use Rattle.route_base.specs.Relaxing.{HasWithin, IsComplete, HasEveryWay}
 use Rattle.route_base.specs.declared.types.Bound.{Bound}
 use Rattle.route_base.specs.declared.types.Pair.{Pair}
 use Rattle.route_base.specs.declared.types.Request.{Request}
@@ -43,11 +43,6 @@ pub record HasPredecessor (s : Setting) (until : ℕ) (cost : ℕ → ℕ → Op
   pub minute : end.minute ≡ p.minute
   pub within : end.cost ≤ p.cost
   pub known : HasWithin cost source
-
--- each position of each lawful itinerary of a pair is known, at its cost
-abbrev pub HasEveryWay : Setting → Request → List Pair → (ℕ → ℕ → Option ℕ) → Type 0
-HasEveryWay s r pairs cost = (pair : Pair) (before after : List Step) (p : Position) → Contains pairs pair
-    → Walks s r.until before (start_of r) p → Walks s r.until after p (end_of r pair) → cost p.node p.minute ≡ Some p.cost
 
 -- the pairs are the front, and the bounds and functions leave nothing out
 pub record IsOptimal (s : Setting) (r : Request) (pairs : List Pair) (bounds : ℕ → Option Bound) (cost : ℕ → ℕ → Option ℕ) : Type 0 where

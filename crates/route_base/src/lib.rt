@@ -5,16 +5,17 @@
 //! SEA 2020, in whole minutes).
 //!
 //! The law is in `specs/`. The problem: `Setting` (roads, closed minutes, weights), `Itinerary` (lawful steps), `Legs`,
-//! `FirstItinerary` (which of a pair's itineraries is printed), `Front` (the Pareto front, and right routes), `Net` (a timed net as a setting), `Matching` (settings that agree within a
-//! window), `Open`, `Runs` and `Time` (minutes). The outside: `Contents`, `FolderState`, `SinkState`, `Counts`, `WholeFile`,
-//! `MemoryFiles` (the objects in memory), `Statuses`, `Causes` and `Labels` (faults and their words). Texts: `Digits` and
-//! `Forms` (numbers, names, minutes and weights).
+//! `FirstItinerary` (which itinerary of a pair is given), `Front` (the Pareto front, and right routes), `Net` (a timed net as a
+//! setting), `Matching` (settings that agree within a window), `Open`, `Runs` and `Time` (minutes). The outside: `Contents`,
+//! `FolderState`, `SinkState`, `Counts`, `WholeFile`, `MemoryFiles` (the objects in memory), `Statuses`, `Causes` and `Labels`
+//! (faults and their words). Texts: `Digits` and `Forms` (numbers, names, minutes and weights).
 //!
 //! Workers say through `Gate` that they begin a piece of work; no law speaks of it.
 //!
 //! It is met here by `replay`, `read_all`, `is_free`, the readers of forms and the objects in memory; the law of a search is a
-//! clause of the trait `FrontSearch`. `Replay` says where a replay fails. `Relaxing` is no law: it is the invariant that all
-//! searches share, and `proofs/` has their common lemmas (`Walking`, `Waiting`, `Covering`, `Fronts`, `LegLists`).
+//! clause of the trait `FrontSearch`, and there is one right answer to a request: that is the law `one_answer`. `Replay` says
+//! where a replay fails. `Relaxing` and `StepsBack` are no law: they are the invariants that all searches share, and `proofs/`
+//! has their common lemmas (`Walking`, `Waiting`, `Covering`, `Fronts`, `LegLists`, `GoingBack`).
 #![tactic(auto)]
 
 mod answers;

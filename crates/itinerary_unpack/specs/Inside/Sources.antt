@@ -4,7 +4,7 @@ use Rattle.route_base.specs.Setting.{Setting}
 use Rattle.route_base.specs.Itinerary.{Walks}
 use Rattle.route_base.specs.Legs.{steps_of_leg}
 use Rattle.route_base.specs.declared.types.Leg.TheVariants.{Wait}
-use Rattle.first_itinerary.specs.StepsBack.{IsFirstLeg}
+use Rattle.route_base.specs.StepsBack.{IsFirstLeg}
 use Rattle.propagation.specs.Inside.Invariants.{point}
 use Rattle.itinerary_unpack.specs.declared.sources.Source.{Source}
 

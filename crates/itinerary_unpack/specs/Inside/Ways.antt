@@ -6,7 +6,7 @@ use Rattle.route_base.specs.Legs.{HasNoEmptyWait, HasNoNeighbouringWaits}
 use Rattle.route_base.specs.declared.types.Leg.{Leg}
 use Rattle.route_base.specs.declared.types.Pair.{Pair}
 use Rattle.route_base.specs.declared.types.Request.{Request}
-use Rattle.first_itinerary.specs.StepsBack.{LeadsFirst}
+use Rattle.route_base.specs.StepsBack.{LeadsFirst}
 use Rattle.propagation.specs.Inside.Invariants.{point}
 
 -- from the cost that is known here these steps lead to the pair, as the last ones of its first itinerary

@@ -4,8 +4,8 @@ use Rattle.route_base.specs.Itinerary.{Step}
 use Rattle.route_base.specs.Legs.{steps_of, steps_of_leg, start_of}
 use Rattle.route_base.specs.declared.types.Leg.{Leg}
 use Rattle.route_base.proofs.Arcs.{takes_time}
-use Rattle.first_itinerary.specs.StepsBack.{LeadsFirst}
-use Rattle.first_itinerary.proofs.GoingBack.{is_first}
+use Rattle.route_base.specs.StepsBack.{LeadsFirst}
+use Rattle.route_base.proofs.GoingBack.{is_first}
 use Rattle.propagation.specs.Inside.Invariants.{point}
 use Rattle.itinerary_unpack.specs.Inside.Requests.{setting_in, solved_cost}
 use Rattle.itinerary_unpack.specs.Inside.Ways.{LeadsToPair, IsTidyBack}

@@ -8,7 +8,7 @@ use Rattle.route_base.specs.Legs.{Achieves, HasNoNeighbouringWaits}
 use Rattle.route_base.specs.Net.{setting_of}
 use Rattle.route_base.specs.declared.types.Pair.{Pair}
 use Rattle.route_base.specs.declared.types.Route.{Route}
-use Rattle.first_itinerary.specs.FirstItinerary.{IsFirst, AreFirst}
+use Rattle.route_base.specs.FirstItinerary.{IsFirst, AreFirst}
 use Rattle.itinerary_unpack.proofs.engine.routes_of.Goals as goal
 
 pub loop-k-preserved : goal.loop-k-preserved
@@ -48,7 +48,7 @@ returns c =
       right = record {
         front = subst (IsFront s c.args.request) (sym same) c.requires.found.found.optimal.front;
         legs = subst (All (λ (x : Route). Achieves s c.args.request x.legs x.pair × HasNoNeighbouringWaits x.legs)) (sym items) c.loop-k.invariant.legs;
+        first = subst (AreFirst s c.args.request) (sym items) c.loop-k.invariant.first;
       };
       pairs = same;
-      first = subst (AreFirst s c.args.request) (sym items) c.loop-k.invariant.first;
     }

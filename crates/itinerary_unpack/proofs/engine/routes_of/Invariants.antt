@@ -2,7 +2,7 @@ use Rattle.std.proofs.Common.{◌≡◌, All, map, take}
 use Rattle.route_base.specs.Legs.{Achieves, HasNoNeighbouringWaits}
 use Rattle.route_base.specs.Net.{setting_of}
 use Rattle.route_base.specs.declared.types.Route.{Route}
-use Rattle.first_itinerary.specs.FirstItinerary.{AreFirst}
+use Rattle.route_base.specs.FirstItinerary.{AreFirst}
 use Rattle.itinerary_unpack.proofs.engine.routes_of.Given as goal
 
 abbrev pub invariant-loop-k : goal.invariant-loop-k

@@ -5,7 +5,7 @@ use Rattle.route_base.specs.declared.types.Leg.{Leg}
 use Rattle.node_arcs.specs.declared.links.End.TheVariants.{Head}
 use Rattle.node_arcs.proofs.StarPlaces.{place_ends, ends_place, earlier_or_next}
 use Rattle.potentials.proofs.Ending.{ends_of}
-use Rattle.first_itinerary.specs.StepsBack.{HasNoMove, IsFirstLeg}
+use Rattle.route_base.specs.StepsBack.{HasNoMove, IsFirstLeg}
 use Rattle.propagation.specs.Inside.Invariants.{point}
 use Rattle.itinerary_unpack.specs.Inside.Requests.{setting_in, solved_cost}
 use Rattle.itinerary_unpack.proofs.Sourcing.{drives_first, smaller_earlier}

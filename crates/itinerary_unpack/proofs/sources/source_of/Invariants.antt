@@ -2,7 +2,7 @@ use Rattle.std.proofs.Common.{◌≡◌, ◌<◌, ℕ, Some}
 use Rattle.std.specs.Prelude.{slice_get}
 use Rattle.route_base.specs.Itinerary.{drive}
 use Rattle.route_base.specs.declared.types.ArcId.{ArcId}
-use Rattle.first_itinerary.specs.StepsBack.{HasNoMove}
+use Rattle.route_base.specs.StepsBack.{HasNoMove}
 use Rattle.propagation.specs.Inside.Invariants.{point}
 use Rattle.itinerary_unpack.specs.Inside.Requests.{setting_in, solved_cost}
 use Rattle.itinerary_unpack.proofs.sources.source_of.Given as goal

@@ -1,2 +1,0 @@
-pub mod FirstItinerary
-pub mod StepsBack
