@@ -10,7 +10,7 @@ use std::alloc::Global;
 
 /// An engine that finds Pareto fronts of arrival and cost.
 pub trait FrontSearch {
-    /// The Pareto front of the net and the request, by rising arrival, with lawful legs for each of its pairs.
+    /// The Pareto front of the net and the request, by rising arrival, each pair with the legs of its first lawful itinerary.
     fn front(&self, alloc: Global, net: &TimedNet, request: Request) -> Result<Routes, OutOfMemory>
         requires good { IsGoodRequest net.now request }
         requires in_time { request.depart ≤ request.until }
