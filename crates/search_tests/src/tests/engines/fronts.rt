@@ -23,9 +23,11 @@ pub struct Fronts {
 }
 
 impl Fronts {
-    /// Whether both engines found the same pairs, and the calls of the second engine its routes.
+    /// Whether both engines found the same routes, and the calls of the second engine its routes.
     pub fn agree(&self) -> bool {
-        self.unpacked && have_same_pairs(self.table.as_slice(), self.functions.as_slice())
+        let table = self.table.as_slice();
+        let functions = self.functions.as_slice();
+        self.unpacked && have_same_pairs(table, functions) && have_same_legs(table, functions)
     }
 
     /// Whether the pairs have these arrivals and costs.
@@ -35,6 +37,11 @@ impl Fronts {
             && table.iter().zip(pairs).all(|(route, pair)| (route.pair.arrival, route.pair.cost)
                 == *pair)
     }
+}
+
+// Whether two lists of as many routes have the same legs in the same order.
+fn have_same_legs(first: &[Route], second: &[Route]) -> bool {
+    first.iter().zip(second).all(|(one, other)| one.legs.as_slice() == other.legs.as_slice())
 }
 
 /// The routes that both engines find; nothing where the lists aren't those of a small well-formed net, or the request isn't one over it.

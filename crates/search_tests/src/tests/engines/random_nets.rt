@@ -71,20 +71,31 @@ pub fn random_case(alloc: Global, random: &mut Random) -> Result<Case, OutOfMemo
     })
 }
 
-// Up to 12 arcs, of which the shorter ones are mostly dearer.
+// An arc; the shorter ones are mostly dearer.
+fn random_arc(random: &mut Random, nodes: u32) -> TimedArc
+    requires { 1 ≤ nodes }
+{
+    let more = random.below(5);
+    TimedArc {
+        tail: random.node(nodes),
+        head: random.node(nodes),
+        minutes: 5 - more,
+        cost: random.below(4) * (more + 1),
+        closed: random.below(LISTS as u64) as u32,
+    }
+}
+
+// Up to 12 arcs, of which a quarter are equal to the one before.
 fn random_arcs(alloc: Global, random: &mut Random, nodes: u32) -> Result<Vec<TimedArc>, OutOfMemory>
     requires { 1 ≤ nodes }
 {
-    let mut arcs = Vec::new(alloc);
+    let mut arcs: Vec<TimedArc> = Vec::new(alloc);
     for _ in 0..random.below(13) {
-        let more = random.below(5);
-        arcs.push(TimedArc {
-            tail: random.node(nodes),
-            head: random.node(nodes),
-            minutes: 5 - more,
-            cost: random.below(4) * (more + 1),
-            closed: random.below(LISTS as u64) as u32,
-        })?;
+        let arc = match arcs.last().copied() {
+            Some(last) if random.below(4) == 0 => last,
+            _ => random_arc(random, nodes),
+        };
+        arcs.push(arc)?;
     }
     Ok(arcs)
 }
