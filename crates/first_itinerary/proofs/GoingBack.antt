@@ -1,12 +1,13 @@
 -- The first itinerary of a pair, found step by step from its end.
 use Rattle.std.proofs.Common.{◌≡◌, ◌⊎◌, inl, inr, ⊎_elim, ℕ, zero, suc, ◌≤◌, Option, List, [], ◌∷◌, ◌++◌, replicate, refl, sym, ◌∙◌, ap, subst, arith}
-use Rattle.std.proofs.Common.{append_assoc, append-nil}
+use Rattle.std.proofs.Common.{append_assoc, append-nil, ◌<◌}
 use Rattle.std.specs.Prelude.{reverse}
 use Rattle.std.proofs.lemmas.List.{reverse-append}
 use Rattle.std.proofs.lemmas.Option.{same_Some}
 use Rattle.route_base.specs.Setting.{Setting, Road}
 use Rattle.route_base.specs.Itinerary.{Position, Step, drive, wait, Moves, Walks}
 use Rattle.route_base.specs.Legs.{steps_of, steps_of_leg, start_of, end_of, Achieves, IsReachable}
+use Rattle.route_base.specs.declared.types.ArcId.{ArcId}
 use Rattle.route_base.specs.declared.types.Leg.{Leg}
 use Rattle.route_base.specs.declared.types.Leg.TheVariants.{Drive, Wait}
 use Rattle.route_base.specs.declared.types.Pair.{Pair}
@@ -62,6 +63,13 @@ module _ (s : Setting) (until : ℕ) where
       let node : p.node ≡ q.node = sym from.node ∙ to.node in
       let weight : from.weight ≡ to.weight = same_Some from.weight to.weight (sym from.rated ∙ (ap s.weight node ∙ to.rated)) in
       same_position p q node (omega (arith, from.minute, to.minute)) (omega (arith, from.cost, to.cost, weight))
+
+module _ (s : Setting) (until : ℕ) (cost : ℕ → ℕ → Option ℕ) (p : Position) where
+  -- where no wait leads here, and no drive over an arc of a smaller number, the drive is the first
+  pub drives_first : HasNoMove s until cost wait p → (a : ArcId) → ((b : ℕ) → b < a.0 → HasNoMove s until cost (drive b) p)
+      → IsFirstLeg s until cost p (Drive a)
+  drives_first none a smaller wait before = none
+  drives_first none a smaller (drive b) before = smaller b before
 
 module _ (s : Setting) (r : Request) (pair : Pair) where
   -- at the pair

@@ -1,2 +1,3 @@
-pub mod Orders
 pub mod GoingBack
+pub mod Lowering
+pub mod Orders

@@ -6,7 +6,7 @@ use Rattle.std.proofs.lemmas.Option.{get_or_from_slice_get}
 use Rattle.std.specs.Option.{option_map}
 use Rattle.std.proofs.lemmas.List.{length-replicate}
 use Rattle.route_base.specs.Setting.{Setting}
-use Rattle.route_base.specs.Itinerary.{Position, drive, wait, Drives, Walks}
+use Rattle.route_base.specs.Itinerary.{Position, wait, Drives, Walks}
 use Rattle.route_base.specs.Net.{Net, road_of, setting_of, at_number}
 use Rattle.route_base.specs.Open.{IsOpen, IsWaitOpen}
 use Rattle.route_base.specs.declared.types.ArcId.{ArcId}
@@ -16,19 +16,11 @@ use Rattle.route_base.specs.declared.types.NodeId.{NodeId}
 use Rattle.route_base.specs.declared.types.TimedArc.{TimedArc}
 use Rattle.route_base.proofs.Waiting.{same_position, waits}
 use Rattle.route_base.proofs.LegLists.{some_wait}
-use Rattle.first_itinerary.specs.StepsBack.{HasNoMove, IsFirstLeg}
 use Rattle.node_arcs.specs.Stars.{Star, arcs_of, AreIncoming, EndsAt}
 use Rattle.node_arcs.specs.declared.links.End.TheVariants.{Head}
 use Rattle.node_arcs.proofs.StarPlaces.{ends_place}
 use Rattle.propagation.specs.Inside.Invariants.{point}
 use Rattle.itinerary_unpack.specs.Inside.Sources.{ComesFrom, ComesFirst}
-
-module _ (s : Setting) (until : ℕ) (cost : ℕ → ℕ → Option ℕ) (p : Position) where
-  -- where no wait leads here, and no drive over an arc of a smaller number, the drive is the first
-  pub drives_first : HasNoMove s until cost wait p → (a : ArcId) → ((b : ℕ) → b < a.0 → HasNoMove s until cost (drive b) p)
-      → IsFirstLeg s until cost p (Drive a)
-  drives_first none a smaller wait before = none
-  drives_first none a smaller (drive b) before = smaller b before
 
 -- an arc of a smaller number than the one at a place is at an earlier place
 pub smaller_earlier : (net : Net) (star : Star) → AreIncoming net star → (v : ℕ) (arcs : List ArcId) → arcs ≡ arcs_of star v → (k : ℕ) (d : ArcId)

@@ -1,6 +1,6 @@
 // The engine: the Pareto front is read from the goal's column of the cost table.
 ghost use Rattle.std.specs.Prelude.{◌+◌, IfOk};
-ghost use Rattle.plain_search.specs.Words.{setting_of, IsRight, cost_of, IsRouteAt, IsFinalTable, HasSoundLabel};
+ghost use Rattle.plain_search.specs.Words.{setting_of, IsRight, AreFirst, cost_of, IsRouteAt, IsFinalTable, HasSoundLabel};
 
 use crate::cost_table::{CostTable, NONE};
 use crate::legs::tidied;
@@ -9,15 +9,16 @@ use route_base::{FrontSearch, Legs, Minute, OutOfMemory, Pair, Request, Route, R
 use std::alloc::Global;
 
 impl Search<'_> {
-    // The route that ends at the goal at a minute.
+    // The route that ends at the goal at a minute, by the first itinerary.
     fn route_at(
         &self,
         alloc: Global,
         table: &CostTable,
         arrival: Minute,
     ) -> Result<Route, OutOfMemory>
-        requires { HasSoundLabel self.now.net.now self.now.request
+        requires label { HasSoundLabel self.now.net.now self.now.request
             (self.now.request.until + 1) table.now self.now.request.goal.0 arrival }
+        requires relaxed { IsFinalTable self.now.net.now self.now.request table.now }
         ensures { IfOk result
             (IsRouteAt (setting_of self.now.net.now) self.now.request (cost_of table.now) arrival) }
     {
@@ -35,8 +36,10 @@ impl Search<'_> {
     // The routes to the goal, each cheaper than those that arrive before it.
     fn read_routes(&self, alloc: Global, table: &CostTable) -> Result<Vec<Route>, OutOfMemory>
         requires { IsFinalTable self.now.net.now self.now.request table.now }
-        ensures { IfOk result (λ routes.
+        ensures right { IfOk result (λ routes.
             IsRight (setting_of self.now.net.now) self.now.request routes.items) }
+        ensures first { IfOk result (λ routes.
+            AreFirst (setting_of self.now.net.now) self.now.request routes.items) }
     {
         let mut routes = Vec::new(alloc);
         let mut best = NONE;

@@ -27,7 +27,7 @@ loop-t-preserved c =
           (read_skip s r cost t c.loop-t.best c.loop-t.routes.items c.loop-t.invariant (omega (arith, w.if-cost-best.false, c.cost-cost.ensures)))))
     ]
 
-pub returns : goal.returns
-returns c = right_at_end (setting_of c.args.self.now.net.now) c.args.self.now.request (cost_of c.args.table.now)
+pub returns-clause-right : goal.returns-clause-right
+returns-clause-right c = right_at_end (setting_of c.args.self.now.net.now) c.args.self.now.request (cost_of c.args.table.now)
     (c.args.self.now.request.until + 1) c.loop-t.t c.loop-t.best c.loop-t.routes.items
     c.args.self.now.asked.in_time c.args.self.now.asked.fit c.requires.sound.founded c.requires.relaxed (omega arith) c.loop-t.invariant
