@@ -1,6 +1,7 @@
 pub mod ArcPlaces
 pub mod Backward
 pub mod Columns
+pub mod EveryWay
 pub mod Founding
 pub mod Lowering
 pub mod Reading

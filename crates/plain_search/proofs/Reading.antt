@@ -16,6 +16,7 @@ use Rattle.route_base.specs.declared.types.Request.{Request}
 use Rattle.route_base.proofs.Walking.{along, walk-push, walk_in_time, cheaper}
 use Rattle.route_base.proofs.Covering.{pair_later}
 use Rattle.route_base.proofs.Fronts.{is_front}
+use Rattle.route_base.specs.FirstItinerary.{IsFirst, AreFirst}
 use Rattle.plain_search.specs.Inside.Costs.{none, ComesBySteps, IsRelaxedBefore}
 use Rattle.plain_search.specs.Inside.Routes.{IsRouteAt}
 
@@ -25,6 +26,7 @@ pub record IsReadTo (s : Setting) (r : Request) (cost : ℕ → ℕ → ℕ) (t 
   pub trade : RiseAndFall (pairs_of routes)
   pub before : All (λ p. (p.arrival < t) × (best ≤ p.cost)) (pairs_of routes)
   pub lawful : All (λ x. Achieves s r x.legs x.pair × HasNoNeighbouringWaits x.legs) routes
+  pub first : AreFirst s r routes
   pub least : best < none → HasPair (pairs_of routes) t best
   pub covered : (k : ℕ) → k < t → cost r.goal.0 k < none → HasPair (pairs_of routes) k (cost r.goal.0 k)
 
@@ -38,6 +40,7 @@ module _ (s : Setting) (r : Request) (cost : ℕ → ℕ → ℕ) where
     before = All-weaker (λ p. (p.arrival < t) × (best ≤ p.cost)) (λ p. (p.arrival < t + 1) × (best ≤ p.cost))
         (λ p h. (omega (arith, h.0), h.1)) (pairs_of routes) read.before;
     lawful = read.lawful;
+    first = read.first;
     least = λ some. pair_later (pairs_of routes) _ _ _ _ (omega arith) (omega arith) (read.least some);
     covered = λ k below some. ⊎_elim
         (λ (earlier : k < t). read.covered k earlier some)
@@ -60,6 +63,7 @@ module _ (s : Setting) (r : Request) (cost : ℕ → ℕ → ℕ) where
         (λ p h. (omega (arith, h.0), omega (arith, h.1, better))) (pairs_of routes) read.before)
         (omega (arith, new.arrival), omega (arith, new.cost)));
     lawful = All-push (λ x. Achieves s r x.legs x.pair × HasNoNeighbouringWaits x.legs) routes route read.lawful (new.lawful, new.no_neighbours);
+    first = All-push (λ x. IsFirst s r x.legs x.pair) routes route read.first new.first;
     least = λ some. pair_later _ _ _ _ _ (omega arith) (omega arith) here;
     covered = λ k below some. ⊎_elim
         (λ (earlier : k < t). longer k (cost r.goal.0 k) (read.covered k earlier some))
@@ -129,6 +133,7 @@ module _ (s : Setting) (r : Request) (cost : ℕ → ℕ → ℕ) where
   right_at_end now t best routes in_time fit founded done late read = record {
     front = is_front s r (pairs_of routes) read.trade achieved covered;
     legs = read.lawful;
+    first = read.first;
   }
     where
       achieved : (p : Pair) → Contains (pairs_of routes) p → IsAchieved s r p

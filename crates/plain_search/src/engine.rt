@@ -9,15 +9,16 @@ use route_base::{FrontSearch, Legs, Minute, OutOfMemory, Pair, Request, Route, R
 use std::alloc::Global;
 
 impl Search<'_> {
-    // The route that ends at the goal at a minute.
+    // The route that ends at the goal at a minute, by the first itinerary.
     fn route_at(
         &self,
         alloc: Global,
         table: &CostTable,
         arrival: Minute,
     ) -> Result<Route, OutOfMemory>
-        requires { HasSoundLabel self.now.net.now self.now.request
+        requires label { HasSoundLabel self.now.net.now self.now.request
             (self.now.request.until + 1) table.now self.now.request.goal.0 arrival }
+        requires relaxed { IsFinalTable self.now.net.now self.now.request table.now }
         ensures { IfOk result
             (IsRouteAt (setting_of self.now.net.now) self.now.request (cost_of table.now) arrival) }
     {

@@ -10,7 +10,7 @@ use route_base::{ArcId, Cost, Minute, NodeId, TimedNet};
 use std::alloc::{AllocError, Global};
 
 // The weight of a minute's wait at the node; `None` where waiting isn't allowed.
-fn weight_to_wait(net: &TimedNet, node: NodeId) -> Option<Cost>
+pub fn weight_to_wait(net: &TimedNet, node: NodeId) -> Option<Cost>
     requires { IsNode net.now node.0 }
     ensures value { result ≡ (setting_of net.now).weight node.0 }
 {

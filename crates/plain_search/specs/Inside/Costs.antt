@@ -1,5 +1,5 @@
 -- Labels: a cost for each node and minute, and how relaxing arcs changes them (source: own; no law).
-use Rattle.std.specs.Prelude.{◌≡◌, ◌⊎◌, ℕ, ◌≤◌, ◌<◌, min}
+use Rattle.std.specs.Prelude.{◌≡◌, ◌⊎◌, ℕ, ◌≤◌, ◌<◌, min, nat_lt, if◌then◌else◌, Option, Some, None}
 use Rattle.route_base.specs.Setting.{Setting}
 use Rattle.route_base.specs.Itinerary.{Position, Step, Moves}
 use Rattle.route_base.specs.declared.types.Request.{Request}
@@ -7,6 +7,10 @@ use Rattle.route_base.specs.declared.types.Request.{Request}
 -- the label of a node and minute that is not reached
 abbrev pub none : ℕ
 none = 18446744073709551615
+
+-- the label of a node and minute, if it is reached
+abbrev pub value_of : (ℕ → ℕ → ℕ) → ℕ → ℕ → Option ℕ
+value_of cost v t = if nat_lt (cost v t) none then Some (cost v t) else None
 
 -- x is the label of node v at minute t, which is reached
 pub record IsKnownCost (cost : ℕ → ℕ → ℕ) (v t x : ℕ) : Type 0 where

@@ -1,13 +1,13 @@
-use Rattle.std.proofs.Common.{◌≡◌, ⊎_elim, ◌+◌, ◌≤◌, ◌<◌, ℕ, None, refl, subst, rules, arith}
+use Rattle.std.proofs.Common.{◌≡◌, ⊎_elim, ◌+◌, ◌≤◌, ◌<◌, ℕ, None, get_or, refl, subst, rules, arith}
 use Rattle.std.proofs.lemmas.Bool.{cases_lt}
-use Rattle.route_base.specs.Itinerary.{Drives}
+use Rattle.route_base.specs.Itinerary.{Step, drive, wait, Moves, Drives}
 use Rattle.route_base.specs.Net.{setting_of}
 use Rattle.node_arcs.specs.declared.links.End.TheVariants.{Head}
 use Rattle.node_arcs.proofs.DriveEnds.{drives_head}
-use Rattle.plain_search.specs.Inside.Costs.{at, ComesByStep}
+use Rattle.plain_search.specs.Inside.Costs.{none, at, ComesByStep}
 use Rattle.plain_search.specs.Inside.CostTable.{cost_of}
-use Rattle.plain_search.proofs.ArcPlaces.{arc_at, place_ends, at_each_arc}
-use Rattle.plain_search.proofs.Backward.{NoDrive, WaitsHere, waits_here}
+use Rattle.plain_search.proofs.ArcPlaces.{arc_at, place_ends, at_each_arc, at_smaller_arc}
+use Rattle.plain_search.proofs.Backward.{drive_comes_first}
 use Rattle.plain_search.proofs.search.Search.predecessor.Goals as goal
 
 pub drive_into-requires-clause-head : goal.drive_into-requires-clause-head
@@ -30,34 +30,43 @@ loop-a-preserved c =
           (cases_lt i c.loop-a.a-index);
     }
 
--- no arc leads here at this label, so a wait does
-waits : (c : goal.After-loop-a) → WaitsHere (setting_of c.args.self.now.net.now) c.args.self.now.request.until (cost_of c.args.table.now)
-    c.args.node.0 c.args.minute
-waits c =
+pub returns-in-Some-drive_into-clause-first : goal.returns-in-Some-drive_into-clause-first
+returns-in-Some-drive_into-clause-first c =
     let net = c.args.self.now.net.now in
-    let r = c.args.self.now.request in
+    let until = c.args.self.now.request.until in
     let cost = cost_of c.args.table.now in
     let v = c.args.node.0 in
     let t = c.args.minute in
-    let free : NoDrive net r.until cost v t = λ a u k known drives.
+    let arcs = c.of-a-items.result.now in
+    let k = c.loop-a.a-index in
+    drive_comes_first net until cost v t (c.in_default.ensures.none refl) (get_or arcs k (record { 0 = 0 })) c.in-Some-drive_into.found.leg
+    c.in-Some-drive_into.ensures.leg
+    (λ b less u m known drives. at_smaller_arc net Head c.args.self.now.incoming c.args.self.now.backward v arcs c.of-a-items.ensures
+    (λ n. Drives (setting_of net) until n (at cost u m) (at cost v t) → ⊥) (λ n. Prim.hlevel) k c.loop-a-test.true
+    (λ i before. c.loop-a.invariant.missed i u m before known) b less (drives_head net until b (at cost u m) (at cost v t) drives) drives)
+
+-- no step leads here at this label
+none_leads : (c : goal.After-loop-a) (y : Step) (u m : ℕ) → cost_of c.args.table.now u m < none
+    → Moves (setting_of c.args.self.now.net.now) c.args.self.now.request.until y (at (cost_of c.args.table.now) u m)
+    (at (cost_of c.args.table.now) c.args.node.0 c.args.minute) → ⊥
+none_leads c wait u m known move = c.in_default.ensures.none refl u m known move
+none_leads c (drive a) u m known move =
+    let net = c.args.self.now.net.now in
+    let until = c.args.self.now.request.until in
+    let cost = cost_of c.args.table.now in
+    let v = c.args.node.0 in
+    let t = c.args.minute in
     at_each_arc net Head c.args.self.now.incoming c.args.self.now.backward v c.of-a-items.result.now c.of-a-items.ensures
-    (λ n. Drives (setting_of net) r.until n (at cost u k) (at cost v t) → ⊥) (λ n. Prim.hlevel)
-    (λ i within. c.loop-a.invariant.missed i u k (omega (arith, within, c.loop-a-test.false)) known) a
-    (drives_head net r.until a (at cost u k) (at cost v t) drives) drives in
+    (λ n. Drives (setting_of net) until n (at cost u m) (at cost v t) → ⊥) (λ n. Prim.hlevel)
+    (λ i within. c.loop-a.invariant.missed i u m (omega (arith, within, c.loop-a-test.false)) known) a
+    (drives_head net until a (at cost u m) (at cost v t) move) move
+
+pub unreachable-requires : goal.unreachable-requires
+unreachable-requires c =
+    let net = c.args.self.now.net.now in
+    let r = c.args.self.now.request in
     ⊎_elim
-    (λ (first : (v ≡ r.origin.0) × (t ≡ r.depart)). absurd (c.requires.later first.0 first.1))
-    (λ (from : ComesByStep (setting_of net) r.until cost (r.until + 1) v t). waits_here net r.until cost v t (r.until + 1) from free)
-    (c.requires.label.sound.founded.each v t c.requires.label.reached.known)
-
-pub overflow_sub-result : goal.overflow_sub-result
-overflow_sub-result c = (waits c).begun
-
-pub returns : goal.returns
-returns c =
-    let here = waits c in
-    record {
-      known = here.known;
-      single = refl;
-      earlier = omega (arith, here.begun);
-      walk = (at (cost_of c.args.table.now) c.args.node.0 c.args.minute, here.move, refl);
-    }
+    (λ (first : (c.args.node.0 ≡ r.origin.0) × (c.args.minute ≡ r.depart)). c.requires.later first.0 first.1)
+    (λ (from : ComesByStep (setting_of net) r.until (cost_of c.args.table.now) (r.until + 1) c.args.node.0 c.args.minute).
+    none_leads c from.step from.node from.minute from.known from.move)
+    (c.requires.label.sound.founded.each c.args.node.0 c.args.minute c.requires.label.reached.known)

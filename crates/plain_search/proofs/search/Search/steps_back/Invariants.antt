@@ -1,8 +1,8 @@
 use Rattle.std.proofs.Common.{◌+◌, ◌≤◌, ◌<◌, length, reverse}
 use Rattle.std.specs.Prelude.{All}
-use Rattle.route_base.specs.Itinerary.{Walks}
 use Rattle.route_base.specs.Legs.{steps_of}
 use Rattle.route_base.specs.Net.{setting_of}
+use Rattle.route_base.specs.StepsBack.{LeadsFirst}
 use Rattle.plain_search.specs.Inside.Predecessors.{IsSingle}
 use Rattle.plain_search.specs.Inside.Costs.{none, at}
 use Rattle.plain_search.specs.Inside.CostTable.{cost_of}
@@ -14,8 +14,8 @@ invariant-back l = record {
   upto : l.minute ≤ l.self.request.until;
   short : length l.legs.items + l.minute ≤ l.arrival;
   single : All IsSingle l.legs.items;
-  walk : Walks (setting_of l.self.net.now) l.self.request.until (steps_of (reverse l.legs.items)) (at (cost_of l.table) l.node.0 l.minute)
-      (at (cost_of l.table) l.self.request.goal.0 l.arrival);
+  leads : LeadsFirst (setting_of l.self.net.now) l.self.request (record { arrival = l.arrival; cost = cost_of l.table l.self.request.goal.0 l.arrival })
+      (at (cost_of l.table) l.node.0 l.minute) (steps_of (reverse l.legs.items));
 }
 
 abbrev pub decreases-back : goal.decreases-back
