@@ -5,7 +5,7 @@ use Rattle.network_tables.specs.NetworkModel.{weight_at}
 use Rattle.network_tables.specs.RoadSetting.{road_setting}
 use Rattle.trip_explain.specs.Inside.{position_of}
 use Rattle.trip_explain.specs.Reasons.{unrated, late_wait, shut_wait}
-use Rattle.trip_explain.proofs.StuckSteps.{rated_row, small_wait, small_weight, wait_open, wait_split, waits_to}
+use Rattle.trip_explain.proofs.StuckSteps.{small_wait, small_weight, wait_open, wait_split, waits_to}
 use Rattle.trip_explain.proofs.legs.after_wait.Goals as goal
 
 pub returns-in_default-clause-err : goal.returns-in_default-clause-err
@@ -20,10 +20,6 @@ returns-in_default-clause-err c =
       walk = refl;
       stuck = unrated (sym c.weight.ensures.value ∙ c.in_default.is);
     }
-
-pub first_shut-requires-clause-rated : goal.first_shut-requires-clause-rated
-first_shut-requires-clause-rated c =
-    rated_row c.args.network.now c.args.at.node.0 c.in-Some.weight (sym c.weight.ensures.value ∙ c.in-Some.is)
 
 pub returns-in-Some-first_shut-clause-err : goal.returns-in-Some-first_shut-clause-err
 returns-in-Some-first_shut-clause-err c =
