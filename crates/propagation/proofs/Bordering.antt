@@ -28,12 +28,20 @@ borders_taken pair dearer later old between new at more after same one two = rec
         (λ (was : HasPair between t x). ⊎_elim
         (λ (first : HasPair old t x). inl first)
         (λ (le : (dearer.arrival ≤ t) × (dearer.cost ≤ x)).
-        let own : IsBetter pair t x = record { arrival = omega (arith, le.0, at); cost = omega (arith, le.1, more); other = inr (omega (arith, le.1, more)) }
-        in inr own)
+        let own : IsBetter pair t x = record {
+          arrival = omega (arith, le.0, at);
+          cost = omega (arith, le.1, more);
+          other = inr (omega (arith, le.1, more));
+        } in
+        inr own)
         (had_or_is dearer old between t x one was))
         (λ (le : (later.arrival ≤ t) × (later.cost ≤ x)).
-        let own : IsBetter pair t x = record { arrival = omega (arith, le.0, after); cost = omega (arith, le.1, same); other = inl (omega (arith, le.0, after)) }
-        in inr own)
+        let own : IsBetter pair t x = record {
+          arrival = omega (arith, le.0, after);
+          cost = omega (arith, le.1, same);
+          other = inl (omega (arith, le.0, after));
+        } in
+        inr own)
         (had_or_is later between new t x two had)),
     (λ either. ⊎_elim
         (λ (was : HasPair old t x). two.kept t x (one.kept t x was))

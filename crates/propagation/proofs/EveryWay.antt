@@ -10,7 +10,13 @@ use Rattle.route_base.specs.declared.types.Pair.{Pair}
 use Rattle.route_base.proofs.Covering.{covered}
 use Rattle.route_base.proofs.Fronts.{no_worse_one}
 use Rattle.route_base.proofs.Walking.{along, cheaper, walk-append, walk_in_time}
+<<<<<<< HEAD
 use Rattle.propagation.specs.Inside.Invariants.{DrivesRelaxed, InPart, IsLabel, IsPrunable, IsRelaxedIn, IsResting, IsWorseOrLate, Progress, Task, no_part, point}
+=======
+use Rattle.propagation.specs.Found.{HasEveryWay}
+use Rattle.propagation.specs.Inside.Invariants.{DrivesRelaxed, InPart, IsLabel, IsPrunable, IsRelaxedIn, IsResting, IsWorseOrLate, Progress, Task}
+use Rattle.propagation.specs.Inside.Invariants.{no_part, point}
+>>>>>>> 0be5c0326c489401488faa5906fc75422f3d9b9a
 use Rattle.propagation.specs.Inside.Pairs.{HasBetter}
 use Rattle.propagation.proofs.Parting.{finished}
 use Rattle.propagation.proofs.Pruning.{prunable_dearer, prunable_moves}
@@ -92,7 +98,8 @@ module _ (k : Task) where
         → Walks k.setting k.request.until after p (end_of k.request pair) → IsPrunable k now.pairs p → ⊥
     never_prunable pair after p one early walk e =
         let end : Position = end_of k.request pair in
-        let last = along k.setting k.request.until (IsPrunable k now.pairs) (λ x u v h move. prunable_moves k now.pairs bound x u v move h) after p end e walk in
+        let last = along k.setting k.request.until (IsPrunable k now.pairs) (λ x u v h move. prunable_moves k now.pairs bound x u v move h)
+        after p end e walk in
         let late = walk_in_time k.setting k.request.until after p end early walk in
         ⊎_elim
         (λ (over : k.request.until < pair.arrival + 0). omega (arith, over, late))

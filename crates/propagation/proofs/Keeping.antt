@@ -8,7 +8,8 @@ use Rattle.route_base.specs.Legs.{start_of, end_of}
 use Rattle.route_base.specs.Relaxing.{HasWithin}
 use Rattle.route_base.specs.declared.types.Bound.{Bound}
 use Rattle.propagation.specs.Inside.Invariants.{ArePartStepsRelaxed, ComesBy, DrivesRelaxed, HasIn, Improves, InPart, IsLabel, IsLower, IsOffer, IsPaired}
-use Rattle.propagation.specs.Inside.Invariants.{IsPrunable, IsWorseOrLate, IsRelaxedIn, IsSearching, IsSound, AreInReach, Progress, Reaches, TakesOffer, Task, no_part, point}
+use Rattle.propagation.specs.Inside.Invariants.{IsPrunable, IsRelaxedIn, IsSearching, IsSound, IsWorseOrLate, AreInReach, Progress, Reaches, TakesOffer}
+use Rattle.propagation.specs.Inside.Invariants.{Task, no_part, point}
 use Rattle.propagation.specs.Found.{IsStart}
 use Rattle.propagation.proofs.Pruning.{prunable_kept}
 

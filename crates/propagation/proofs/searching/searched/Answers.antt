@@ -4,7 +4,13 @@ use Rattle.propagation.proofs.searching.searched.Goals as goal
 
 pub turn-requires-clause-shape : goal.turn-requires-clause-shape
 turn-requires-clause-shape c = shaped_taken c.args.task.net.now.nodes c.in-Some.least.0.0 c.in-Some.least.1 c.turns.progress
-    (record { functions = c.turns.progress.functions; pending = c.turns.progress.pending; pairs = c.turns.progress.pairs; borders = c.turns.progress.borders; queue = c.take_least.new.self })
+    (record {
+      functions = c.turns.progress.functions;
+      pending = c.turns.progress.pending;
+      pairs = c.turns.progress.pairs;
+      borders = c.turns.progress.borders;
+      queue = c.take_least.new.self;
+    })
     c.turns.invariant.shape refl refl c.turns.invariant.shape.borders c.in-Some.ensures.some
 
 pub returns-clause-done : goal.returns-clause-done
