@@ -10,13 +10,8 @@ use Rattle.route_base.specs.declared.types.Pair.{Pair}
 use Rattle.route_base.proofs.Covering.{covered}
 use Rattle.route_base.proofs.Fronts.{no_worse_one}
 use Rattle.route_base.proofs.Walking.{along, cheaper, walk-append, walk_in_time}
-<<<<<<< HEAD
-use Rattle.propagation.specs.Inside.Invariants.{DrivesRelaxed, InPart, IsLabel, IsPrunable, IsRelaxedIn, IsResting, IsWorseOrLate, Progress, Task, no_part, point}
-=======
-use Rattle.propagation.specs.Found.{HasEveryWay}
 use Rattle.propagation.specs.Inside.Invariants.{DrivesRelaxed, InPart, IsLabel, IsPrunable, IsRelaxedIn, IsResting, IsWorseOrLate, Progress, Task}
 use Rattle.propagation.specs.Inside.Invariants.{no_part, point}
->>>>>>> 0be5c0326c489401488faa5906fc75422f3d9b9a
 use Rattle.propagation.specs.Inside.Pairs.{HasBetter}
 use Rattle.propagation.proofs.Parting.{finished}
 use Rattle.propagation.proofs.Pruning.{prunable_dearer, prunable_moves}
