@@ -1,6 +1,5 @@
 -- The text of a command follows from the files and the words.
-use Rattle.std.proofs.Common.{◌≡◌, ℕ, suc, None, Some, Option, List, [], ◌∷◌, length, slice_get, ap, arith, refl, sym, subst, ◌∙◌}
-use Rattle.std.specs.Prelude.{IfSome, IsSome}
+use Rattle.std.proofs.Common.{◌≡◌, ◌<◌, ℕ, zero, suc, None, Some, Option, List, [], ◌∷◌, length, slice_get, ap, arith, refl, sym, subst, ◌∙◌}
 use Rattle.std.proofs.lemmas.List.{length-map}
 use Rattle.std.proofs.lemmas.Option.{slice_get_within}
 use Rattle.route_base.specs.Contents.{Contents}
@@ -40,7 +39,7 @@ use Rattle.front_words.specs.declared.commands.Invocation.TheVariants.{Latest as
 use Rattle.front_words.specs.declared.commands.Invocation.TheVariants.{Explain as to_explain}
 use Rattle.front_words.specs.declared.commands.Plan.{Plan}
 use Rattle.front_desk.specs.Bans.{IsBansText}
-use Rattle.front_desk.specs.Batch.{IsBatchText, IsJobText, IsTripText, trip_of_job}
+use Rattle.front_desk.specs.Batch.{IsBatchText, IsTextAt, IsTripText, trip_of_job}
 use Rattle.front_desk.specs.Check.{IsAccepted}
 use Rattle.front_desk.specs.Commands.{Answers}
 use Rattle.front_desk.specs.Explain.{IsBetterFor, IsExplainText, IsFirstBetter}
@@ -60,8 +59,8 @@ one_check : (s : Setting) (request : Request) (bytes x y : List ℕ) → IsAccep
 one_check s request bytes x y first second =
     let same = one_front s request (pairs_of first.certificate.routes) (pairs_of second.certificate.routes) first.front second.front in
     let count : length first.certificate.routes ≡ length second.certificate.routes =
-    sym (length-map (λ (r : Route). r.pair) first.certificate.routes) ∙ ap (λ (pairs : List Pair). length pairs) same
-    ∙ length-map (λ (r : Route). r.pair) second.certificate.routes in
+    sym (length-map first.certificate.routes (λ (r : Route). r.pair)) ∙ ap (λ (pairs : List Pair). length pairs) same
+    ∙ length-map second.certificate.routes (λ (r : Route). r.pair) in
     first.is_text ∙ (λ i. check_text_of Accepted (count i)) ∙ sym second.is_text
 
 one_bans : (network : NetworkModel) (b : Bans) (x y : List ℕ) → IsBansText network b x → IsBansText network b y → x ≡ y
@@ -77,11 +76,12 @@ one_trip network trip None x y first second =
     first.is_text ∙ ap (λ (routes : List Route). report_text Plain s (request_of trip) routes) same ∙ sym second.is_text
 one_trip network trip (Some fault) x y first second = first ∙ sym second
 
-one_job : (network : NetworkModel) (job : Option Job) (x y : List ℕ) → IfSome job (λ j. IsJobText network j x) → IfSome job (λ j. IsJobText network j y)
-    → IsSome job → x ≡ y
-one_job network None x y first second some = absurd (cc)
-one_job network (Some job) x y first second some =
+one_at : (network : NetworkModel) (jobs : List Job) (k : ℕ) (x y : List ℕ) → k < length jobs → IsTextAt network jobs k x
+    → IsTextAt network jobs k y → x ≡ y
+one_at network [] k x y within first second = absurd (omega (arith, within))
+one_at network (job ∷ jobs) zero x y within first second =
     one_trip network (trip_of_job job) (failed_check network (trip_of_job job)) x y first second
+one_at network (job ∷ jobs) (suc k) x y within first second = one_at network jobs k x y (omega (arith, within)) first second
 
 same_texts : (xs ys : List (List ℕ)) → length xs ≡ length ys
     → ((k : ℕ) (x y : List ℕ) → slice_get xs k ≡ Some x → slice_get ys k ≡ Some y → x ≡ y) → xs ≡ ys
@@ -96,8 +96,8 @@ same_texts (x ∷ xs) (y ∷ ys) count each =
 pub one_batch : (network : NetworkModel) (jobs : List Job) (x y : List ℕ) → IsBatchText network jobs x → IsBatchText network jobs y → x ≡ y
 one_batch network jobs x y first second =
     let same = same_texts first.texts second.texts (first.count ∙ sym second.count)
-    (λ k one two is_one is_two. one_job network (slice_get jobs k) one two (first.each k one is_one) (second.each k two is_two)
-    (is_some_within jobs k (omega (arith, slice_get_within first.texts k one is_one, first.count)))) in
+    (λ k one two is_one is_two. one_at network jobs k one two (omega (arith, slice_get_within first.texts k one is_one, first.count))
+    (first.each k one is_one) (second.each k two is_two)) in
     first.is_text ∙ ap (λ (texts : List (List ℕ)). batch_text_of texts) same ∙ sym second.is_text
 
 one_summary : (g : Gen) (x y : List ℕ) → IsSummary g x → IsSummary g y → x ≡ y
@@ -107,7 +107,7 @@ one_summary g x y first second =
     ∙ sym second.is_text
 
 module _ (network : NetworkModel) (vehicle : VehicleModel) (r : Request) (legs : List Leg) (x y : List ℕ) where
-  s : Setting
+  abbrev s : Setting
   s = road_setting network vehicle
 
   same_better : (pair : Pair) (one two : Option Pair) → IsFirstBetter s r pair one → IsFirstBetter s r pair two → one ≡ two

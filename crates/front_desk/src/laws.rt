@@ -4,7 +4,7 @@ ghost use Rattle.front_desk.specs.Batch.{IsBatchReport};
 ghost use Rattle.front_desk.specs.Check.{HasGoodCertificate, check_of};
 ghost use Rattle.front_desk.specs.Commands.{Answers};
 ghost use Rattle.front_desk.specs.Explain.{IsExplainText};
-ghost use Rattle.front_desk.specs.OneText.{TellsOneText};
+ghost use Rattle.front_desk.specs.OneText.{TellsOneText, routes_certified};
 ghost use Rattle.front_words.specs.declared.commands.Batch.{Batch};
 ghost use Rattle.front_words.specs.declared.commands.Invocation.{Invocation as Command};
 ghost use Rattle.front_words.specs.declared.commands.Plan.{Plan};
@@ -98,8 +98,8 @@ pub fn explanations_are_exact()
 {}
 
 /// The law of one text: over the same files, `plan`, `check`, `bans`, `batch`, `gen` and `explain` print no other text where they are done;
-/// and batches of the same table of jobs print one text, whatever the number of workers. So another run, another version that meets
-/// `run`, and either engine print the same, byte for byte. The call does nothing.
+/// batches of the same table of jobs print one text, whatever the number of workers; and the certificates that plans of the same words
+/// write have the same routes. So another run, and another version that meets `run`, print the same, byte for byte. The call does nothing.
 pub fn one_text()
     ensures command { (command : Command) (held : Contents) (after other : Option Contents)
         → (x y : List ℕ) → TellsOneText command
@@ -107,4 +107,8 @@ pub fn one_text()
     ensures workers { (batch other : Batch) (held : Contents) (x y : List ℕ)
         → batch.dir ≡ other.dir → batch.jobs ≡ other.jobs
         → IsBatchReport batch held x → IsBatchReport other held y → x ≡ y }
+    ensures certificates { (plan : Plan) (name : List ℕ) (held : Contents)
+        → (after other : Option Contents)
+        → (one : IsCertified plan name held after) → (two : IsCertified plan name held other)
+        → routes_certified one.certified ≡ routes_certified two.certified }
 {}

@@ -1,9 +1,12 @@
-use Rattle.std.proofs.Common.{List, ℕ, sym, subst}
+use Rattle.std.proofs.Common.{List, ℕ, sym, subst, ◌∙◌}
+use Rattle.route_base.proofs.OneAnswer.{one_answer}
 use Rattle.table_reader.specs.Records.{rows_of}
 use Rattle.network_tables.specs.Jobs.{jobs_in}
 use Rattle.network_folder.specs.Files.{bytes_at}
 use Rattle.network_folder.specs.ReadingOrder.{jobs_file, network_held}
 use Rattle.front_desk.specs.Batch.{IsBatchText, jobs_held}
+use Rattle.front_desk.specs.Plan.{trip_setting}
+use Rattle.front_desk.specs.Trips.{request_of}
 use Rattle.front_desk.proofs.OneText.{one_batch, one_text as only_text}
 use Rattle.front_desk.proofs.laws.one_text.Goals as goal
 
@@ -17,3 +20,9 @@ returns-clause-workers c = λ batch other held x y dir jobs first second.
     one_batch (network_held held batch.dir) (jobs_held batch held) x y first
     (subst (λ (folder : List ℕ). IsBatchText (network_held held folder) (jobs_in (rows_of (bytes_at held folder (jobs_file batch.jobs)))) y)
     (sym dir) by_jobs)
+
+pub returns-clause-certificates : goal.returns-clause-certificates
+returns-clause-certificates c = λ plan name held after other one two.
+    one.certified.certifies.same
+    ∙ one_answer (trip_setting (network_held held plan.dir) plan.trip) (request_of plan.trip) one.routes two.routes one.right two.right
+    ∙ sym two.certified.certifies.same
