@@ -263,9 +263,36 @@ def plain_steps(roads, until):
     return steps
 
 
-def plan_front(roads, request):
-    costs = least_costs(request.origin, request.depart, plain_steps(roads, request.until))
+def plan_costs(roads, request):
+    return least_costs(request.origin, request.depart, plain_steps(roads, request.until))
+
+
+def plan_front(request, costs):
     return front_of([(minute, at[request.goal]) for minute, at in costs.items() if request.goal in at])
+
+
+def last_step(roads, until, costs, node, minute):
+    """The last step of the first itinerary to a node and minute at the least cost: a wait if one has it, else the drive over the smallest arc."""
+    cost = costs[minute][node]
+    before = costs.get(minute - 1, {}).get(node)
+    if before is not None and roads.may_wait(node, minute - 1, until) and before + roads.weight(node) == cost:
+        return "wait", 1, node, minute - 1
+    for arc, (tail, head, minutes, *_) in enumerate(roads.network.arcs, 1):
+        before = costs.get(minute - minutes, {}).get(tail)
+        if head == node and before is not None and before + roads.cost(arc) == cost and roads.is_open_from(arc, minute - minutes):
+            return "drive", arc, tail, minute - minutes
+    raise AssertionError(f"no step leads to node {node} at {minute}")
+
+
+def first_legs(roads, request, costs, arrival):
+    """The legs of the first itinerary of the pair of the front that arrives then, from the end backwards."""
+    legs, node, minute = [], request.goal, arrival
+    while (node, minute) != (request.origin, request.depart):
+        kind, value, node, minute = last_step(roads, request.until, costs, node, minute)
+        if legs and kind == legs[-1][0] == "wait":
+            value += legs.pop()[1]
+        legs.append((kind, value))
+    return legs[::-1]
 
 
 def late_front(roads, request):
@@ -472,7 +499,14 @@ def failed_check(network, request):
 
 
 def plan_due(roads, request, _):
-    return Due(DONE, pairs=plan_front(roads, request), wrong_legs=lambda pair, legs: wrong_route(roads, request, pair, legs))
+    costs = plan_costs(roads, request)
+
+    def wrong_legs(pair, legs):
+        wrong = wrong_route(roads, request, pair, legs)
+        first = first_legs(roads, request, costs, pair[0])
+        return wrong or (None if legs == first else f"the first itinerary has {first}")
+
+    return Due(DONE, pairs=plan_front(request, costs), wrong_legs=wrong_legs)
 
 
 def late_due(roads, request, _):
@@ -498,7 +532,8 @@ def explain_due(roads, request, legs):
         return Due(DONE, f"unlawful {unlawful.args[0]} {unlawful.args[1]} {unlawful.args[2]}\n".encode("ascii"))
     if node != request.goal:
         return Due(DONE, f"unlawful {len(legs) + 1} {minute} goal\n".encode("ascii"))
-    better = next((pair for pair in plan_front(roads, request) if dominates(pair, (minute, cost))), None)
+    front = plan_front(request, plan_costs(roads, request))
+    better = next((pair for pair in front if dominates(pair, (minute, cost))), None)
     verdict = f"dominated {better[0]} {cost_text(better[1])}" if better else "undominated"
     return Due(DONE, f"lawful {minute} {cost_text(cost)}\n{verdict}\n".encode("ascii"))
 
