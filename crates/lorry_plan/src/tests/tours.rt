@@ -85,7 +85,7 @@ const WAITING: &[(&str, &str)] = &[(
 const OVER_A_CLOSURE: &[(&str, &str)] = &[
     (
         "node,service,from,to\n2,30,26563740,26563880\n",
-        "pairs 1\npair 26563920 300.000\ndrive 1\nwait 90\nserve 1\ndrive 2\n",
+        "pairs 1\npair 26563920 300.000\ndrive 1\nserve 1\nwait 90\ndrive 2\n",
     ),
     ("", TWO_PAIRS),
 ];
