@@ -7,8 +7,9 @@ ghost use Rattle.itinerary_unpack.specs.Answered.{IsAnswered};
 
 use crate::back::unpack_over;
 use node_arcs::NodeArcs;
-use propagation::{Found, search_over};
-use route_base::{FrontSearch, OutOfMemory, Request, Route, Routes, TimedNet};
+use potentials::BoundedSearch;
+use propagation::{Found, search_over, search_with};
+use route_base::{Bounds, FrontSearch, OutOfMemory, Request, Route, Routes, TimedNet};
 use std::alloc::Global;
 
 /// An engine that keeps a cost function of the minute for each node that it reaches, and follows only what may still lead to a new
@@ -25,6 +26,21 @@ impl FrontSearch for FunctionEngine {
     ) -> Result<Routes, OutOfMemory> {
         let incoming = NodeArcs::incoming(alloc, net)?;
         let found = search_over(alloc, net, &incoming, request)?;
+        routes_of(alloc, net, &incoming, request, &found)
+    }
+}
+
+impl BoundedSearch for FunctionEngine {
+    fn front_with(
+        &self,
+        alloc: Global,
+        net: &TimedNet,
+        bounds: Bounds,
+        request: Request,
+    ) -> Result<Routes, OutOfMemory> {
+        let outgoing = NodeArcs::outgoing(alloc, net)?;
+        let found = search_with(alloc, net, &outgoing, bounds, request)?;
+        let incoming = NodeArcs::incoming(alloc, net)?;
         routes_of(alloc, net, &incoming, request, &found)
     }
 }

@@ -25,7 +25,8 @@ use Rattle.plan_certificate.specs.Inside.Entries.{AreEntriesOf, pieces_of}
 use Rattle.plan_certificate.specs.Tight.{IsTight}
 use Rattle.plan_certificate.proofs.FoundEntries.{same_items, same_values, bound_within, function_has, function_is, function_within}
 
-module _ (net : Net) (r : Request) (found : Finding) (answers : IsFoundFor net r found) (c : Certificate)
+module _ (net : Net) (r : Request) (found : Finding) (answers : IsFoundFor net r found)
+    (least : AreLeastBounds (setting_of net) r.goal.0 (bound_at found.bounds)) (c : Certificate)
     (right : IsRight (setting_of net) r c.routes) (pairs : pairs_of c.routes ≡ found.pairs)
     (bounds : AreEntriesOf (bound_at found.bounds) c.bounds) (functions : AreEntriesOf (pieces_of found.functions) c.functions) where
   abbrev s : Setting
@@ -87,7 +88,7 @@ module _ (net : Net) (r : Request) (found : Finding) (answers : IsFoundFor net r
 
   pub is_tight : IsTight s r c
   is_tight = record {
-    bounds = subst (AreLeastBounds s r.goal.0) (sym (same_items (bound_at found.bounds) c.bounds bounds)) answers.optimal.least;
+    bounds = subst (AreLeastBounds s r.goal.0) (sym (same_items (bound_at found.bounds) c.bounds bounds)) least;
     reduced = All-weaker (λ e. AreBuilt e.1) (λ e. IsReduced e.1) (λ e h. h.reduced) c.functions built;
     in_reach = λ v t x is. justified.tight (record { node = v; minute = t; cost = x }) is;
   }

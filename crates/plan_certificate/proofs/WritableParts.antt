@@ -14,7 +14,7 @@ use Rattle.route_base.proofs.Walking.{walk_in_time}
 use Rattle.cost_functions.specs.Building.{AreBuilt}
 use Rattle.cost_functions.specs.Pieces.{ArePieces}
 use Rattle.cost_functions.specs.declared.TheConstants.{HIGHEST_PIECE_COST}
-use Rattle.potentials.specs.Sums.{bound_at}
+use Rattle.potentials.specs.Sums.{AreLeastBounds, bound_at}
 use Rattle.propagation.specs.Found.{Finding, IsFoundFor}
 use Rattle.certificate.specs.Writable.{IsWritable, IsWritableLeg, IsWritableNode}
 use Rattle.certificate.specs.declared.Certificate.{Certificate}
@@ -26,7 +26,8 @@ use Rattle.plan_certificate.proofs.FoundEntries.{each_entry, bound_within, funct
 use Rattle.plan_certificate.proofs.LeastSums.{least_minutes, least_cost}
 use Rattle.plan_certificate.proofs.WritableLegs.{writable_legs}
 
-module _ (net : Net) (r : Request) (found : Finding) (answers : IsFoundFor net r found) (c : Certificate)
+module _ (net : Net) (r : Request) (found : Finding) (answers : IsFoundFor net r found)
+    (least : AreLeastBounds (setting_of net) r.goal.0 (bound_at found.bounds)) (c : Certificate)
     (bounds : AreEntriesOf (bound_at found.bounds) c.bounds) (functions : AreEntriesOf (pieces_of found.functions) c.functions)
     (few_nodes : net.nodes ≤ MOST_NODES) where
   abbrev s : Setting
@@ -40,11 +41,11 @@ module _ (net : Net) (r : Request) (found : Finding) (answers : IsFoundFor net r
     of_bound = each_entry (bound_at found.bounds) c.bounds bounds k d within
 
     bound_minutes : b.1.minutes ≤ LONGEST_BOUND
-    bound_minutes = let long = least_minutes net answers.good r.goal.0 (bound_at found.bounds) answers.optimal.least b.0.0 b.1 of_bound in
+    bound_minutes = let long = least_minutes net answers.good r.goal.0 (bound_at found.bounds) least b.0.0 b.1 of_bound in
         omega (arith, long, few_nodes)
 
     bound_cost : HasCheapRoads s → b.1.cost ≤ HIGHEST_PIECE_COST
-    bound_cost cheap = let dear = least_cost net answers.good r.goal.0 (bound_at found.bounds) answers.optimal.least cheap b.0.0 b.1 of_bound in
+    bound_cost cheap = let dear = least_cost net answers.good r.goal.0 (bound_at found.bounds) least cheap b.0.0 b.1 of_bound in
         omega (arith, dear, few_nodes)
 
   -- a node of the net is within the range of the format

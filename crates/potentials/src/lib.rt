@@ -10,8 +10,10 @@
 //! search keeps.
 #![tactic(auto)]
 
+mod bounded_search;
 mod bounds;
 mod proportion;
 mod sums;
 
+pub use bounded_search::BoundedSearch;
 pub use bounds::{to_goal, to_goal_over};

@@ -7,7 +7,6 @@ use Rattle.route_base.specs.Legs.{start_of}
 use Rattle.route_base.specs.Relaxing.{AreBounds}
 use Rattle.route_base.specs.declared.types.Pair.{Pair}
 use Rattle.route_base.proofs.Walking.{moves_forward}
-use Rattle.potentials.specs.Sums.{AreLeastBounds}
 use Rattle.propagation.specs.Found.{IsOptimal, IsJustified}
 use Rattle.propagation.specs.Inside.Invariants.{Task, Progress, point, IsResting}
 use Rattle.propagation.proofs.Parting.{finished, front}
@@ -18,9 +17,9 @@ walk_forward s until [] p q walk = omega (arith, ap (λ (w : Position). w.minute
 walk_forward s until (x ∷ xs) p q walk = omega (arith, moves_forward s until x p walk.0 walk.1, walk_forward s until xs walk.0 q walk.2)
 
 module _ (k : Task) (now : Progress) (facts : IsResting k now) (done : (v t : ℕ) → now.pending v t ≡ false) where
-  pub optimal_at_end : k.request.depart ≤ k.request.until → AreBounds k.setting k.request.goal.0 k.bounds → AreLeastBounds k.setting k.request.goal.0 k.bounds
+  pub optimal_at_end : k.request.depart ≤ k.request.until → AreBounds k.setting k.request.goal.0 k.bounds
       → IsOptimal k.setting k.request now.pairs k.bounds now.cost
-  optimal_at_end in_time bound least = record {
+  optimal_at_end in_time bound = record {
     front = front k now in_time bound facts done;
     trade = facts.paired.trade;
     in_time = λ i d within.
@@ -28,7 +27,6 @@ module _ (k : Task) (now : Progress) (facts : IsResting k now) (done : (v t : �
         let known = (facts.paired.achieved p (i, within, get_or_default now.pairs i p d within)).1 in
         let tight = facts.tight (point k.request.goal.0 p.arrival known.least) known.is in
         omega (arith, tight.2);
-    least = least;
     complete = finished k now bound facts done;
     ways = every_way k now in_time bound facts done;
   }

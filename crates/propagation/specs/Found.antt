@@ -12,7 +12,7 @@ use Rattle.route_base.specs.declared.types.Request.{Request}
 use Rattle.cost_functions.specs.Pieces.{value_at}
 use Rattle.cost_functions.specs.Building.{AreBuilt}
 use Rattle.cost_functions.specs.declared.pieces.Piece.{Piece}
-use Rattle.potentials.specs.Sums.{AreLeastBounds, bound_at}
+use Rattle.potentials.specs.Sums.{bound_at}
 
 -- pairs, a function and a bound or none for each node
 pub record Finding : Type 0 where
@@ -49,7 +49,6 @@ pub record IsOptimal (s : Setting) (r : Request) (pairs : List Pair) (bounds : �
   pub front : IsFront s r pairs
   pub trade : RiseAndFall pairs
   pub in_time : All (λ p. p.arrival ≤ r.until) pairs
-  pub least : AreLeastBounds s r.goal.0 bounds
   pub complete : IsComplete s r pairs bounds cost
   pub ways : HasEveryWay s r pairs cost
 

@@ -38,4 +38,4 @@ mod task;
 mod turns;
 
 pub use found::Found;
-pub use searching::{search, search_over};
+pub use searching::{search, search_over, search_with};

@@ -2,8 +2,10 @@
 ghost use Rattle.std.specs.Prelude.{◌≡◌, ◌≤◌, ℕ, None, false, All, length, IfOk, OnOk};
 ghost use Rattle.route_base.specs.Net.{IsGoodRequest, setting_of};
 ghost use Rattle.route_base.specs.Legs.{CostsFit};
+ghost use Rattle.route_base.specs.Relaxing.{AreBounds};
 ghost use Rattle.cost_functions.specs.Building.{AreBuilt};
-ghost use Rattle.node_arcs.specs.Stars.{AreIncoming};
+ghost use Rattle.node_arcs.specs.Stars.{AreIncoming, AreOutgoing};
+ghost use Rattle.potentials.specs.Sums.{AreLeastBounds, bound_at};
 ghost use Rattle.propagation.specs.Found.{IsFoundFor, cost_at};
 ghost use Rattle.propagation.specs.Inside.Invariants.{IsBlank, IsResting};
 ghost use Rattle.propagation.specs.Inside.EntrySets.{AreEntrySets};
@@ -21,7 +23,7 @@ use label_queue::LabelQueue;
 use minute_sets::MinuteSet;
 use node_arcs::NodeArcs;
 use potentials::to_goal_over;
-use route_base::{OutOfMemory, Request, TimedNet};
+use route_base::{Bounds, OutOfMemory, Request, TimedNet};
 use std::alloc::Global;
 
 /// The Pareto front of arrival (Unix minutes) and cost (thousandths), with the bounds and functions that show it. The functions have
@@ -33,7 +35,9 @@ pub fn search(alloc: Global, net: &TimedNet, request: Request) -> Result<Found, 
     requires good { IsGoodRequest net.now request }
     requires in_time { request.depart ≤ request.until }
     requires fit { CostsFit (setting_of net.now) request }
-    ensures { IfOk result (IsFoundFor net.now request) }
+    ensures found { IfOk result (IsFoundFor net.now request) }
+    ensures least { IfOk result (λ found.
+        AreLeastBounds (setting_of net.now) request.goal.0 (bound_at found.bounds)) }
 {
     let incoming = NodeArcs::incoming(alloc, net)?;
     search_over(alloc, net, &incoming, request)
@@ -51,13 +55,37 @@ pub fn search_over(
     requires good { IsGoodRequest net.now request }
     requires in_time { request.depart ≤ request.until }
     requires fit { CostsFit (setting_of net.now) request }
-    ensures { IfOk result (IsFoundFor net.now request) }
+    ensures found { IfOk result (IsFoundFor net.now request) }
+    ensures least { IfOk result (λ found.
+        AreLeastBounds (setting_of net.now) request.goal.0 (bound_at found.bounds)) }
 {
     let bounds = to_goal_over(alloc, net, incoming, request.goal)?;
     let outgoing = NodeArcs::outgoing(alloc, net)?;
+    search_with(alloc, net, &outgoing, bounds, request)
+}
+
+/// The same for arcs that were put in order already and for any bounds that hold along each arc. The larger they are, the less is
+/// searched; they are handed on with what is found. The only error is out of memory.
+pub fn search_with(
+    alloc: Global,
+    net: &TimedNet,
+    outgoing: &NodeArcs,
+    bounds: Bounds,
+    request: Request,
+) -> Result<Found, OutOfMemory>
+    requires outgoing { AreOutgoing net.now outgoing.now }
+    requires good { IsGoodRequest net.now request }
+    requires in_time { request.depart ≤ request.until }
+    requires fit { CostsFit (setting_of net.now) request }
+    requires bounds { AreBounds (setting_of net.now) request.goal.0 (bound_at bounds) }
+    requires bounded { length bounds ≡ net.now.nodes }
+    ensures found { IfOk result (IsFoundFor net.now request) }
+    ensures bounds { IfOk result (λ found. found.bounds ≡ bounds) }
+{
+    let _nodes = net.node_count();
     let task = Task {
         net,
-        outgoing: &outgoing,
+        outgoing,
         bounds: &bounds,
         request,
     };
