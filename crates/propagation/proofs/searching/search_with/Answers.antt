@@ -14,7 +14,7 @@ returns-clause-found c =
     let facts = c.in_ok-progress.ensures.facts in
     let done = c.in_ok-progress.ensures.done in
     subst (λ (found : Finding). IsFoundFor c.args.net.now c.args.request found) (sym c.new.ensures) (record {
-      good = c.node_count-_nodes.ensures.good;
+      good = c.node_count-nodes.ensures.good;
       nodes = c.in_ok-progress.ensures.nodes;
       bounded = c.requires.bounded;
       reduced = c.in_ok-progress.ensures.built;
