@@ -23,8 +23,8 @@ module _ (net : Net) (end : End) (star : Star) (all : AreArcsAt net end star) (v
       let one : Contains arcs x = subst (λ o. Contains o x) (sym own) ((all v).all a ends) in
       (one.0, one.1, slice_get-get_or arcs one.0 x one.1 ∙ ap (λ y. Some y) one.2)
 
--- an arc at one of the first k + 1 places is at one of the first k, or at the next
-pub earlier_or_next : (arcs : List ArcId) (k i : ℕ) (a d : ArcId) → i < k + 1 → slice_get arcs i ≡ Some a → (i < k) ⊎ (get_or arcs k d ≡ a)
+-- an item at one of the first k + 1 places is at one of the first k, or at the next
+pub earlier_or_next : {A : Type 0} (arcs : List A) (k i : ℕ) (a d : A) → i < k + 1 → slice_get arcs i ≡ Some a → (i < k) ⊎ (get_or arcs k d ≡ a)
 earlier_or_next arcs k i a d below is = ⊎_elim
     (λ (before : i < k). inl before)
     (λ (here : k ≤ i). let same : k ≡ i = omega (arith, here, below) in inr (ap (λ n. get_or arcs n d) same ∙ get_or_from_slice_get arcs i a d is))

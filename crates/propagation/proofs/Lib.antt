@@ -17,3 +17,4 @@ pub mod AtEnd
 pub mod Pruning
 pub mod Bordering
 pub mod EveryWay
+pub mod Gathering

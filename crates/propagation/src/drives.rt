@@ -1,5 +1,5 @@
 // The offer that drives over an arc make to its head.
-ghost use Rattle.std.specs.Prelude.{◌≡◌, ◌≤◌, ℕ, Option, Some, IfOk, OnOk};
+ghost use Rattle.std.specs.Prelude.{◌≡◌, ◌≤◌, ℕ, Option, Some, IfOk, IfSome, OnOk};
 ghost use Rattle.route_base.specs.Net.{park_at, setting_of, IsGoodPark};
 ghost use Rattle.cost_functions.specs.Pieces.{value_at, AreSmallPieces};
 ghost use Rattle.cost_functions.specs.Building.{AreBuilt};
@@ -14,18 +14,11 @@ use crate::entry_sets::{EntrySets, ready_set};
 use crate::progress::Progress;
 use crate::spares::Spares;
 use crate::task::Task;
+use crate::ways::OutgoingArc;
 use cost_functions::CostFn;
 use function_merge::{into_pruned, shift_and_prune, wait_with_spare};
-use route_base::{ArcId, Bound, Minute, NodeId, OutOfMemory, Park, TimedArc};
+use route_base::{Bound, Minute, NodeId, OutOfMemory, Park};
 use std::alloc::Global;
-
-/// An arc that leaves a node, with its number, and the bound of its head.
-#[derive(Clone, Copy)]
-pub struct OutgoingArc {
-    pub id: ArcId,
-    pub arc: TimedArc,
-    pub bound: Bound,
-}
 
 // The costs with which drives of the part over the arc end, where the goal is still worth reaching from there.
 #[inline(always)]
@@ -132,12 +125,13 @@ pub fn with_waits(
     progress: &Progress,
     h: NodeId,
     bound: Bound,
+    park: Option<Park>,
     clear: CostFn,
 ) -> Result<CostFn, OutOfMemory>
     requires asked { IsGoodTask task }
-    requires low { 1 ≤ h.0 }
-    requires high { h.0 ≤ task.net.now.nodes }
     requires bound { bound_at task.bounds.now h.0 ≡ Some bound }
+    requires park { park_at task.net.now h.0 ≡ park }
+    requires good { IfSome park (IsGoodPark task.net.now) }
     requires borders { AreBorders progress.now.pairs.items progress.now.borders.items }
     requires small { AreSmallPieces clear }
     requires entries { AreEntrySets task.net.now task.request.until sets.old }
@@ -151,7 +145,7 @@ pub fn with_waits(
     ensures entries { OnOk result
         (AreEntrySets task.entry.net.now task.entry.request.until sets.new) }
 {
-    let Some(park) = task.net.park(h) else {
+    let Some(park) = park else {
         return Ok(clear);
     };
     let last = task.request.until.saturating_sub(bound.minutes);
@@ -196,6 +190,7 @@ pub fn offered(
         progress,
         way.arc.head,
         way.bound,
+        way.park,
         clear,
     )?;
     Ok(offer)

@@ -36,6 +36,7 @@ mod searching;
 mod spares;
 mod task;
 mod turns;
+mod ways;
 
 pub use found::Found;
 pub use searching::{search, search_over, search_with};

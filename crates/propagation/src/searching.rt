@@ -135,7 +135,10 @@ fn begun(
     };
     let first = CostFn::single(alloc, task.request.depart, 0)?;
     let clear = cleared(task, &progress, origin, bound, first);
-    let offer = with_waits(alloc, task, sets, spares, &progress, origin, bound, clear)?;
+    let park = task.net.park(origin);
+    let offer = with_waits(
+        alloc, task, sets, spares, &progress, origin, bound, park, clear,
+    )?;
     take_at(alloc, task, spares, &mut progress, origin, bound, &offer)?;
     Ok(progress)
 }

@@ -1,13 +1,15 @@
 // Functions that are done with, whose memory the next ones use.
+use crate::ways::OutgoingArc;
 use cost_functions::{CostFn, Piece};
 use route_base::OutOfMemory;
 use std::alloc::Global;
 
-/// The functions that are done with, and memory for the pieces that a merge moves.
+/// The functions that are done with, and memory for the pieces that a merge moves and for the arcs of a turn.
 #[derive(Drop)]
 pub struct Spares {
     functions: Vec<CostFn>,
     pub pieces: Vec<Piece>,
+    pub ways: Vec<OutgoingArc>,
 }
 
 impl Spares {
@@ -15,6 +17,7 @@ impl Spares {
         Spares {
             functions: Vec::new(alloc),
             pieces: Vec::new(alloc),
+            ways: Vec::new(alloc),
         }
     }
 

@@ -1,28 +1,28 @@
 // A turn of the search: a part of what is pending at a node is driven on.
-ghost use Rattle.std.specs.Prelude.{◌≡◌, ◌≤◌, ◌<◌, ℕ, Some, None, true, OnOk};
+ghost use Rattle.std.specs.Prelude.{◌≡◌, ◌≤◌, ◌<◌, ℕ, Some, None, true, All, OnOk};
 ghost use Rattle.route_base.specs.Front.{RiseAndFall};
 ghost use Rattle.route_base.specs.Itinerary.{Position, Drives};
 ghost use Rattle.route_base.specs.Net.{setting_of};
 ghost use Rattle.cost_functions.specs.Pieces.{value_at, AreSmallPieces};
 ghost use Rattle.label_queue.specs.Keys.{key_at};
-ghost use Rattle.node_arcs.specs.Stars.{EndsAt};
-ghost use Rattle.node_arcs.specs.declared.links.End.TheVariants.{Tail};
 ghost use Rattle.propagation.specs.Inside.Invariants.{Improves, IsSearching, IsResting, IsRelaxedIn, TakesOffer, point};
 ghost use Rattle.propagation.specs.Inside.Measures.{work};
 ghost use Rattle.propagation.specs.Inside.Offers.{IsKnownPart};
 ghost use Rattle.propagation.specs.Inside.EntrySets.{AreEntrySets};
-ghost use Rattle.propagation.specs.Inside.States.{progress_of, task_of, is_pending, IsGoodTask, IsShaped};
+ghost use Rattle.propagation.specs.Inside.States.{progress_of, task_of, is_pending, IsGoodTask, IsShaped, IsOutgoingArc, HasEachArc};
 
-use crate::drives::{OutgoingArc, offered};
+use crate::drives::offered;
 use crate::entry_sets::EntrySets;
 use crate::pairs::add_pairs;
 use crate::parts::part_of;
 use crate::progress::{Progress, await_at, first_of, lower_at};
 use crate::spares::Spares;
 use crate::task::Task;
+use crate::ways::{OutgoingArc, read_ways};
 use cost_functions::CostFn;
-use route_base::{ArcId, Bound, NodeId, OutOfMemory};
+use route_base::{Bound, NodeId, OutOfMemory};
 use std::alloc::Global;
+use std::mem;
 
 // A turn at a node that has left the queue.
 #[inline(always)]
@@ -62,7 +62,7 @@ pub fn turn(
     Ok(())
 }
 
-// Relaxes each arc that leaves the node, for the part.
+// Relaxes each arc that leaves the node, for the part. Heads without bounds are left out: no way leads on from them.
 #[inline(always)]
 fn drive_all(
     alloc: Global,
@@ -90,8 +90,52 @@ fn drive_all(
     if part.pieces().is_empty() {
         return Ok(());
     }
-    for a in task.outgoing.of(v) {
-        drive_one(alloc, task, sets, spares, progress, v, part, *a)?;
+    let mut ways = mem::replace(&mut spares.ways, Vec::new(alloc));
+    read_ways(task, progress, &mut ways, v)?;
+    drive_each(
+        alloc,
+        task,
+        sets,
+        spares,
+        progress,
+        v,
+        part,
+        ways.as_slice(),
+    )?;
+    spares.ways = ways;
+    Ok(())
+}
+
+// Relaxes these arcs, for the part.
+#[inline(always)]
+fn drive_each(
+    alloc: Global,
+    task: Task<'_>,
+    sets: &mut EntrySets,
+    spares: &mut Spares,
+    progress: &mut Progress,
+    v: NodeId,
+    part: &CostFn,
+    ways: &[OutgoingArc],
+) -> Result<(), OutOfMemory>
+    requires asked { IsGoodTask task }
+    requires entries { AreEntrySets task.net.now task.request.until sets.old }
+    requires low { 1 ≤ v.0 }
+    requires high { v.0 ≤ task.net.now.nodes }
+    requires shape { IsShaped task.net.now.nodes 0 progress.old }
+    requires facts { IsSearching (task_of task) (progress_of progress.old) v.0 (value_at part.now) }
+    requires part { IsKnownPart (task_of task) (progress_of progress.old) v.0 (value_at part.now) }
+    requires arcs { All (IsOutgoingArc task v.0) ways.now }
+    requires each { HasEachArc task v.0 ways.now }
+    ensures entries { OnOk result
+        (AreEntrySets task.entry.net.now task.entry.request.until sets.new) }
+    ensures shape { OnOk result (IsShaped task.entry.net.now.nodes 0 progress.new) }
+    ensures facts { OnOk result (IsResting (task_of task.entry) (progress_of progress.new)) }
+    ensures better { OnOk result
+        (Improves (task_of task.entry) (progress_of progress.old) (progress_of progress.new)) }
+{
+    for way in ways {
+        drive_one(alloc, task, sets, spares, progress, v, part, *way)?;
     }
     Ok(())
 }
@@ -106,11 +150,11 @@ fn drive_one(
     progress: &mut Progress,
     v: NodeId,
     part: &CostFn,
-    a: ArcId,
+    way: OutgoingArc,
 ) -> Result<(), OutOfMemory>
     requires asked { IsGoodTask task }
     requires entries { AreEntrySets task.net.now task.request.until sets.old }
-    requires begins { EndsAt task.net.now Tail v.0 a.0 }
+    requires way { IsOutgoingArc task v.0 way }
     requires shape { IsShaped task.net.now.nodes 0 progress.old }
     requires facts { IsSearching (task_of task) (progress_of progress.old) v.0 (value_at part.now) }
     requires part { IsKnownPart (task_of task) (progress_of progress.old) v.0 (value_at part.now) }
@@ -122,18 +166,19 @@ fn drive_one(
     ensures better { OnOk result
         (Improves (task_of task.entry) (progress_of progress.old) (progress_of progress.new)) }
     ensures relaxed { OnOk result ((t x : ℕ) (q : Position) → value_at part.now t ≡ Some x
-        → Drives (setting_of task.entry.net.now) task.entry.request.until a.0 (point v.0 t x) q
+        → Drives (setting_of task.entry.net.now) task.entry.request.until way.id.0 (point v.0 t x) q
         → IsRelaxedIn (task_of task.entry) (progress_of progress.new) q) }
 {
-    let Some(arc) = task.net.arc(a) else {
-        return Ok(());
-    };
-    let Some(bound) = task.bounds.get(arc.head) else {
-        return Ok(());
-    };
-    let way = OutgoingArc { id: a, arc, bound };
     let offer = offered(alloc, task, sets, spares, progress, v, part, way)?;
-    take_at(alloc, task, spares, progress, arc.head, bound, &offer)?;
+    take_at(
+        alloc,
+        task,
+        spares,
+        progress,
+        way.arc.head,
+        way.bound,
+        &offer,
+    )?;
     spares.put(offer)?;
     Ok(())
 }

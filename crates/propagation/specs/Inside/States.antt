@@ -1,20 +1,22 @@
 -- The task and the progress that the code holds, and what its parts keep of each other (source: own; no law).
-use Rattle.std.specs.Prelude.{◌≡◌, ◌⊎◌, ℕ, ◌≤◌, Bool, true, false, ◌||◌, Option, Some, None, List, length, All, IfSome, IsNone}
-use Rattle.route_base.specs.Net.{IsGoodArc, IsGoodNet, IsGoodRequest, at_number, setting_of}
+use Rattle.std.specs.Prelude.{◌≡◌, ◌⊎◌, ℕ, ◌≤◌, Bool, true, false, ◌||◌, Option, Some, None, List, length, All, IfSome, IsNone, slice_get}
+use Rattle.route_base.specs.Net.{IsGoodArc, IsGoodNet, IsGoodPark, IsGoodRequest, at_number, park_at, setting_of}
 use Rattle.route_base.specs.Legs.{CostsFit}
 use Rattle.route_base.specs.Relaxing.{AreBounds}
 use Rattle.route_base.specs.Runs.{any_has}
 use Rattle.route_base.specs.declared.limits.TheConstants.{HIGHEST_COST}
 use Rattle.route_base.specs.declared.types.Run.{Run}
+use Rattle.route_base.specs.declared.types.TimedArc.{TimedArc}
 use Rattle.cost_functions.specs.Building.{AreBuilt}
 use Rattle.function_merge.specs.Least.{least_of, is_better}
 use Rattle.label_queue.specs.Keys.{key_at, IsSet}
-use Rattle.node_arcs.specs.Stars.{AreOutgoing}
+use Rattle.node_arcs.specs.Stars.{AreOutgoing, EndsAt}
+use Rattle.node_arcs.specs.declared.links.End.TheVariants.{Tail}
 use Rattle.potentials.specs.Sums.{bound_at}
 use Rattle.propagation.specs.Found.{cost_at}
 use Rattle.propagation.specs.Inside.Invariants.{Task, Progress}
 use Rattle.propagation.specs.Inside.Pairs.{AreBorders}
-use Rattle.propagation.specs.declared.drives.OutgoingArc.{OutgoingArc}
+use Rattle.propagation.specs.declared.ways.OutgoingArc.{OutgoingArc}
 use Rattle.propagation.specs.declared.task.Task.{Task as TaskHeld}
 use Rattle.propagation.specs.declared.progress.Progress.{Progress as ProgressHeld}
 
@@ -41,12 +43,31 @@ pub record IsGoodTask (task : TaskHeld) : Type 0 where
   pub bound : AreBounds (setting_of task.net.now) task.request.goal.0 (bound_at task.bounds.now)
   pub outgoing : AreOutgoing task.net.now task.outgoing.now
 
--- the arc is one of the net, it leaves node v, and its head has this bound
+-- the arc is one of the net, it leaves node v, and its head has this bound and this park or none
 pub record IsOutgoingArc (task : TaskHeld) (v : ℕ) (way : OutgoingArc) : Type 0 where
   pub is : at_number task.net.now.arcs way.id.0 ≡ Some way.arc
   pub good : IsGoodArc task.net.now way.arc
   pub begins : way.arc.tail.0 ≡ v
   pub bound : bound_at task.bounds.now way.arc.head.0 ≡ Some way.bound
+  pub park : park_at task.net.now way.arc.head.0 ≡ way.park
+  pub good_park : IfSome way.park (IsGoodPark task.net.now)
+
+-- the arc is at some place of the list
+abbrev pub HasArc : List OutgoingArc → ℕ → Type 0
+HasArc ways a = (k : ℕ) × (way : OutgoingArc) × (slice_get ways k ≡ Some way) × (way.id.0 ≡ a)
+
+-- the arc is in the list, or its head has no bound
+abbrev pub IsArcRead : TaskHeld → List OutgoingArc → ℕ → Type 0
+IsArcRead task ways a = HasArc ways a ⊎ ((arc : TimedArc) → at_number task.net.now.arcs a ≡ Some arc → bound_at task.bounds.now arc.head.0 ≡ None)
+
+-- each arc that leaves node v is in the list, or its head has no bound
+abbrev pub HasEachArc : TaskHeld → ℕ → List OutgoingArc → Type 0
+HasEachArc task v ways = (a : ℕ) → EndsAt task.net.now Tail v a → IsArcRead task ways a
+
+-- the arc is added to those of the list, or its head has no bound
+pub record IsArcAdded (task : TaskHeld) (a : ℕ) (old new : List OutgoingArc) : Type 0 where
+  pub here : IsArcRead task new a
+  pub kept : (b : ℕ) → HasArc old b → HasArc new b
 
 -- a place for each node, a key for each node with pending minutes but the one at work, and the borders of the pairs
 pub record IsShaped (nodes at_work : ℕ) (progress : ProgressHeld) : Type 0 where

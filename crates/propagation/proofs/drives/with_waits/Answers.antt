@@ -1,4 +1,4 @@
-use Rattle.std.proofs.Common.{◌≡◌, ◌-◌, ℕ, Option, Some, None, sym, ◌∙◌, ap, subst, arith}
+use Rattle.std.proofs.Common.{◌≡◌, ◌-◌, ℕ, Option, Some, None, ◌∙◌, ap, subst, arith}
 use Rattle.std.specs.Option.{option_map}
 use Rattle.route_base.specs.Net.{setting_of}
 use Rattle.route_base.specs.declared.types.Park.{Park}
@@ -11,7 +11,7 @@ use Rattle.propagation.proofs.drives.with_waits.Goals as goal
 pub returns-in_default-clause-offer : goal.returns-in_default-clause-offer
 returns-in_default-clause-offer c =
     let unrated : ◌≡◌ {A = Option ℕ} ((setting_of c.args.task.net.now).weight c.args.h.0) None =
-    ap (option_map (λ (park : Park). park.weight)) (sym c.park.ensures.value ∙ c.in_default.is) in
+    ap (option_map (λ (park : Park). park.weight)) (c.requires.park ∙ c.in_default.is) in
     let first = c.requires.clear.cleared in
     offer_unrated (task_of c.args.task) (progress_of c.args.progress.now) c.args.h.0 c.requires.clear.costs
     (value_at c.args.clear) unrated c.requires.clear.source first
@@ -28,7 +28,7 @@ waited-requires-clause-reached c t x there =
 pub returns-clause-offer : goal.returns-clause-offer
 returns-clause-offer c =
     let rated : ◌≡◌ {A = Option ℕ} ((setting_of c.args.task.net.now).weight c.args.h.0) (Some c.in-Some.park.weight) =
-    ap (option_map (λ (park : Park). park.weight)) (sym c.park.ensures.value ∙ c.in-Some.is) in
+    ap (option_map (λ (park : Park). park.weight)) (c.requires.park ∙ c.in-Some.is) in
     let last : c.saturating_sub-last.result ≡ c.args.task.request.until - c.args.bound.minutes = omega (arith, c.saturating_sub-last.ensures) in
     let first = c.requires.clear.cleared in
     let waited = subst (λ n. IsWaited (value_at c.args.clear) (value_at c.in_ok-with_waits.with_waits)

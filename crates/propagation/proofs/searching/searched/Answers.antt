@@ -15,3 +15,6 @@ turn-requires-clause-shape c = shaped_taken c.args.task.net.now.nodes c.in-Some.
 
 pub returns-clause-done : goal.returns-clause-done
 returns-clause-done c = idle_at_end c.args.task.net.now.nodes c.turns.progress c.turns.invariant.shape (c.in_default.ensures.none refl)
+
+pub turn-requires-clause-some : goal.turn-requires-clause-some
+turn-requires-clause-some c = c.turns.invariant.shape.waiting c.in-Some.least.0.0 c.in-Some.least.1 c.in-Some.ensures.some.was
