@@ -45,10 +45,10 @@ few_by zero f le = omega arith
 few_by (suc n) f le = omega (arith, few_by n f le, le n)
 
 -- the goal alone is known, and waits
-pub begins : (roads : ℕ → Option Road) (count : Road → ℕ) (goal nodes most : ℕ) (known keys : ℕ → Option ℕ) → known goal ≡ Some 0
+pub begins : (roads : ℕ → Option Road) (count : Road → ℕ) (goal nodes most cap : ℕ) (known keys : ℕ → Option ℕ) → known goal ≡ Some 0
     → ((v : ℕ) → (v ≡ goal → ⊥) → known v ≡ None) → keys goal ≡ Some 0 → ((v : ℕ) → (v ≡ goal → ⊥) → keys v ≡ None)
-    → IsSumming roads count goal nodes most 0 known keys
-begins roads count goal nodes most known keys here others key no_keys = record {
+    → IsSumming roads count goal nodes most cap 0 known keys
+begins roads count goal nodes most cap known keys here others key no_keys = record {
   at_goal = record { least = 0; is = here; within = omega arith };
   sound = λ v x is. let o = only known here others v x is in ([], (o.0, o.1));
   waits = λ v x is. let o = only keys key no_keys v x is in ap known o.0 ∙ (here ∙ ap (λ n. Some n) (sym o.1));
@@ -72,11 +72,11 @@ begins roads count goal nodes most known keys here others key no_keys = record {
     few n = few_by n (λ v. unsettled (known v) (keys v)) (λ v. one (known v) (keys v))
 
 -- the least node is taken out to work
-pub goes_to_work : (net : Net) (counted : Counted) (goal v x : ℕ) (known old_keys new_keys : List (Option ℕ)) → IsGoodNet net → length old_keys ≡ net.nodes
-    → IsSummed net counted goal 0 known old_keys → IsLeastTaken old_keys new_keys v x
-    → IsSummed net counted goal v known new_keys × WorksAt net v x known new_keys × (unsettled_at net known new_keys + 1 ≤ unsettled_at net known old_keys)
-goes_to_work net counted goal v x known old_keys new_keys good room facts taken =
-    takes_least (setting_of net).road (counted_on counted) goal net.nodes HIGHEST_COST v x (key_at known) (key_at old_keys) (key_at new_keys) (no_zero net good)
-    (omega (arith, taken.node, room)) facts taken.was
+pub goes_to_work : (net : Net) (counted : Counted) (goal cap v x : ℕ) (known old_keys new_keys : List (Option ℕ)) → IsGoodNet net → length old_keys ≡ net.nodes
+    → IsSummed net counted goal cap 0 known old_keys → IsLeastTaken old_keys new_keys v x
+    → IsSummed net counted goal cap v known new_keys × WorksAt net v x known new_keys × (unsettled_at net known new_keys + 1 ≤ unsettled_at net known old_keys)
+goes_to_work net counted goal cap v x known old_keys new_keys good room facts taken =
+    takes_least (setting_of net).road (counted_on counted) goal net.nodes HIGHEST_COST cap v x (key_at known) (key_at old_keys) (key_at new_keys)
+    (no_zero net good) (omega (arith, taken.node, room)) facts taken.was
     (λ w key is. ⊎_elim (λ (less : x < key). omega (arith, less)) (λ (same : (x ≡ key) × (v ≤ w)). omega (arith, same.0)) (taken.least w key is))
     taken.now.here taken.now.others

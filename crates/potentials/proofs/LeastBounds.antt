@@ -1,9 +1,9 @@
 -- Least sums as bounds.
 use Rattle.std.specs.Option.{option_flatten}
-use Rattle.std.proofs.Common.{◌≡◌, ⊎_elim, ℕ, suc, ◌+◌, ◌-◌, ◌≤◌, ◌<◌, Option, Some, None, List, [], ◌∷◌, ◌++◌, length, refl, sym, ◌∙◌, ap, subst, arith}
+use Rattle.std.proofs.Common.{◌≡◌, ⊎_elim, ℕ, suc, ◌+◌, ◌-◌, ◌^◌, ◌≤◌, ◌<◌, Option, Some, None, List, [], ◌∷◌, ◌++◌, length, refl, sym, ◌∙◌, ap, subst, arith}
 use Rattle.std.specs.Prelude.{slice_get}
 use Rattle.std.proofs.lemmas.Bool.{cases_lt}
-use Rattle.route_base.specs.Net.{at_number}
+use Rattle.route_base.specs.Net.{Net, IsGoodNet, at_number, setting_of}
 use Rattle.label_queue.specs.Keys.{key_at}
 use Rattle.label_queue.proofs.Places.{key_past, key_zero}
 use Rattle.std.specs.Option.{option_map}
@@ -12,8 +12,10 @@ use Rattle.route_base.specs.Relaxing.{AreBounds, IsBoundThrough}
 use Rattle.route_base.specs.declared.types.Bound.{Bound}
 use Rattle.route_base.proofs.Numbered.{number_past}
 use Rattle.route_base.proofs.Items.{slice_get-append_left, slice_get-push_end}
-use Rattle.potentials.specs.Sums.{Leads, IsLeastSum, AreLeastBounds, bound_at}
-use Rattle.potentials.specs.Inside.Summing.{bound_of_sums}
+use Rattle.potentials.specs.Sums.{Leads, IsLeastSum, AreLeastBounds, AreBoundsTo, bound_at}
+use Rattle.potentials.specs.Inside.Summing.{IsPastAt, IsSumBelow, AreSumsBelow, AreBoundsIn, bound_of_sums, counted_on}
+use Rattle.potentials.specs.declared.sums.Counted.{Counted}
+use Rattle.potentials.specs.declared.sums.Counted.TheVariants.{Minutes, Cost}
 
 -- the same arcs, with another count
 pub counted_too : (roads : ℕ → Option Road) (one two : Road → ℕ) (goal : ℕ) (arcs : List ℕ) (v sum : ℕ) → Leads roads one goal arcs v sum → (other : ℕ)
@@ -31,14 +33,14 @@ both_least roads one two goal v (Some x) None p q =
     ((λ arcs sum leads. let other = counted_too roads one two goal arcs v sum leads in q arcs other.0 other.1), q)
 both_least roads one two goal v (Some x) (Some y) p q = (p, q)
 
+pub no_bound : (b : Bound) → b.minutes ≡ 0 → b.cost ≡ 0 → Some b ≡ Some (record { minutes = 0; cost = 0 })
+no_bound b m c = ap (λ (n : ℕ). Some (record { minutes = n; cost = b.cost })) m ∙ ap (λ (n : ℕ). Some (record { minutes = 0; cost = n })) c
+
 module _ (s : Setting) (goal : ℕ) (bounds : ℕ → Option Bound) (least : AreLeastBounds s goal bounds) where
   at_goal : (o : Option Bound) → IsLeastSum s.road (λ r. r.minutes) goal goal (option_map (λ b. b.minutes) o)
       → IsLeastSum s.road (λ r. r.cost) goal goal (option_map (λ b. b.cost) o) → o ≡ Some (record { minutes = 0; cost = 0 })
   at_goal None p q = absurd (p [] 0 (refl, refl))
-  at_goal (Some b) p q = same b (omega (arith, p.1 [] 0 (refl, refl))) (omega (arith, q.1 [] 0 (refl, refl)))
-    where
-      same : (w : Bound) → w.minutes ≡ 0 → w.cost ≡ 0 → Some w ≡ Some (record { minutes = 0; cost = 0 })
-      same w m c = ap (λ (n : ℕ). Some (record { minutes = n; cost = w.cost })) m ∙ ap (λ (n : ℕ). Some (record { minutes = 0; cost = n })) c
+  at_goal (Some b) p q = no_bound b (omega (arith, p.1 [] 0 (refl, refl))) (omega (arith, q.1 [] 0 (refl, refl)))
 
   through : (a : ℕ) (road : Road) (h : Bound) → s.road a ≡ Some road → (o o' : Option Bound) → o ≡ Some h
       → IsLeastSum s.road (λ r. r.minutes) goal road.head (option_map (λ b. b.minutes) o)
@@ -63,7 +65,7 @@ module _ (s : Setting) (goal : ℕ) (bounds : ℕ → Option Bound) (least : Are
       )
 
   -- least bounds are bounds
-  pub bounds_hold : AreBounds s goal bounds
+  bounds_hold : AreBounds s goal bounds
   bounds_hold = record {
     goal = at_goal (bounds goal) (least goal).0 (least goal).1;
     each = λ a road h is there. through a road h is (bounds road.head) (bounds road.tail) there (least road.head) (least road.tail);
@@ -83,7 +85,7 @@ bound_pushed bounds b place f long each new k below = ⊎_elim
     ∙ (ap (slice_get (bounds ++ b ∷ [])) same ∙ slice_get-push_end bounds b)) ∙ (new ∙ ap f (omega (arith, same, long))))
     (cases_lt k place)
 
-pub bound_all : (bounds : List (Option Bound)) (minutes costs : List (Option ℕ)) (n : ℕ) → length bounds ≡ n → length minutes ≡ n
+bound_all : (bounds : List (Option Bound)) (minutes costs : List (Option ℕ)) (n : ℕ) → length bounds ≡ n → length minutes ≡ n
     → ((k : ℕ) → k < n → bound_at bounds (k + 1) ≡ bound_of_sums (key_at minutes (k + 1)) (key_at costs (k + 1))) → (v : ℕ)
     → bound_at bounds v ≡ bound_of_sums (key_at minutes v) (key_at costs v)
 bound_all bounds minutes costs n long long' each v = ⊎_elim
@@ -98,7 +100,7 @@ bound_all bounds minutes costs n long long' each v = ⊎_elim
     (sym (ap (λ o. bound_of_sums o (key_at costs 0)) (key_zero minutes))))
     (cases_lt 0 v)
 
-pub least_all : (s : Setting) (goal : ℕ) (bounds : List (Option Bound)) (minutes costs : List (Option ℕ))
+least_all : (s : Setting) (goal : ℕ) (bounds : List (Option Bound)) (minutes costs : List (Option ℕ))
     → ((v : ℕ) → bound_at bounds v ≡ bound_of_sums (key_at minutes v) (key_at costs v))
     → ((v : ℕ) → IsLeastSum s.road (λ r. r.minutes) goal v (key_at minutes v)) → ((v : ℕ) → IsLeastSum s.road (λ r. r.cost) goal v (key_at costs v))
     → AreLeastBounds s goal (bound_at bounds)
@@ -106,3 +108,28 @@ least_all s goal bounds minutes costs all p q v =
     subst (λ o. IsLeastSum s.road (λ r. r.minutes) goal v (option_map (λ b. b.minutes) o)
     × IsLeastSum s.road (λ r. r.cost) goal v (option_map (λ b. b.cost) o)) (sym (all v))
     (both_least s.road (λ r. r.minutes) (λ r. r.cost) goal v (key_at minutes v) (key_at costs v) (p v) (q v))
+
+-- sums that a search finds are the least where it has no end
+least_of : (roads : ℕ → Option Road) (count : Road → ℕ) (goal : ℕ) (past : ℕ → Type 0) (v : ℕ) (o : Option ℕ) → ((sum : ℕ) → past sum → ⊥)
+    → IsSumBelow roads count goal past v o → IsLeastSum roads count goal v o
+least_of roads count goal past v None never below = λ arcs sum leads. never sum (below arcs sum leads)
+least_of roads count goal past v (Some x) never below = (
+  below.0,
+  λ arcs sum leads. ⊎_elim (λ (le : x ≤ sum). le) (λ (end : past sum). absurd (never sum end)) (below.1 arcs sum leads),
+)
+
+-- they go on below any cap that no sum of a net reaches
+least_over : (net : Net) (counted : Counted) (goal : ℕ) (sums : List (Option ℕ)) → IsGoodNet net → AreSumsBelow net counted goal (2 ^ 64 - 1) sums → (v : ℕ)
+    → IsLeastSum (setting_of net).road (counted_on counted) goal v (key_at sums v)
+least_over net counted goal sums good below v =
+    least_of (setting_of net).road (counted_on counted) goal (IsPastAt net (2 ^ 64 - 1)) v (key_at sums v)
+    (λ sum end. omega (arith, end.added, good.nodes)) (below v)
+
+pub least_bounds : (net : Net) → IsGoodNet net → (goal : ℕ) (minutes costs : List (Option ℕ)) → length minutes ≡ net.nodes → length costs ≡ net.nodes
+    → AreSumsBelow net Minutes goal (2 ^ 64 - 1) minutes → AreSumsBelow net Cost goal (2 ^ 64 - 1) costs → (list : List (Option Bound))
+    → AreBoundsIn None minutes costs list → AreBoundsTo net goal list
+least_bounds net good goal minutes costs long long' m c list made =
+    let s = setting_of net in
+    let each = bound_all list minutes costs (length costs) made.nodes (long ∙ sym long') made.each in
+    let least = least_all s goal list minutes costs each (least_over net Minutes goal minutes good m) (least_over net Cost goal costs good c) in
+    record { least = least; bounds = bounds_hold s goal (bound_at list) least; nodes = made.nodes ∙ long' }

@@ -3,11 +3,14 @@ use Rattle.std.proofs.Common.{◌≡◌, ◌⊎◌, inl, inr, ⊎_elim, ℕ, suc
 use Rattle.std.proofs.lemmas.Bool.{cases_eq, cases_lt}
 use Rattle.std.proofs.Math.Nat.{mul-le-mul_left}
 use Rattle.route_base.specs.Setting.{Road}
-use Rattle.potentials.specs.Sums.{Leads, IsLeastSum}
-use Rattle.potentials.specs.Inside.Summing.{HasSum, unsettled, unsettled_count, IsSumming, IsAtWork, GetsSum}
+use Rattle.potentials.specs.Sums.{Leads}
+use Rattle.potentials.specs.Inside.Summing.{HasSum, IsPast, unsettled, unsettled_count, IsSumming, IsAtWork, GetsSum, IsSumBelow}
 use Rattle.potentials.proofs.Totals.{total_le, total_one}
 
-module _ (roads : ℕ → Option Road) (count : Road → ℕ) (goal nodes most : ℕ) where
+module _ (roads : ℕ → Option Road) (count : Road → ℕ) (goal nodes most cap : ℕ) where
+  abbrev past : ℕ → Type 0
+  past = IsPast cap (most * suc nodes)
+
   pub sum_kept : (u sum : ℕ) (old new old_keys new_keys : ℕ → Option ℕ) (v x : ℕ) → GetsSum u sum old new old_keys new_keys → HasSum old v x → HasSum new v x
   sum_kept u sum old new old_keys new_keys v x reached h = ⊎_elim
       (λ (here : v ≡ u). ⊎_elim
@@ -77,11 +80,11 @@ module _ (roads : ℕ → Option Road) (count : Road → ℕ) (goal nodes most :
   less_left : (a b : ℕ) → a ≤ b → most * a ≤ most * b
   less_left a b le = mul-le-mul_left most le
 
-  pub reach_keeps : (v x a u : ℕ) (road : Road) (old new old_keys new_keys : ℕ → Option ℕ) → IsSumming roads count goal nodes most v old old_keys
+  pub reach_keeps : (v x a u : ℕ) (road : Road) (old new old_keys new_keys : ℕ → Option ℕ) → IsSumming roads count goal nodes most cap v old old_keys
       → IsAtWork nodes most v x old old_keys
       → roads a ≡ Some road → road.head ≡ v → road.tail ≡ u → count road ≤ most
       → GetsSum u (count road + x) old new old_keys new_keys
-      → IsSumming roads count goal nodes most v new new_keys × IsAtWork nodes most v x new new_keys × HasSum new u (count road + x)
+      → IsSumming roads count goal nodes most cap v new new_keys × IsAtWork nodes most v x new new_keys × HasSum new u (count road + x)
       × (unsettled_count nodes new new_keys ≤ unsettled_count nodes old old_keys)
   reach_keeps v x a u road old new old_keys new_keys facts work is head tail cheap reached = (
     record {
@@ -112,9 +115,12 @@ module _ (roads : ℕ → Option Road) (count : Road → ℕ) (goal nodes most :
       relaxed = λ b y other there known. ⊎_elim
           (λ (was : old other.head ≡ Some y). ⊎_elim
           (λ (waiting : (key : ℕ) × (old_keys other.head ≡ Some key)). inl (still other.head waiting.0 waiting.1))
-          (λ (rest : (other.head ≡ v) ⊎ HasSum old other.tail (count other + y)). inr (⊎_elim
+          (λ (rest : (other.head ≡ v) ⊎ (HasSum old other.tail (count other + y) ⊎ past (count other + y))). inr (⊎_elim
           (λ (here : other.head ≡ v). inl here)
-          (λ (h : HasSum old other.tail (count other + y)). inr (kept other.tail (count other + y) h))
+          (λ (h : HasSum old other.tail (count other + y) ⊎ past (count other + y)). inr (⊎_elim
+          (λ (sum : HasSum old other.tail (count other + y)). inl (kept other.tail (count other + y) sum))
+          (λ (end : past (count other + y)). inr end)
+          h))
           rest))
           (facts.relaxed b y other there was))
           (λ (low : (other.head ≡ u) × (y ≡ (count road + x)) × (new_keys other.head ≡ Some y)). inl (y, low.2))
@@ -202,9 +208,9 @@ module _ (roads : ℕ → Option Road) (count : Road → ℕ) (goal nodes most :
 
   -- the node with the least key goes to work
   pub takes_least : (v x : ℕ) (known old_keys new_keys : ℕ → Option ℕ) → ((a : ℕ) (road : Road) → roads a ≡ Some road → road.head ≡ 0 → ⊥) → v ≤ nodes
-      → IsSumming roads count goal nodes most 0 known old_keys → old_keys v ≡ Some x → ((w key : ℕ) → old_keys w ≡ Some key → x ≤ key) → new_keys v ≡ None
+      → IsSumming roads count goal nodes most cap 0 known old_keys → old_keys v ≡ Some x → ((w key : ℕ) → old_keys w ≡ Some key → x ≤ key) → new_keys v ≡ None
       → ((w : ℕ) → (w ≡ v → ⊥) → new_keys w ≡ old_keys w)
-      → IsSumming roads count goal nodes most v known new_keys × IsAtWork nodes most v x known new_keys
+      → IsSumming roads count goal nodes most cap v known new_keys × IsAtWork nodes most v x known new_keys
       × (unsettled_count nodes known new_keys + 1 ≤ unsettled_count nodes known old_keys)
   takes_least v x known old_keys new_keys heads within facts key least gone others = (
     record {
@@ -220,9 +226,9 @@ module _ (roads : ℕ → Option Road) (count : Road → ℕ) (goal nodes most :
           (λ (here : road.head ≡ v). inr (inl here))
           (λ (other : road.head ≡ v → ⊥). ⊎_elim
           (λ (waiting : (k : ℕ) × (old_keys road.head ≡ Some k)). inl (waiting.0, others road.head other ∙ waiting.1))
-          (λ (rest : (road.head ≡ 0) ⊎ HasSum known road.tail (count road + y)). ⊎_elim
+          (λ (rest : (road.head ≡ 0) ⊎ (HasSum known road.tail (count road + y) ⊎ past (count road + y))). ⊎_elim
           (λ (none : road.head ≡ 0). absurd (heads a road is none))
-          (λ (h : HasSum known road.tail (count road + y)). inr (inr h))
+          (λ (h : HasSum known road.tail (count road + y) ⊎ past (count road + y)). inr (inr h))
           rest)
           (facts.relaxed a y road is known_y))
           (cases_eq road.head v);
@@ -274,9 +280,9 @@ module _ (roads : ℕ → Option Road) (count : Road → ℕ) (goal nodes most :
           (omega (arith, within)) (omega (arith, waited, done))
 
   -- the node at work is settled, once each arc that ends there is relaxed
-  pub settles : (v x : ℕ) (known keys : ℕ → Option ℕ) → IsSumming roads count goal nodes most v known keys → IsAtWork nodes most v x known keys
-      → ((a : ℕ) (road : Road) → roads a ≡ Some road → road.head ≡ v → HasSum known road.tail (count road + x))
-      → IsSumming roads count goal nodes most 0 known keys
+  pub settles : (v x : ℕ) (known keys : ℕ → Option ℕ) → IsSumming roads count goal nodes most cap v known keys → IsAtWork nodes most v x known keys
+      → ((a : ℕ) (road : Road) → roads a ≡ Some road → road.head ≡ v → HasSum known road.tail (count road + x) ⊎ past (count road + x))
+      → IsSumming roads count goal nodes most cap 0 known keys
   settles v x known keys facts work all = record {
     at_goal = facts.at_goal;
     sound = facts.sound;
@@ -284,39 +290,51 @@ module _ (roads : ℕ → Option Road) (count : Road → ℕ) (goal nodes most :
     before = facts.before;
     relaxed = λ a y road is known_y. ⊎_elim
         (λ (waiting : (k : ℕ) × (keys road.head ≡ Some k)). inl waiting)
-        (λ (rest : (road.head ≡ v) ⊎ HasSum known road.tail (count road + y)). inr (inr (⊎_elim
+        (λ (rest : (road.head ≡ v) ⊎ (HasSum known road.tail (count road + y) ⊎ past (count road + y))). inr (inr (⊎_elim
         (λ (here : road.head ≡ v). let e : Some y ≡ Some x = sym known_y
-        ∙ (ap known here ∙ work.sum) in let f : y ≡ x = cc in subst (λ n. HasSum known road.tail (count road + n)) (sym f) (all a road is here))
-        (λ (h : HasSum known road.tail (count road + y)). h)
+        ∙ (ap known here ∙ work.sum) in let f : y ≡ x = cc in
+        subst (λ n. HasSum known road.tail (count road + n) ⊎ past (count road + n)) (sym f) (all a road is here))
+        (λ (h : HasSum known road.tail (count road + y) ⊎ past (count road + y)). h)
         rest)))
         (facts.relaxed a y road is known_y);
     small = facts.small;
   }
 
-  -- where nothing waits, the sums are the least
+  -- where nothing waits, the sums are the least, up to the cap
   module _ (known keys : ℕ → Option ℕ) (heads : (a : ℕ) (road : Road) → roads a ≡ Some road → road.head ≡ 0 → ⊥)
-      (facts : IsSumming roads count goal nodes most 0 known keys) (none : (v : ℕ) → keys v ≡ None) where
-    covers : (arcs : List ℕ) (v sum : ℕ) → Leads roads count goal arcs v sum → HasSum known v sum
-    covers [] v sum leads = record { least = facts.at_goal.least; is = ap known leads.0 ∙ facts.at_goal.is; within = omega (arith, facts.at_goal.within) }
+      (facts : IsSumming roads count goal nodes most cap 0 known keys) (none : (v : ℕ) → keys v ≡ None) where
+    covers : (arcs : List ℕ) (v sum : ℕ) → Leads roads count goal arcs v sum → HasSum known v sum ⊎ past sum
+    covers [] v sum leads =
+        inl (record { least = facts.at_goal.least; is = ap known leads.0 ∙ facts.at_goal.is; within = omega (arith, facts.at_goal.within) })
     covers (a ∷ arcs) v sum leads =
         let road = leads.0 in
-        let h = covers arcs road.head leads.1 leads.4 in
         ⊎_elim
+        (λ (h : HasSum known road.head leads.1). ⊎_elim
         (λ (waiting : (k : ℕ) × (keys road.head ≡ Some k)). let bad : None ≡ Some waiting.0 = sym (none road.head) ∙ waiting.1 in cc)
-        (λ (rest : (road.head ≡ 0) ⊎ HasSum known road.tail (count road + h.least)). ⊎_elim
+        (λ (rest : (road.head ≡ 0) ⊎ (HasSum known road.tail (count road + h.least) ⊎ past (count road + h.least))). ⊎_elim
         (λ (zero_head : road.head ≡ 0). absurd (heads a road leads.2 zero_head))
+        (λ (relaxed : HasSum known road.tail (count road + h.least) ⊎ past (count road + h.least)). ⊎_elim
         (λ (s : HasSum known road.tail (count road + h.least)).
-        record { least = s.least; is = ap known (sym leads.3) ∙ s.is; within = omega (arith, s.within, h.within, leads.5) })
+        inl (record { least = s.least; is = ap known (sym leads.3) ∙ s.is; within = omega (arith, s.within, h.within, leads.5) }))
+        (λ (end : past (count road + h.least)). inr (record { within = omega (arith, end.within, h.within, leads.5); added = end.added }))
+        relaxed)
         rest)
-        (facts.relaxed a h.least road leads.2 h.is)
+        (facts.relaxed a h.least road leads.2 h.is))
+        (λ (end : past leads.1). inr (record { within = omega (arith, end.within, leads.5); added = end.added }))
+        (covers arcs road.head leads.1 leads.4)
 
-    pub least_sums : (v : ℕ) → IsLeastSum roads count goal v (known v)
-    least_sums v = by (known v) refl
+    pub sums_below : (v : ℕ) → IsSumBelow roads count goal past v (known v)
+    sums_below v = by (known v) refl
       where
-        by : (o : Option ℕ) → known v ≡ o → IsLeastSum roads count goal v o
-        by None is = λ arcs sum leads. let h = covers arcs v sum leads in let bad : None ≡ Some h.least = sym is ∙ h.is in cc
+        by : (o : Option ℕ) → known v ≡ o → IsSumBelow roads count goal past v o
+        by None is = λ arcs sum leads. ⊎_elim
+            (λ (h : HasSum known v sum). let bad : None ≡ Some h.least = sym is ∙ h.is in cc)
+            (λ (end : past sum). end)
+            (covers arcs v sum leads)
         by (Some x) is = (
           facts.sound v x is,
-          λ arcs sum leads. let h = covers arcs v sum leads in let e : Some x ≡ Some h.least = sym is
-              ∙ h.is in let f : x ≡ h.least = cc in omega (arith, f, h.within),
+          λ arcs sum leads. ⊎_elim
+              (λ (h : HasSum known v sum). let e : Some x ≡ Some h.least = sym is ∙ h.is in let f : x ≡ h.least = cc in inl (omega (arith, f, h.within)))
+              (λ (end : past sum). inr end)
+              (covers arcs v sum leads),
         )

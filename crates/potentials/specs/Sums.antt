@@ -1,5 +1,5 @@
 -- Least sums over walks of arcs to a goal (source: Dijkstra 1959; bounds of two criteria: SEA 2020).
-use Rattle.std.specs.Prelude.{◌≡◌, ℕ, ◌+◌, ◌≤◌, Option, Some, None, List, [], ◌∷◌, length}
+use Rattle.std.specs.Prelude.{◌≡◌, ◌⊎◌, ℕ, ◌+◌, ◌≤◌, Option, Some, None, List, [], ◌∷◌, length}
 use Rattle.std.specs.Option.{option_map, option_flatten}
 use Rattle.route_base.specs.Setting.{Setting, Road}
 use Rattle.route_base.specs.Net.{Net, at_number, setting_of}
@@ -27,5 +27,24 @@ bound_at bounds v = option_flatten (at_number bounds v)
 -- for each node of the net its least bounds to the goal, which hold along each arc
 pub record AreBoundsTo (net : Net) (goal : ℕ) (list : List (Option Bound)) : Type 0 where
   pub least : AreLeastBounds (setting_of net) goal (bound_at list)
+  pub bounds : AreBounds (setting_of net) goal (bound_at list)
+  pub nodes : length list ≡ net.nodes
+
+-- the lesser of a cap and the least sum
+pub record IsCappedSum (roads : ℕ → Option Road) (count : Road → ℕ) (goal v most x : ℕ) : Type 0 where
+  pub within : x ≤ most
+  pub least : (arcs : List ℕ) (sum : ℕ) → Leads roads count goal arcs v sum → x ≤ sum
+  pub is : (x ≡ most) ⊎ ((arcs : List ℕ) × Leads roads count goal arcs v x)
+
+-- the node has a bound: its minutes and its cost, each capped by itself
+pub record HasCappedBound (s : Setting) (goal : ℕ) (most : Bound) (bounds : ℕ → Option Bound) (v : ℕ) : Type 0 where
+  pub bound : Bound
+  pub is : bounds v ≡ Some bound
+  pub minutes : IsCappedSum s.road (λ r. r.minutes) goal v most.minutes bound.minutes
+  pub cost : IsCappedSum s.road (λ r. r.cost) goal v most.cost bound.cost
+
+-- for each node of the net its capped bounds to the goal, which hold along each arc
+pub record AreCappedBoundsTo (net : Net) (goal : ℕ) (most : Bound) (list : List (Option Bound)) : Type 0 where
+  pub each : (v : ℕ) → 1 ≤ v → v ≤ net.nodes → HasCappedBound (setting_of net) goal most (bound_at list) v
   pub bounds : AreBounds (setting_of net) goal (bound_at list)
   pub nodes : length list ≡ net.nodes

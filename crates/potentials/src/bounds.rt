@@ -2,15 +2,22 @@
 ghost use Rattle.std.specs.Prelude.{◌≡◌, ◌≤◌, ◌<◌, length, IfOk, OnOk};
 ghost use Rattle.route_base.specs.Net.{IsGoodNet};
 ghost use Rattle.node_arcs.specs.Stars.{AreIncoming};
-ghost use Rattle.potentials.specs.Sums.{AreBoundsTo};
-ghost use Rattle.potentials.specs.Inside.Summing.{AreLeastSums, bound_of_sums};
+ghost use Rattle.potentials.specs.Sums.{AreBoundsTo, AreCappedBoundsTo};
+ghost use Rattle.potentials.specs.Inside.Summing.{AreSumsBelow, AreBoundsIn, bound_in, bound_of_sums, capped_at};
 ghost use Rattle.potentials.specs.declared.sums.Counted.TheVariants.{Minutes, Cost};
 
-use crate::proportion::{has_proportional_costs, minutes_of};
-use crate::sums::{Counted, least_sums};
+use crate::proportion::{cost_of, has_proportional_costs, minutes_of};
+use crate::sums::{Counted, sums_below};
 use node_arcs::NodeArcs;
 use route_base::{Bound, Bounds, NodeId, OutOfMemory, TimedNet};
 use std::alloc::Global;
+
+// The least minutes and the least costs that are found below caps, one place for each node from 1 on.
+#[derive(Drop)]
+struct Sums {
+    minutes: Vec<Option<u64>>,
+    costs: Vec<Option<u64>>,
+}
 
 /// For each node the least sum of minutes and, by itself, the least sum of costs over walks of arcs to the goal; `None` exactly
 /// where there is no walk. Takes (n + m) log n steps for n nodes and m arcs, and memory linear in both. One search finds both sums
@@ -38,37 +45,111 @@ pub fn to_goal_over(
     ensures bounds { IfOk result (AreBoundsTo net.now goal.0) }
     ensures good { OnOk result (IsGoodNet net.now) }
 {
-    let costs = least_sums(alloc, net, incoming, Counted::Cost, goal)?;
-    let minutes = least_minutes(alloc, net, incoming, goal, costs.as_slice())?;
-    let mut bounds = Bounds::new(alloc);
-    for place in 0..net.node_count() as usize {
-        bounds.push(both(minutes[place], costs[place]))?;
-    }
-    Ok(bounds)
+    let uncapped = Bound {
+        minutes: u64::MAX,
+        cost: u64::MAX,
+    };
+    let sums = sums_to(alloc, net, incoming, goal, uncapped)?;
+    bounds_of(alloc, &sums, None)
 }
 
-// The least minutes to the goal, given the least costs: those of the costs where these are in proportion to minutes; otherwise by a
-// search of their own.
-fn least_minutes(
+/// For each node the least sum of minutes and, by itself, the least sum of costs over walks of arcs to the goal, each at most that of
+/// `most`; a node without a walk has `most`. The search ends at the cap: for k nodes whose sums are below it, at which j arcs end, it
+/// takes (k + j) log k steps. Beside that each node and each arc of the net takes one step; memory is linear in nodes. Where costs are
+/// in proportion to minutes, one search goes on to the greater of both caps, with `COST_OF_MINUTE` for a minute; otherwise there are
+/// two, each up to its own.
+pub fn to_goal_within(
     alloc: Global,
     net: &TimedNet,
     incoming: &NodeArcs,
     goal: NodeId,
-    costs: &[Option<u64>],
-) -> Result<Vec<Option<u64>>, OutOfMemory>
+    most: Bound,
+) -> Result<Bounds, OutOfMemory>
     requires incoming { AreIncoming net.now incoming.now }
     requires low { 1 ≤ goal.0 }
     requires high { goal.0 ≤ net.now.nodes }
-    requires nodes { length costs.now ≡ net.now.nodes }
-    requires least { AreLeastSums net.now Cost goal.0 costs.now }
-    ensures nodes { IfOk result (λ sums. length sums.items ≡ net.now.nodes) }
-    ensures least { IfOk result (λ sums. AreLeastSums net.now Minutes goal.0 sums.items) }
+    ensures bounds { IfOk result (AreCappedBoundsTo net.now goal.0 most) }
+    ensures good { OnOk result (IsGoodNet net.now) }
+{
+    let sums = sums_to(alloc, net, incoming, goal, most)?;
+    bounds_of(alloc, &sums, Some(most))
+}
+
+/// The cap for trips of at most these minutes: they, and their cost where every arc costs `COST_OF_MINUTE` for each of its minutes, or
+/// twice that otherwise. The cost is no matter of correctness, since capped bounds hold along each arc whatever the cap is: under a
+/// lower one a search leaves out less, and under a higher one the bounds take longer.
+pub fn cap_for_minutes(net: &TimedNet, minutes: u64) -> Bound
+    ensures { result.minutes ≡ minutes }
+{
+    let cost = cost_of(minutes);
+    let cost = if has_proportional_costs(net) {
+        cost
+    } else {
+        cost.saturating_mul(2)
+    };
+    Bound { minutes, cost }
+}
+
+// The least sums to the goal that are below the caps: by one search where costs are in proportion to minutes, otherwise by two.
+fn sums_to(
+    alloc: Global,
+    net: &TimedNet,
+    incoming: &NodeArcs,
+    goal: NodeId,
+    caps: Bound,
+) -> Result<Sums, OutOfMemory>
+    requires incoming { AreIncoming net.now incoming.now }
+    requires low { 1 ≤ goal.0 }
+    requires high { goal.0 ≤ net.now.nodes }
+    ensures minutes_nodes { IfOk result (λ sums. length sums.minutes.items ≡ net.now.nodes) }
+    ensures costs_nodes { IfOk result (λ sums. length sums.costs.items ≡ net.now.nodes) }
+    ensures minutes { IfOk result
+        (λ sums. AreSumsBelow net.now Minutes goal.0 caps.minutes sums.minutes.items) }
+    ensures costs { IfOk result
+        (λ sums. AreSumsBelow net.now Cost goal.0 caps.cost sums.costs.items) }
+    ensures good { OnOk result (IsGoodNet net.now) }
 {
     if has_proportional_costs(net) {
-        minutes_of(alloc, costs)
-    } else {
-        least_sums(alloc, net, incoming, Counted::Minutes, goal)
+        let cap = caps.cost.max(cost_of(caps.minutes));
+        let costs = sums_below(alloc, net, incoming, Counted::Cost, goal, cap)?;
+        let minutes = minutes_of(alloc, costs.as_slice())?;
+        return Ok(Sums { minutes, costs });
     }
+    let costs = sums_below(alloc, net, incoming, Counted::Cost, goal, caps.cost)?;
+    let minutes = sums_below(alloc, net, incoming, Counted::Minutes, goal, caps.minutes)?;
+    Ok(Sums { minutes, costs })
+}
+
+// The bounds of the nodes, from their sums; under caps each node has one.
+fn bounds_of(alloc: Global, sums: &Sums, caps: Option<Bound>) -> Result<Bounds, OutOfMemory>
+    requires same { length sums.now.minutes.items ≡ length sums.now.costs.items }
+    ensures { IfOk result (AreBoundsIn caps sums.now.minutes.items sums.now.costs.items) }
+{
+    let mut bounds = Bounds::new(alloc);
+    for place in 0..sums.costs.len() {
+        bounds.push(bound_with(caps, sums.minutes[place], sums.costs[place]))?;
+    }
+    Ok(bounds)
+}
+
+// The bound of a node: both sums, where it has them, or, under caps, the lesser of each and its cap.
+fn bound_with(caps: Option<Bound>, minutes: Option<u64>, cost: Option<u64>) -> Option<Bound>
+    ensures { result ≡ bound_in caps minutes cost }
+{
+    match caps {
+        None => both(minutes, cost),
+        Some(most) => Some(Bound {
+            minutes: capped(minutes, most.minutes),
+            cost: capped(cost, most.cost),
+        }),
+    }
+}
+
+// The lesser of the sum, where there is one, and the cap.
+fn capped(sum: Option<u64>, cap: u64) -> u64
+    ensures { result ≡ capped_at cap sum }
+{
+    sum.unwrap_or(cap).min(cap)
 }
 
 // Both bounds of a node, where it has them.

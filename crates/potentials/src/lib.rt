@@ -4,10 +4,13 @@
 //! then they are the least sum of minutes and the least sum of costs of such walks. It is proved at `to_goal`, whose clause
 //! `AreBoundsTo` also says that such bounds are `AreBounds` of `route_base`, as a search needs them.
 //!
+//! `to_goal_within` ends its search at a cap, for many short trips over a large net: each bound is the lesser of the least sum and the
+//! cap (`AreCappedBoundsTo`), and such bounds are `AreBounds` too. `cap_for_minutes` makes the cap from a trip's minutes.
+//!
 //! The least costs are found by a search from the goal over the arcs backwards, in the order of rising sums (`sums`; Dijkstra's
 //! algorithm). Where every cost is in proportion to the minutes of its arc (`proportion`), the least minutes are those of the least
-//! costs; otherwise they are found by a search of their own. `bounds` puts both together. `specs/Inside` is no law: it says what the
-//! search keeps.
+//! costs; otherwise they are found by a search of their own. A search keeps the sums below its cap; that of `to_goal` is above all sums.
+//! `bounds` puts both together. `specs/Inside` is no law: it says what the search keeps.
 #![tactic(auto)]
 
 mod bounded_search;
@@ -16,4 +19,4 @@ mod proportion;
 mod sums;
 
 pub use bounded_search::BoundedSearch;
-pub use bounds::{to_goal, to_goal_over};
+pub use bounds::{cap_for_minutes, to_goal, to_goal_over, to_goal_within};

@@ -1,5 +1,5 @@
 // Nets in which every cost is in proportion to minutes: there the least minutes follow from the least costs.
-ghost use Rattle.std.specs.Prelude.{◌≡◌, ◌↔◌, ◌/◌, IsTrue, map, IfOk};
+ghost use Rattle.std.specs.Prelude.{◌≡◌, ◌↔◌, ◌-◌, ◌*◌, ◌/◌, ◌^◌, IsTrue, map, min, IfOk};
 ghost use Rattle.std.specs.Option.{option_map};
 ghost use Rattle.route_base.specs.Net.{setting_of};
 ghost use Rattle.route_base.specs.declared.limits.TheConstants.{COST_OF_MINUTE};
@@ -44,4 +44,11 @@ fn in_minutes(cost: Option<u64>) -> Option<u64>
     ensures { result ≡ option_map (λ x. x / COST_OF_MINUTE) cost }
 {
     Some(cost? / COST_OF_MINUTE)
+}
+
+/// What minutes cost at `COST_OF_MINUTE` each; `u64::MAX` where that is more.
+pub fn cost_of(minutes: u64) -> u64
+    ensures { result ≡ min (COST_OF_MINUTE * minutes) (2 ^ 64 - 1) }
+{
+    COST_OF_MINUTE.saturating_mul(minutes)
 }

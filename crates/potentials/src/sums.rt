@@ -1,12 +1,11 @@
-// Least sums to a goal, by Dijkstra's search over reversed arcs.
-ghost use Rattle.std.specs.Prelude.{◌≡◌, ◌≤◌, ◌<◌, ◌+◌, ℕ, Option, Some, None, true, false, length, IfOk};
+// Least sums to a goal, by Dijkstra's search over reversed arcs, up to a cap.
+ghost use Rattle.std.specs.Prelude.{◌≡◌, ◌≤◌, ◌<◌, ◌+◌, ℕ, Option, Some, None, true, false, length, IfOk, OnOk};
 ghost use Rattle.std.specs.Option.{IsSomeAnd};
-ghost use Rattle.route_base.specs.Net.{IsGoodNet, road_of, setting_of};
+ghost use Rattle.route_base.specs.Net.{IsGoodNet, road_of};
 ghost use Rattle.label_queue.specs.Keys.{key_at};
 ghost use Rattle.node_arcs.specs.Stars.{EndsAt, AreIncoming};
 ghost use Rattle.node_arcs.specs.declared.links.End.TheVariants.{Head};
-ghost use Rattle.potentials.specs.Sums.{IsLeastSum};
-ghost use Rattle.potentials.specs.Inside.Summing.{GetsSum, IsSummed, IsArcRelaxed, WorksAt, unsettled_at, counted_on};
+ghost use Rattle.potentials.specs.Inside.Summing.{GetsSum, IsSummed, IsArcRelaxed, AreSumsBelow, WorksAt, unsettled_at, counted_on};
 
 use label_queue::LabelQueue;
 use node_arcs::NodeArcs;
@@ -31,29 +30,32 @@ impl Counted {
     }
 }
 
-// Where the sums lead, and what is summed.
+// Where the sums lead, what is summed, and the cap, from which on no sum is kept.
 #[derive(Clone, Copy)]
 pub struct Plan<'a> {
     net: &'a TimedNet,
     incoming: &'a NodeArcs,
     counted: Counted,
     goal: NodeId,
+    cap: u64,
 }
 
-/// The least sums to the goal, one place for each node from 1 on.
-pub fn least_sums(
+/// The least sums to the goal that are below the cap, and that of the goal, one place for each node from 1 on. Only nodes with such a
+/// sum are settled, and only the arcs that end at these are relaxed.
+pub fn sums_below(
     alloc: Global,
     net: &TimedNet,
     incoming: &NodeArcs,
     counted: Counted,
     goal: NodeId,
+    cap: u64,
 ) -> Result<Vec<Option<u64>>, OutOfMemory>
     requires incoming { AreIncoming net.now incoming.now }
     requires low { 1 ≤ goal.0 }
     requires high { goal.0 ≤ net.now.nodes }
     ensures nodes { IfOk result (λ sums. length sums.items ≡ net.now.nodes) }
-    ensures least { IfOk result
-        (λ sums. (v : ℕ) → IsLeastSum (setting_of net.now).road (counted_on counted) goal.0 v (key_at sums.items v)) }
+    ensures least { IfOk result (λ sums. AreSumsBelow net.now counted goal.0 cap sums.items) }
+    ensures good { OnOk result (IsGoodNet net.now) }
 {
     let nodes = net.node_count();
     let plan = Plan {
@@ -61,6 +63,7 @@ pub fn least_sums(
         incoming,
         counted,
         goal,
+        cap,
     };
     let mut known = vec![in alloc; None; nodes as usize]?;
     let mut queue = LabelQueue::new(alloc, nodes)?;
@@ -80,12 +83,13 @@ fn settle(plan: Plan<'_>, known: &mut Vec<Option<u64>>, queue: &mut LabelQueue, 
     requires high { v.0 ≤ plan.net.now.nodes }
     requires nodes { length known.old.items ≡ plan.net.now.nodes }
     requires room { length queue.old ≡ plan.net.now.nodes }
-    requires facts { IsSummed plan.net.now plan.counted plan.goal.0 v.0 known.old.items queue.old }
+    requires facts { IsSummed plan.net.now plan.counted plan.goal.0 plan.cap v.0
+        known.old.items queue.old }
     requires work { WorksAt plan.net.now v.0 x known.old.items queue.old }
     ensures nodes { length known.new.items ≡ plan.entry.net.now.nodes }
     ensures room { length queue.new ≡ plan.entry.net.now.nodes }
-    ensures facts { IsSummed plan.entry.net.now plan.entry.counted plan.entry.goal.0 0
-        known.new.items queue.new }
+    ensures facts { IsSummed plan.entry.net.now plan.entry.counted plan.entry.goal.0
+        plan.entry.cap 0 known.new.items queue.new }
     ensures less { unsettled_at plan.entry.net.now known.new.items queue.new
         ≤ unsettled_at plan.entry.net.now known.old.items queue.old }
 {
@@ -94,7 +98,7 @@ fn settle(plan: Plan<'_>, known: &mut Vec<Option<u64>>, queue: &mut LabelQueue, 
     }
 }
 
-// Relaxes one arc that ends at the node at work.
+// Relaxes one arc that ends at the node at work, where its sum is below the cap.
 fn relax(
     plan: Plan<'_>,
     known: &mut Vec<Option<u64>>,
@@ -107,15 +111,20 @@ fn relax(
     requires ends { EndsAt plan.net.now Head v.0 a.0 }
     requires nodes { length known.old.items ≡ plan.net.now.nodes }
     requires room { length queue.old ≡ plan.net.now.nodes }
-    requires facts { IsSummed plan.net.now plan.counted plan.goal.0 v.0 known.old.items queue.old }
+    requires facts { IsSummed plan.net.now plan.counted plan.goal.0 plan.cap v.0
+        known.old.items queue.old }
     requires work { WorksAt plan.net.now v.0 x known.old.items queue.old }
-    ensures { IsArcRelaxed plan.entry.net.now plan.entry.counted plan.entry.goal.0 v.0 x a.0
-        known.old.items known.new.items queue.old queue.new }
+    ensures { IsArcRelaxed plan.entry.net.now plan.entry.counted plan.entry.goal.0 plan.entry.cap
+        v.0 x a.0 known.old.items known.new.items queue.old queue.new }
 {
     let Some(arc) = plan.net.arc(a) else {
         return;
     };
-    reach(known, queue, arc.tail, plan.counted.of(arc) + x);
+    let sum = plan.counted.of(arc) + x;
+    if sum >= plan.cap {
+        return;
+    }
+    reach(known, queue, arc.tail, sum);
 }
 
 // Gives the node this sum, where it has none or a larger one.

@@ -1,11 +1,11 @@
 -- What a search for least sums keeps (source: own; no law).
-use Rattle.std.specs.Prelude.{◌≡◌, ◌⊎◌, ℕ, suc, ◌+◌, ◌*◌, ◌≤◌, Option, Some, None, List, length}
+use Rattle.std.specs.Prelude.{◌≡◌, ◌⊎◌, ℕ, suc, ◌+◌, ◌*◌, ◌≤◌, ◌<◌, min, Option, Some, None, List, length}
 use Rattle.route_base.specs.Setting.{Road}
 use Rattle.route_base.specs.Net.{Net, setting_of}
 use Rattle.route_base.specs.declared.limits.TheConstants.{HIGHEST_COST}
 use Rattle.route_base.specs.declared.types.Bound.{Bound}
 use Rattle.label_queue.specs.Keys.{key_at}
-use Rattle.potentials.specs.Sums.{Leads, IsLeastSum}
+use Rattle.potentials.specs.Sums.{Leads, bound_at}
 use Rattle.potentials.specs.Inside.Totals.{total}
 use Rattle.potentials.specs.declared.sums.Counted.{Counted}
 use Rattle.potentials.specs.declared.sums.Counted.TheVariants.{Minutes, Cost}
@@ -15,6 +15,15 @@ pub record HasSum (known : ℕ → Option ℕ) (v sum : ℕ) : Type 0 where
   pub least : ℕ
   pub is : known v ≡ Some least
   pub within : least ≤ sum
+
+-- the search ends before this sum: the cap is no larger, nor above the highest sum that is added up
+pub record IsPast (cap highest sum : ℕ) : Type 0 where
+  pub within : cap ≤ sum
+  pub added : cap ≤ highest
+
+-- a sum that is known is no larger than this, or the search ends before this
+abbrev pub IsCovered : ℕ → ℕ → (ℕ → Option ℕ) → ℕ → ℕ → Type 0
+IsCovered cap highest known v sum = HasSum known v sum ⊎ IsPast cap highest sum
 
 -- 0 for a node whose sum is settled: it is known, and the node isn't in the queue
 abbrev pub unsettled : Option ℕ → Option ℕ → ℕ
@@ -27,12 +36,14 @@ abbrev pub unsettled_count : ℕ → (ℕ → Option ℕ) → (ℕ → Option �
 unsettled_count nodes known keys = total (suc nodes) (λ v. unsettled (known v) (keys v))
 
 -- what the search keeps with a node at work: sums are those of walks; what is settled is no larger than a key; arcs into settled nodes are relaxed
-pub record IsSumming (roads : ℕ → Option Road) (count : Road → ℕ) (goal nodes most at_work : ℕ) (known keys : ℕ → Option ℕ) : Type 0 where
+-- up to the cap
+pub record IsSumming (roads : ℕ → Option Road) (count : Road → ℕ) (goal nodes most cap at_work : ℕ) (known keys : ℕ → Option ℕ) : Type 0 where
   pub at_goal : HasSum known goal 0
   pub sound : (v x : ℕ) → known v ≡ Some x → (arcs : List ℕ) × Leads roads count goal arcs v x
   pub waits : (v x : ℕ) → keys v ≡ Some x → known v ≡ Some x
   pub before : (u v x y : ℕ) → known u ≡ Some x → keys u ≡ None → keys v ≡ Some y → x ≤ y
-  pub relaxed : (a x : ℕ) (road : Road) → roads a ≡ Some road → known road.head ≡ Some x → ((key : ℕ) × (keys road.head ≡ Some key)) ⊎ ((road.head ≡ at_work) ⊎ HasSum known road.tail (count road + x))
+  pub relaxed : (a x : ℕ) (road : Road) → roads a ≡ Some road → known road.head ≡ Some x → ((key : ℕ) × (keys road.head ≡ Some key))
+      ⊎ ((road.head ≡ at_work) ⊎ IsCovered cap (most * suc nodes) known road.tail (count road + x))
   pub small : (v x : ℕ) → known v ≡ Some x → x + most * unsettled_count nodes known keys ≤ most * suc nodes
 
 -- node v is at work with its sum: what is settled is no larger
@@ -53,8 +64,12 @@ counted_on Minutes road = road.minutes
 counted_on Cost road = road.cost
 
 -- what is kept at the net, with node v at work
-abbrev pub IsSummed : Net → Counted → ℕ → ℕ → List (Option ℕ) → List (Option ℕ) → Type 0
-IsSummed net counted goal v known keys = IsSumming (setting_of net).road (counted_on counted) goal net.nodes HIGHEST_COST v (key_at known) (key_at keys)
+abbrev pub IsSummed : Net → Counted → ℕ → ℕ → ℕ → List (Option ℕ) → List (Option ℕ) → Type 0
+IsSummed net counted goal cap v known keys = IsSumming (setting_of net).road (counted_on counted) goal net.nodes HIGHEST_COST cap v (key_at known) (key_at keys)
+
+-- the search over the net ends before this sum
+abbrev pub IsPastAt : Net → ℕ → ℕ → Type 0
+IsPastAt net cap sum = IsPast cap (HIGHEST_COST * suc net.nodes) sum
 
 abbrev pub WorksAt : Net → ℕ → ℕ → List (Option ℕ) → List (Option ℕ) → Type 0
 WorksAt net v x known keys = IsAtWork net.nodes HIGHEST_COST v x (key_at known) (key_at keys)
@@ -62,15 +77,16 @@ WorksAt net v x known keys = IsAtWork net.nodes HIGHEST_COST v x (key_at known) 
 abbrev pub unsettled_at : Net → List (Option ℕ) → List (Option ℕ) → ℕ
 unsettled_at net known keys = unsettled_count net.nodes (key_at known) (key_at keys)
 
--- arc a, which ends at node v at work, was relaxed
-pub record IsArcRelaxed (net : Net) (counted : Counted) (goal v x a : ℕ) (known new keys new_keys : List (Option ℕ)) : Type 0 where
+-- arc a, which ends at node v at work, was relaxed up to the cap
+pub record IsArcRelaxed (net : Net) (counted : Counted) (goal cap v x a : ℕ) (known new keys new_keys : List (Option ℕ)) : Type 0 where
   pub nodes : length new ≡ net.nodes
   pub room : length new_keys ≡ net.nodes
-  pub facts : IsSummed net counted goal v new new_keys
+  pub facts : IsSummed net counted goal cap v new new_keys
   pub work : WorksAt net v x new new_keys
   pub less : unsettled_at net new new_keys ≤ unsettled_at net known keys
   pub kept : (u sum : ℕ) → HasSum (key_at known) u sum → HasSum (key_at new) u sum
-  pub relaxed : (road : Road) → (setting_of net).road a ≡ Some road → HasSum (key_at new) road.tail (counted_on counted road + x)
+  pub relaxed : (road : Road) → (setting_of net).road a ≡ Some road
+      → IsCovered cap (HIGHEST_COST * suc net.nodes) (key_at new) road.tail (counted_on counted road + x)
 
 -- both bounds, where there are both
 abbrev pub bound_of_sums : Option ℕ → Option ℕ → Option Bound
@@ -78,6 +94,27 @@ bound_of_sums None y = None
 bound_of_sums (Some x) None = None
 bound_of_sums (Some x) (Some y) = Some (record { minutes = x; cost = y })
 
--- the least sums to the goal over the net, for each node
-abbrev pub AreLeastSums : Net → Counted → ℕ → List (Option ℕ) → Type 0
-AreLeastSums net counted goal sums = (v : ℕ) → IsLeastSum (setting_of net).road (counted_on counted) goal v (key_at sums v)
+-- a sum or the cap, the lesser of both
+abbrev pub capped_at : ℕ → Option ℕ → ℕ
+capped_at cap None = cap
+capped_at cap (Some x) = min x cap
+
+-- both bounds: where there are both, or of each node under caps
+abbrev pub bound_in : Option Bound → Option ℕ → Option ℕ → Option Bound
+bound_in None x y = bound_of_sums x y
+bound_in (Some most) x y = Some (record { minutes = capped_at most.minutes x; cost = capped_at most.cost y })
+
+-- the list has such a bound for each node
+pub record AreBoundsIn (caps : Option Bound) (minutes costs : List (Option ℕ)) (list : List (Option Bound)) : Type 0 where
+  pub nodes : length list ≡ length costs
+  pub each : (k : ℕ) → k < length costs → bound_at list (k + 1) ≡ bound_in caps (key_at minutes (k + 1)) (key_at costs (k + 1))
+
+-- the least sum, as far as the search goes: each sum that is less, and each without a least one, is past its end
+abbrev pub IsSumBelow : (ℕ → Option Road) → (Road → ℕ) → ℕ → (ℕ → Type 0) → ℕ → Option ℕ → Type 0
+IsSumBelow roads count goal past v None = (arcs : List ℕ) (sum : ℕ) → Leads roads count goal arcs v sum → past sum
+IsSumBelow roads count goal past v (Some x) = ((arcs : List ℕ) × Leads roads count goal arcs v x)
+    × ((arcs : List ℕ) (sum : ℕ) → Leads roads count goal arcs v sum → (x ≤ sum) ⊎ past sum)
+
+-- these sums over the net, for each node
+abbrev pub AreSumsBelow : Net → Counted → ℕ → ℕ → List (Option ℕ) → Type 0
+AreSumsBelow net counted goal cap sums = (v : ℕ) → IsSumBelow (setting_of net).road (counted_on counted) goal (IsPastAt net cap) v (key_at sums v)

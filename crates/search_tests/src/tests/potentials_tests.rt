@@ -2,7 +2,7 @@
 ghost use Rattle.std.specs.Prelude.{◌≡◌, ◌≤◌, IfOk};
 
 use node_arcs::NodeArcs;
-use potentials::{to_goal, to_goal_over};
+use potentials::{cap_for_minutes, to_goal, to_goal_over, to_goal_within};
 use route_base::{Bound, Bounds, Cost, NodeId, OutOfMemory, TimedArc, TimedNet};
 use std::alloc::Global;
 
@@ -69,5 +69,54 @@ fn finds_least_minutes_and_costs(rt: HostRuntime) {
             are_bounds(&again, *cost, *least_from_1),
             "{cost}, over arcs in order"
         );
+    }
+}
+
+// Under a cap of 100 minutes: the cost of the arc from node 2, the cost of the cap, and the least cost from 2 under it. Node 1 is farther
+// than the cap in minutes and in cost, and from 4 no arc leaves: both have the cap.
+const CAPPED_COSTS: &[(Cost, Cost, Cost)] = &[
+    (60_000, 100_000, 60_000),
+    (400_000, 200_000, 200_000),
+];
+
+#[test]
+fn ends_at_a_cap(rt: HostRuntime) {
+    for (cost, most_cost, least_from_2) in CAPPED_COSTS {
+        let net = net_with(rt.alloc(), (*cost).min(1_000_000)).expect(&rt, "memory");
+        let incoming = NodeArcs::incoming(rt.alloc(), &net).expect(&rt, "memory");
+        let most = cap_for_minutes(&net, 100);
+        let bounds = to_goal_within(rt.alloc(), &net, &incoming, NodeId(3), most).expect(
+            &rt, "memory",
+        );
+        let far = bound(100, *most_cost);
+        assert!(rt; bounds.get(NodeId(1)) == far, "{cost}, far node");
+        assert!(rt;
+            bounds.get(NodeId(2)) == bound(60, *least_from_2),
+            "{cost}, near node"
+        );
+        assert!(rt; bounds.get(NodeId(3)) == bound(0, 0), "{cost}, goal");
+        assert!(rt; bounds.get(NodeId(4)) == far, "{cost}, node without a way");
+    }
+}
+
+// A cap above every sum: the bounds of 1, 2 and 3 are the least ones, and the node without a way has the cap.
+#[test]
+fn finds_least_bounds_below_a_high_cap(rt: HostRuntime) {
+    let most = Bound {
+        minutes: u64::MAX,
+        cost: 1_000_000,
+    };
+    for (cost, least_from_1) in COSTS {
+        let net = net_with(rt.alloc(), (*cost).min(1_000_000)).expect(&rt, "memory");
+        let incoming = NodeArcs::incoming(rt.alloc(), &net).expect(&rt, "memory");
+        let bounds = to_goal_within(rt.alloc(), &net, &incoming, NodeId(3), most).expect(
+            &rt, "memory",
+        );
+        assert!(rt;
+            bounds.get(NodeId(1)) == bound(120, *least_from_1),
+            "{cost}"
+        );
+        assert!(rt; bounds.get(NodeId(2)) == bound(60, *cost), "{cost}");
+        assert!(rt; bounds.get(NodeId(4)) == Some(most), "{cost}");
     }
 }

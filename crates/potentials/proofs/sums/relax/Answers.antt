@@ -1,4 +1,4 @@
-use Rattle.std.proofs.Common.{◌≡◌, ◌+◌, Option, Some, None, refl, sym, ◌∙◌, ap, subst, arith}
+use Rattle.std.proofs.Common.{◌≡◌, inl, ◌+◌, Option, Some, None, refl, sym, ◌∙◌, ap, subst, arith}
 use Rattle.std.specs.Option.{option_map}
 use Rattle.route_base.specs.Setting.{Road}
 use Rattle.route_base.specs.Net.{road_of, setting_of, at_number}
@@ -38,8 +38,8 @@ returns c =
     let is : at_number net.arcs c.args.a.0 ≡ Some arc = sym c.arc.ensures.value ∙ c.in-Some.is in
     let reached : GetsSum arc.tail.0 (counted (road_of arc) + c.args.x) known new keys new_keys =
     subst (λ n. GetsSum arc.tail.0 (n + c.args.x) known new keys new_keys) c.of.ensures c.reach.ensures.reached in
-    let keeps = reach_keeps (setting_of net).road counted c.args.plan.goal.0 net.nodes HIGHEST_COST c.args.v.0 c.args.x c.args.a.0 arc.tail.0 (road_of arc)
-    known new keys new_keys c.requires.facts c.requires.work (ap (option_map road_of) is)
+    let keeps = reach_keeps (setting_of net).road counted c.args.plan.goal.0 net.nodes HIGHEST_COST c.args.plan.cap c.args.v.0 c.args.x c.args.a.0 arc.tail.0
+    (road_of arc) known new keys new_keys c.requires.facts c.requires.work (ap (option_map road_of) is)
     (head_of (at_number net.arcs c.args.a.0) arc c.args.v.0 is c.requires.ends) refl (cheap net c.args.plan.counted arc c.in-Some.ensures.good) reached in
     record {
       nodes = c.reach.ensures.nodes ∙ c.requires.nodes;
@@ -47,10 +47,10 @@ returns c =
       facts = keeps.0;
       work = keeps.1;
       less = keeps.3;
-      kept = λ u sum has. sum_kept (setting_of net).road counted c.args.plan.goal.0 net.nodes HIGHEST_COST arc.tail.0 (counted (road_of arc) + c.args.x)
-          known new keys new_keys u sum reached has;
-      relaxed = λ road by. subst (λ (w : Road). HasSum new w.tail (counted w + c.args.x))
-          (road_is (at_number net.arcs c.args.a.0) arc road is by) keeps.2;
+      kept = λ u sum has. sum_kept (setting_of net).road counted c.args.plan.goal.0 net.nodes HIGHEST_COST c.args.plan.cap arc.tail.0
+          (counted (road_of arc) + c.args.x) known new keys new_keys u sum reached has;
+      relaxed = λ road by. inl (subst (λ (w : Road). HasSum new w.tail (counted w + c.args.x))
+          (road_is (at_number net.arcs c.args.a.0) arc road is by) keeps.2);
     }
 
 pub reach-requires-clause-settled : goal.reach-requires-clause-settled

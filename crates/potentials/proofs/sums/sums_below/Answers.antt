@@ -5,8 +5,8 @@ use Rattle.label_queue.proofs.Places.{is_set, key_none}
 use Rattle.potentials.specs.Inside.Summing.{counted_on, unsettled_at}
 use Rattle.route_base.specs.declared.limits.TheConstants.{HIGHEST_COST}
 use Rattle.potentials.proofs.Ending.{begins, goes_to_work, no_zero}
-use Rattle.potentials.proofs.Summing.{least_sums}
-use Rattle.potentials.proofs.sums.least_sums.Goals as goal
+use Rattle.potentials.proofs.Summing.{sums_below}
+use Rattle.potentials.proofs.sums.sums_below.Goals as goal
 
 pub turns-init : goal.turns-init
 turns-init c =
@@ -16,29 +16,29 @@ turns-init c =
     record {
       nodes = s.room ∙ long;
       room = search rules;
-      facts = begins (setting_of c.args.net.now).road (counted_on c.args.counted) c.args.goal.0 c.args.net.now.nodes HIGHEST_COST
+      facts = begins (setting_of c.args.net.now).road (counted_on c.args.counted) c.args.goal.0 c.args.net.now.nodes HIGHEST_COST c.args.cap
           (key_at (set c.in_ok-known.known.items (c.args.goal.0 - 1) (Some 0))) (key_at c.put.new.self)
           s.here (λ v ne. s.others v ne ∙ (ap (λ (w : List (Option ℕ)). key_at w v) none ∙ key_none c.node_count-nodes.result v))
           c.put.ensures.here (λ v ne. c.put.ensures.others v ne ∙ c.in_ok-queue.ensures.empty v);
     }
 
 pub settle-requires-clause-facts : goal.settle-requires-clause-facts
-settle-requires-clause-facts c = (goes_to_work c.args.net.now c.args.counted c.args.goal.0 c.in-Some.least.0.0 c.in-Some.least.1 c.turns.known.items
+settle-requires-clause-facts c = (goes_to_work c.args.net.now c.args.counted c.args.goal.0 c.args.cap c.in-Some.least.0.0 c.in-Some.least.1 c.turns.known.items
     c.turns.queue c.take_least.new.self c.node_count-nodes.ensures.good c.turns.invariant.room c.turns.invariant.facts c.in-Some.ensures.some).0
 
 pub settle-requires-clause-work : goal.settle-requires-clause-work
-settle-requires-clause-work c = (goes_to_work c.args.net.now c.args.counted c.args.goal.0 c.in-Some.least.0.0 c.in-Some.least.1 c.turns.known.items
+settle-requires-clause-work c = (goes_to_work c.args.net.now c.args.counted c.args.goal.0 c.args.cap c.in-Some.least.0.0 c.in-Some.least.1 c.turns.known.items
     c.turns.queue c.take_least.new.self c.node_count-nodes.ensures.good c.turns.invariant.room c.turns.invariant.facts c.in-Some.ensures.some).1
 
 pub turns-smaller : goal.turns-smaller
 turns-smaller c =
-    let less = (goes_to_work c.args.net.now c.args.counted c.args.goal.0 c.in-Some.least.0.0 c.in-Some.least.1 c.turns.known.items c.turns.queue
+    let less = (goes_to_work c.args.net.now c.args.counted c.args.goal.0 c.args.cap c.in-Some.least.0.0 c.in-Some.least.1 c.turns.known.items c.turns.queue
     c.take_least.new.self c.node_count-nodes.ensures.good c.turns.invariant.room c.turns.invariant.facts c.in-Some.ensures.some).2 in
     let more : unsettled_at c.args.net.now c.settle.new.known.items c.settle.new.queue + 1 ≤ unsettled_at c.args.net.now c.turns.known.items c.turns.queue =
     omega (arith, less, c.settle.ensures.less) in
     omega (arith, more)
 
 pub returns-clause-least : goal.returns-clause-least
-returns-clause-least c v = least_sums (setting_of c.args.net.now).road (counted_on c.args.counted) c.args.goal.0 c.args.net.now.nodes HIGHEST_COST
+returns-clause-least c v = sums_below (setting_of c.args.net.now).road (counted_on c.args.counted) c.args.goal.0 c.args.net.now.nodes HIGHEST_COST c.args.cap
     (key_at c.turns.known.items) (key_at c.turns.queue) (no_zero c.args.net.now c.node_count-nodes.ensures.good) c.turns.invariant.facts
     (c.in_default.ensures.none refl) v
