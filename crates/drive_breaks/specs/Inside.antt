@@ -1,4 +1,5 @@
 -- What the net over states keeps, which is no law (source: own).
+pub mod StateBounds
 pub mod StateNet
 pub mod Unpacking
 pub mod WithinRule

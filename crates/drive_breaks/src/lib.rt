@@ -1,27 +1,32 @@
 //! Trips with driver breaks: the Pareto front of arrival and cost over the itineraries that keep a break rule.
 //!
 //! The rule is one of Regulation (EC) 561/2006, Article 7: at most so many minutes of driving since the last break, which is an
-//! unbroken wait of so many minutes. Split breaks and daily rest are no part of it. The law is `AreRightRested` of `specs/Rested`, a
-//! clause of `plan_breaks`: the pairs are the Pareto front of all lawful itineraries that keep the rule, and each pair has the legs
-//! of one. `specs/StateSize` of `drive_states` says what the states of a trip are, and when there are too many. Both are the same over
-//! settings that agree (`rested_trips_agree`).
+//! unbroken wait of so many minutes. Split breaks and daily rest are no part of it. The law is `AreRightRested` of `specs/Rested`,
+//! a clause of `plan_breaks` and, for engines that take bounds, of `plan_breaks_with`: the pairs are the Pareto front of all lawful
+//! itineraries that keep the rule, and each pair has the legs of one. `specs/StateSize` of `drive_states` says what the states of a
+//! trip are, and when there are too many. Both are the same over settings that agree (`rested_trips_agree`).
 //!
-//! A state is a node and the minutes driven since the last break; `drive_states` finds all states and the ways between them, or that
-//! there are too many. `states_as_net` makes a net in which each state is a node, and each drive and each break an arc; one further
-//! node, which is entered by a copy of each drive to the goal, is the goal of that net. An engine's front of it is the front
-//! (`rested_trips`), and `sources` turns its legs into legs of the net.
+//! A state is a node and the minutes driven since the last break; `drive_states` finds all states and the ways between them, or
+//! that there are too many. `states_as_net` makes a net in which each state is a node, and each drive and each break an arc; one
+//! further node, which is entered by a copy of each drive to the goal, is the goal of that net. `state_bounds` gives each state the
+//! bounds of its node over the roads, which are far fewer, and adds the minutes of the breaks that are still needed;
+//! `without_bounds` is an engine that has bounds of its own. An engine's front of that net is the front (`rested_trips`), and
+//! `sources` turns its legs into legs of the net.
 //!
 //! `specs/Inside` is no law. `WithinRule` has the rule in the form that the proof keeps, since the start or *some* break: it is the
-//! same by `proofs/LastBreak`. `StateNet` says what the net over states is, and `Unpacking` what its steps, legs and routes are in the
-//! net below. In `proofs/`, `SoundBreaks` reads a walk over states as one of that net, `FoundBreaks` goes the other way, and
-//! `BreakFronts` puts them together, by `front_transport`.
+//! same by `proofs/LastBreak`. `StateNet` says what the net over states is, `StateBounds` what the bounds of its nodes are, and
+//! `Unpacking` what its steps, legs and routes are in the net below. In `proofs/`, `StateBounds` shows that the bounds hold along
+//! each arc. `SoundBreaks` reads a walk over states as one of that net, `FoundBreaks` goes the other way, and `BreakFronts` puts
+//! them together, by `front_transport`.
 #![tactic(auto)]
 
 mod laws;
 mod rested_trips;
 mod sources;
+mod state_bounds;
 mod states_as_net;
+mod without_bounds;
 
 pub use drive_states::{BreakFault, BreakRule};
 pub use laws::rested_trips_agree;
-pub use rested_trips::plan_breaks;
+pub use rested_trips::{plan_breaks, plan_breaks_with};

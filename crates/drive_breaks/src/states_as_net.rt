@@ -173,7 +173,7 @@ fn state_parks(
     ensures { IfOk result (λ out. out.items
         ≡ map (λ st. park_at net.now st.node.0) states.now ++ None ∷ []) }
 {
-    let mut out = Vec::new(alloc);
+    let mut out = Vec::with_capacity(alloc, states.len() + 1)?;
     for state in states {
         out.push(net.park(state.node))?;
     }
