@@ -1,15 +1,10 @@
 // The engine over cost functions.
-ghost use Rattle.std.specs.Prelude.{◌≡◌, IfOk};
-ghost use Rattle.node_arcs.specs.Stars.{AreIncoming};
-ghost use Rattle.route_base.specs.Front.{IsRight, pairs_of};
-ghost use Rattle.route_base.specs.Net.{setting_of};
-ghost use Rattle.itinerary_unpack.specs.Answered.{IsAnswered};
-
-use crate::back::unpack_over;
+use crate::routes::routes_of;
+use crate::shared_arcs::{front_over, search_arcs};
 use node_arcs::NodeArcs;
 use potentials::BoundedSearch;
-use propagation::{Found, search_over, search_with};
-use route_base::{Bounds, FrontSearch, OutOfMemory, Request, Route, Routes, TimedNet};
+use propagation::search_with;
+use route_base::{Bounds, FrontSearch, OutOfMemory, Request, Routes, TimedNet};
 use std::alloc::Global;
 
 /// An engine that keeps a cost function of the minute for each node that it reaches, and follows only what may still lead to a new
@@ -24,9 +19,8 @@ impl FrontSearch for FunctionEngine {
         net: &TimedNet,
         request: Request,
     ) -> Result<Routes, OutOfMemory> {
-        let incoming = NodeArcs::incoming(alloc, net)?;
-        let found = search_over(alloc, net, &incoming, request)?;
-        routes_of(alloc, net, &incoming, request, &found)
+        let arcs = search_arcs(alloc, net)?;
+        front_over(alloc, net, &arcs, request)
     }
 }
 
@@ -40,33 +34,8 @@ impl BoundedSearch for FunctionEngine {
     ) -> Result<Routes, OutOfMemory> {
         let outgoing = NodeArcs::outgoing(alloc, net)?;
         let found = search_with(alloc, net, &outgoing, bounds, request)?;
+        drop(outgoing);
         let incoming = NodeArcs::incoming(alloc, net)?;
         routes_of(alloc, net, &incoming, request, &found)
     }
-}
-
-/// The routes of all pairs that were found, in their order: each pair with the legs of its first itinerary. Takes the time and memory
-/// of `unpack_over` for each pair.
-pub fn routes_of(
-    alloc: Global,
-    net: &TimedNet,
-    incoming: &NodeArcs,
-    request: Request,
-    found: &Found,
-) -> Result<Routes, OutOfMemory>
-    requires incoming { AreIncoming net.now incoming.now }
-    requires found { IsAnswered net.now request found.now }
-    ensures right { IfOk result (IsRight (setting_of net.now) request) }
-    ensures pairs { IfOk result (λ routes. pairs_of routes ≡ found.now.pairs) }
-{
-    let pairs = found.pairs();
-    let mut routes = Vec::with_capacity(alloc, pairs.len())?;
-    for k in 0..pairs.len() {
-        let legs = unpack_over(alloc, net, incoming, request, found, k)?;
-        routes.push(Route {
-            pair: pairs[k],
-            legs,
-        })?;
-    }
-    Ok(Routes::from_vec(routes))
 }

@@ -8,7 +8,7 @@ use Rattle.route_base.specs.declared.limits.TheConstants.{COST_OF_MINUTE}
 use Rattle.label_queue.specs.Keys.{key_at}
 use Rattle.label_queue.proofs.Viewing.{key_at-map}
 use Rattle.potentials.specs.Sums.{Leads}
-use Rattle.potentials.specs.Inside.Proportion.{IsProportional, AreProportional}
+use Rattle.potentials.specs.Proportion.{IsProportional, AreProportional}
 use Rattle.potentials.specs.Inside.Summing.{IsPastAt, IsSumBelow, AreSumsBelow}
 use Rattle.potentials.specs.declared.sums.Counted.TheVariants.{Minutes, Cost}
 

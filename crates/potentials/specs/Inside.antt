@@ -1,4 +1,3 @@
 -- Machinery of the search, which is no law: the law is in Sums (source: own).
 pub mod Summing
 pub mod Totals
-pub mod Proportion

@@ -1,2 +1,3 @@
+pub mod Proportion
 pub mod Sums
 pub mod Inside

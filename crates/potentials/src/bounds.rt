@@ -1,8 +1,9 @@
 // The least minutes and, by itself, the least cost from each node to a goal.
-ghost use Rattle.std.specs.Prelude.{◌≡◌, ◌≤◌, ◌<◌, length, IfOk, OnOk};
-ghost use Rattle.route_base.specs.Net.{IsGoodNet};
+ghost use Rattle.std.specs.Prelude.{◌≡◌, ◌≤◌, ◌<◌, length, IfOk, OnOk, IsTrue};
+ghost use Rattle.route_base.specs.Net.{IsGoodNet, setting_of};
 ghost use Rattle.node_arcs.specs.Stars.{AreIncoming};
 ghost use Rattle.potentials.specs.Sums.{AreBoundsTo, AreCappedBoundsTo};
+ghost use Rattle.potentials.specs.Proportion.{AreProportional};
 ghost use Rattle.potentials.specs.Inside.Summing.{AreSumsBelow, AreBoundsIn, bound_in, bound_of_sums, capped_at};
 ghost use Rattle.potentials.specs.declared.sums.Counted.TheVariants.{Minutes, Cost};
 
@@ -49,40 +50,43 @@ pub fn to_goal_over(
         minutes: u64::MAX,
         cost: u64::MAX,
     };
-    let sums = sums_to(alloc, net, incoming, goal, uncapped)?;
+    let proportional = has_proportional_costs(net);
+    let sums = sums_to(alloc, net, incoming, proportional, goal, uncapped)?;
     bounds_of(alloc, &sums, None)
 }
 
 /// For each node the least sum of minutes and, by itself, the least sum of costs over walks of arcs to the goal, each at most that of
 /// `most`; a node without a walk has `most`. The search ends at the cap: for k nodes whose sums are below it, at which j arcs end, it
-/// takes (k + j) log k steps. Beside that each node and each arc of the net takes one step; memory is linear in nodes. Where costs are
-/// in proportion to minutes, one search goes on to the greater of both caps, with `COST_OF_MINUTE` for a minute; otherwise there are
-/// two, each up to its own.
+/// takes (k + j) log k steps. Beside that each node takes one step; memory is linear in nodes. Where costs are known to be in proportion
+/// to minutes (`has_proportional_costs`), one search goes on to the greater of both caps, with `COST_OF_MINUTE` for a minute;
+/// otherwise there are two, each up to its own.
 pub fn to_goal_within(
     alloc: Global,
     net: &TimedNet,
     incoming: &NodeArcs,
+    proportional: bool,
     goal: NodeId,
     most: Bound,
 ) -> Result<Bounds, OutOfMemory>
     requires incoming { AreIncoming net.now incoming.now }
+    requires proportional { IsTrue proportional → AreProportional (setting_of net.now).road }
     requires low { 1 ≤ goal.0 }
     requires high { goal.0 ≤ net.now.nodes }
     ensures bounds { IfOk result (AreCappedBoundsTo net.now goal.0 most) }
     ensures good { OnOk result (IsGoodNet net.now) }
 {
-    let sums = sums_to(alloc, net, incoming, goal, most)?;
+    let sums = sums_to(alloc, net, incoming, proportional, goal, most)?;
     bounds_of(alloc, &sums, Some(most))
 }
 
-/// The cap for trips of at most these minutes: they, and their cost where every arc costs `COST_OF_MINUTE` for each of its minutes, or
-/// twice that otherwise. The cost is no matter of correctness, since capped bounds hold along each arc whatever the cap is: under a
-/// lower one a search leaves out less, and under a higher one the bounds take longer.
-pub fn cap_for_minutes(net: &TimedNet, minutes: u64) -> Bound
+/// The cap for trips of at most these minutes: they, and their cost where costs are in proportion to minutes, or twice that otherwise.
+/// The cost is no matter of correctness, since capped bounds hold along each arc whatever the cap is: under a lower one a search
+/// leaves out less, and under a higher one the bounds take longer.
+pub fn cap_for_minutes(proportional: bool, minutes: u64) -> Bound
     ensures { result.minutes ≡ minutes }
 {
     let cost = cost_of(minutes);
-    let cost = if has_proportional_costs(net) {
+    let cost = if proportional {
         cost
     } else {
         cost.saturating_mul(2)
@@ -95,10 +99,12 @@ fn sums_to(
     alloc: Global,
     net: &TimedNet,
     incoming: &NodeArcs,
+    proportional: bool,
     goal: NodeId,
     caps: Bound,
 ) -> Result<Sums, OutOfMemory>
     requires incoming { AreIncoming net.now incoming.now }
+    requires proportional { IsTrue proportional → AreProportional (setting_of net.now).road }
     requires low { 1 ≤ goal.0 }
     requires high { goal.0 ≤ net.now.nodes }
     ensures minutes_nodes { IfOk result (λ sums. length sums.minutes.items ≡ net.now.nodes) }
@@ -109,7 +115,7 @@ fn sums_to(
         (λ sums. AreSumsBelow net.now Cost goal.0 caps.cost sums.costs.items) }
     ensures good { OnOk result (IsGoodNet net.now) }
 {
-    if has_proportional_costs(net) {
+    if proportional {
         let cap = caps.cost.max(cost_of(caps.minutes));
         let costs = sums_below(alloc, net, incoming, Counted::Cost, goal, cap)?;
         let minutes = minutes_of(alloc, costs.as_slice())?;

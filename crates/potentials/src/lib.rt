@@ -20,3 +20,4 @@ mod sums;
 
 pub use bounded_search::BoundedSearch;
 pub use bounds::{cap_for_minutes, to_goal, to_goal_over, to_goal_within};
+pub use proportion::has_proportional_costs;

@@ -3,7 +3,7 @@ ghost use Rattle.std.specs.Prelude.{◌≡◌, ◌↔◌, ◌-◌, ◌*◌, ◌/
 ghost use Rattle.std.specs.Option.{option_map};
 ghost use Rattle.route_base.specs.Net.{setting_of};
 ghost use Rattle.route_base.specs.declared.limits.TheConstants.{COST_OF_MINUTE};
-ghost use Rattle.potentials.specs.Inside.Proportion.{IsProportional, AreProportional};
+ghost use Rattle.potentials.specs.Proportion.{IsProportional, AreProportional};
 
 use route_base::limits::COST_OF_MINUTE;
 use route_base::{ArcId, OutOfMemory, TimedNet};

@@ -2,7 +2,9 @@
 ghost use Rattle.std.specs.Prelude.{◌≡◌, ◌≤◌, IfOk};
 
 use node_arcs::NodeArcs;
-use potentials::{cap_for_minutes, to_goal, to_goal_over, to_goal_within};
+use potentials::{
+    cap_for_minutes, has_proportional_costs, to_goal, to_goal_over, to_goal_within,
+};
 use route_base::{Bound, Bounds, Cost, NodeId, OutOfMemory, TimedArc, TimedNet};
 use std::alloc::Global;
 
@@ -84,10 +86,10 @@ fn ends_at_a_cap(rt: HostRuntime) {
     for (cost, most_cost, least_from_2) in CAPPED_COSTS {
         let net = net_with(rt.alloc(), (*cost).min(1_000_000)).expect(&rt, "memory");
         let incoming = NodeArcs::incoming(rt.alloc(), &net).expect(&rt, "memory");
-        let most = cap_for_minutes(&net, 100);
-        let bounds = to_goal_within(rt.alloc(), &net, &incoming, NodeId(3), most).expect(
-            &rt, "memory",
-        );
+        let proportional = has_proportional_costs(&net);
+        let most = cap_for_minutes(proportional, 100);
+        let bounds = to_goal_within(rt.alloc(), &net, &incoming, proportional, NodeId(3), most)
+            .expect(&rt, "memory");
         let far = bound(100, *most_cost);
         assert!(rt; bounds.get(NodeId(1)) == far, "{cost}, far node");
         assert!(rt;
@@ -109,7 +111,7 @@ fn finds_least_bounds_below_a_high_cap(rt: HostRuntime) {
     for (cost, least_from_1) in COSTS {
         let net = net_with(rt.alloc(), (*cost).min(1_000_000)).expect(&rt, "memory");
         let incoming = NodeArcs::incoming(rt.alloc(), &net).expect(&rt, "memory");
-        let bounds = to_goal_within(rt.alloc(), &net, &incoming, NodeId(3), most).expect(
+        let bounds = to_goal_within(rt.alloc(), &net, &incoming, false, NodeId(3), most).expect(
             &rt, "memory",
         );
         assert!(rt;

@@ -1,6 +1,6 @@
 use Rattle.std.proofs.Common.{◌≤◌, ℕ}
 use Rattle.route_base.specs.Net.{setting_of}
-use Rattle.potentials.specs.Inside.Proportion.{IsProportional}
+use Rattle.potentials.specs.Proportion.{IsProportional}
 use Rattle.potentials.proofs.proportion.has_proportional_costs.Given as goal
 
 abbrev pub invariant-loop-k : goal.invariant-loop-k

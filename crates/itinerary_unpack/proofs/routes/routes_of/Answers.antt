@@ -9,7 +9,7 @@ use Rattle.route_base.specs.Net.{setting_of}
 use Rattle.route_base.specs.declared.types.Pair.{Pair}
 use Rattle.route_base.specs.declared.types.Route.{Route}
 use Rattle.route_base.specs.FirstItinerary.{IsFirst, AreFirst}
-use Rattle.itinerary_unpack.proofs.engine.routes_of.Goals as goal
+use Rattle.itinerary_unpack.proofs.routes.routes_of.Goals as goal
 
 pub loop-k-preserved : goal.loop-k-preserved
 loop-k-preserved c =

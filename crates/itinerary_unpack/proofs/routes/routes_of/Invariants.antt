@@ -3,7 +3,7 @@ use Rattle.route_base.specs.Legs.{Achieves, HasNoNeighbouringWaits}
 use Rattle.route_base.specs.Net.{setting_of}
 use Rattle.route_base.specs.declared.types.Route.{Route}
 use Rattle.route_base.specs.FirstItinerary.{AreFirst}
-use Rattle.itinerary_unpack.proofs.engine.routes_of.Given as goal
+use Rattle.itinerary_unpack.proofs.routes.routes_of.Given as goal
 
 abbrev pub invariant-loop-k : goal.invariant-loop-k
 invariant-loop-k l = record {

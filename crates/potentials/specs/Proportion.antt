@@ -1,4 +1,4 @@
--- Roads whose cost is in proportion to their minutes (source: own; no law).
+-- Roads whose cost is in proportion to their minutes (source: own).
 use Rattle.std.specs.Prelude.{◌≡◌, ℕ, ◌*◌, ⊤, Option, Some, None}
 use Rattle.route_base.specs.Setting.{Road}
 use Rattle.route_base.specs.declared.limits.TheConstants.{COST_OF_MINUTE}

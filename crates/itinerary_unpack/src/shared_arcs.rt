@@ -1,0 +1,55 @@
+// What the searches over one net share.
+ghost use Rattle.std.specs.Prelude.{◌≤◌, ◌-◌, IfOk};
+ghost use Rattle.route_base.specs.Front.{IsRight};
+ghost use Rattle.route_base.specs.Legs.{CostsFit};
+ghost use Rattle.route_base.specs.Net.{IsGoodRequest, setting_of};
+ghost use Rattle.itinerary_unpack.specs.SearchArcs.{AreSearchArcs};
+
+use crate::routes::routes_of;
+use node_arcs::NodeArcs;
+use potentials::{cap_for_minutes, has_proportional_costs, to_goal_within};
+use propagation::search_with;
+use route_base::{OutOfMemory, Request, Routes, TimedNet};
+use std::alloc::Global;
+
+/// The arcs of a net by node, and whether it is known that every arc costs `COST_OF_MINUTE` for each of its minutes.
+#[derive(Drop)]
+pub struct SearchArcs {
+    pub incoming: NodeArcs,
+    pub outgoing: NodeArcs,
+    pub proportional: bool,
+}
+
+/// What searches over the net share. Linear in nodes and arcs, in time and memory.
+pub fn search_arcs(alloc: Global, net: &TimedNet) -> Result<SearchArcs, OutOfMemory>
+    ensures { IfOk result (AreSearchArcs net.now) }
+{
+    Ok(SearchArcs {
+        incoming: NodeArcs::incoming(alloc, net)?,
+        outgoing: NodeArcs::outgoing(alloc, net)?,
+        proportional: has_proportional_costs(net),
+    })
+}
+
+/// The Pareto front of a request as `FrontSearch` has it, by arcs that searches share. Nodes from which the goal is farther than the
+/// request's minutes are left out of the bounds and so of the search. Takes the time and memory of `to_goal_within`, of `search_with`
+/// and of `unpack_over` for each pair.
+pub fn front_over(
+    alloc: Global,
+    net: &TimedNet,
+    arcs: &SearchArcs,
+    request: Request,
+) -> Result<Routes, OutOfMemory>
+    requires arcs { AreSearchArcs net.now arcs.now }
+    requires good { IsGoodRequest net.now request }
+    requires in_time { request.depart ≤ request.until }
+    requires fit { CostsFit (setting_of net.now) request }
+    ensures { IfOk result (IsRight (setting_of net.now) request) }
+{
+    let minutes = (request.until - request.depart).saturating_add(1);
+    let most = cap_for_minutes(arcs.proportional, minutes);
+    let goal = request.goal;
+    let bounds = to_goal_within(alloc, net, &arcs.incoming, arcs.proportional, goal, most)?;
+    let found = search_with(alloc, net, &arcs.outgoing, bounds, request)?;
+    routes_of(alloc, net, &arcs.incoming, request, &found)
+}
