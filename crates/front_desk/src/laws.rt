@@ -22,17 +22,18 @@ ghost use Rattle.trip_explain.specs.ExplanationText.{explanation_text};
 ghost use Rattle.trip_explain.specs.Explanations.{IsUnlawfulAt};
 ghost use Rattle.trip_explain.specs.declared.explanation.Explanation.TheVariants.{Lawful, Unlawful};
 ghost use Rattle.trip_explain.specs.declared.explanation.Why.{Why};
+ghost use Rattle.front_transport.specs.declared.limits.TheConstants.{MOST_STATES};
 ghost use Rattle.stop_tour.specs.declared.limits.TheConstants.{MOST_STOPS};
 ghost use Rattle.vehicle_classes.specs.VehicleModel.{VehicleModel};
 ghost use Rattle.certificate.specs.declared.limits.TheConstants.{LONGEST_BOUND};
 ghost use Rattle.front_desk.specs.declared.latest.TheConstants.{LONGEST_LATE_HORIZON};
-ghost use Rattle.front_words.specs.declared.limits.TheConstants.{MOST_WORKERS, USUAL_WORKERS};
+ghost use Rattle.front_words.specs.declared.limits.TheConstants.{MOST_WORKERS, USUAL_WORKERS, USUAL_DRIVE, USUAL_REST};
 ghost use Rattle.net_generator.specs.declared.limits.TheConstants.{LAST_NUMBER, MOST_GENERATED_NODES, MOST_LINES};
 ghost use Rattle.network_folder.specs.declared.file_to_read.TheConstants.{LONGEST_ITINERARY};
 ghost use Rattle.network_tables.specs.declared.limits.TheConstants.{MOST_JOBS};
 ghost use Rattle.route_base.specs.declared.limits.TheConstants.{MOST_NODES, MOST_ARCS, LONGEST_DRIVE, LONGEST_HORIZON, LAST_DAY};
 ghost use Rattle.route_base.specs.declared.limits.TheConstants.{FIRST_INSTANT, LAST_INSTANT, COST_OF_MINUTE, HEAVIEST_WEIGHT};
-ghost use Rattle.route_base.specs.declared.limits.TheConstants.{HIGHEST_COST, LARGEST_SIZE, LONGEST_RULE, LONGEST_NAME};
+ghost use Rattle.route_base.specs.declared.limits.TheConstants.{HIGHEST_COST, LARGEST_SIZE, LONGEST_RULE, LONGEST_NAME, DAY_MINUTES};
 ghost use Rattle.route_base.specs.declared.limits.TheConstants.{LONGEST_FOLDER, LONGEST_FILE, LONGEST_CERTIFICATE};
 ghost use Rattle.route_base.specs.declared.limits.TheConstants.{MOST_ZONE_ROWS, MOST_AREAS, MOST_ROAD_ROWS, MOST_VEHICLES};
 ghost use Rattle.route_base.specs.declared.limits.TheConstants.{MOST_RULES, MOST_CLOSURES, MOST_RATINGS, MOST_PARKING_ROWS};
@@ -71,6 +72,9 @@ pub fn limits_are_these()
     ensures tolls { MOST_TOLLS ≡ 1000000 }
     ensures jobs { MOST_JOBS ≡ 10000 }
     ensures stops { MOST_STOPS ≡ 50 }
+    ensures states { MOST_STATES ≡ 40000000 }
+    ensures day { DAY_MINUTES ≡ 1440 }
+    ensures rule { (USUAL_DRIVE ≡ 270) × (USUAL_REST ≡ 45) }
 {}
 
 /// The law that `check` accepts what a plan writes: where the certificate of a plan was written under its name, it is a good one of the folder

@@ -9,22 +9,20 @@ ghost use Rattle.front_desk.specs.Words.{IsChecked, IsGoodNetwork, IsGoodTrip, I
 use crate::networks::is_trip_net;
 use crate::requests::{Trip, request_of};
 use ban_expansion::{ArcGroups, expand_groups};
-use itinerary_unpack::routes_of;
+use itinerary_unpack::{SearchArcs, front_over, search_arcs};
 use network_tables::Network;
-use node_arcs::NodeArcs;
 use plan_report::{plan_text, reports_agree};
-use propagation::search_over;
 use route_base::{Form, OutOfMemory, Run, TimedNet, settings_agree};
 use std::alloc::Global;
 use vehicle_classes::Vehicle;
 
-/// The net of the vehicle of a name over a window of minutes, with the arcs that come into each node.
+/// The net of the vehicle of a name over a window of minutes, with what the searches over it share.
 #[derive(Drop)]
 pub struct SharedNet {
     vehicle: Vec<u8>,
     window: Run,
     net: TimedNet,
-    incoming: NodeArcs,
+    arcs: SearchArcs,
 }
 
 /// Whether the net is that of the trip's vehicle, over a window that has the trip's minutes.
@@ -37,7 +35,7 @@ pub fn is_shared_by(shared: &SharedNet, trip: Trip<'_>) -> bool
 }
 
 /// The net of a trip that passes the checks, for its vehicle, over a window that has the trip's minutes. It takes the time and memory of
-/// `expand_groups` and of the arcs by node.
+/// `expand_groups` and of `search_arcs`.
 pub fn shared_net(
     alloc: Global,
     network: &Network,
@@ -55,17 +53,17 @@ pub fn shared_net(
     ensures shared { IfOk result (λ shared. IsSharedBy shared (trip_in trip.entry)) }
 {
     let net = expand_groups(alloc, network, groups, vehicle, window)?;
-    let incoming = NodeArcs::incoming(alloc, &net)?;
+    let arcs = search_arcs(alloc, &net)?;
     Ok(SharedNet {
         vehicle: trip.vehicle.to_vec(alloc)?,
         window,
         net,
-        incoming,
+        arcs,
     })
 }
 
-/// The text of the plan of a trip over a net that it shares, in plain lines. It takes the time and memory of the search and of the way
-/// back for each pair.
+/// The text of the plan of a trip over a net that it shares, in plain lines. It takes the time and memory of `front_over`: bounds end
+/// at the trip's minutes, so that a trip to a goal that is farther away ends before it has cost anything.
 pub fn text_over(
     alloc: Global,
     network: &Network,
@@ -85,8 +83,7 @@ pub fn text_over(
     settings_agree();
     reports_agree();
     let request = request_of(trip);
-    let found = search_over(alloc, net, &shared.incoming, request)?;
-    let routes = routes_of(alloc, net, &shared.incoming, request, &found)?;
+    let routes = front_over(alloc, net, &shared.arcs, request)?;
     let text = plan_text(alloc, Form::Plain, net, request, &routes)?;
     Ok(text)
 }

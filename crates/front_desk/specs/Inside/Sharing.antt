@@ -2,18 +2,18 @@
 use Rattle.std.specs.Prelude.{◌≡◌, ℕ, ◌≤◌, ◌<◌, List, All, Contains, IfSome, length, slice_get}
 use Rattle.route_base.specs.Matching.{StandsFor}
 use Rattle.route_base.specs.Net.{setting_of}
+use Rattle.itinerary_unpack.specs.SearchArcs.{AreSearchArcs}
 use Rattle.network_tables.specs.NetworkModel.{NetworkModel}
 use Rattle.network_tables.specs.RoadSetting.{road_setting}
 use Rattle.network_tables.specs.declared.jobs.Job.{Job}
-use Rattle.node_arcs.specs.Stars.{AreIncoming}
 use Rattle.front_desk.specs.Batch.{IsTextAt}
 use Rattle.front_desk.specs.Trips.{Trip, vehicle_named}
 use Rattle.front_desk.specs.declared.shared_nets.SharedNet.{SharedNet}
 
--- the net stands for the roads of the named vehicle in its window, and has its arcs by node
+-- the net stands for the roads of the named vehicle in its window, and has what the searches over it share
 pub record IsSharedNet (network : NetworkModel) (shared : SharedNet) : Type 0 where
   pub stands : StandsFor (setting_of shared.net) (road_setting network (vehicle_named network shared.vehicle.items)) shared.window
-  pub incoming : AreIncoming shared.net shared.incoming
+  pub arcs : AreSearchArcs shared.net shared.arcs
 
 -- the net is that of the trip's vehicle, and its window has the trip's minutes
 pub record IsSharedBy (shared : SharedNet) (trip : Trip) : Type 0 where

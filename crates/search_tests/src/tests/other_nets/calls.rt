@@ -5,7 +5,8 @@ ghost use Rattle.stop_tour.specs.Tours.{IsGoodStop};
 
 use crate::tests::engines::fronts::is_over;
 use crate::tests::engines::nets::{NetLists, net_of};
-use drive_breaks::{BreakFault, BreakRule, plan_breaks};
+use drive_breaks::{BreakFault, BreakRule, plan_breaks, plan_breaks_with};
+use itinerary_unpack::FunctionEngine;
 use latest_departure::{LateRoutes, latest};
 use plain_search::TableEngine;
 use route_base::limits::{DAY_MINUTES, LONGEST_HORIZON};
@@ -76,13 +77,14 @@ pub fn tour_over(
     }
 }
 
-/// What `plan_breaks` answers; `None` where the lists aren't those of a small well-formed net, the request isn't one over it, or a number
+/// What `plan_breaks` answers, or `plan_breaks_with` by the engine that takes bounds; `None` where the lists aren't those of a small well-formed net, the request isn't one over it, or a number
 /// of the rule is out of range.
 pub fn breaks_over(
     alloc: Global,
     lists: NetLists<'_>,
     request: Request,
     rule: BreakRule,
+    bounded: bool,
 ) -> Result<Option<Routes>, OutOfMemory> {
     let net = net_of(alloc, lists)?;
     if !is_whole(&net, lists) || !is_over(&net, request) {
@@ -91,7 +93,12 @@ pub fn breaks_over(
     if rule.drive > DAY_MINUTES || rule.rest < 1 || rule.rest > DAY_MINUTES {
         return Ok(None);
     }
-    match plan_breaks(alloc, &TableEngine, &net, request, rule) {
+    let answer = if bounded {
+        plan_breaks_with(alloc, &FunctionEngine, &net, request, rule)
+    } else {
+        plan_breaks(alloc, &TableEngine, &net, request, rule)
+    };
+    match answer {
         Ok(routes) => Ok(Some(routes)),
         Err(BreakFault::TooManyStates) => Ok(None),
         Err(BreakFault::OutOfMemory) => Err(OutOfMemory),

@@ -105,13 +105,15 @@ fn takes_breaks(alloc: Global, case: &Case, rule: BreakRule) -> Result<Option<us
         rule: Some(rule),
     };
     let wants = slow_front(alloc, terms, case.request)?;
-    let Some(routes) = breaks_over(alloc, lists, case.request, rule)? else {
-        return Ok(None);
-    };
-    if !are_pairs(routes.as_slice(), &wants) {
-        return Ok(None);
+    for bounded in [false, true] {
+        let Some(routes) = breaks_over(alloc, lists, case.request, rule, bounded)? else {
+            return Ok(None);
+        };
+        if !are_pairs(routes.as_slice(), &wants) {
+            return Ok(None);
+        }
     }
-    Ok(Some(routes.len()))
+    Ok(Some(wants.len()))
 }
 
 // The number of stops that the legs serve, where they serve them in their order.

@@ -271,7 +271,7 @@ fn is_rested(alloc: Global, row: Rested<'_>) -> Result<bool, OutOfMemory> {
         drive: row.drive,
         rest: 45,
     };
-    let Some(routes) = breaks_over(alloc, lists, request, rule)? else {
+    let Some(routes) = breaks_over(alloc, lists, request, rule, true)? else {
         return Ok(false);
     };
     Ok(are_rested(routes.as_slice(), row.wants))
