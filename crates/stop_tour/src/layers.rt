@@ -131,7 +131,7 @@ fn push_rest(out: &mut Vec<Run>, late: Minute, horizon: Minute) -> Result<(), Ou
     Ok(())
 }
 
-// The runs, and all minutes from one on to the horizon.
+// The runs, and all minutes from one on to the horizon. The list has room for the runs that end before, and for one more.
 fn runs_with_rest(
     alloc: Global,
     runs: &[Run],
@@ -140,7 +140,8 @@ fn runs_with_rest(
 ) -> Result<Vec<Run>, OutOfMemory>
     ensures { IfOk result (λ out. out.items ≡ runs_and_rest late until runs.now) }
 {
-    let mut out = Vec::new(alloc);
+    let before = runs.partition_point(|run| run.hi < late);
+    let mut out = Vec::with_capacity(alloc, before + 1)?;
     for i in 0..runs.len() {
         let run = runs[i];
         if run.hi >= late {
@@ -181,6 +182,7 @@ fn layer_lists(
         ≡ layered_lists until (map (λ v. v.items) lists.now) stops.now) }
 {
     let mut out = copied_lists(alloc, lists)?;
+    out.reserve_exact(lists.len().saturating_add(1).saturating_mul(stops.len()))?;
     let mut late = until;
     let mut left = stops.len();
     while left > 0 {

@@ -6,9 +6,12 @@ ghost use Rattle.stop_tour.specs.declared.stops.TourFault.TheVariants.{TooManySt
 ghost use Rattle.front_transport.specs.declared.limits.TheConstants.{MOST_STATES};
 ghost use Rattle.route_base.specs.declared.limits.TheConstants.{LONGEST_HORIZON};
 
+use crate::layer_bounds::tour_bounds;
 use crate::layers::layered_net;
+use crate::without_bounds::WithoutBounds;
 use crate::{Stop, TourFault, TourLeg, TourLegs, TourRoute, TourRoutes};
 use front_transport::MOST_STATES;
+use potentials::BoundedSearch;
 use route_base::{ArcId, FrontSearch, Leg, NodeId, OutOfMemory, Request, Route, TimedNet};
 use std::alloc::Global;
 
@@ -84,7 +87,7 @@ fn tour_routes(
 }
 
 // The tours where the layers fit.
-fn tours_over<E: FrontSearch>(
+fn tours_over<E: BoundedSearch>(
     alloc: Global,
     engine: &E,
     net: &TimedNet,
@@ -99,13 +102,14 @@ fn tours_over<E: FrontSearch>(
     requires size { size_of net.now stops.now ≤ MOST_STATES }
     ensures { IfOk result (AreRightTours (setting_of net.now) request stops.now) }
 {
+    let bounds = tour_bounds(alloc, net, request.goal, stops)?;
     let layered = layered_net(alloc, net, stops, request.until)?;
     let count = stops.len() as u32;
     let trip = Request {
         goal: NodeId(count * net.node_count() + request.goal.0),
         ..request
     };
-    let routes = engine.front(alloc, &layered, trip)?;
+    let routes = engine.front_with(alloc, &layered, bounds, trip)?;
     tour_routes(alloc, routes.as_slice(), net.arc_count(), count + 1)
 }
 
@@ -114,8 +118,34 @@ fn tours_over<E: FrontSearch>(
 /// the number of nodes and arcs, is above `MOST_STATES`.
 ///
 /// It takes the time and memory of one net with its closed runs for each number of served stops, and of a search over all of them. A
-/// layer is searched only until its last minute from which the other stops can be served within their windows.
+/// layer is searched only until its last minute from which the other stops can be served within their windows. The engine finds bounds
+/// of its own over all layers, and those of `tour_with`, which spares that, are made and dropped.
 pub fn tour<E: FrontSearch>(
+    alloc: Global,
+    engine: &E,
+    net: &TimedNet,
+    request: Request,
+    stops: &[Stop],
+) -> Result<TourRoutes, TourFault>
+    requires good { IsGoodRequest net.now request }
+    requires in_time { request.depart ≤ request.until }
+    requires horizon { request.until - request.depart ≤ LONGEST_HORIZON }
+    requires stops { All (IsGoodStop net.now) stops.now }
+    requires cheap { HasCheapArcs net.now }
+    ensures right { IfOk result (AreRightTours (setting_of net.now) request stops.now) }
+    ensures few { IfOk result (λ routes. size_of net.now stops.now ≤ MOST_STATES) }
+    ensures many { result ≡ Err TooManyStates → MOST_STATES < size_of net.now stops.now }
+{
+    tour_with(alloc, &WithoutBounds { engine }, net, request, stops)
+}
+
+/// The same by an engine that takes bounds. Those of a node of a layer are the least minutes and the least cost over the arcs of the
+/// net to the next stop, from stop to stop, and from the last one to the goal, with the minutes of the services.
+///
+/// It takes the time of `to_goal` over the net for each stop and for the goal, the time and memory of one net with its closed runs for
+/// each number of served stops, and those of a search over all of them by bounds that are given. The bounds are linear in the nodes of
+/// all layers.
+pub fn tour_with<E: BoundedSearch>(
     alloc: Global,
     engine: &E,
     net: &TimedNet,
