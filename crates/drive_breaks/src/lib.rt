@@ -9,9 +9,8 @@
 //! A state is a node and the minutes driven since the last break; `drive_states` finds all states and the ways between them, or
 //! that there are too many. `states_as_net` makes a net in which each state is a node, and each drive and each break an arc; one
 //! further node, which is entered by a copy of each drive to the goal, is the goal of that net. `state_bounds` gives each state the
-//! bounds of its node over the roads, which are far fewer, and adds the minutes of the breaks that are still needed;
-//! `without_bounds` is an engine that has bounds of its own. An engine's front of that net is the front (`rested_trips`), and
-//! `sources` turns its legs into legs of the net.
+//! bounds of its node over the roads, which are far fewer, and adds the minutes of the breaks that are still needed. An engine's
+//! front of that net is the front (`rested_trips`), and `sources` turns its legs into legs of the net.
 //!
 //! `specs/Inside` is no law. `WithinRule` has the rule in the form that the proof keeps, since the start or *some* break: it is the
 //! same by `proofs/LastBreak`. `StateNet` says what the net over states is, `StateBounds` what the bounds of its nodes are, and
@@ -25,7 +24,6 @@ mod rested_trips;
 mod sources;
 mod state_bounds;
 mod states_as_net;
-mod without_bounds;
 
 pub use drive_states::{BreakFault, BreakRule};
 pub use laws::rested_trips_agree;

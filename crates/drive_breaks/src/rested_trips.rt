@@ -8,10 +8,9 @@ ghost use Rattle.route_base.specs.declared.limits.TheConstants.{DAY_MINUTES, LON
 use crate::sources::unpacked_routes;
 use crate::state_bounds::state_bounds;
 use crate::states_as_net::{Ground, state_arcs, state_net};
-use crate::without_bounds::WithoutBounds;
 use drive_states::{BreakFault, BreakRule, Explored, Plan, explore};
 use node_arcs::NodeArcs;
-use potentials::BoundedSearch;
+use potentials::{BoundedSearch, WithoutBounds};
 use route_base::{
     FrontSearch, Legs, Minute, NodeId, OutOfMemory, Pair, Request, Route, Routes, TimedNet,
 };

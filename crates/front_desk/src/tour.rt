@@ -23,7 +23,7 @@ use network_tables::Network;
 use route_base::{BadInput, FileKind, Folder, Gate, Request, TableFault, TimedNet};
 use std::alloc::Global;
 use std::thread::Threads;
-use stop_tour::{Stops, TourFault, read_stops, tour, tour_text, tours_agree};
+use stop_tour::{Stops, TourFault, read_stops, tour_text, tour_with, tours_agree};
 
 // The law of the net of a trip: a text that reports right tours over the net reports them over the network's roads, and the size is too
 // large in both or in neither. The call does nothing.
@@ -55,7 +55,7 @@ fn text_of_tours(
     ensures refused { IfErr result
         (StopsAtSize (failed_size (setting_of net.now) stops.now ≡ Some TooManyStates)) }
 {
-    match tour(alloc, &FunctionEngine, net, request, stops.as_slice()) {
+    match tour_with(alloc, &FunctionEngine, net, request, stops.as_slice()) {
         Ok(routes) => Ok(tour_text(alloc, &routes)?),
         Err(TourFault::TooManyStates) => Err(too_many_states()),
         Err(TourFault::OutOfMemory) => Err(Halt::NoMemory),

@@ -7,7 +7,7 @@ ghost use Rattle.route_base.specs.Relaxing.{AreBounds};
 ghost use Rattle.route_base.specs.declared.limits.TheConstants.{LONGEST_HORIZON};
 ghost use Rattle.potentials.specs.Sums.{bound_at};
 
-use route_base::{Bounds, OutOfMemory, Request, Routes, TimedNet};
+use route_base::{Bounds, FrontSearch, OutOfMemory, Request, Routes, TimedNet};
 use std::alloc::Global;
 
 /// An engine that finds Pareto fronts by bounds that it is given.
@@ -28,4 +28,22 @@ pub trait BoundedSearch {
         requires bounds { AreBounds (setting_of net.now) request.goal.0 (bound_at bounds) }
         requires bounded { length bounds ≡ net.now.nodes }
         ensures { IfOk result (λ routes. IsRight (setting_of net.now) request routes) };
+}
+
+/// An engine that finds its own bounds among those that take bounds: what it is given is dropped.
+#[derive(Clone, Copy)]
+pub struct WithoutBounds<'a, E> {
+    pub engine: &'a E,
+}
+
+impl<E: FrontSearch> BoundedSearch for WithoutBounds<'_, E> {
+    fn front_with(
+        &self,
+        alloc: Global,
+        net: &TimedNet,
+        _bounds: Bounds,
+        request: Request,
+    ) -> Result<Routes, OutOfMemory> {
+        self.engine.front(alloc, net, request)
+    }
 }

@@ -7,6 +7,8 @@
 //! `to_goal_within` ends its search at a cap, for many short trips over a large net: each bound is the lesser of the least sum and the
 //! cap (`AreCappedBoundsTo`), and such bounds are `AreBounds` too. `cap_for_minutes` makes the cap from a trip's minutes.
 //!
+//! `BoundedSearch` is the trait of engines that take bounds, and `WithoutBounds` lets an engine without them be one.
+//!
 //! The least costs are found by a search from the goal over the arcs backwards, in the order of rising sums (`sums`; Dijkstra's
 //! algorithm). Where every cost is in proportion to the minutes of its arc (`proportion`), the least minutes are those of the least
 //! costs; otherwise they are found by a search of their own. A search keeps the sums below its cap; that of `to_goal` is above all sums.
@@ -18,6 +20,6 @@ mod bounds;
 mod proportion;
 mod sums;
 
-pub use bounded_search::BoundedSearch;
+pub use bounded_search::{BoundedSearch, WithoutBounds};
 pub use bounds::{cap_for_minutes, to_goal, to_goal_over, to_goal_within};
 pub use proportion::has_proportional_costs;

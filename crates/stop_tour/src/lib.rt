@@ -10,9 +10,8 @@
 //! `layers` builds a net with one layer for each number of served stops. A service is an arc from a layer to the next, closed outside
 //! the stop's window, and the arcs of a layer are closed as soon as it is too late for the stops that are left, which no bound of an
 //! engine can tell. `layer_bounds` gives each node of a layer its bounds over the roads to the layer's stop, and adds those from there
-//! on, so that each search for bounds goes over the roads alone and not over all layers; `without_bounds` is an engine that has bounds
-//! of its own. So an engine's front over the layers is that of the tours (`tours`), and an arc's number tells which arc is driven or
-//! which stop is served.
+//! on, so that each search for bounds goes over the roads alone and not over all layers. So an engine's front over the layers is that
+//! of the tours (`tours`), and an arc's number tells which arc is driven or which stop is served.
 //!
 //! `specs/Inside` is no law: it says what the layered net is (`Layers`), what the bounds of its nodes are (`LayerBounds`) and how its
 //! steps are read (`Unlayering`). In `proofs/`, `LayerPlaces` is about numbers in layers, `LayerLists` about their closed runs,
@@ -28,7 +27,6 @@ mod stop_table;
 mod stops;
 mod text;
 mod tours;
-mod without_bounds;
 
 pub use laws::tours_agree;
 pub use limits::MOST_STOPS;

@@ -8,10 +8,9 @@ ghost use Rattle.route_base.specs.declared.limits.TheConstants.{LONGEST_HORIZON}
 
 use crate::layer_bounds::tour_bounds;
 use crate::layers::layered_net;
-use crate::without_bounds::WithoutBounds;
 use crate::{Stop, TourFault, TourLeg, TourLegs, TourRoute, TourRoutes};
 use front_transport::MOST_STATES;
-use potentials::BoundedSearch;
+use potentials::{BoundedSearch, WithoutBounds};
 use route_base::{ArcId, FrontSearch, Leg, NodeId, OutOfMemory, Request, Route, TimedNet};
 use std::alloc::Global;
 

@@ -2,9 +2,7 @@
 ghost use Rattle.std.specs.Prelude.{◌≡◌, ◌≤◌, IfOk};
 
 use node_arcs::NodeArcs;
-use potentials::{
-    cap_for_minutes, has_proportional_costs, to_goal, to_goal_over, to_goal_within,
-};
+use potentials::{cap_for_minutes, has_proportional_costs, to_goal, to_goal_over, to_goal_within};
 use route_base::{Bound, Bounds, Cost, NodeId, OutOfMemory, TimedArc, TimedNet};
 use std::alloc::Global;
 
@@ -88,8 +86,14 @@ fn ends_at_a_cap(rt: HostRuntime) {
         let incoming = NodeArcs::incoming(rt.alloc(), &net).expect(&rt, "memory");
         let proportional = has_proportional_costs(&net);
         let most = cap_for_minutes(proportional, 100);
-        let bounds = to_goal_within(rt.alloc(), &net, &incoming, proportional, NodeId(3), most)
-            .expect(&rt, "memory");
+        let bounds = to_goal_within(
+            rt.alloc(),
+            &net,
+            &incoming,
+            proportional,
+            NodeId(3),
+            most,
+        ).expect(&rt, "memory");
         let far = bound(100, *most_cost);
         assert!(rt; bounds.get(NodeId(1)) == far, "{cost}, far node");
         assert!(rt;

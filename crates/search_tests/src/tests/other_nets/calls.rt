@@ -12,7 +12,7 @@ use plain_search::TableEngine;
 use route_base::limits::{DAY_MINUTES, LONGEST_HORIZON};
 use route_base::{OutOfMemory, Request, Routes, TimedNet};
 use std::alloc::Global;
-use stop_tour::{Stop, TourFault, TourRoutes, tour};
+use stop_tour::{Stop, TourFault, TourRoutes, tour, tour_with};
 
 // Whether all arcs of the lists are in the net.
 fn is_whole(net: &TimedNet, lists: NetLists<'_>) -> bool {
@@ -59,18 +59,24 @@ fn are_good_stops(net: &TimedNet, stops: &[Stop]) -> bool
     stops.iter().all(|stop| is_good_stop(net, *stop))
 }
 
-/// What `tour` answers; `None` where the lists aren't those of a small well-formed net, or the request or a stop isn't one over it.
+/// What `tour` answers, or `tour_with` by the engine that takes bounds; `None` where the lists aren't those of a small well-formed net, or the request or a stop isn't one over it.
 pub fn tour_over(
     alloc: Global,
     lists: NetLists<'_>,
     request: Request,
     stops: &[Stop],
+    bounded: bool,
 ) -> Result<Option<TourRoutes>, OutOfMemory> {
     let net = net_of(alloc, lists)?;
     if !is_whole(&net, lists) || !is_over(&net, request) || !are_good_stops(&net, stops) {
         return Ok(None);
     }
-    match tour(alloc, &TableEngine, &net, request, stops) {
+    let answer = if bounded {
+        tour_with(alloc, &FunctionEngine, &net, request, stops)
+    } else {
+        tour(alloc, &TableEngine, &net, request, stops)
+    };
+    match answer {
         Ok(routes) => Ok(Some(routes)),
         Err(TourFault::TooManyStates) => Ok(None),
         Err(TourFault::OutOfMemory) => Err(OutOfMemory),

@@ -145,13 +145,15 @@ fn serves_stops(alloc: Global, case: &Case, stops: &[Stop]) -> Result<Option<usi
         rule: None,
     };
     let wants = slow_front(alloc, terms, case.request)?;
-    let Some(routes) = tour_over(alloc, lists, case.request, stops)? else {
-        return Ok(None);
-    };
-    if !are_tours(routes.as_slice(), stops.len(), &wants) {
-        return Ok(None);
+    for bounded in [false, true] {
+        let Some(routes) = tour_over(alloc, lists, case.request, stops, bounded)? else {
+            return Ok(None);
+        };
+        if !are_tours(routes.as_slice(), stops.len(), &wants) {
+            return Ok(None);
+        }
     }
-    Ok(Some(routes.len()))
+    Ok(Some(wants.len()))
 }
 
 // Up to three stops.

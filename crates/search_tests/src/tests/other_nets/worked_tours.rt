@@ -258,7 +258,7 @@ fn toured(
         depart: DEPART,
         until: 26_564_080,
     };
-    tour_over(alloc, lists, request, stops)
+    tour_over(alloc, lists, request, stops, true)
 }
 
 fn is_toured(alloc: Global, row: Tour<'_>) -> Result<bool, OutOfMemory> {
