@@ -2,7 +2,7 @@
 use Rattle.std.proofs.Common.{◌≡◌, ◌⊎◌, inl, inr, ⊎_elim, ℕ, zero, suc, ◌+◌, ◌≤◌, Option, List, [], ◌∷◌, ◌++◌, length, replicate, refl, sym, ◌∙◌, ap, arith}
 use Rattle.route_base.specs.Setting.{Road}
 use Rattle.route_base.specs.Itinerary.{Step, drive, wait}
-use Rattle.drive_breaks.specs.Rested.{driven, minutes_of, IsSinceBreak, IsSinceLastBreak, KeepsRule, IsRestedFrom}
+use Rattle.drive_breaks.specs.Rested.{driven, minutes_of, IsSinceBreak, IsSinceLastBreak, IsStretch, KeepsRule, IsRestedFrom}
 use Rattle.drive_breaks.specs.Inside.WithinRule.{IsWithinRule, IsWithinRuleFrom}
 use Rattle.drive_states.specs.declared.rule.BreakRule.{BreakRule}
 
@@ -85,6 +85,32 @@ module _ (roads : ℕ → Option Road) where
   driven_less [] ys = omega arith
   driven_less (drive a ∷ xs) ys = omega (arith, driven_less xs ys)
   driven_less (wait ∷ xs) ys = driven_less xs ys
+
+  -- there is a stretch
+  pub some_stretch : (rest : ℕ) (back : List Step) → 1 ≤ rest → (x : ℕ) × IsStretch roads rest back x
+  some_stretch rest back some = ⊎_elim
+      (λ (last : (late : List Step) × IsSinceLastBreak rest back late). (driven roads last.0, inl (last.0, last.1, refl)))
+      (λ (none : (late : List Step) → IsSinceBreak rest back late → ⊥). (driven roads back, inr (none, refl)))
+      (last_break rest back some)
+
+  -- steps since the last break have as few drives as others since it
+  last_less : (rest : ℕ) (back xs ys : List Step) → IsSinceLastBreak rest back xs → IsSinceLastBreak rest back ys → driven roads xs ≤ driven roads ys
+  last_less rest back xs ys one other =
+      front_less xs ys (replicate rest wait ++ one.since.0) (replicate rest wait ++ other.since.0) (sym one.since.1 ∙ other.since.1) (one.last ys other.since)
+
+  -- there is no more than one
+  pub same_stretch : (rest : ℕ) (back : List Step) (x y : ℕ) → IsStretch roads rest back x → IsStretch roads rest back y → x ≡ y
+  same_stretch rest back x y one other = ⊎_elim
+      (λ (last : (late : List Step) × IsSinceLastBreak rest back late × (driven roads late ≡ x)). ⊎_elim
+      (λ (too : (late : List Step) × IsSinceLastBreak rest back late × (driven roads late ≡ y)).
+      omega (arith, last.2, too.2, last_less rest back last.0 too.0 last.1 too.1, last_less rest back too.0 last.0 too.1 last.1))
+      (λ (none : ((late : List Step) → IsSinceBreak rest back late → ⊥) × (driven roads back ≡ y)). absurd (none.0 last.0 last.1.since))
+      other)
+      (λ (none : ((late : List Step) → IsSinceBreak rest back late → ⊥) × (driven roads back ≡ x)). ⊎_elim
+      (λ (too : (late : List Step) × IsSinceLastBreak rest back late × (driven roads late ≡ y)). absurd (none.0 too.0 too.1.since))
+      (λ (all : ((late : List Step) → IsSinceBreak rest back late → ⊥) × (driven roads back ≡ y)). sym none.1 ∙ all.1)
+      other)
+      one
 
   module _ (rule : BreakRule) (back : List Step) (minutes : ℕ) where
     within_stretch : IsWithinRule roads rule back minutes → KeepsRule roads rule back minutes

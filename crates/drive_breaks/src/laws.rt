@@ -1,9 +1,11 @@
-// Settings that agree within a window have the same trips that keep a rule.
-ghost use Rattle.std.specs.Prelude.{◌↔◌, ℕ, List};
+// Settings that agree within a window have the same trips that keep a rule, and each drive has one stretch.
+ghost use Rattle.std.specs.Prelude.{◌≡◌, ◌↔◌, ◌≤◌, ℕ, List, Option};
+ghost use Rattle.drive_breaks.specs.Rested.{IsStretch};
 ghost use Rattle.drive_breaks.specs.Words.{AreRightRested, HasTooManyStates};
 ghost use Rattle.drive_states.specs.declared.rule.BreakRule.{BreakRule};
 ghost use Rattle.route_base.specs.Matching.{StandsFor, IsInWindow};
-ghost use Rattle.route_base.specs.Setting.{Setting};
+ghost use Rattle.route_base.specs.Itinerary.{Step};
+ghost use Rattle.route_base.specs.Setting.{Road, Setting};
 ghost use Rattle.route_base.specs.declared.types.Request.{Request};
 ghost use Rattle.route_base.specs.declared.types.Route.{Route};
 ghost use Rattle.route_base.specs.declared.types.Run.{Run};
@@ -24,3 +26,12 @@ pub fn rested_trips_agree()
     settings_agree();
     states_agree();
 }
+
+/// The law of stretches: behind any steps there is exactly one, so that a rule about the stretch is always about some minutes. The call
+/// does nothing.
+pub fn one_stretch()
+    ensures some { (roads : ℕ → Option Road) (rest : ℕ) (back : List Step) → 1 ≤ rest
+        → (x : ℕ) × IsStretch roads rest back x }
+    ensures one { (roads : ℕ → Option Road) (rest : ℕ) (back : List Step) (x y : ℕ)
+        → IsStretch roads rest back x → IsStretch roads rest back y → x ≡ y }
+{}

@@ -4,7 +4,8 @@
 //! unbroken wait of so many minutes. Split breaks and daily rest are no part of it. The law is `AreRightRested` of `specs/Rested`,
 //! a clause of `plan_breaks` and, for engines that take bounds, of `plan_breaks_with`: the pairs are the Pareto front of all lawful
 //! itineraries that keep the rule, and each pair has the legs of one. `specs/StateSize` of `drive_states` says what the states of a
-//! trip are, and when there are too many. Both are the same over settings that agree (`rested_trips_agree`).
+//! trip are, and when there are too many. Both are the same over settings that agree (`rested_trips_agree`). The rule is about the
+//! stretch since the last break, and there is always exactly one (`one_stretch`).
 //!
 //! A state is a node and the minutes driven since the last break; `drive_states` finds all states and the ways between them, or
 //! that there are too many. `states_as_net` makes a net in which each state is a node, and each drive and each break an arc; one
@@ -26,5 +27,5 @@ mod state_bounds;
 mod states_as_net;
 
 pub use drive_states::{BreakFault, BreakRule};
-pub use laws::rested_trips_agree;
+pub use laws::{one_stretch, rested_trips_agree};
 pub use rested_trips::{plan_breaks, plan_breaks_with};

@@ -28,7 +28,7 @@ returns c =
     record {
       routes = routes;
       right = (c.settings_agree.ensures.right net road window request c.is_trip_net.ensures.stands within routes).0
-          (subst (λ (r : Request). IsRight net r routes) same c.in_ok-routes.ensures.right);
+          (subst (λ (r : Request). IsRight net r routes) same c.in_ok-routes.ensures);
       is_text =
           c.in_ok-text.ensures ∙ ap (λ (r : Request). report_text Plain net r routes) same
           ∙ c.reports_agree.ensures net road window Plain request routes c.is_trip_net.ensures.stands;
