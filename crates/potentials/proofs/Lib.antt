@@ -6,3 +6,4 @@ pub mod LeastBounds
 pub mod CappedBounds
 pub mod Totals
 pub mod InProportion
+pub mod Offers

@@ -1,11 +1,13 @@
 // Least sums to a goal, by Dijkstra's search over reversed arcs, up to a cap.
-ghost use Rattle.std.specs.Prelude.{◌≡◌, ◌≤◌, ◌<◌, ◌+◌, ℕ, Option, Some, None, true, false, length, IfOk, OnOk};
+ghost use Rattle.std.specs.Prelude.{◌≡◌, ◌≤◌, ◌<◌, ◌+◌, ◌*◌, ℕ, Option, Some, None, true, false, All, length, IfOk, OnOk};
 ghost use Rattle.std.specs.Option.{IsSomeAnd};
 ghost use Rattle.route_base.specs.Net.{IsGoodNet, road_of};
 ghost use Rattle.label_queue.specs.Keys.{key_at};
 ghost use Rattle.node_arcs.specs.Stars.{EndsAt, AreIncoming};
 ghost use Rattle.node_arcs.specs.declared.links.End.TheVariants.{Head};
-ghost use Rattle.potentials.specs.Inside.Summing.{GetsSum, IsSummed, IsArcRelaxed, AreSumsBelow, WorksAt, unsettled_at, counted_on};
+ghost use Rattle.route_base.specs.declared.limits.TheConstants.{HIGHEST_COST};
+ghost use Rattle.potentials.specs.Inside.Summing.{GetsSum, IsSummed, AreSumsBelow, WorksAt, unsettled_at, counted_on};
+ghost use Rattle.potentials.specs.Inside.Summing.{IsOffer, HasOffer, IsArcRead, AreOffers, IsOfferTaken};
 
 use label_queue::LabelQueue;
 use node_arcs::NodeArcs;
@@ -40,6 +42,13 @@ pub struct Plan<'a> {
     cap: u64,
 }
 
+// A sum that an arc offers to the node at its tail.
+#[derive(Clone, Copy)]
+pub struct Offer {
+    tail: NodeId,
+    sum: u64,
+}
+
 /// The least sums to the goal that are below the cap, and that of the goal, one place for each node from 1 on. Only nodes with such a
 /// sum are settled, and only the arcs that end at these are relaxed.
 pub fn sums_below(
@@ -69,14 +78,23 @@ pub fn sums_below(
     let mut queue = LabelQueue::new(alloc, nodes)?;
     known[goal.0 as usize - 1] = Some(0);
     queue.put(goal, 0);
+    let mut offers = Vec::new(alloc);
     'turns: while let Some(least) = queue.take_least() {
-        settle(plan, &mut known, &mut queue, least.0, least.1);
+        settle(plan, &mut known, &mut queue, &mut offers, least.0, least.1)?;
     }
     Ok(known)
 }
 
-// Relaxes each arc that ends at the node at work.
-fn settle(plan: Plan<'_>, known: &mut Vec<Option<u64>>, queue: &mut LabelQueue, v: NodeId, x: u64)
+// Settles the node at work: each arc that ends there is relaxed. All arcs are read before the first sum is reached, so that the processor
+// waits for all of them at once.
+fn settle(
+    plan: Plan<'_>,
+    known: &mut Vec<Option<u64>>,
+    queue: &mut LabelQueue,
+    offers: &mut Vec<Offer>,
+    v: NodeId,
+    x: u64,
+) -> Result<(), OutOfMemory>
     requires good { IsGoodNet plan.net.now }
     requires incoming { AreIncoming plan.net.now plan.incoming.now }
     requires low { 1 ≤ v.0 }
@@ -86,6 +104,86 @@ fn settle(plan: Plan<'_>, known: &mut Vec<Option<u64>>, queue: &mut LabelQueue, 
     requires facts { IsSummed plan.net.now plan.counted plan.goal.0 plan.cap v.0
         known.old.items queue.old }
     requires work { WorksAt plan.net.now v.0 x known.old.items queue.old }
+    ensures nodes { OnOk result (length known.new.items ≡ plan.entry.net.now.nodes) }
+    ensures room { OnOk result (length queue.new ≡ plan.entry.net.now.nodes) }
+    ensures facts { OnOk result (IsSummed plan.entry.net.now plan.entry.counted plan.entry.goal.0
+        plan.entry.cap 0 known.new.items queue.new) }
+    ensures less { OnOk result (unsettled_at plan.entry.net.now known.new.items queue.new
+        ≤ unsettled_at plan.entry.net.now known.old.items queue.old) }
+{
+    read_offers(plan, offers, v, x)?;
+    take_offers(plan, known, queue, offers, v, x);
+    Ok(())
+}
+
+// Puts the sums over the arcs that end at a node into a list, in the place of what it has, where they are below the cap.
+fn read_offers(
+    plan: Plan<'_>,
+    offers: &mut Vec<Offer>,
+    v: NodeId,
+    x: u64,
+) -> Result<(), OutOfMemory>
+    requires good { IsGoodNet plan.net.now }
+    requires incoming { AreIncoming plan.net.now plan.incoming.now }
+    requires room { x + HIGHEST_COST ≤ HIGHEST_COST * (plan.net.now.nodes + 1) }
+    ensures { OnOk result (AreOffers plan.entry.net.now plan.entry.counted plan.entry.cap v.0 x
+        offers.new.items) }
+{
+    offers.clear();
+    for a in plan.incoming.of(v) {
+        add_offer(plan, offers, v, x, *a)?;
+    }
+    Ok(())
+}
+
+// Adds the sum over an arc that ends at a node, where it is below the cap.
+fn add_offer(
+    plan: Plan<'_>,
+    offers: &mut Vec<Offer>,
+    v: NodeId,
+    x: u64,
+    a: ArcId,
+) -> Result<(), OutOfMemory>
+    requires good { IsGoodNet plan.net.now }
+    requires ends { EndsAt plan.net.now Head v.0 a.0 }
+    requires room { x + HIGHEST_COST ≤ HIGHEST_COST * (plan.net.now.nodes + 1) }
+    requires each { All (IsOffer plan.net.now plan.counted v.0 x) offers.old.items }
+    ensures each { OnOk result
+        (All (IsOffer plan.entry.net.now plan.entry.counted v.0 x) offers.new.items) }
+    ensures read { OnOk result (IsArcRead plan.entry.net.now plan.entry.counted plan.entry.cap x
+        offers.new.items a.0) }
+    ensures kept { OnOk result ((u sum : ℕ) → HasOffer offers.old.items u sum
+        → HasOffer offers.new.items u sum) }
+{
+    let Some(arc) = plan.net.arc(a) else {
+        return Ok(());
+    };
+    let sum = plan.counted.of(arc) + x;
+    if sum >= plan.cap {
+        return Ok(());
+    }
+    offers.push(Offer {
+        tail: arc.tail,
+        sum,
+    })?;
+    Ok(())
+}
+
+// Gives each node the sum that it is offered by an arc that ends at the node at work.
+fn take_offers(
+    plan: Plan<'_>,
+    known: &mut Vec<Option<u64>>,
+    queue: &mut LabelQueue,
+    offers: &[Offer],
+    v: NodeId,
+    x: u64,
+)
+    requires nodes { length known.old.items ≡ plan.net.now.nodes }
+    requires room { length queue.old ≡ plan.net.now.nodes }
+    requires facts { IsSummed plan.net.now plan.counted plan.goal.0 plan.cap v.0
+        known.old.items queue.old }
+    requires work { WorksAt plan.net.now v.0 x known.old.items queue.old }
+    requires offers { AreOffers plan.net.now plan.counted plan.cap v.0 x offers.now }
     ensures nodes { length known.new.items ≡ plan.entry.net.now.nodes }
     ensures room { length queue.new ≡ plan.entry.net.now.nodes }
     ensures facts { IsSummed plan.entry.net.now plan.entry.counted plan.entry.goal.0
@@ -93,38 +191,30 @@ fn settle(plan: Plan<'_>, known: &mut Vec<Option<u64>>, queue: &mut LabelQueue, 
     ensures less { unsettled_at plan.entry.net.now known.new.items queue.new
         ≤ unsettled_at plan.entry.net.now known.old.items queue.old }
 {
-    for a in plan.incoming.of(v) {
-        relax(plan, known, queue, v, x, *a);
+    for offer in offers {
+        take_offer(plan, known, queue, v, x, *offer);
     }
 }
 
-// Relaxes one arc that ends at the node at work, where its sum is below the cap.
-fn relax(
+// Gives a node the sum that it is offered by an arc that ends at the node at work.
+fn take_offer(
     plan: Plan<'_>,
     known: &mut Vec<Option<u64>>,
     queue: &mut LabelQueue,
     v: NodeId,
     x: u64,
-    a: ArcId,
+    offer: Offer,
 )
-    requires good { IsGoodNet plan.net.now }
-    requires ends { EndsAt plan.net.now Head v.0 a.0 }
     requires nodes { length known.old.items ≡ plan.net.now.nodes }
     requires room { length queue.old ≡ plan.net.now.nodes }
     requires facts { IsSummed plan.net.now plan.counted plan.goal.0 plan.cap v.0
         known.old.items queue.old }
     requires work { WorksAt plan.net.now v.0 x known.old.items queue.old }
-    ensures { IsArcRelaxed plan.entry.net.now plan.entry.counted plan.entry.goal.0 plan.entry.cap
-        v.0 x a.0 known.old.items known.new.items queue.old queue.new }
+    requires offer { IsOffer plan.net.now plan.counted v.0 x offer }
+    ensures { IsOfferTaken plan.entry.net.now plan.entry.counted plan.entry.goal.0 plan.entry.cap
+        v.0 x offer known.old.items known.new.items queue.old queue.new }
 {
-    let Some(arc) = plan.net.arc(a) else {
-        return;
-    };
-    let sum = plan.counted.of(arc) + x;
-    if sum >= plan.cap {
-        return;
-    }
-    reach(known, queue, arc.tail, sum);
+    reach(known, queue, offer.tail, offer.sum);
 }
 
 // Gives the node this sum, where it has none or a larger one.

@@ -1,5 +1,5 @@
 -- What a search for least sums keeps (source: own; no law).
-use Rattle.std.specs.Prelude.{◌≡◌, ◌⊎◌, ℕ, suc, ◌+◌, ◌*◌, ◌≤◌, ◌<◌, min, Option, Some, None, List, length}
+use Rattle.std.specs.Prelude.{◌≡◌, ◌⊎◌, ℕ, suc, ◌+◌, ◌*◌, ◌≤◌, ◌<◌, min, Option, Some, None, List, length, All, slice_get}
 use Rattle.route_base.specs.Setting.{Road}
 use Rattle.route_base.specs.Net.{Net, setting_of}
 use Rattle.route_base.specs.declared.limits.TheConstants.{HIGHEST_COST}
@@ -7,7 +7,10 @@ use Rattle.route_base.specs.declared.types.Bound.{Bound}
 use Rattle.label_queue.specs.Keys.{key_at}
 use Rattle.potentials.specs.Sums.{Leads, bound_at}
 use Rattle.potentials.specs.Inside.Totals.{total}
+use Rattle.node_arcs.specs.Stars.{EndsAt}
+use Rattle.node_arcs.specs.declared.links.End.TheVariants.{Head}
 use Rattle.potentials.specs.declared.sums.Counted.{Counted}
+use Rattle.potentials.specs.declared.sums.Offer.{Offer}
 use Rattle.potentials.specs.declared.sums.Counted.TheVariants.{Minutes, Cost}
 
 -- a sum that is known is no larger than this
@@ -77,16 +80,40 @@ WorksAt net v x known keys = IsAtWork net.nodes HIGHEST_COST v x (key_at known) 
 abbrev pub unsettled_at : Net → List (Option ℕ) → List (Option ℕ) → ℕ
 unsettled_at net known keys = unsettled_count net.nodes (key_at known) (key_at keys)
 
--- arc a, which ends at node v at work, was relaxed up to the cap
-pub record IsArcRelaxed (net : Net) (counted : Counted) (goal cap v x a : ℕ) (known new keys new_keys : List (Option ℕ)) : Type 0 where
+-- the sum is that of an arc of the net from this tail to node v, whose own sum is x
+pub record IsOffer (net : Net) (counted : Counted) (v x : ℕ) (offer : Offer) : Type 0 where
+  pub arc : ℕ
+  pub road : Road
+  pub is : (setting_of net).road arc ≡ Some road
+  pub head : road.head ≡ v
+  pub tail : road.tail ≡ offer.tail.0
+  pub sum : offer.sum ≡ counted_on counted road + x
+  pub cheap : counted_on counted road ≤ HIGHEST_COST
+  pub node : (1 ≤ offer.tail.0) × (offer.tail.0 ≤ net.nodes)
+
+-- some offer of the list is of this sum to node u
+abbrev pub HasOffer : List Offer → ℕ → ℕ → Type 0
+HasOffer offers u sum = (k : ℕ) × (offer : Offer) × (slice_get offers k ≡ Some offer) × (offer.tail.0 ≡ u) × (offer.sum ≡ sum)
+
+-- arc a makes an offer of the list, or the search ends before its sum
+abbrev pub IsArcRead : Net → Counted → ℕ → ℕ → List Offer → ℕ → Type 0
+IsArcRead net counted cap x offers a = (road : Road) → (setting_of net).road a ≡ Some road
+    → HasOffer offers road.tail (counted_on counted road + x) ⊎ IsPastAt net cap (counted_on counted road + x)
+
+-- the offers of the arcs that end at node v, whose sum is x, up to the cap
+pub record AreOffers (net : Net) (counted : Counted) (cap v x : ℕ) (offers : List Offer) : Type 0 where
+  pub each : All (IsOffer net counted v x) offers
+  pub all : (a : ℕ) → EndsAt net Head v a → IsArcRead net counted cap x offers a
+
+-- the offer of an arc that ends at node v at work was taken
+pub record IsOfferTaken (net : Net) (counted : Counted) (goal cap v x : ℕ) (offer : Offer) (known new keys new_keys : List (Option ℕ)) : Type 0 where
   pub nodes : length new ≡ net.nodes
   pub room : length new_keys ≡ net.nodes
   pub facts : IsSummed net counted goal cap v new new_keys
   pub work : WorksAt net v x new new_keys
   pub less : unsettled_at net new new_keys ≤ unsettled_at net known keys
   pub kept : (u sum : ℕ) → HasSum (key_at known) u sum → HasSum (key_at new) u sum
-  pub relaxed : (road : Road) → (setting_of net).road a ≡ Some road
-      → IsCovered cap (HIGHEST_COST * suc net.nodes) (key_at new) road.tail (counted_on counted road + x)
+  pub has : HasSum (key_at new) offer.tail.0 offer.sum
 
 -- both bounds, where there are both
 abbrev pub bound_of_sums : Option ℕ → Option ℕ → Option Bound

@@ -1,4 +1,4 @@
-use Rattle.std.proofs.Common.{◌∙◌, ◌/◌, map, refl, ap, arith}
+use Rattle.std.proofs.Common.{◌∙◌, ◌/◌, map, ap, arith}
 use Rattle.std.specs.Option.{option_map}
 use Rattle.route_base.specs.declared.limits.TheConstants.{COST_OF_MINUTE}
 use Rattle.potentials.proofs.InProportion.{are_minutes_below, are_costs_below}

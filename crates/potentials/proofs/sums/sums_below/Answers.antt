@@ -35,7 +35,7 @@ turns-smaller c =
     let less = (goes_to_work c.args.net.now c.args.counted c.args.goal.0 c.args.cap c.in-Some.least.0.0 c.in-Some.least.1 c.turns.known.items c.turns.queue
     c.take_least.new.self c.node_count-nodes.ensures.good c.turns.invariant.room c.turns.invariant.facts c.in-Some.ensures.some).2 in
     let more : unsettled_at c.args.net.now c.settle.new.known.items c.settle.new.queue + 1 ≤ unsettled_at c.args.net.now c.turns.known.items c.turns.queue =
-    omega (arith, less, c.settle.ensures.less) in
+    omega (arith, less, c.in_ok-settle.ensures.less) in
     omega (arith, more)
 
 pub returns-clause-least : goal.returns-clause-least

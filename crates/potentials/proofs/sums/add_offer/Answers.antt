@@ -1,0 +1,54 @@
+use Rattle.std.proofs.Common.{◌≡◌, inl, ◌+◌, All, Option, Some, None, List, refl, sym, ◌∙◌, ap, subst}
+use Rattle.std.specs.Option.{option_map}
+use Rattle.std.proofs.lemmas.List.Elements.{All-push}
+use Rattle.route_base.specs.Setting.{Road}
+use Rattle.route_base.specs.Net.{road_of, at_number}
+use Rattle.route_base.specs.declared.types.TimedArc.{TimedArc}
+use Rattle.route_base.proofs.Arcs.{road_is}
+use Rattle.potentials.specs.Inside.Summing.{HasOffer, IsOffer, counted_on}
+use Rattle.potentials.specs.declared.sums.Offer.{Offer}
+use Rattle.potentials.proofs.Ending.{cheap, head_of}
+use Rattle.potentials.proofs.Offers.{added_offer, kept_offer}
+use Rattle.potentials.proofs.sums.add_offer.Goals as goal
+
+no_road : (o : Option TimedArc) (road : Road) → o ≡ None → option_map road_of o ≡ Some road → ⊥
+no_road None road none is = cc
+no_road (Some arc) road none is = cc
+
+pub returns-in_default-clause-read : goal.returns-in_default-clause-read
+returns-in_default-clause-read c road by =
+    absurd (no_road (at_number c.args.plan.net.now.arcs c.args.a.0) road (sym c.arc.ensures.value ∙ c.in_default.is) by)
+
+pub returns-clause-each : goal.returns-clause-each
+returns-clause-each c =
+    let net = c.args.plan.net.now in
+    let arc = c.in-Some.arc in
+    let is : at_number net.arcs c.args.a.0 ≡ Some arc = sym c.arc.ensures.value ∙ c.in-Some.is in
+    subst (λ (w : List Offer). All (IsOffer net c.args.plan.counted c.args.v.0 c.args.x) w) (sym c.in_ok-push.ensures.items)
+    (All-push (IsOffer net c.args.plan.counted c.args.v.0 c.args.x) c.args.offers.now.items _ c.requires.each
+    (record {
+      arc = c.args.a.0;
+      road = road_of arc;
+      is = ap (option_map road_of) is;
+      head = head_of (at_number net.arcs c.args.a.0) arc c.args.v.0 is c.requires.ends;
+      tail = refl;
+      sum = ap (λ n. n + c.args.x) c.of.ensures;
+      cheap = cheap net c.args.plan.counted arc c.in-Some.ensures.good;
+      node = c.in-Some.ensures.good.tail;
+    }))
+
+pub returns-clause-read : goal.returns-clause-read
+returns-clause-read c road by =
+    let net = c.args.plan.net.now in
+    let counted = counted_on c.args.plan.counted in
+    let arc = c.in-Some.arc in
+    let new = c.push.new.self.items in
+    let is : at_number net.arcs c.args.a.0 ≡ Some arc = sym c.arc.ensures.value ∙ c.in-Some.is in
+    let added = subst (λ (w : List Offer). HasOffer w arc.tail.0 (c.of.result + c.args.x)) (sym c.in_ok-push.ensures.items)
+    (added_offer c.args.offers.now.items _) in
+    inl (subst (λ (w : Road). HasOffer new w.tail (counted w + c.args.x)) (road_is (at_number net.arcs c.args.a.0) arc road is by)
+    (subst (λ n. HasOffer new arc.tail.0 (n + c.args.x)) c.of.ensures added))
+
+pub returns-clause-kept : goal.returns-clause-kept
+returns-clause-kept c u sum has =
+    subst (λ (w : List Offer). HasOffer w u sum) (sym c.in_ok-push.ensures.items) (kept_offer c.args.offers.now.items _ u sum has)
