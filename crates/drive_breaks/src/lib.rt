@@ -9,9 +9,12 @@
 //!
 //! A state is a node and the minutes driven since the last break; `drive_states` finds all states and the ways between them, or
 //! that there are too many. `states_as_net` makes a net in which each state is a node, and each drive and each break an arc; one
-//! further node, which is entered by a copy of each drive to the goal, is the goal of that net. `state_bounds` gives each state the
-//! bounds of its node over the roads, which are far fewer, and adds the minutes of the breaks that are still needed. An engine's
-//! front of that net is the front (`rested_trips`), and `sources` turns its legs into legs of the net.
+//! further node, which is entered by a copy of each drive to the goal, is the goal of that net. An engine's front of that net is the
+//! front (`rested_trips`), and `sources` turns its legs into legs of the net.
+//!
+//! The search is pruned by bounds. `label_bounds` finds them by a search over labels of nodes, without the states, and `bounds_check`
+//! tests in one pass over the arcs that they hold. Where they don't, `state_bounds` gives each state the bounds of its node over the
+//! roads, and adds the minutes of the breaks that are still needed.
 //!
 //! `specs/Inside` is no law. `WithinRule` has the rule in the form that the proof keeps, since the start or *some* break: it is the
 //! same by `proofs/LastBreak`. `StateNet` says what the net over states is, `StateBounds` what the bounds of its nodes are, and
@@ -20,6 +23,8 @@
 //! them together, by `front_transport`.
 #![tactic(auto)]
 
+mod bounds_check;
+mod label_bounds;
 mod laws;
 mod rested_trips;
 mod sources;

@@ -5,8 +5,8 @@ ghost use Rattle.drive_breaks.specs.Words.{AreRightRested, HasTooManyStates, IsE
 ghost use Rattle.drive_states.specs.declared.rule.BreakFault.TheVariants.{TooManyStates};
 ghost use Rattle.route_base.specs.declared.limits.TheConstants.{DAY_MINUTES, LONGEST_HORIZON};
 
+use crate::bounds_check::net_bounds;
 use crate::sources::unpacked_routes;
-use crate::state_bounds::state_bounds;
 use crate::states_as_net::{Ground, state_arcs, state_net};
 use drive_states::{BreakFault, BreakRule, Explored, Plan, explore};
 use node_arcs::NodeArcs;
@@ -59,9 +59,9 @@ fn routes_over<E: BoundedSearch>(
         goal: request.goal,
         states: states.as_slice(),
     };
-    let bounds = state_bounds(alloc, ground)?;
     let built = state_arcs(alloc, ground, explored.ways)?;
     let over = state_net(alloc, net, ground.states, built.arcs)?;
+    let bounds = net_bounds(alloc, ground, &over)?;
     let trip = Request {
         origin: NodeId(1),
         goal: NodeId(states.len() as u32 + 1),
@@ -154,11 +154,12 @@ pub fn plan_breaks<E: FrontSearch>(
     plan_breaks_with(alloc, &WithoutBounds { engine }, net, request, rule)
 }
 
-/// The same by an engine that takes bounds. Those of a state are the least minutes and the least cost from its node to the goal over
-/// the arcs of the net, with the minutes of the breaks that are still needed.
+/// The same by an engine that takes bounds. Those of a state are the least minutes and the least cost from it to the goal, breaks
+/// included, as a search over labels of nodes finds them. Where that search takes too long, or its bounds don't hold along each arc
+/// over states, they are those of the node over the arcs of the net, with the minutes of the breaks that are still needed.
 ///
-/// It takes the time and memory of `to_goal` over the net, of a net with a node for each state and an arc for each drive and break,
-/// and of a search over it by bounds that are given. The bounds of the states are linear in their number.
+/// It takes the time and memory of two searches over the net's labels, of a net with a node for each state and an arc for each drive
+/// and break, of a pass over these arcs, and of a search over them by bounds that are given.
 pub fn plan_breaks_with<E: BoundedSearch>(
     alloc: Global,
     engine: &E,

@@ -1,7 +1,9 @@
 -- The bounds of states: those of their nodes, with the breaks that are still to be taken (source: own; no law).
-use Rattle.std.specs.Prelude.{◌≡◌, ℕ, ◌+◌, ◌-◌, ◌*◌, ◌/◌, min, max, Option, Some, List, [], ◌∷◌, ◌++◌, map}
+use Rattle.std.specs.Prelude.{◌≡◌, ◌⊎◌, ℕ, ◌+◌, ◌-◌, ◌*◌, ◌/◌, ⊤, min, max, Option, Some, None, List, [], ◌∷◌, ◌++◌, length, map}
 use Rattle.std.specs.Option.{option_map}
-use Rattle.route_base.specs.Net.{Net}
+use Rattle.route_base.specs.Net.{Net, setting_of}
+use Rattle.route_base.specs.Relaxing.{AreBounds, IsBoundThrough}
+use Rattle.route_base.specs.Setting.{Road}
 use Rattle.route_base.specs.declared.limits.TheConstants.{LONGEST_HORIZON}
 use Rattle.route_base.specs.declared.types.Bound.{Bound}
 use Rattle.potentials.specs.Sums.{AreBoundsTo, bound_at}
@@ -32,3 +34,13 @@ pub record AreStateBounds (net : Net) (rule : BreakRule) (goal : ℕ) (states : 
   pub roads : List (Option Bound)
   pub least : AreBoundsTo net goal roads
   pub are : over ≡ bounds_over rule (bound_at roads) states
+
+-- the bounds are no larger than the way over this road, if there is one
+abbrev pub IsBoundedAlong : (ℕ → Option Bound) → Option Road → Type 0
+IsBoundedAlong bounds None = ⊤
+IsBoundedAlong bounds (Some road) = (h : Bound) → bounds road.head ≡ Some h → (b : Bound) × (bounds road.tail ≡ Some b) × IsBoundThrough road h b
+
+-- bounds of the net over states: those by the net's nodes, or others for all its nodes that hold along each arc
+abbrev pub AreNetBounds : Net → BreakRule → ℕ → List State → Net → List (Option Bound) → Type 0
+AreNetBounds net rule goal states over bounds = AreStateBounds net rule goal states bounds
+    ⊎ (AreBounds (setting_of over) (length states + 1) (bound_at bounds) × (length bounds ≡ length states + 1))
