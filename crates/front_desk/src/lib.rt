@@ -5,16 +5,16 @@
 //! Each command has a module of its own, `plan`, `judgement` (of certificates), `bans`, `latest`, `batch`, `generation` (of networks), `tour`,
 //! `breaks` and `explain`; `commands` has one case for each. `desk` has the top call, `run`, and `run_gated`, whose workers go through a
 //! gate; `outcome` says how a command may end; `laws` has the numbers of the limits, the law that `check` accepts what `plan` writes, the law
-//! of explanations, and that of one text for one request. The commands are those of `front_words`; reports and the lines of refusals are those of `plan_report`, latest
-//! departures those of `latest_departure`, tours those of `stop_tour`, and explanations those of `trip_explain`.
+//! of explanations, and that of one text for one request. The commands are those of `front_words`; reports and the lines of refusals are
+//! those of `plan_report`, latest departures those of `latest_departure`, tours those of `stop_tour`, and explanations those of
+//! `trip_explain`.
 //!
 //! The law of `run` is in `specs/`. `Run` says which text is due with each status and what a run promises by its status, over `Commands` (the
 //! answer, the refusals and the files of each command, one line a command and a last one for all others), `Trips` (the first check that
 //! fails), and `Plan`, `Check`, `Bans`, `Latest`, `Batch`, `Gen`, `Tour`, `Breaks` and `Explain` (the answers of the commands); `OneText` says
-//! which commands have one text over the same files; the files are
-//! those of `network_folder`. It is proved on `run`; each other call answers exactly as its definition says, a command's by one clause, `Ends`.
-//! `Inside` is no law: it has how a command ends, and the facts that the functions hand to one another. `Words` passes the names of all these
-//! on to the contracts.
+//! which commands have one text over the same files; the files are those of `network_folder`. It is proved on `run`; each other call answers
+//! exactly as its definition says, a command's by one clause, `Ends`. `Inside` is no law: it has how a command ends, and the facts that the
+//! functions hand to one another. `Words` passes the names of all these on to the contracts.
 #![tactic(auto)]
 
 mod bans;

@@ -20,7 +20,7 @@ pub struct SearchArcs {
     pub proportional: bool,
 }
 
-/// What searches over the net share. Linear in nodes and arcs, in time and memory.
+/// What searches over the net share. Linear in nodes and arcs, in time and memory. The only error is out of memory.
 pub fn search_arcs(alloc: Global, net: &TimedNet) -> Result<SearchArcs, OutOfMemory>
     ensures { IfOk result (AreSearchArcs net.now) }
 {
@@ -31,9 +31,9 @@ pub fn search_arcs(alloc: Global, net: &TimedNet) -> Result<SearchArcs, OutOfMem
     })
 }
 
-/// The Pareto front of a request as `FrontSearch` has it, by arcs that searches share. Nodes from which the goal is farther than the
-/// request's minutes are left out of the bounds and so of the search. Takes the time and memory of `to_goal_within`, of `search_with`
-/// and of `unpack_over` for each pair.
+/// The Pareto front of a request as `FrontSearch` has it, by arcs that searches share. Bounds end at the request's minutes, so that
+/// nodes from which the goal is farther are neither settled nor searched. Takes the time and memory of `to_goal_within`, of
+/// `search_with` and of `unpack_over` for each pair. The only error is out of memory.
 pub fn front_over(
     alloc: Global,
     net: &TimedNet,

@@ -14,15 +14,16 @@
 //! than is what its *borders* dominate: the pair a thousandth dearer, and the pair a minute later. Beside the pairs the search keeps
 //! these borders, in the same order, and prunes by them.
 //!
-//! The law is `IsFoundFor` of `specs/Found`: the pairs are the front of all lawful itineraries, the bounds are the least to the
-//! goal, and with them the functions leave no lawful itinerary out (`IsComplete` of `route_base`); each position of each lawful
-//! itinerary of a pair is known at its cost (`HasEveryWay`); each cost is that of a lawful walk, comes by a step from another, and
-//! is at a minute from which the goal is in reach; the functions are reduced. It is proved at `search`.
+//! The law is `IsFoundFor` of `specs/Found`: the pairs are the front of all lawful itineraries, and with the bounds the functions
+//! leave no lawful itinerary out (`IsComplete` of `route_base`); each position of each lawful itinerary of a pair is known at its
+//! cost (`HasEveryWay`); each cost is that of a lawful walk, comes by a step from another, and is at a minute from which the goal is
+//! in reach by the bounds; the functions are reduced. It is proved at `search_with` for any bounds that hold along each arc, and at
+//! `search` for the least bounds to the goal.
 //!
 //! The proof speaks of functions of node and minute, never of pieces. `specs/Inside/Invariants` has what the search keeps, the part
 //! at work beside it: every wait is relaxed at once; a drive is relaxed, or its label is pending, prunable, or in the part.
 //! `Pairs` has how pairs and their borders go in, `Offers` what a part becomes on its way over an arc, `States` how vectors are
-//! seen so, `Measures` why the search ends, and `EntrySets` the minutes at which drives can begin, which are made once for each
+//! seen so and which arcs a turn has read, `Measures` why the search ends, and `EntrySets` the minutes at which drives can begin, which are made once for each
 //! list of closed runs and length.
 #![tactic(auto)]
 
