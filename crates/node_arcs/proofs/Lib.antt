@@ -1,5 +1,6 @@
-pub mod Chaining
-pub mod Placing
+pub mod ArcEnds
 pub mod Counting
+pub mod Placing
+pub mod Writing
 pub mod DriveEnds
 pub mod StarPlaces
