@@ -13,8 +13,8 @@ pub enum End {
 
 impl End {
     // The node at this end of the arc.
-    pub(crate) fn of(self, arc: TimedArc) -> NodeId
-        ensures { result.0 ≡ node_at self arc }
+    pub(crate) fn of(self, arc: &TimedArc) -> NodeId
+        ensures { result.0 ≡ node_at self arc.now }
     {
         match self {
             End::Tail => arc.tail,
