@@ -2,6 +2,7 @@
 ghost use Rattle.std.specs.Prelude.{◌≡◌, ◌≤◌, ◌<◌, ◌+◌, ◌-◌, ◌^◌, ℕ, Option, Some, None, List, length, IfSome, IsNone, OnOk};
 ghost use Rattle.std.specs.Option.{IsSomeAnd};
 ghost use Rattle.label_queue.specs.Keys.{key_at, IsSet, IsOneOfLeastTaken};
+ghost use Rattle.label_queue.specs.Rising.{AdmitsFrom};
 
 use crate::buckets::BucketQueue;
 use crate::queue::LabelQueue;
@@ -42,8 +43,7 @@ pub trait NodeQueue {
             IsOneOfLeastTaken (keys self.old) (keys self.new) r.0.0 r.1) }
         ensures none { IsNone result → (v : ℕ) → key_at (keys self.old) v ≡ None }
         ensures span { span self.new ≡ span self.old }
-        ensures admits { IfSome result (λ r. (k : ℕ) → r.1 ≤ k → k < r.1 + span self.new
-            → k < 2 ^ 64 - 1 → admits self.new k) };
+        ensures admits { IfSome result (λ r. AdmitsFrom (admits self.new) r.1 (span self.new)) };
 }
 
 impl NodeQueue for LabelQueue {
