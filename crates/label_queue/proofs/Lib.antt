@@ -4,3 +4,8 @@ pub mod Moving
 pub mod Opening
 pub mod Viewing
 pub mod Places
+pub mod Numbers
+pub mod Entries
+pub mod Waiting
+pub mod Lowest
+pub mod Bucketed

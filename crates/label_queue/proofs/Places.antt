@@ -1,5 +1,5 @@
 -- Keys by place: a write to a place sets the key of one node.
-use Rattle.std.proofs.Common.{◌≡◌, ⊎_elim, ℕ, zero, suc, ◌-◌, ◌≤◌, ◌<◌, Option, None, List, length, get_or, set, replicate, refl, sym, ◌∙◌, ap, arith}
+use Rattle.std.proofs.Common.{◌≡◌, ⊎_elim, ℕ, zero, suc, ◌-◌, ◌≤◌, ◌<◌, Option, Some, None, List, length, get_or, set, replicate, refl, sym, ◌∙◌, ap, arith}
 use Rattle.std.proofs.Common.{get_or-set_other, get_or-set_same, length-set}
 use Rattle.std.proofs.lemmas.Bool.{cases_lt}
 use Rattle.std.proofs.lemmas.Option.{slice_get-get_or, slice_get_past}
@@ -19,6 +19,14 @@ key_past keys (suc i) past = ap option_flatten (slice_get_past keys i (omega (ar
 pub key_zero : (keys : List (Option ℕ)) → key_at keys 0 ≡ None
 unfolding key_at
 key_zero keys = refl
+
+-- a node with a key has a place
+pub key_within : (keys : List (Option ℕ)) (v key : ℕ) → key_at keys v ≡ Some key → (1 ≤ v) × (v ≤ length keys)
+key_within keys zero key is = let bad : None ≡ Some key = sym (key_zero keys) ∙ is in cc
+key_within keys (suc v) key is = ⊎_elim
+    (λ (past : length keys < suc v). let bad : None ≡ Some key = sym (key_past keys (suc v) past) ∙ is in cc)
+    (λ (within : suc v ≤ length keys). (omega arith, within))
+    (cases_lt (length keys) (suc v))
 
 pub is_set : (keys : List (Option ℕ)) (v : ℕ) (key : Option ℕ) → 1 ≤ v → v ≤ length keys → IsSet keys (set keys (v - 1) key) v key
 is_set keys v key low high = record {

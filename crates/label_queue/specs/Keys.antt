@@ -23,3 +23,10 @@ pub record IsLeastTaken (old new : List (Option ℕ)) (v key : ℕ) : Type 0 whe
   pub was : key_at old v ≡ Some key
   pub least : IsLeastKey old v key
   pub now : IsSet old new v None
+
+-- node v had a key than which none is smaller, and has none now
+pub record IsOneOfLeastTaken (old new : List (Option ℕ)) (v key : ℕ) : Type 0 where
+  pub node : (1 ≤ v) × (v ≤ length old)
+  pub was : key_at old v ≡ Some key
+  pub least : (w other : ℕ) → key_at old w ≡ Some other → key ≤ other
+  pub now : IsSet old new v None

@@ -1,2 +1,3 @@
 pub mod Keys
+pub mod Rising
 pub mod Inside

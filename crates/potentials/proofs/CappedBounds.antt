@@ -1,5 +1,5 @@
 -- Capped sums as bounds.
-use Rattle.std.proofs.Common.{◌≡◌, inl, inr, ⊎_elim, ℕ, ◌+◌, ◌-◌, ◌≤◌, ◌<◌, min, Option, Some, None, List, [], ◌∷◌, length, refl, ◌∙◌, subst, arith}
+use Rattle.std.proofs.Common.{◌≡◌, inl, inr, ⊎_elim, ℕ, ◌+◌, ◌-◌, ◌≤◌, ◌<◌, min, Option, Some, None, List, [], ◌∷◌, refl, ◌∙◌, subst, arith}
 use Rattle.std.proofs.lemmas.Bool.{cases_lt}
 use Rattle.route_base.specs.Setting.{Road}
 use Rattle.route_base.specs.Net.{Net, IsGoodNet, road_of, setting_of, at_number}
@@ -9,20 +9,20 @@ use Rattle.route_base.proofs.Logic.{map_some}
 use Rattle.route_base.proofs.Arcs.{good_arc}
 use Rattle.label_queue.specs.Keys.{key_at}
 use Rattle.potentials.specs.Sums.{Leads, IsCappedSum, HasCappedBound, AreCappedBoundsTo, bound_at}
-use Rattle.potentials.specs.Inside.Summing.{IsPastAt, IsSumBelow, AreSumsBelow, AreBoundsIn, bound_in, capped_at}
-use Rattle.potentials.specs.declared.sums.Counted.TheVariants.{Minutes, Cost}
+use Rattle.potentials.specs.Inside.Caps.{AreBoundsIn, AreSumsTo, IsPastCap, bound_in, capped_at, costs_of}
+use Rattle.potentials.specs.Inside.Summing.{IsSumBelow}
+use Rattle.potentials.specs.declared.bounds.Sums.{Sums}
 use Rattle.potentials.proofs.LeastBounds.{no_bound}
 
 module _ (roads : ℕ → Option Road) (count : Road → ℕ) (goal cap : ℕ) where
   -- a sum that a search finds, capped where it ends
-  capped_sum : (past : ℕ → Type 0) (v : ℕ) (o : Option ℕ) → ((sum : ℕ) → past sum → cap ≤ sum) → IsSumBelow roads count goal past v o
-      → IsCappedSum roads count goal v cap (capped_at cap o)
-  capped_sum past v None ends below = record { within = omega arith; least = λ arcs sum leads. ends sum (below arcs sum leads); is = inl refl }
-  capped_sum past v (Some x) ends below = record {
+  capped_sum : (v : ℕ) (o : Option ℕ) → IsSumBelow roads count goal (IsPastCap (Some cap)) v o → IsCappedSum roads count goal v cap (capped_at cap o)
+  capped_sum v None below = record { within = omega arith; least = λ arcs sum leads. below arcs sum leads; is = inl refl }
+  capped_sum v (Some x) below = record {
     within = omega arith;
     least = λ arcs sum leads. ⊎_elim
         (λ (le : x ≤ sum). omega (arith, le))
-        (λ (end : past sum). omega (arith, ends sum end))
+        (λ (end : cap ≤ sum). omega (arith, end))
         (below.1 arcs sum leads);
     is = ⊎_elim
         (λ (more : cap < x). inl (omega (arith, more)))
@@ -69,20 +69,21 @@ module _ (net : Net) (good : IsGoodNet net) (goal : ℕ) (low : 1 ≤ goal) (hig
             );
       }
 
-  -- sums below the caps, with the caps where there are none, are capped bounds
-  pub capped_bounds : (minutes costs : List (Option ℕ)) → length costs ≡ net.nodes → AreSumsBelow net Minutes goal most.minutes minutes
-      → AreSumsBelow net Cost goal most.cost costs → (list : List (Option Bound)) → AreBoundsIn (Some most) minutes costs list
-      → AreCappedBoundsTo net goal most list
-  capped_bounds minutes costs long m c list made = record { each = each; bounds = hold (bound_at list) each; nodes = made.nodes ∙ long }
+  -- sums up to the caps, with the caps where there are none, are capped bounds
+  pub capped_bounds : (sums : Sums) → AreSumsTo net goal (Some most) sums → (list : List (Option Bound))
+      → AreBoundsIn (Some most) sums.minutes.items (costs_of sums) list → AreCappedBoundsTo net goal most list
+  capped_bounds sums found list made = record { each = each; bounds = hold (bound_at list) each; nodes = made.nodes ∙ found.costs_nodes }
     where
       each : (v : ℕ) → 1 ≤ v → v ≤ net.nodes → HasCappedBound (setting_of net) goal most (bound_at list) v
       each v some within =
           let e : v - 1 + 1 ≡ v = omega (arith, some) in
           let roads = (setting_of net).road in
+          let minutes = sums.minutes.items in
+          let costs = costs_of sums in
           record {
             bound = record { minutes = capped_at most.minutes (key_at minutes v); cost = capped_at most.cost (key_at costs v) };
             is = subst (λ u. bound_at list u ≡ bound_in (Some most) (key_at minutes u) (key_at costs u)) e
-                (made.each (v - 1) (omega (arith, some, within, long)));
-            minutes = capped_sum roads (λ r. r.minutes) goal most.minutes (IsPastAt net most.minutes) v (key_at minutes v) (λ sum end. end.within) (m v);
-            cost = capped_sum roads (λ r. r.cost) goal most.cost (IsPastAt net most.cost) v (key_at costs v) (λ sum end. end.within) (c v);
+                (made.each (v - 1) (omega (arith, some, within, found.costs_nodes)));
+            minutes = capped_sum roads (λ r. r.minutes) goal most.minutes v (key_at minutes v) (found.minutes v);
+            cost = capped_sum roads (λ r. r.cost) goal most.cost v (key_at costs v) (found.costs v);
           }

@@ -1,26 +1,32 @@
 -- Arcs of a net, and where they end.
-use Rattle.std.proofs.Common.{◌≡◌, inl, ⊎_elim, ℕ, zero, suc, ◌+◌, ◌≤◌, ◌<◌, Option, Some, None, List, [], length, sym, ◌∙◌, ap, arith}
+use Rattle.std.proofs.Common.{◌≡◌, inl, ⊎_elim, ℕ, zero, suc, ◌+◌, ◌-◌, ◌*◌, ◌^◌, ◌≤◌, ◌<◌, Option, Some, None, List, [], length, sym, ◌∙◌, ap, arith}
 use Rattle.std.specs.Option.{option_map}
 use Rattle.std.proofs.lemmas.Bool.{cases_eq}
 use Rattle.std.proofs.Math.Nat.{mul-le-mul_left}
 use Rattle.route_base.specs.Setting.{Road}
 use Rattle.route_base.specs.Net.{Net, IsGoodNet, IsGoodArc, road_of, setting_of, at_number}
+use Rattle.route_base.specs.declared.limits.TheConstants.{MOST_NET_NODES}
 use Rattle.route_base.specs.declared.types.TimedArc.{TimedArc}
-use Rattle.label_queue.specs.Keys.{key_at, IsLeastTaken}
-use Rattle.potentials.specs.Inside.Summing.{IsSumming, IsSummed, unsettled, counted_on, WorksAt, unsettled_at}
+use Rattle.label_queue.specs.Keys.{key_at, IsOneOfLeastTaken}
+use Rattle.potentials.specs.Inside.Summing.{IsSumming, IsSummed, unsettled, counted_on, most_on, WorksAt, unsettled_at}
 use Rattle.potentials.specs.Inside.Totals.{total}
 use Rattle.node_arcs.specs.Stars.{EndsAt}
 use Rattle.node_arcs.specs.declared.links.End.TheVariants.{Head}
-use Rattle.route_base.specs.declared.limits.TheConstants.{HIGHEST_COST}
 use Rattle.route_base.proofs.Logic.{map_some}
 use Rattle.route_base.proofs.Arcs.{good_arc}
 use Rattle.potentials.specs.declared.sums.Counted.{Counted}
 use Rattle.potentials.specs.declared.sums.Counted.TheVariants.{Minutes, Cost}
 use Rattle.potentials.proofs.Summing.{takes_least}
 
-pub cheap : (net : Net) (counted : Counted) (arc : TimedArc) → IsGoodArc net arc → counted_on counted (road_of arc) ≤ HIGHEST_COST
-cheap net Minutes arc good = omega (arith, good.minutes)
+pub cheap : (net : Net) (counted : Counted) (arc : TimedArc) → IsGoodArc net arc → counted_on counted (road_of arc) ≤ most_on counted
+cheap net Minutes arc good = good.minutes.1
 cheap net Cost arc good = good.cost
+
+-- a sum over an arc fits its type, below the highest number
+pub sum_fits : (counted : Counted) (n x nodes : ℕ) → n ≤ most_on counted → x + most_on counted ≤ most_on counted * (nodes + 1) → nodes ≤ MOST_NET_NODES
+    → n + x < 2 ^ 64 - 1
+sum_fits Minutes n x nodes cheap room few = omega (arith, cheap, room, few)
+sum_fits Cost n x nodes cheap room few = omega (arith, cheap, room, few)
 
 pub head_of : (o : Option TimedArc) (arc : TimedArc) (v : ℕ) → o ≡ Some arc → option_map (λ w. w.head.0) o ≡ Some v → arc.head.0 ≡ v
 head_of None arc v is ends = cc
@@ -73,10 +79,9 @@ begins roads count goal nodes most cap known keys here others key no_keys = reco
 
 -- the least node is taken out to work
 pub goes_to_work : (net : Net) (counted : Counted) (goal cap v x : ℕ) (known old_keys new_keys : List (Option ℕ)) → IsGoodNet net → length old_keys ≡ net.nodes
-    → IsSummed net counted goal cap 0 known old_keys → IsLeastTaken old_keys new_keys v x
-    → IsSummed net counted goal cap v known new_keys × WorksAt net v x known new_keys × (unsettled_at net known new_keys + 1 ≤ unsettled_at net known old_keys)
+    → IsSummed net counted goal cap 0 known old_keys → IsOneOfLeastTaken old_keys new_keys v x
+    → IsSummed net counted goal cap v known new_keys × WorksAt net counted v x known new_keys × (unsettled_at net known new_keys + 1 ≤ unsettled_at net known old_keys)
 goes_to_work net counted goal cap v x known old_keys new_keys good room facts taken =
-    takes_least (setting_of net).road (counted_on counted) goal net.nodes HIGHEST_COST cap v x (key_at known) (key_at old_keys) (key_at new_keys)
+    takes_least (setting_of net).road (counted_on counted) goal net.nodes (most_on counted) cap v x (key_at known) (key_at old_keys) (key_at new_keys)
     (no_zero net good) (omega (arith, taken.node, room)) facts taken.was
-    (λ w key is. ⊎_elim (λ (less : x < key). omega (arith, less)) (λ (same : (x ≡ key) × (v ≤ w)). omega (arith, same.0)) (taken.least w key is))
-    taken.now.here taken.now.others
+    taken.least taken.now.here taken.now.others

@@ -1,9 +1,9 @@
 -- Least sums as bounds.
 use Rattle.std.specs.Option.{option_flatten}
-use Rattle.std.proofs.Common.{◌≡◌, ⊎_elim, ℕ, suc, ◌+◌, ◌-◌, ◌^◌, ◌≤◌, ◌<◌, Option, Some, None, List, [], ◌∷◌, ◌++◌, length, refl, sym, ◌∙◌, ap, subst, arith}
+use Rattle.std.proofs.Common.{◌≡◌, ⊎_elim, ℕ, suc, ◌+◌, ◌-◌, ◌≤◌, ◌<◌, Option, Some, None, List, [], ◌∷◌, ◌++◌, length, refl, sym, ◌∙◌, ap, subst, arith}
 use Rattle.std.specs.Prelude.{slice_get}
 use Rattle.std.proofs.lemmas.Bool.{cases_lt}
-use Rattle.route_base.specs.Net.{Net, IsGoodNet, at_number, setting_of}
+use Rattle.route_base.specs.Net.{Net, at_number, setting_of}
 use Rattle.label_queue.specs.Keys.{key_at}
 use Rattle.label_queue.proofs.Places.{key_past, key_zero}
 use Rattle.std.specs.Option.{option_map}
@@ -13,9 +13,9 @@ use Rattle.route_base.specs.declared.types.Bound.{Bound}
 use Rattle.route_base.proofs.Numbered.{number_past}
 use Rattle.route_base.proofs.Items.{slice_get-append_left, slice_get-push_end}
 use Rattle.potentials.specs.Sums.{Leads, IsLeastSum, AreLeastBounds, AreBoundsTo, bound_at}
-use Rattle.potentials.specs.Inside.Summing.{IsPastAt, IsSumBelow, AreSumsBelow, AreBoundsIn, bound_of_sums, counted_on}
-use Rattle.potentials.specs.declared.sums.Counted.{Counted}
-use Rattle.potentials.specs.declared.sums.Counted.TheVariants.{Minutes, Cost}
+use Rattle.potentials.specs.Inside.Caps.{AreBoundsIn, AreSumsTo, IsPastCap, bound_of_sums, costs_of}
+use Rattle.potentials.specs.Inside.Summing.{IsSumBelow}
+use Rattle.potentials.specs.declared.bounds.Sums.{Sums}
 
 -- the same arcs, with another count
 pub counted_too : (roads : ℕ → Option Road) (one two : Road → ℕ) (goal : ℕ) (arcs : List ℕ) (v sum : ℕ) → Leads roads one goal arcs v sum → (other : ℕ)
@@ -109,27 +109,21 @@ least_all s goal bounds minutes costs all p q v =
     × IsLeastSum s.road (λ r. r.cost) goal v (option_map (λ b. b.cost) o)) (sym (all v))
     (both_least s.road (λ r. r.minutes) (λ r. r.cost) goal v (key_at minutes v) (key_at costs v) (p v) (q v))
 
--- sums that a search finds are the least where it has no end
-least_of : (roads : ℕ → Option Road) (count : Road → ℕ) (goal : ℕ) (past : ℕ → Type 0) (v : ℕ) (o : Option ℕ) → ((sum : ℕ) → past sum → ⊥)
-    → IsSumBelow roads count goal past v o → IsLeastSum roads count goal v o
-least_of roads count goal past v None never below = λ arcs sum leads. never sum (below arcs sum leads)
-least_of roads count goal past v (Some x) never below = (
-  below.0,
-  λ arcs sum leads. ⊎_elim (λ (le : x ≤ sum). le) (λ (end : past sum). absurd (never sum end)) (below.1 arcs sum leads),
-)
+-- sums that a search finds are the least where it has no cap
+least_of : (roads : ℕ → Option Road) (count : Road → ℕ) (goal v : ℕ) (o : Option ℕ) → IsSumBelow roads count goal (IsPastCap None) v o
+    → IsLeastSum roads count goal v o
+least_of roads count goal v None below = below
+least_of roads count goal v (Some x) below =
+    (below.0, λ arcs sum leads. ⊎_elim (λ (le : x ≤ sum). le) (λ (end : ⊥). absurd end) (below.1 arcs sum leads))
 
--- they go on below any cap that no sum of a net reaches
-least_over : (net : Net) (counted : Counted) (goal : ℕ) (sums : List (Option ℕ)) → IsGoodNet net → AreSumsBelow net counted goal (2 ^ 64 - 1) sums → (v : ℕ)
-    → IsLeastSum (setting_of net).road (counted_on counted) goal v (key_at sums v)
-least_over net counted goal sums good below v =
-    least_of (setting_of net).road (counted_on counted) goal (IsPastAt net (2 ^ 64 - 1)) v (key_at sums v)
-    (λ sum end. omega (arith, end.added, good.nodes)) (below v)
-
-pub least_bounds : (net : Net) → IsGoodNet net → (goal : ℕ) (minutes costs : List (Option ℕ)) → length minutes ≡ net.nodes → length costs ≡ net.nodes
-    → AreSumsBelow net Minutes goal (2 ^ 64 - 1) minutes → AreSumsBelow net Cost goal (2 ^ 64 - 1) costs → (list : List (Option Bound))
-    → AreBoundsIn None minutes costs list → AreBoundsTo net goal list
-least_bounds net good goal minutes costs long long' m c list made =
+pub least_bounds : (net : Net) (goal : ℕ) (sums : Sums) → AreSumsTo net goal None sums → (list : List (Option Bound))
+    → AreBoundsIn None sums.minutes.items (costs_of sums) list → AreBoundsTo net goal list
+least_bounds net goal sums found list made =
     let s = setting_of net in
-    let each = bound_all list minutes costs (length costs) made.nodes (long ∙ sym long') made.each in
-    let least = least_all s goal list minutes costs each (least_over net Minutes goal minutes good m) (least_over net Cost goal costs good c) in
-    record { least = least; bounds = bounds_hold s goal (bound_at list) least; nodes = made.nodes ∙ long' }
+    let minutes = sums.minutes.items in
+    let costs = costs_of sums in
+    let each = bound_all list minutes costs (length costs) made.nodes (found.minutes_nodes ∙ sym found.costs_nodes) made.each in
+    let least = least_all s goal list minutes costs each
+    (λ v. least_of s.road (λ r. r.minutes) goal v (key_at minutes v) (found.minutes v))
+    (λ v. least_of s.road (λ r. r.cost) goal v (key_at costs v) (found.costs v)) in
+    record { least = least; bounds = bounds_hold s goal (bound_at list) least; nodes = made.nodes ∙ found.costs_nodes }

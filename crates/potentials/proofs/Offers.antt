@@ -1,23 +1,18 @@
 -- Offers of sums, read one after another.
-use Rattle.std.proofs.Common.{◌≡◌, inl, inr, ⊎_elim, ℕ, zero, suc, ◌+◌, ◌<◌, Some, List, [], ◌∷◌, ◌++◌, length, refl, ◌∙◌, arith}
-use Rattle.std.specs.Prelude.{slice_get}
+use Rattle.std.proofs.Common.{inl, inr, ⊎_elim, ℕ, ◌+◌, List, [], ◌∷◌, ◌++◌, length, refl, ◌∙◌}
+use Rattle.std.proofs.lemmas.Option.{slice_get_within}
 use Rattle.route_base.specs.Net.{Net}
 use Rattle.route_base.proofs.Items.{slice_get-append_left, slice_get-push_end}
 use Rattle.potentials.specs.Inside.Summing.{HasOffer, IsArcRead, IsPastAt, counted_on}
 use Rattle.potentials.specs.declared.sums.Counted.{Counted}
 use Rattle.potentials.specs.declared.sums.Offer.{Offer}
 
-pub offer_within : (offers : List Offer) (k : ℕ) (offer : Offer) → slice_get offers k ≡ Some offer → k < length offers
-offer_within [] k offer is = cc
-offer_within (o ∷ offers) zero offer is = omega arith
-offer_within (o ∷ offers) (suc k) offer is = omega (arith, offer_within offers k offer is)
-
 -- an offer of the list is one of the longer list
 pub kept_offer : (offers : List Offer) (offer : Offer) (u sum : ℕ) → HasOffer offers u sum → HasOffer (offers ++ offer ∷ []) u sum
 kept_offer offers offer u sum has = (
   has.0,
   has.1,
-  slice_get-append_left offers (offer ∷ []) has.0 (offer_within offers has.0 has.1 has.2) ∙ has.2,
+  slice_get-append_left offers (offer ∷ []) has.0 (slice_get_within offers has.0 has.1 has.2) ∙ has.2,
   has.3,
   has.4,
 )
@@ -31,5 +26,5 @@ pub still_read : (net : Net) (counted : Counted) (cap x a : ℕ) (old new : List
     → IsArcRead net counted cap x old a → IsArcRead net counted cap x new a
 still_read net counted cap x a old new kept read road is = ⊎_elim
     (λ (has : HasOffer old road.tail (counted_on counted road + x)). inl (kept road.tail (counted_on counted road + x) has))
-    (λ (past : IsPastAt net cap (counted_on counted road + x)). inr past)
+    (λ (past : IsPastAt net counted cap (counted_on counted road + x)). inr past)
     (read road is)

@@ -1,23 +1,31 @@
 // The least minutes and, by itself, the least cost from each node to a goal.
-ghost use Rattle.std.specs.Prelude.{◌≡◌, ◌≤◌, ◌<◌, length, IfOk, OnOk, IsTrue};
+ghost use Rattle.std.specs.Prelude.{◌≡◌, ◌≤◌, ◌<◌, ◌+◌, length, IfOk, OnOk, IsTrue};
 ghost use Rattle.route_base.specs.Net.{IsGoodNet, setting_of};
 ghost use Rattle.node_arcs.specs.Stars.{AreIncoming};
 ghost use Rattle.potentials.specs.Sums.{AreBoundsTo, AreCappedBoundsTo};
 ghost use Rattle.potentials.specs.Proportion.{AreProportional};
-ghost use Rattle.potentials.specs.Inside.Summing.{AreSumsBelow, AreBoundsIn, bound_in, bound_of_sums, capped_at};
-ghost use Rattle.potentials.specs.declared.sums.Counted.TheVariants.{Minutes, Cost};
+ghost use Rattle.label_queue.specs.Keys.{key_at};
+ghost use Rattle.potentials.specs.Inside.Caps.{bound_in, bound_of_sums, capped_at, costs_of, HaveCosts, AreSumsTo, AreBoundsIn, IsCapForBoth};
 
-use crate::proportion::{cost_of, has_proportional_costs, minutes_of};
-use crate::sums::{Counted, sums_below};
+use crate::proportion::{cost_of, cost_of_sum, has_proportional_costs};
+use crate::searches::{costs_below, minutes_below};
 use node_arcs::NodeArcs;
+use route_base::limits::COST_OF_MINUTE;
 use route_base::{Bound, Bounds, NodeId, OutOfMemory, TimedNet};
 use std::alloc::Global;
 
-// The least minutes and the least costs that are found below caps, one place for each node from 1 on.
+// Caps that no sum reaches.
+const UNCAPPED: Bound = Bound {
+    minutes: u64::MAX,
+    cost: u64::MAX,
+};
+
+/// The least minutes and the least costs that are found up to caps, one place for each node from 1 on; no list of costs where each is
+/// `COST_OF_MINUTE` times the minutes.
 #[derive(Drop)]
-struct Sums {
+pub struct Sums {
     minutes: Vec<Option<u64>>,
-    costs: Vec<Option<u64>>,
+    costs: Option<Vec<Option<u64>>>,
 }
 
 /// For each node the least sum of minutes and, by itself, the least sum of costs over walks of arcs to the goal; `None` exactly
@@ -46,20 +54,17 @@ pub fn to_goal_over(
     ensures bounds { IfOk result (AreBoundsTo net.now goal.0) }
     ensures good { OnOk result (IsGoodNet net.now) }
 {
-    let uncapped = Bound {
-        minutes: u64::MAX,
-        cost: u64::MAX,
-    };
     let proportional = has_proportional_costs(net);
-    let sums = sums_to(alloc, net, incoming, proportional, goal, uncapped)?;
+    let sums = sums_to(alloc, net, incoming, proportional, goal, None)?;
     bounds_of(alloc, &sums, None)
 }
 
 /// For each node the least sum of minutes and, by itself, the least sum of costs over walks of arcs to the goal, each at most that of
-/// `most`; a node without a walk has `most`. The search ends at the cap: for k nodes whose sums are below it, at which j arcs end, it
-/// takes (k + j) log k steps. Beside that each node takes one step; memory is linear in nodes. Where costs are known to be in proportion
-/// to minutes (`has_proportional_costs`), one search goes on to the greater of both caps, with `COST_OF_MINUTE` for a minute;
-/// otherwise there are two, each up to its own.
+/// `most`; a node without a walk has `most`. A search ends at its cap. Where costs are known to be in proportion to minutes
+/// (`has_proportional_costs`), one search, for minutes, goes on to the greater of both caps, with `COST_OF_MINUTE` for a minute;
+/// otherwise there are two, each up to its own. For k nodes whose sums are below the cap, at which j arcs end, that for minutes takes
+/// k + j steps, and one for each minute up to the cap; that for costs takes (k + j) log k. Beside that each node takes one step; under a
+/// cap of more than a week each arc does too. Memory is linear in nodes and in the minutes of the cap, or of the longest arc.
 pub fn to_goal_within(
     alloc: Global,
     net: &TimedNet,
@@ -75,7 +80,7 @@ pub fn to_goal_within(
     ensures bounds { IfOk result (AreCappedBoundsTo net.now goal.0 most) }
     ensures good { OnOk result (IsGoodNet net.now) }
 {
-    let sums = sums_to(alloc, net, incoming, proportional, goal, most)?;
+    let sums = sums_to(alloc, net, incoming, proportional, goal, Some(most))?;
     bounds_of(alloc, &sums, Some(most))
 }
 
@@ -94,48 +99,73 @@ pub fn cap_for_minutes(proportional: bool, minutes: u64) -> Bound
     Bound { minutes, cost }
 }
 
-// The least sums to the goal that are below the caps: by one search where costs are in proportion to minutes, otherwise by two.
+// The least sums to the goal, up to the caps: by one search where costs are in proportion to minutes, otherwise by two.
 fn sums_to(
     alloc: Global,
     net: &TimedNet,
     incoming: &NodeArcs,
     proportional: bool,
     goal: NodeId,
-    caps: Bound,
+    caps: Option<Bound>,
 ) -> Result<Sums, OutOfMemory>
     requires incoming { AreIncoming net.now incoming.now }
     requires proportional { IsTrue proportional → AreProportional (setting_of net.now).road }
     requires low { 1 ≤ goal.0 }
     requires high { goal.0 ≤ net.now.nodes }
-    ensures minutes_nodes { IfOk result (λ sums. length sums.minutes.items ≡ net.now.nodes) }
-    ensures costs_nodes { IfOk result (λ sums. length sums.costs.items ≡ net.now.nodes) }
-    ensures minutes { IfOk result
-        (λ sums. AreSumsBelow net.now Minutes goal.0 caps.minutes sums.minutes.items) }
-    ensures costs { IfOk result
-        (λ sums. AreSumsBelow net.now Cost goal.0 caps.cost sums.costs.items) }
+    ensures sums { IfOk result (AreSumsTo net.now goal.0 caps) }
     ensures good { OnOk result (IsGoodNet net.now) }
 {
     if proportional {
-        let cap = caps.cost.max(cost_of(caps.minutes));
-        let costs = sums_below(alloc, net, incoming, Counted::Cost, goal, cap)?;
-        let minutes = minutes_of(alloc, costs.as_slice())?;
-        return Ok(Sums { minutes, costs });
+        let minutes = minutes_below(alloc, net, incoming, goal, cap_for_both(caps))?;
+        return Ok(Sums {
+            minutes,
+            costs: None,
+        });
     }
-    let costs = sums_below(alloc, net, incoming, Counted::Cost, goal, caps.cost)?;
-    let minutes = sums_below(alloc, net, incoming, Counted::Minutes, goal, caps.minutes)?;
-    Ok(Sums { minutes, costs })
+    let most = caps.unwrap_or(UNCAPPED);
+    let costs = costs_below(alloc, net, incoming, goal, most.cost)?;
+    let minutes = minutes_below(alloc, net, incoming, goal, most.minutes)?;
+    Ok(Sums {
+        minutes,
+        costs: Some(costs),
+    })
+}
+
+// The minutes up to which a search finds the minutes and the costs up to the caps.
+fn cap_for_both(caps: Option<Bound>) -> u64
+    ensures { IsCapForBoth caps result }
+{
+    match caps {
+        None => u64::MAX,
+        Some(most) => most.minutes.max(most.cost.div_ceil(COST_OF_MINUTE)),
+    }
 }
 
 // The bounds of the nodes, from their sums; under caps each node has one.
 fn bounds_of(alloc: Global, sums: &Sums, caps: Option<Bound>) -> Result<Bounds, OutOfMemory>
-    requires same { length sums.now.minutes.items ≡ length sums.now.costs.items }
-    ensures { IfOk result (AreBoundsIn caps sums.now.minutes.items sums.now.costs.items) }
+    requires same { length sums.now.minutes.items ≡ length (costs_of sums.now) }
+    requires fit { HaveCosts sums.now.minutes.items }
+    ensures { IfOk result (AreBoundsIn caps sums.now.minutes.items (costs_of sums.now)) }
 {
     let mut bounds = Bounds::new(alloc);
-    for place in 0..sums.costs.len() {
-        bounds.push(bound_with(caps, sums.minutes[place], sums.costs[place]))?;
+    for place in 0..sums.minutes.len() {
+        bounds.push(bound_with(caps, sums.minutes[place], cost_at(sums, place)))?;
     }
     Ok(bounds)
+}
+
+// The cost at a place.
+#[inline(always)]
+fn cost_at(sums: &Sums, place: usize) -> Option<u64>
+    requires place { place < length sums.now.minutes.items }
+    requires same { length sums.now.minutes.items ≡ length (costs_of sums.now) }
+    requires fit { HaveCosts sums.now.minutes.items }
+    ensures { result ≡ key_at (costs_of sums.now) (place + 1) }
+{
+    match &sums.costs {
+        None => cost_of_sum(sums.minutes[place]),
+        Some(costs) => costs[place],
+    }
 }
 
 // The bound of a node: both sums, where it has them, or, under caps, the lesser of each and its cap.

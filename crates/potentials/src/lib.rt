@@ -9,15 +9,17 @@
 //!
 //! `BoundedSearch` is the trait of engines that take bounds, and `WithoutBounds` lets an engine without them be one.
 //!
-//! The least costs are found by a search from the goal over the arcs backwards, in the order of rising sums (`sums`; Dijkstra's
-//! algorithm). Where every cost is in proportion to the minutes of its arc (`proportion`), the least minutes are those of the least
-//! costs; otherwise they are found by a search of their own. A search keeps the sums below its cap; that of `to_goal` is above all sums.
-//! `bounds` puts both together. `specs/Inside` is no law: it says what the search keeps.
+//! The least sums are found by a search from the goal over the arcs backwards, in the order of rising sums (`sums`; Dijkstra's
+//! algorithm). It is written once for any queue: minutes are searched with buckets and costs with a heap (`searches`). Where every cost is
+//! in proportion to the minutes of its arc (`proportion`), the least costs are those of the least minutes; otherwise they are found by a
+//! search of their own. A search keeps the sums below its cap; that of `to_goal` is above all sums. `bounds` puts both together.
+//! `specs/Inside` is no law: it says what the search keeps.
 #![tactic(auto)]
 
 mod bounded_search;
 mod bounds;
 mod proportion;
+mod searches;
 mod sums;
 
 pub use bounded_search::{BoundedSearch, WithoutBounds};

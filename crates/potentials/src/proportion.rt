@@ -1,13 +1,12 @@
-// Nets in which every cost is in proportion to minutes: there the least minutes follow from the least costs.
-ghost use Rattle.std.specs.Prelude.{◌≡◌, ◌↔◌, ◌-◌, ◌*◌, ◌/◌, ◌^◌, IsTrue, map, min, IfOk};
+// Nets in which every cost is in proportion to minutes: there the least costs follow from the least minutes.
+ghost use Rattle.std.specs.Prelude.{◌≡◌, ◌↔◌, ◌-◌, ◌*◌, ◌^◌, ◌<◌, IsTrue, min, IfSome};
 ghost use Rattle.std.specs.Option.{option_map};
 ghost use Rattle.route_base.specs.Net.{setting_of};
 ghost use Rattle.route_base.specs.declared.limits.TheConstants.{COST_OF_MINUTE};
 ghost use Rattle.potentials.specs.Proportion.{IsProportional, AreProportional};
 
 use route_base::limits::COST_OF_MINUTE;
-use route_base::{ArcId, OutOfMemory, TimedNet};
-use std::alloc::Global;
+use route_base::{ArcId, TimedNet};
 
 /// Whether every arc costs `COST_OF_MINUTE` for each of its minutes. One pass over the arcs, up to the first that doesn't; no memory.
 pub fn has_proportional_costs(net: &TimedNet) -> bool
@@ -31,19 +30,13 @@ fn is_proportional(net: &TimedNet, a: ArcId) -> bool
     }
 }
 
-/// The minutes of each cost at `COST_OF_MINUTE` a minute. Linear in the costs, in time and memory.
-pub fn minutes_of(alloc: Global, costs: &[Option<u64>]) -> Result<Vec<Option<u64>>, OutOfMemory>
-    ensures { IfOk result
-        (λ minutes. minutes.items ≡ map (option_map (λ x. x / COST_OF_MINUTE)) costs.now) }
+/// What minutes cost at `COST_OF_MINUTE` each, where there are any.
+#[inline(always)]
+pub fn cost_of_sum(minutes: Option<u64>) -> Option<u64>
+    requires fits { IfSome minutes (λ x. COST_OF_MINUTE * x < 2 ^ 64) }
+    ensures { result ≡ option_map (λ x. COST_OF_MINUTE * x) minutes }
 {
-    Ok(costs.iter().map(|cost| in_minutes(*cost)).collect(alloc)?)
-}
-
-// The minutes of a cost, where there is one.
-fn in_minutes(cost: Option<u64>) -> Option<u64>
-    ensures { result ≡ option_map (λ x. x / COST_OF_MINUTE) cost }
-{
-    Some(cost? / COST_OF_MINUTE)
+    Some(COST_OF_MINUTE * minutes?)
 }
 
 /// What minutes cost at `COST_OF_MINUTE` each; `u64::MAX` where that is more.

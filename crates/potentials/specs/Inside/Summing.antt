@@ -1,11 +1,10 @@
 -- What a search for least sums keeps (source: own; no law).
-use Rattle.std.specs.Prelude.{◌≡◌, ◌⊎◌, ℕ, suc, ◌+◌, ◌*◌, ◌≤◌, ◌<◌, min, Option, Some, None, List, length, All, slice_get}
+use Rattle.std.specs.Prelude.{◌≡◌, ◌⊎◌, ℕ, suc, ◌+◌, ◌-◌, ◌*◌, ◌^◌, ◌≤◌, ◌<◌, Option, Some, None, List, length, All, slice_get}
 use Rattle.route_base.specs.Setting.{Road}
 use Rattle.route_base.specs.Net.{Net, setting_of}
-use Rattle.route_base.specs.declared.limits.TheConstants.{HIGHEST_COST}
-use Rattle.route_base.specs.declared.types.Bound.{Bound}
+use Rattle.route_base.specs.declared.limits.TheConstants.{HIGHEST_COST, LONGEST_DRIVE}
 use Rattle.label_queue.specs.Keys.{key_at}
-use Rattle.potentials.specs.Sums.{Leads, bound_at}
+use Rattle.potentials.specs.Sums.{Leads}
 use Rattle.potentials.specs.Inside.Totals.{total}
 use Rattle.node_arcs.specs.Stars.{EndsAt}
 use Rattle.node_arcs.specs.declared.links.End.TheVariants.{Head}
@@ -66,29 +65,45 @@ abbrev pub counted_on : Counted → Road → ℕ
 counted_on Minutes road = road.minutes
 counted_on Cost road = road.cost
 
+-- the most that is counted of an arc
+abbrev pub most_on : Counted → ℕ
+most_on Minutes = LONGEST_DRIVE
+most_on Cost = HIGHEST_COST
+
 -- what is kept at the net, with node v at work
 abbrev pub IsSummed : Net → Counted → ℕ → ℕ → ℕ → List (Option ℕ) → List (Option ℕ) → Type 0
-IsSummed net counted goal cap v known keys = IsSumming (setting_of net).road (counted_on counted) goal net.nodes HIGHEST_COST cap v (key_at known) (key_at keys)
+IsSummed net counted goal cap v known keys = IsSumming (setting_of net).road (counted_on counted) goal net.nodes (most_on counted) cap v (key_at known) (key_at keys)
 
 -- the search over the net ends before this sum
-abbrev pub IsPastAt : Net → ℕ → ℕ → Type 0
-IsPastAt net cap sum = IsPast cap (HIGHEST_COST * suc net.nodes) sum
+abbrev pub IsPastAt : Net → Counted → ℕ → ℕ → Type 0
+IsPastAt net counted cap sum = IsPast cap (most_on counted * suc net.nodes) sum
 
-abbrev pub WorksAt : Net → ℕ → ℕ → List (Option ℕ) → List (Option ℕ) → Type 0
-WorksAt net v x known keys = IsAtWork net.nodes HIGHEST_COST v x (key_at known) (key_at keys)
+abbrev pub WorksAt : Net → Counted → ℕ → ℕ → List (Option ℕ) → List (Option ℕ) → Type 0
+WorksAt net counted v x known keys = IsAtWork net.nodes (most_on counted) v x (key_at known) (key_at keys)
+
+-- no sum over an arc that is below the cap is larger by the span than the sum at the arc's head
+abbrev pub IsWide : Net → Counted → ℕ → ℕ → Type 0
+IsWide net counted cap span = (a x : ℕ) (road : Road) → (setting_of net).road a ≡ Some road → counted_on counted road + x < cap
+    → counted_on counted road + x < x + span
+
+-- no sum is more than all arcs of a walk once through the nodes count
+abbrev pub AreSmall : Net → Counted → List (Option ℕ) → Type 0
+AreSmall net counted sums = (v x : ℕ) → key_at sums v ≡ Some x → x ≤ most_on counted * suc net.nodes
 
 abbrev pub unsettled_at : Net → List (Option ℕ) → List (Option ℕ) → ℕ
 unsettled_at net known keys = unsettled_count net.nodes (key_at known) (key_at keys)
 
--- the sum is that of an arc of the net from this tail to node v, whose own sum is x
-pub record IsOffer (net : Net) (counted : Counted) (v x : ℕ) (offer : Offer) : Type 0 where
+-- the sum is that of an arc of the net from this tail to node v, whose own sum is x, and below the cap
+pub record IsOffer (net : Net) (counted : Counted) (cap v x : ℕ) (offer : Offer) : Type 0 where
   pub arc : ℕ
   pub road : Road
   pub is : (setting_of net).road arc ≡ Some road
   pub head : road.head ≡ v
   pub tail : road.tail ≡ offer.tail.0
   pub sum : offer.sum ≡ counted_on counted road + x
-  pub cheap : counted_on counted road ≤ HIGHEST_COST
+  pub cheap : counted_on counted road ≤ most_on counted
+  pub below : offer.sum < cap
+  pub real : offer.sum < 2 ^ 64 - 1
   pub node : (1 ≤ offer.tail.0) × (offer.tail.0 ≤ net.nodes)
 
 -- some offer of the list is of this sum to node u
@@ -98,11 +113,11 @@ HasOffer offers u sum = (k : ℕ) × (offer : Offer) × (slice_get offers k ≡ 
 -- arc a makes an offer of the list, or the search ends before its sum
 abbrev pub IsArcRead : Net → Counted → ℕ → ℕ → List Offer → ℕ → Type 0
 IsArcRead net counted cap x offers a = (road : Road) → (setting_of net).road a ≡ Some road
-    → HasOffer offers road.tail (counted_on counted road + x) ⊎ IsPastAt net cap (counted_on counted road + x)
+    → HasOffer offers road.tail (counted_on counted road + x) ⊎ IsPastAt net counted cap (counted_on counted road + x)
 
 -- the offers of the arcs that end at node v, whose sum is x, up to the cap
 pub record AreOffers (net : Net) (counted : Counted) (cap v x : ℕ) (offers : List Offer) : Type 0 where
-  pub each : All (IsOffer net counted v x) offers
+  pub each : All (IsOffer net counted cap v x) offers
   pub all : (a : ℕ) → EndsAt net Head v a → IsArcRead net counted cap x offers a
 
 -- the offer of an arc that ends at node v at work was taken
@@ -110,31 +125,10 @@ pub record IsOfferTaken (net : Net) (counted : Counted) (goal cap v x : ℕ) (of
   pub nodes : length new ≡ net.nodes
   pub room : length new_keys ≡ net.nodes
   pub facts : IsSummed net counted goal cap v new new_keys
-  pub work : WorksAt net v x new new_keys
+  pub work : WorksAt net counted v x new new_keys
   pub less : unsettled_at net new new_keys ≤ unsettled_at net known keys
   pub kept : (u sum : ℕ) → HasSum (key_at known) u sum → HasSum (key_at new) u sum
   pub has : HasSum (key_at new) offer.tail.0 offer.sum
-
--- both bounds, where there are both
-abbrev pub bound_of_sums : Option ℕ → Option ℕ → Option Bound
-bound_of_sums None y = None
-bound_of_sums (Some x) None = None
-bound_of_sums (Some x) (Some y) = Some (record { minutes = x; cost = y })
-
--- a sum or the cap, the lesser of both
-abbrev pub capped_at : ℕ → Option ℕ → ℕ
-capped_at cap None = cap
-capped_at cap (Some x) = min x cap
-
--- both bounds: where there are both, or of each node under caps
-abbrev pub bound_in : Option Bound → Option ℕ → Option ℕ → Option Bound
-bound_in None x y = bound_of_sums x y
-bound_in (Some most) x y = Some (record { minutes = capped_at most.minutes x; cost = capped_at most.cost y })
-
--- the list has such a bound for each node
-pub record AreBoundsIn (caps : Option Bound) (minutes costs : List (Option ℕ)) (list : List (Option Bound)) : Type 0 where
-  pub nodes : length list ≡ length costs
-  pub each : (k : ℕ) → k < length costs → bound_at list (k + 1) ≡ bound_in caps (key_at minutes (k + 1)) (key_at costs (k + 1))
 
 -- the least sum, as far as the search goes: each sum that is less, and each without a least one, is past its end
 abbrev pub IsSumBelow : (ℕ → Option Road) → (Road → ℕ) → ℕ → (ℕ → Type 0) → ℕ → Option ℕ → Type 0
@@ -144,4 +138,4 @@ IsSumBelow roads count goal past v (Some x) = ((arcs : List ℕ) × Leads roads 
 
 -- these sums over the net, for each node
 abbrev pub AreSumsBelow : Net → Counted → ℕ → ℕ → List (Option ℕ) → Type 0
-AreSumsBelow net counted goal cap sums = (v : ℕ) → IsSumBelow (setting_of net).road (counted_on counted) goal (IsPastAt net cap) v (key_at sums v)
+AreSumsBelow net counted goal cap sums = (v : ℕ) → IsSumBelow (setting_of net).road (counted_on counted) goal (IsPastAt net counted cap) v (key_at sums v)

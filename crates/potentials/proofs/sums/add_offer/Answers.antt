@@ -1,4 +1,4 @@
-use Rattle.std.proofs.Common.{◌≡◌, inl, ◌+◌, All, Option, Some, None, List, refl, sym, ◌∙◌, ap, subst}
+use Rattle.std.proofs.Common.{◌≡◌, inl, ◌+◌, All, Option, Some, None, List, refl, sym, ◌∙◌, ap, subst, arith}
 use Rattle.std.specs.Option.{option_map}
 use Rattle.std.proofs.lemmas.List.Elements.{All-push}
 use Rattle.route_base.specs.Setting.{Road}
@@ -7,7 +7,7 @@ use Rattle.route_base.specs.declared.types.TimedArc.{TimedArc}
 use Rattle.route_base.proofs.Arcs.{road_is}
 use Rattle.potentials.specs.Inside.Summing.{HasOffer, IsOffer, counted_on}
 use Rattle.potentials.specs.declared.sums.Offer.{Offer}
-use Rattle.potentials.proofs.Ending.{cheap, head_of}
+use Rattle.potentials.proofs.Ending.{cheap, head_of, sum_fits}
 use Rattle.potentials.proofs.Offers.{added_offer, kept_offer}
 use Rattle.potentials.proofs.sums.add_offer.Goals as goal
 
@@ -24,8 +24,8 @@ returns-clause-each c =
     let net = c.args.plan.net.now in
     let arc = c.in-Some.arc in
     let is : at_number net.arcs c.args.a.0 ≡ Some arc = sym c.arc.ensures.value ∙ c.in-Some.is in
-    subst (λ (w : List Offer). All (IsOffer net c.args.plan.counted c.args.v.0 c.args.x) w) (sym c.in_ok-push.ensures.items)
-    (All-push (IsOffer net c.args.plan.counted c.args.v.0 c.args.x) c.args.offers.now.items _ c.requires.each
+    subst (λ (w : List Offer). All (IsOffer net c.args.plan.counted c.args.plan.cap c.args.v.0 c.args.x) w) (sym c.in_ok-push.ensures.items)
+    (All-push (IsOffer net c.args.plan.counted c.args.plan.cap c.args.v.0 c.args.x) c.args.offers.now.items _ c.requires.each
     (record {
       arc = c.args.a.0;
       road = road_of arc;
@@ -34,6 +34,9 @@ returns-clause-each c =
       tail = refl;
       sum = ap (λ n. n + c.args.x) c.of.ensures;
       cheap = cheap net c.args.plan.counted arc c.in-Some.ensures.good;
+      below = omega arith;
+      real = sum_fits c.args.plan.counted c.of.result c.args.x net.nodes (omega (arith, c.of.ensures, cheap net c.args.plan.counted arc c.in-Some.ensures.good))
+          c.requires.room c.requires.good.nodes;
       node = c.in-Some.ensures.good.tail;
     }))
 
