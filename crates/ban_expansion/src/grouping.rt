@@ -72,13 +72,13 @@ fn none_shared(alloc: Global, areas: usize) -> Result<Vec<Option<u32>>, OutOfMem
 }
 
 impl Grouping {
-    // No arcs yet, over this number of areas. Linear in it, in time and memory.
-    fn new(alloc: Global, areas: usize) -> Result<Grouping, OutOfMemory>
+    // No arcs yet, over this number of areas, with room for this number of arcs. Linear in them, in memory, and in the areas in time.
+    fn new(alloc: Global, areas: usize, arcs: usize) -> Result<Grouping, OutOfMemory>
         ensures { IfOk result (λ grouping. (net : NetworkModel) →
             length net.areas ≡ areas → AreGrouped net 0 grouping) }
     {
         let shared = none_shared(alloc, areas)?;
-        let all = ArcGroups::new(alloc);
+        let all = ArcGroups::new(alloc, arcs)?;
         let by_digest = IndexMap::new(alloc);
         Ok(Grouping {
             all,
@@ -204,8 +204,9 @@ impl Grouping {
 pub fn group_arcs(alloc: Global, network: &Network) -> Result<ArcGroups, OutOfMemory>
     ensures { IfOk result (AreGroups network.now) }
 {
-    let mut grouping = Grouping::new(alloc, network.area_count())?;
-    for k in 0..network.graph().arc_count() {
+    let count = network.graph().arc_count();
+    let mut grouping = Grouping::new(alloc, network.area_count(), count as usize)?;
+    for k in 0..count {
         grouping.add(alloc, network, k)?;
     }
     Ok(grouping.into_groups())
