@@ -57,7 +57,7 @@ fn timed_arcs(
     let count = network.graph().arc_count();
     let mut arcs = Vec::with_capacity(alloc, count as usize)?;
     for k in 0..count {
-        arcs.push(timed_at(network, groups, k))?;
+        arcs.push_reserved(timed_at(network, groups, k));
     }
     Ok(arcs)
 }
