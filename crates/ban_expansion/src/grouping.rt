@@ -54,7 +54,7 @@ fn has_any(network: &Network, a: ArcId) -> bool
     network.closure_count(a) > 0 || has_rules(network, a)
 }
 
-// Whether the arc has one or two closures and no rules of its own, as no arc has: its set takes less than a digest.
+// Whether no arc has rules of its own, and this one at most two closures: its set is made about as soon as an arc like it is found.
 fn has_short_set(network: &Network, a: ArcId) -> bool
     requires low { 1 ≤ a.0 }
     requires high { a.0 ≤ length network.now.graph.arcs }
@@ -196,11 +196,11 @@ impl Grouping {
 /// The arcs of the network in groups, so that one `closed_set` for each group serves all its arcs, for every vehicle and every
 /// window. Arcs of one area that have the same closures and the same rules of their own, or none, share a group. They are found by
 /// digests, so where arcs that differ have one digest there may be more groups than that; and where no arc has rules of its own, each
-/// arc with one or two closures has a group of its own, which takes less than its digest.
+/// arc with one or two closures has a group of its own, whose set is made about as soon as an arc like it is found.
 ///
-/// Where some arc has rules of its own, it takes fourteen look-ups of rules for an arc; and some more for an arc that has closures or
-/// rules of its own. It is linear in areas, arcs, the closures of single arcs, and the bytes of the canonical texts of their
-/// conditional values, in time; in memory in areas and arcs, and in two of these texts.
+/// Where some arc has rules of its own, it takes fourteen look-ups of rules for an arc, and some more for an arc that has closures or
+/// rules of its own; else it looks up none. It is linear on average in areas, arcs, the closures of single arcs, and the bytes of the
+/// canonical texts of their conditional values, in time; in memory in areas and arcs, and in two of these texts.
 pub fn group_arcs(alloc: Global, network: &Network) -> Result<ArcGroups, OutOfMemory>
     ensures { IfOk result (AreGroups network.now) }
 {
