@@ -1,6 +1,6 @@
 -- Arcs of one area with the same closures and the same rules of their own are closed at the same minutes.
 use Rattle.std.proofs.Common.{◌≡◌, ℕ, ◌||◌, Bool, true, false, not, Option, None, unwrap_or, is_some, option_and_then, ltb}
-use Rattle.std.proofs.Common.{List, [], ◌∷◌, All, length, refl, sym, ◌∙◌, ap, arith}
+use Rattle.std.proofs.Common.{List, [], ◌∷◌, All, get_or, length, refl, sym, ◌∙◌, ap, arith}
 use Rattle.std.specs.List.{list_any}
 use Rattle.std.specs.Option.{option_or}
 use Rattle.std.proofs.lemmas.Bool.{or_parts}
@@ -112,6 +112,10 @@ module _ (net : NetworkModel) where
     plain = (has_no_rules a none_a key).0 ∙ sym (has_no_rules b none_b key).0;
     conditional = (has_no_rules a none_a key).1 ∙ sym (has_no_rules b none_b key).1;
   }
+
+  pub same_if_none : (a b : ℕ) → has_arc_rules net.rules ≡ false → All (HaveSameRules net a b) every_key
+  same_if_none a b none = λ i key within.
+      same_without a b (no_own_rules net a none) (no_own_rules net b none) (get_or every_key i key)
 
   -- arcs of one area without rules of their own let a vehicle in at the same minutes
   pub let_in_same : (vehicle : VehicleModel) (area a b t : ℕ) → IsPlainIn net area a → IsPlainIn net area b

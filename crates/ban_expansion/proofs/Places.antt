@@ -10,7 +10,7 @@ use Rattle.vehicle_classes.specs.declared.classes.Class.{Class}
 use Rattle.vehicle_classes.specs.declared.classes.Key.{Key}
 use Rattle.conditional_rules.specs.Decisions.{last_given}
 use Rattle.conditional_rules.specs.declared.conditional.Clause.{Clause}
-use Rattle.network_tables.specs.Access.{access_given, area_at, area_place, decision_at, given_at, places_of, places_of_key}
+use Rattle.network_tables.specs.Access.{access_given, area_at, area_place, decision_at, given_at, places_of_key}
 use Rattle.network_tables.specs.NetworkModel.{Area, NetworkModel}
 use Rattle.network_tables.proofs.ArcPlaces.{given_next, holidays_there, zone_there}
 

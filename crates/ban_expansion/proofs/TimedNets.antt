@@ -1,6 +1,6 @@
 -- The timed net of a network is good and stands for its road setting.
 use Rattle.std.proofs.Common.{◌≡◌, ◌⊎◌, ⊎_elim, All, ℕ, zero, suc, ◌+◌, ◌*◌, ◌^◌, ◌≤◌, ◌<◌, ◌&&◌, Bool, inl, inr}
-use Rattle.std.proofs.Common.{Some, None, Option, List, [], ◌∷◌, ◌++◌, length, map, get_or, slice_get}
+use Rattle.std.proofs.Common.{Some, None, Option, List, [], ◌∷◌, ◌++◌, length, get_or, slice_get}
 use Rattle.std.proofs.Common.{refl, sym, ◌∙◌, ap, subst, arith, add-one}
 use Rattle.std.specs.Prelude.{IfSome, IsSome, nat_eq, not}
 use Rattle.std.specs.Map.{lookup}

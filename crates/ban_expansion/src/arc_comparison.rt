@@ -30,7 +30,8 @@ fn have_same_closures(network: &Network, a: ArcId, b: ArcId) -> bool
         return false;
     }
     for k in 0..count {
-        if network.closure(a, k) != network.closure(b, k) {
+        let (first, second) = (network.closure(a, k), network.closure(b, k));
+        if first.lo != second.lo || first.hi != second.hi {
             return false;
         }
     }
@@ -84,7 +85,7 @@ fn have_same_rules_for(
     have_same_clauses(alloc, first, second)
 }
 
-// Whether the arcs have the same rules of their own for every key.
+// Whether the arcs have the same rules of their own for every key, as they do where no arc has any.
 fn have_same_rules(
     alloc: Global,
     network: &Network,
@@ -94,6 +95,9 @@ fn have_same_rules(
     ensures { IfOk result (λ same. IsTrue same →
         All (HaveSameRules network.now a.0 b.0) every_key) }
 {
+    if !network.has_arc_rules() {
+        return Ok(true);
+    }
     for key in EVERY_KEY.iter() {
         if !have_same_rules_for(alloc, network, a, b, *key)? {
             return Ok(false);
@@ -102,8 +106,9 @@ fn have_same_rules(
     Ok(true)
 }
 
-/// Whether two arcs are in one area and have the same closures, and the same rules of their own. Linear in the closures and in the
-/// bytes of the canonical texts of the arcs' conditional values, in time; in memory, in those of two values.
+/// Whether two arcs are in one area and have the same closures, and the same rules of their own. Linear in the closures; and where
+/// some arc has rules of its own, in the bytes of the canonical texts of these arcs' conditional values, in time; in memory, in those
+/// of two values.
 pub fn are_alike(alloc: Global, network: &Network, a: ArcId, b: ArcId) -> Result<bool, OutOfMemory>
     requires first { IsArc network.now a }
     requires second { IsArc network.now b }

@@ -23,14 +23,13 @@ impl Model for ArcGroups {
 }
 
 impl ArcGroups {
-    // No arcs yet.
-    pub(crate) fn new(alloc: Global) -> ArcGroups
-        ensures { result ≡ record { groups = []; firsts = [] } }
+    // No arcs yet, with room for this number of arcs. Linear in it, in memory.
+    pub(crate) fn new(alloc: Global, arcs: usize) -> Result<ArcGroups, OutOfMemory>
+        ensures { IfOk result (λ all. all ≡ record { groups = []; firsts = [] }) }
     {
-        ArcGroups {
-            groups: Vec::new(alloc),
-            firsts: Vec::new(alloc),
-        }
+        let groups = Vec::with_capacity(alloc, arcs)?;
+        let firsts = Vec::new(alloc);
+        Ok(ArcGroups { groups, firsts })
     }
 
     /// The group of each arc, from 0, in the order of the arcs. At no cost.

@@ -109,8 +109,22 @@ fn closed_parts<R: Threads + Sync, G: Gate>(
     Ok(lists)
 }
 
-/// The same in as many parts as there are arcs, but at most eight, which workers make at once. A worker goes through the gate before it
-/// begins a part. It takes the time of the longest part, and a thread for each part but one.
+// The number of parts for this number of arcs. Where no arc has rules of its own it is one: then a worker would take longer to start
+// than a part takes.
+fn part_count(network: &Network, arcs: usize) -> usize
+    ensures some { 1 ≤ result }
+    ensures few { result ≤ 8 }
+{
+    if network.has_arc_rules() {
+        arcs.clamp(1, MOST_PARTS)
+    } else {
+        1
+    }
+}
+
+/// The same in parts that workers make at once: as many as there are arcs, but at most eight; or in one, by the caller itself, where no
+/// arc of the network has rules of its own. A worker goes through the gate before it begins a part. It takes the time of the longest
+/// part, and a thread for each part but one.
 pub fn closed_lists_at_once<R: Threads + Sync, G: Gate>(
     rt: &R,
     alloc: Global,
@@ -125,9 +139,6 @@ pub fn closed_lists_at_once<R: Threads + Sync, G: Gate>(
     ensures { IfOk result (λ lists. AreClosedLists network.now vehicle.now window firsts.now
         (map (λ v. v.items) lists.items)) }
 {
-    let parts = firsts.len().min(MOST_PARTS);
-    if parts == 0 {
-        return Ok(Vec::new(alloc));
-    }
+    let parts = part_count(network, firsts.len());
     closed_parts(rt, alloc, network, firsts, vehicle, window, 0, parts, gate)
 }

@@ -57,7 +57,7 @@ fn timed_arcs(
     let count = network.graph().arc_count();
     let mut arcs = Vec::with_capacity(alloc, count as usize)?;
     for k in 0..count {
-        arcs.push(timed_at(network, groups, k))?;
+        arcs.push_reserved(timed_at(network, groups, k));
     }
     Ok(arcs)
 }
@@ -131,8 +131,9 @@ pub fn expand_plain(
     expand_groups(alloc, network, &groups, vehicle, window)
 }
 
-/// The net that `expand_plain` makes, with the closed minutes of its groups made by several workers at once, each in its part of the
-/// groups; a worker goes through the gate before it begins a part.
+/// The net that `expand_plain` makes. Where some arc has rules of its own, several workers make the closed minutes of its groups at
+/// once, each in its part of the groups; else the caller makes them all, as one part. A worker goes through the gate before it begins a
+/// part.
 ///
 /// It takes the time of `group_arcs` and of the longest of at most eight parts, and beside that of `expand_plain` no memory but the
 /// workers'.

@@ -54,7 +54,7 @@ fn has_any(network: &Network, a: ArcId) -> bool
     network.closure_count(a) > 0 || has_rules(network, a)
 }
 
-// Whether the arc has one or two closures and no rules of its own, as no arc has: its set takes less than a digest.
+// Whether no arc has rules of its own, and this one at most two closures: its set is made about as soon as an arc like it is found.
 fn has_short_set(network: &Network, a: ArcId) -> bool
     requires low { 1 ≤ a.0 }
     requires high { a.0 ≤ length network.now.graph.arcs }
@@ -72,13 +72,13 @@ fn none_shared(alloc: Global, areas: usize) -> Result<Vec<Option<u32>>, OutOfMem
 }
 
 impl Grouping {
-    // No arcs yet, over this number of areas. Linear in it, in time and memory.
-    fn new(alloc: Global, areas: usize) -> Result<Grouping, OutOfMemory>
+    // No arcs yet, over this number of areas, with room for this number of arcs. Linear in them, in memory, and in the areas in time.
+    fn new(alloc: Global, areas: usize, arcs: usize) -> Result<Grouping, OutOfMemory>
         ensures { IfOk result (λ grouping. (net : NetworkModel) →
             length net.areas ≡ areas → AreGrouped net 0 grouping) }
     {
         let shared = none_shared(alloc, areas)?;
-        let all = ArcGroups::new(alloc);
+        let all = ArcGroups::new(alloc, arcs)?;
         let by_digest = IndexMap::new(alloc);
         Ok(Grouping {
             all,
@@ -196,16 +196,17 @@ impl Grouping {
 /// The arcs of the network in groups, so that one `closed_set` for each group serves all its arcs, for every vehicle and every
 /// window. Arcs of one area that have the same closures and the same rules of their own, or none, share a group. They are found by
 /// digests, so where arcs that differ have one digest there may be more groups than that; and where no arc has rules of its own, each
-/// arc with one or two closures has a group of its own, which takes less than its digest.
+/// arc with one or two closures has a group of its own, whose set is made about as soon as an arc like it is found.
 ///
-/// Where some arc has rules of its own, it takes fourteen look-ups of rules for an arc; and some more for an arc that has closures or
-/// rules of its own. It is linear in areas, arcs, the closures of single arcs, and the bytes of the canonical texts of their
-/// conditional values, in time; in memory in areas and arcs, and in two of these texts.
+/// Where some arc has rules of its own, it takes fourteen look-ups of rules for an arc, and some more for an arc that has closures or
+/// rules of its own; else it looks up none. It is linear on average in areas, arcs, the closures of single arcs, and the bytes of the
+/// canonical texts of their conditional values, in time; in memory in areas and arcs, and in two of these texts.
 pub fn group_arcs(alloc: Global, network: &Network) -> Result<ArcGroups, OutOfMemory>
     ensures { IfOk result (AreGroups network.now) }
 {
-    let mut grouping = Grouping::new(alloc, network.area_count())?;
-    for k in 0..network.graph().arc_count() {
+    let count = network.graph().arc_count();
+    let mut grouping = Grouping::new(alloc, network.area_count(), count as usize)?;
+    for k in 0..count {
         grouping.add(alloc, network, k)?;
     }
     Ok(grouping.into_groups())

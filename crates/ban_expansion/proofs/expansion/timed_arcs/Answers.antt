@@ -1,4 +1,4 @@
-use Rattle.std.proofs.Common.{◌+◌, List, sym, subst}
+use Rattle.std.proofs.Common.{◌+◌, List, sym, ◌∙◌, subst}
 use Rattle.route_base.specs.declared.types.TimedArc.{TimedArc}
 use Rattle.ban_expansion.specs.Inside.GroupedNets.{AreTimed}
 use Rattle.ban_expansion.proofs.TimedNets.{timed_next}
@@ -8,5 +8,8 @@ pub loop-k-preserved : goal.loop-k-preserved
 loop-k-preserved c =
     let net = c.args.network.now in
     let groups = c.args.groups.now.groups in
-    subst (λ (arcs : List TimedArc). AreTimed net groups (c.loop-k.k + 1) arcs) (sym c.in_ok-push.ensures.items)
-    (timed_next net groups c.loop-k.k c.loop-k.arcs.items c.timed_at.result c.loop-k.invariant c.timed_at.ensures)
+    record {
+      room = c.push_reserved.ensures.capacity ∙ c.loop-k.invariant.room;
+      timed = subst (λ (arcs : List TimedArc). AreTimed net groups (c.loop-k.k + 1) arcs) (sym c.push_reserved.ensures.items)
+          (timed_next net groups c.loop-k.k c.loop-k.arcs.items c.timed_at.result c.loop-k.invariant.timed c.timed_at.ensures);
+    }
