@@ -109,22 +109,24 @@ fn closed_parts<R: Threads + Sync, G: Gate>(
     Ok(lists)
 }
 
-// The number of parts for this number of arcs. Where no arc has rules of its own it is one: then a worker would take longer to start
-// than a part takes.
+// The most parts where no arc has rules of its own: each takes less time than it takes to start many workers.
+const FEW_PARTS: usize = 2;
+
+// The number of parts for this number of arcs.
 fn part_count(network: &Network, arcs: usize) -> usize
-    ensures some { 1 ≤ result }
+    ensures some { 1 ≤ arcs → 1 ≤ result }
     ensures few { result ≤ 8 }
 {
     if network.has_arc_rules() {
-        arcs.clamp(1, MOST_PARTS)
+        arcs.min(MOST_PARTS)
     } else {
-        1
+        arcs.min(FEW_PARTS)
     }
 }
 
-/// The same in parts that workers make at once: as many as there are arcs, but at most eight; or in one, by the caller itself, where no
-/// arc of the network has rules of its own. A worker goes through the gate before it begins a part. It takes the time of the longest
-/// part, and a thread for each part but one.
+/// The same in as many parts as there are arcs, but at most eight, or two where no arc of the network has rules of its own. Workers make
+/// the parts at once. A worker goes through the gate before it begins a part. It takes the time of the longest part, and a thread for
+/// each part but one.
 pub fn closed_lists_at_once<R: Threads + Sync, G: Gate>(
     rt: &R,
     alloc: Global,
@@ -140,5 +142,8 @@ pub fn closed_lists_at_once<R: Threads + Sync, G: Gate>(
         (map (λ v. v.items) lists.items)) }
 {
     let parts = part_count(network, firsts.len());
+    if parts == 0 {
+        return Ok(Vec::new(alloc));
+    }
     closed_parts(rt, alloc, network, firsts, vehicle, window, 0, parts, gate)
 }

@@ -131,12 +131,11 @@ pub fn expand_plain(
     expand_groups(alloc, network, &groups, vehicle, window)
 }
 
-/// The net that `expand_plain` makes. Where some arc has rules of its own, several workers make the closed minutes of its groups at
-/// once, each in its part of the groups; else the caller makes them all, as one part. A worker goes through the gate before it begins a
-/// part.
+/// The net that `expand_plain` makes, with the closed minutes of its groups made by several workers at once, each in its part of the
+/// groups; a worker goes through the gate before it begins a part.
 ///
-/// It takes the time of `group_arcs` and of the longest of at most eight parts, and beside that of `expand_plain` no memory but the
-/// workers'.
+/// It takes the time of `group_arcs` and of the longest of at most eight parts, or two where no arc has rules of its own, and beside
+/// that of `expand_plain` no memory but the workers'.
 pub fn expand<R: Threads + Sync, G: Gate>(
     rt: &R,
     alloc: Global,

@@ -10,7 +10,7 @@
 //! its barred minutes (`area_bans`). `arc_digests` finds arcs that may be alike, and `arc_comparison` compares them exactly. The grouping
 //! serves all vehicles and windows: `group_arcs` finds it once for a network, and `expand_groups` makes the net of a vehicle and a window
 //! over these groups. Where many nets of one network are made, call these two in place of `expand_plain`; threads may share the groups.
-//! `expand` is `expand_plain` on several workers, or on one where no arc has rules of its own. Parks with the same hours in one area share
+//! `expand` is `expand_plain` on several workers. Parks with the same hours in one area share
 //! their shut minutes (`shut_lists`), and `wait_open_at` says for one instant whether a park is open. `ArcGroups` is the law of groups: to
 //! every vehicle, an arc is closed at exactly the minutes at which the first arc of its group is.
 //!

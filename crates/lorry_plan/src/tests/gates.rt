@@ -115,18 +115,14 @@ fn plans_two_jobs_at_once(rt: HostRuntime) {
     expect_meeting(&rt, JOBS, "batch d jobs.csv --workers 2", ANSWERS);
 }
 
-// The third arc has a rule of its own; without such a rule one worker would make all closed minutes.
-const OF_ARCS: Texts<'static> = &[
-    (
-        "d/closures.csv",
-        "arc,from,to\n2,26563740,26563860\n1,26563700,26563710\n",
-    ),
-    ("d/rules.csv", "scope,key,value\narc:3,access,yes\n"),
-];
+const CLOSURES: Texts<'static> = &[(
+    "d/closures.csv",
+    "arc,from,to\n2,26563740,26563860\n1,26563700,26563710\n",
+)];
 
 const STRAIGHT: &str = "pairs 1\npair 26563980 300.000\ndrive 3\n";
 
 #[test]
 fn makes_closed_minutes_at_once(rt: HostRuntime) {
-    expect_meeting(&rt, OF_ARCS, TRIP, STRAIGHT);
+    expect_meeting(&rt, CLOSURES, TRIP, STRAIGHT);
 }
