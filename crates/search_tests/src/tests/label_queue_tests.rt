@@ -1,9 +1,18 @@
-// Nodes come out of the queue by their keys, and by their numbers at equal keys.
-ghost use Rattle.std.specs.Prelude.{◌≡◌, ◌≤◌, length};
+// Nodes come out of the queues by their keys, and out of `LabelQueue` by their numbers at equal keys.
+ghost use Rattle.std.specs.Prelude.{◌≡◌, ◌≤◌, ◌<◌, ◌+◌, ◌-◌, ◌^◌, length, OnOk};
 
-use label_queue::LabelQueue;
-use route_base::NodeId;
+use super::engines::random_nets::Random;
+use label_queue::{BucketQueue, LabelQueue};
+use route_base::{NodeId, OutOfMemory};
 use std::test::Fail;
+
+const SEED: u64 = 1969;
+
+const TURNS: u64 = 10_000;
+
+const NODES: u32 = 30;
+
+const SPAN: usize = 20;
 
 #[test]
 fn takes_the_least_key_first(rt: HostRuntime) -> Result<(), Fail> {
@@ -66,4 +75,77 @@ fn set_key(queue: &mut LabelQueue, v: NodeId, key: u64)
             }
         }
     }
+}
+
+#[test]
+fn takes_rising_keys_as_a_plain_list_does(rt: HostRuntime) -> Result<(), Fail> {
+    let mut random = Random { state: SEED };
+    let mut queue = BucketQueue::new(rt.alloc(), NODES, SPAN)?;
+    let mut plain = vec![in rt.alloc(); None; NODES as usize]?;
+    let mut floor = 0;
+    for _ in 0..TURNS {
+        if random.below(2) == 0 {
+            let taken = take_both(&mut queue, &mut plain, floor);
+            assert!(rt; taken.0);
+            floor = taken.1;
+        } else if floor < 1_000_000 {
+            let v = NodeId(1 + random.below(NODES as u64) as u32);
+            let key = floor + random.below(SPAN as u64);
+            assert_eq!(rt; queue.key_of(v), plain[v.0 as usize - 1]);
+            lower_both(&mut queue, &mut plain, v, key)?;
+        }
+    }
+    assert!(rt; 1_000 < floor);
+    Ok(())
+}
+
+// Gives a node a key in the queue and in the list, where it has none or a larger one.
+fn lower_both(
+    queue: &mut BucketQueue,
+    plain: &mut Vec<Option<u64>>,
+    v: NodeId,
+    key: u64,
+) -> Result<(), OutOfMemory>
+    requires low { 1 ≤ v.0 }
+    requires high { v.0 ≤ NODES }
+    requires room { length queue.old.keys ≡ NODES }
+    requires places { length plain.old.items ≡ NODES }
+    requires floor { queue.old.floor ≤ key }
+    requires span { key < queue.old.floor + queue.old.span }
+    requires real { key < 2 ^ 64 - 1 }
+    ensures room { OnOk result (length queue.new.keys ≡ NODES) }
+    ensures places { length plain.new.items ≡ NODES }
+    ensures floor { queue.new.floor ≡ queue.old.floor }
+    ensures span { queue.new.span ≡ queue.old.span }
+{
+    match queue.key_of(v) {
+        None => queue.put(v, key)?,
+        Some(before) => {
+            if before < key {
+                return Ok(());
+            }
+            queue.lower(v, key)?;
+        }
+    }
+    plain[v.0 as usize - 1] = Some(key);
+    Ok(())
+}
+
+// Takes a node out of both; whether it was one with the least key of the list, and the floor.
+fn take_both(queue: &mut BucketQueue, plain: &mut Vec<Option<u64>>, floor: u64) -> (bool, u64)
+    requires room { length queue.old.keys ≡ NODES }
+    requires places { length plain.old.items ≡ NODES }
+    requires floor { queue.old.floor ≡ floor }
+    ensures room { length queue.new.keys ≡ NODES }
+    ensures places { length plain.new.items ≡ NODES }
+    ensures floor { queue.new.floor ≡ result.1 }
+    ensures span { queue.new.span ≡ queue.old.span }
+{
+    let Some((v, key)) = queue.take_least() else {
+        return (plain.iter().all(|it| it.is_none()), floor);
+    };
+    let place = v.0 as usize - 1;
+    let is_least = plain[place] == Some(key) && plain.iter().all(|it| key <= it.unwrap_or(key));
+    plain[place] = None;
+    (is_least, key)
 }
