@@ -13,8 +13,15 @@ use route_base::limits::LONGEST_DRIVE;
 use route_base::{NodeId, OutOfMemory, TimedNet};
 use std::alloc::Global;
 
+// A queue of buckets takes a step for each minute up to the last sum: under a cap of more than FAR minutes and with an arc of more than
+// LONG ones a heap takes fewer.
+const FAR: u64 = 1_000_000;
+
+const LONG: u64 = 256;
+
 /// The least minutes to the goal that are below the cap, in a queue of buckets, of which there are as many as there are minutes that an
-/// arc can take from any sum to one below the cap. Only under a cap of more than a week the arcs are looked through for the longest.
+/// arc can take from any sum to one below the cap; or in a heap, where sums may lie far apart. Only under a cap of more than a week the
+/// arcs are looked through for the longest.
 pub fn minutes_below(
     alloc: Global,
     net: &TimedNet,
@@ -35,6 +42,10 @@ pub fn minutes_below(
     } else {
         longest_arc(net)
     };
+    if cap > FAR && longest > LONG {
+        let mut heap = LabelQueue::new(alloc, net.node_count())?;
+        return sums_below(alloc, net, incoming, Counted::Minutes, goal, cap, &mut heap);
+    }
     let mut queue = BucketQueue::new(alloc, net.node_count(), longest as usize + 1)?;
     sums_below(
         alloc,
