@@ -49,6 +49,15 @@ impl MinuteSet {
         }
     }
 
+    /// The set without a minute, in the memory of this one.
+    pub fn cleared(self) -> MinuteSet
+        ensures { result ≡ [] }
+    {
+        let mut held = self.held;
+        held.clear();
+        MinuteSet { held }
+    }
+
     /// The minutes of the window, which may be empty (`hi <= lo`). Constant time; memory for one run.
     pub fn whole(alloc: Global, window: Run) -> Result<MinuteSet, OutOfMemory>
         ensures minutes { IfOk result (λ set. (t : ℕ) → any_has set t ≡ has_minute t window) }
