@@ -6,3 +6,4 @@ pub mod MergedRuns
 pub mod OneList
 pub mod RunSuffixes
 pub mod SplitRuns
+pub mod WidenedRuns

@@ -98,9 +98,11 @@ impl MinuteSet {
         Ok(MinuteSet { held: before })
     }
 
-    /// Adds the minutes of another set, in time linear in the other set's runs and in those runs that don't end before it begins;
-    /// a binary search finds the first of these, and the runs before it stay where they are. Out of memory leaves a prefix of the
-    /// set's runs: it may have lost minutes, and has no new one.
+    /// Adds the minutes of another set. A binary search finds the first run that doesn't end before the other set begins; those before
+    /// it stay where they are. Linear in the other set's runs where there is none, constant time from there on where the other set is
+    /// one run that touches that run alone, and else linear in the other set's runs and those from there on. Memory only where the set
+    /// grows, and for the sweep of the last case. Out of memory leaves a prefix of the set's runs: it may have lost minutes, and has
+    /// no new one.
     pub fn add_all(&mut self, alloc: Global, other: &MinuteSet) -> Result<(), OutOfMemory>
         ensures minutes { OnOk result ((t : ℕ) →
             any_has self.new t ≡ (any_has self.old t || any_has other.now t)) }

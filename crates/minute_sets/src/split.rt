@@ -8,6 +8,7 @@ use crate::merge::add;
 use route_base::{Minute, OutOfMemory, Run};
 
 // Moves the minutes before an end to other runs, whatever those were. Linear in the runs; no memory but where the others grow.
+// Out of memory leaves the runs as they were.
 pub fn split_before(
     held: &mut Vec<Run>,
     end: Minute,
@@ -30,7 +31,7 @@ pub fn split_before(
     Ok(())
 }
 
-// The number of runs that end by the minute.
+// The number of runs that end by the minute, by a binary search.
 fn ending_by(runs: &[Run], minute: Minute) -> usize
     requires { AreRuns runs.now }
     ensures within { result ≤ length runs.now }
@@ -40,7 +41,7 @@ fn ending_by(runs: &[Run], minute: Minute) -> usize
     runs.partition_point(|run| run.hi <= minute)
 }
 
-// Copies the minutes before an end, where as many runs end by it, and the next one doesn't.
+// Copies the minutes before an end, by which that many runs end and the next one doesn't. Linear in their number.
 fn copy_before(
     runs: &[Run],
     count: usize,
@@ -58,18 +59,15 @@ fn copy_before(
     before.clear();
     before.extend_from_slice(&runs[..count])?;
     match runs.get(count) {
-        Some(run) => add(
-            before,
-            Run {
-                lo: run.lo,
-                hi: end,
-            },
-        ),
+        Some(run) => {
+            let lo = run.lo;
+            add(before, Run { lo, hi: end })
+        }
         None => Ok(()),
     }
 }
 
-// Drops the minutes before one at which or before which only the first run can begin.
+// Drops the minutes before another, behind which all runs end. Constant time.
 fn begin_at(runs: &mut Vec<Run>, minute: Minute)
     requires runs { AreRuns runs.old.items }
     requires late { (d : Run) → 0 < length runs.old.items
