@@ -12,7 +12,7 @@ use Rattle.minute_sets.proofs.MergedRuns.{or_assoc}
 use Rattle.minute_sets.proofs.FirstRuns.{runs_tail, runs_head, runs_rise, none_before, within_run}
 
 -- a run before others that begin behind it
-runs_cons : (r : Run) (rs : List Run) → r.lo < r.hi → All (λ q. r.hi < q.lo) rs → AreRuns rs → AreRuns (r ∷ rs)
+pub runs_cons : (r : Run) (rs : List Run) → r.lo < r.hi → All (λ q. r.hi < q.lo) rs → AreRuns rs → AreRuns (r ∷ rs)
 runs_cons r rs filled rise are = record { filled = All-cons (λ q. q.lo < q.hi) r rs filled are.filled; apart = apart }
   where
     apart : AllPairs (λ p q. p.hi < q.lo) (r ∷ rs)
@@ -20,15 +20,15 @@ runs_cons r rs filled rise are = record { filled = All-cons (λ q. q.lo < q.hi) 
     apart zero (suc j) d lt within = rise j d (omega (arith, within))
     apart (suc i) (suc j) d lt within = are.apart i j d (omega (arith, lt)) (omega (arith, within))
 
-runs_append : (xs ys : List Run) → AreRuns xs → AreRuns ys → All (λ x. All (λ y. x.hi < y.lo) ys) xs → AreRuns (xs ++ ys)
+pub runs_append : (xs ys : List Run) → AreRuns xs → AreRuns ys → All (λ x. All (λ y. x.hi < y.lo) ys) xs → AreRuns (xs ++ ys)
 runs_append [] ys first second across = second
 runs_append (x ∷ xs) ys first second across =
     runs_cons x (xs ++ ys) (runs_head x xs first)
     (All-append (λ q. x.hi < q.lo) xs ys (runs_rise x xs first) (across 0 x (omega arith)))
     (runs_append xs ys (runs_tail x xs first) second (All-tail (λ z. All (λ y. z.hi < y.lo) ys) x xs across))
 
-module _ (held other both : List Run) (k minute : ℕ) (le : k ≤ length held) (are : AreRuns held) (made : AreRuns both)
-    (early : AllWithin (λ r. r.hi < minute) held 0 k) (late : All (λ r. minute ≤ r.lo) other)
+module _ (held other both : List Run) (k : ℕ) (le : k ≤ length held) (are : AreRuns held) (made : AreRuns both)
+    (early : AllWithin (λ r. All (λ q. r.hi < q.lo) other) held 0 k)
     (minutes : (t : ℕ) → any_has both t ≡ (any_has (drop k held) t || any_has other t)) where
   front_runs : AreRuns (take k held)
   front_runs = record {
@@ -55,8 +55,8 @@ module _ (held other both : List Run) (k minute : ℕ) (le : k ≤ length held) 
       let begin = ap (λ (r : Run). r.lo) (get_or-drop k held m z) in
       let end = ap (λ (r : Run). r.hi) (get_or_default held i d z (omega (arith, lt, le))) in
       omega (arith, far, begin, end, same, over))) in
-      let second : any_has other y.lo ≡ false = none_before other y.lo (λ m z low. (let begin = late m z low in let end = early i d (omega arith) lt in
-      omega (arith, begin, end, same, over))) in
+      let second : any_has other y.lo ≡ false = none_before other y.lo (λ m z low.
+      (let far = early i d (omega arith) lt m z low in omega (arith, far, same, over))) in
       absurd (both_ways (any_has both y.lo) (minutes y.lo ∙ or_from (any_has (drop k held) y.lo) (any_has other y.lo) first second) has))
       (cases_lt x.hi y.lo)
 
@@ -79,3 +79,11 @@ begin_late rs d are k e within =
     (λ (behind : 0 ≡ k → ⊥). (let far = are.apart 0 k e (omega (arith, behind)) within in let filled = are.filled 0 e (omega (arith, within)) in
     omega (arith, far, filled, same)))
     (cases_eq 0 k)
+
+-- runs that end before the first of the others begins end before each of them
+pub end_before : (held other : List Run) (k : ℕ) (d : Run) → AreRuns other → AllWithin (λ r. r.hi < (get_or other 0 d).lo) held 0 k
+    → AllWithin (λ r. All (λ q. r.hi < q.lo) other) held 0 k
+end_before held other k d are early i e from upto j f within =
+    let end = early i e from upto in
+    let late = begin_late other d are j f within in
+    omega (arith, end, late)

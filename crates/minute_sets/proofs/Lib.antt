@@ -5,3 +5,5 @@ pub mod HeadRuns
 pub mod MergedRuns
 pub mod OneList
 pub mod RunSuffixes
+pub mod SplitRuns
+pub mod WidenedRuns

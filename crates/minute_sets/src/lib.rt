@@ -6,9 +6,10 @@
 //! the set has it. `specs/Entries` adds the minutes at which a stay that avoids a set can begin. The law `maximal_runs` says that
 //! only one such list of runs has the minutes of a set, so that `runs` is determined by the minutes.
 //!
-//! `union`, `intersection` and `minus` are one sweep over both lists (`sweep`), and `add_all` sweeps in place, from the first run
-//! that the other set reaches on (`addition`); `complement` and `entries` are one pass over the gaps (`entries`); `from_runs` sorts
-//! and merges (`merge`). `specs/Combination` is no law: it says what the sweep keeps.
+//! `union`, `intersection` and `minus` are one sweep over both lists (`sweep`); `add_all` works in place, and sweeps only where neither
+//! an append nor one wider run does (`addition`); `split_before` copies the front and moves the rest forward (`split`); `complement`
+//! and `entries` are one pass over the gaps (`entries`); `from_runs` sorts and merges (`merge`). `specs/Combination` is no law: it
+//! says what the sweep keeps.
 #![tactic(auto)]
 
 mod addition;
@@ -16,6 +17,7 @@ mod entries;
 mod laws;
 mod merge;
 mod minute_set;
+mod split;
 mod sweep;
 mod threads;
 

@@ -1,39 +1,21 @@
-use Rattle.std.proofs.Common.{◌≡◌, ◌≤◌, ◌<◌, ◌-◌, ◌++◌, ◌||◌, ℕ, Bool, List, length, get_or, take, drop, ◌∙◌, ap, sym, subst, arith}
+use Rattle.std.proofs.Common.{◌<◌, All, length, get_or, ap, subst, arith}
 use Rattle.std.specs.List.{AllWithin}
-use Rattle.std.proofs.lemmas.List.{take_rest}
-use Rattle.std.proofs.lemmas.Result.{on_ok_weaker}
-use Rattle.route_base.specs.Runs.{any_has, AreRuns}
 use Rattle.route_base.specs.declared.types.Run.{Run}
-use Rattle.minute_sets.proofs.AddedRuns.{added, begin_late}
-use Rattle.minute_sets.proofs.addition.add_all.Goals.{After-runs}
+use Rattle.minute_sets.proofs.AddedRuns.{runs_append, end_before}
+use Rattle.minute_sets.proofs.addition.add_all.Goals.{After-ending_before-keep}
 use Rattle.minute_sets.proofs.addition.add_all.Goals as goal
 
--- what both have, told of the runs that are there and not of the slice
-told : (held xs both : List Run) (k : ℕ) (other : ℕ → Bool) → xs ≡ held → ((t : ℕ) → any_has both t ≡ (any_has (take (length xs - k) (drop k xs)) t || other t))
-    → (t : ℕ) → any_has both t ≡ (any_has (drop k held) t || other t)
-told held xs both k other same have t = have t ∙ ap (λ rs. any_has rs t || other t) (take_rest xs k ∙ ap (drop k) same)
-
--- the runs that stay, with those of both behind them
-whole : (c : After-runs) → AreRuns (c.truncate.new.self.items ++ c.runs.result.now)
-    × ((t : ℕ) → any_has (c.truncate.new.self.items ++ c.runs.result.now) t ≡ (any_has c.args.held.now.items t || any_has c.args.other.now t))
-whole c =
-    let held = c.args.held.now.items in
-    let other = c.args.other.now in
-    let k = c.ending_before-keep.result in
-    let kept = c.ending_before-keep.ensures in
-    let le : k ≤ length held = omega (arith, kept.within, ap length c.deref.ensures.value) in
+early : (c : After-ending_before-keep) → AllWithin (λ (r : Run). All (λ q. r.hi < q.lo) c.args.other.now) c.args.held.now.items 0 c.ending_before-keep.result
+early c =
     let first : Run = record { lo = 0; hi = 0 } in
-    let early = subst (λ rs. AllWithin (λ r. r.hi < (get_or other 0 first).lo) rs 0 k) c.deref.ensures.value kept.before in
-    let both = c.in_ok-both.both in
-    let minutes = told held c.deref-2.result.now both k (any_has other) c.deref-2.ensures.value c.in_ok-both.ensures.minutes in
-    let same = ap (λ rs. rs ++ both) (sym c.truncate.ensures.items) ∙ ap (λ rs. c.truncate.new.self.items ++ rs) (sym c.runs.ensures.items) in
-    subst (λ rs. AreRuns rs × ((t : ℕ) → any_has rs t ≡ (any_has held t || any_has other t))) same
-    (added held other both k (get_or other 0 first).lo le c.requires.held c.in_ok-both.ensures.runs early
-    (begin_late other first c.requires.other) minutes)
+    let k = c.ending_before-keep.result in
+    end_before c.args.held.now.items c.args.other.now k first c.requires.other
+    (subst (λ rs. AllWithin (λ r. r.hi < (get_or c.args.other.now 0 first).lo) rs 0 k) c.deref.ensures.value c.ending_before-keep.ensures.early)
 
 pub append_all-requires-clause-whole : goal.append_all-requires-clause-whole
-append_all-requires-clause-whole c = (whole c).0
+append_all-requires-clause-whole c = runs_append c.args.held.now.items c.args.other.now c.requires.held c.requires.other
+    (λ i d within. early (goal.at.append_all-requires-clause-whole c).After-ending_before-keep i d (omega arith)
+    (omega (arith, within, c.len.ensures, c.deref.ensures.len, ap length c.deref.ensures.value)))
 
-pub returns-clause-minutes : goal.returns-clause-minutes
-returns-clause-minutes c = on_ok_weaker c.append_all.result (λ items t.
-    (ap (λ rs. any_has rs t) items ∙ (whole (goal.at.returns-clause-minutes c).After-runs).1 t)) c.append_all.ensures.items
+pub sweep_from-requires-clause-early : goal.sweep_from-requires-clause-early
+sweep_from-requires-clause-early c = early (goal.at.sweep_from-requires-clause-early c).After-ending_before-keep
