@@ -1,48 +1,72 @@
 -- Arc lines with one space between their tokens.
-use Rattle.std.proofs.Common.{◌≡◌, ℕ, zero, suc, ◌+◌, ◌-◌, ◌*◌, ◌<◌, ◌≤◌, ◌==◌, Bool, true, false, Some, List, [], ◌∷◌, ◌++◌, length, All}
-use Rattle.std.proofs.Common.{take, drop, get_or, refl, ap, sym, ◌∙◌, arith, add-one, append_assoc, length-append, length-drop, take-append-drop}
+use Rattle.std.proofs.Common.{◌≡◌, ℕ, zero, suc, ◌+◌, ◌-◌, ◌*◌, ◌^◌, ◌<◌, ◌≤◌, ◌==◌, Bool, true, false, Some, List, [], ◌∷◌, ◌++◌, length, All}
+use Rattle.std.proofs.Common.{take, drop, get_or, refl, ap, sym, ◌∙◌, arith, append_assoc, length-append, length-drop, take-append-drop}
 use Rattle.std.specs.Prelude.{nat_le}
 use Rattle.std.specs.List.{slice_split, filter}
 use Rattle.std.specs.Str.Lines.{strip_carriage_return}
-use Rattle.std.proofs.Math.Seq.{drop-cons, take-suc}
+use Rattle.std.proofs.Math.Nat.{pow-le-pow_right, pow-succ'}
+use Rattle.std.proofs.Math.Seq.{take-suc}
 use Rattle.std.proofs.lemmas.Bool.{cond-false}
 use Rattle.std.proofs.lemmas.Bool.Decides.{nat_tests}
-use Rattle.std.proofs.lemmas.List.{take_all, length-take-le}
+use Rattle.std.proofs.lemmas.List.{drop_more, drop-drop, get_or-drop, length-take-le}
 use Rattle.std.proofs.lemmas.List.Elements.{All-append}
 use Rattle.std.proofs.lemmas.List.Splits.{slice_split_none, slice_split_at}
 use Rattle.route_base.specs.Digits.{digits_from, number_of}
 use Rattle.route_base.specs.Forms.{is_blank}
 use Rattle.route_base.proofs.DecimalDigits.{digit_back, digit_behind, number_from}
 use Rattle.route_base.proofs.Logic.{behind_test}
-use Rattle.dimacs_reader.specs.declared.lines.Line.{Line}
 use Rattle.dimacs_reader.specs.declared.lines.Line.TheVariants.{Arc}
-use Rattle.dimacs_reader.specs.Inside.PlainLines.{IsFirstLine, IsNumberBefore}
+use Rattle.dimacs_reader.specs.Inside.PlainLines.{IsFirstLine, IsNumberAt}
 use Rattle.dimacs_reader.specs.Lines.{lines_in, lines_of, line_of, tokens_of, has_bytes, arc_from}
 use Rattle.dimacs_reader.proofs.Cuts.{line_cut}
 use Rattle.dimacs_reader.proofs.ReadSoFar.{lines_next}
 use Rattle.dimacs_reader.proofs.Says.{says_four}
 
+-- the number of fewer than 18 digits is small
+pub few_digits : (i n : ℕ) → i < 18 → n < 10 ^ i → n < 10 ^ 17
+few_digits i n few small =
+    let ten : 0 < 10 = omega arith in
+    let last : i ≤ 17 = omega arith in
+    let most : 10 ^ i ≤ 10 ^ 17 = pow-le-pow_right ten last in
+    omega (arith, most)
+
+-- one digit more is small
+pub digits_small : (i n d : ℕ) → n < 10 ^ i → d < 10 → 10 * n + d < 10 ^ suc i
+digits_small i n d small below =
+    let more : 10 ^ suc i ≡ 10 * 10 ^ i = pow-succ' 10 i in
+    omega (arith, more)
+
 -- one digit more is read
-pub digits_more : (bytes : List ℕ) (i n b : ℕ) → digits_from 0 (take i bytes) ≡ Some n → i < length bytes → b ≡ get_or bytes i 0
-    → 48 ≤ b → b ≤ 57 → digits_from 0 (take (i + 1) bytes) ≡ Some (10 * n + (b - 48))
-digits_more bytes i n b h within is low high =
-    let digit : 48 + (b - 48) ≡ get_or bytes i 0 = omega arith in
-    let front : take (i + 1) bytes ≡ take i bytes ++ (48 + (b - 48)) ∷ [] = ap (λ k. take k bytes) (add-one i) ∙ take-suc bytes i 0 within
-    ∙ ap (λ d. take i bytes ++ d ∷ []) (sym digit) in
-    ap (digits_from 0) front ∙ digit_behind 0 n (b - 48) (take i bytes) (omega arith) h
+pub digits_more : (bytes : List ℕ) (from at n b : ℕ) → digits_from 0 (take (at - from) (drop from bytes)) ≡ Some n → from ≤ at → at < length bytes
+    → b ≡ get_or bytes at 0 → 48 ≤ b → b ≤ 57 → digits_from 0 (take (at + 1 - from) (drop from bytes)) ≡ Some (10 * n + (b - 48))
+digits_more bytes from at n b h behind within is low high =
+    let i = at - from in
+    let rest = drop from bytes in
+    let place : from + i ≡ at = omega arith in
+    let below : i < length rest = omega (arith, length-drop {A = ℕ}) in
+    let here : get_or rest i 0 ≡ b = get_or-drop from bytes i 0 ∙ ap (λ k. get_or bytes k 0) place ∙ sym is in
+    let digit : 48 + (b - 48) ≡ get_or rest i 0 = omega arith in
+    let step : at + 1 - from ≡ suc i = omega arith in
+    let front : take (at + 1 - from) rest ≡ take i rest ++ (48 + (b - 48)) ∷ [] = ap (λ k. take k rest) step ∙ take-suc rest i 0 below
+    ∙ ap (λ d. take i rest ++ d ∷ []) (sym digit) in
+    ap (digits_from 0) front ∙ digit_behind 0 n (b - 48) (take i rest) (omega arith) h
 
 -- the digits up to the mark
-pub number_cut : (bytes rest : List ℕ) (i n mark : ℕ) → digits_from 0 (take i bytes) ≡ Some n → 0 < i → i ≤ 18 → i < length bytes
-    → get_or bytes i 0 ≡ mark → rest ≡ take (length bytes - (i + 1)) (drop (i + 1) bytes) → IsNumberBefore mark bytes n rest
-number_cut bytes rest i n mark h some few within here rest-is =
-    let whole : rest ≡ drop (suc i) bytes = rest-is ∙ take_all (length bytes - (i + 1)) (drop (i + 1) bytes) (omega (arith, length-drop {A = ℕ}))
-    ∙ ap (λ k. drop k bytes) (add-one i) in
-    let count : length (take i bytes) ≡ i = length-take-le i bytes (omega arith) in
+pub number_cut : (bytes : List ℕ) (from at n mark : ℕ) → digits_from 0 (take (at - from) (drop from bytes)) ≡ Some n → from < at
+    → at ≤ from + 18 → at < length bytes → get_or bytes at 0 ≡ mark → IsNumberAt mark bytes from n (at + 1)
+number_cut bytes from at n mark h some few within here =
+    let i = at - from in
+    let rest = drop from bytes in
+    let place : from + i ≡ at = omega arith in
+    let count : length (take i rest) ≡ i = length-take-le i rest (omega (arith, length-drop {A = ℕ})) in
+    let behind : drop i rest ≡ mark ∷ drop (at + 1) bytes = drop-drop i from bytes ∙ ap (λ k. drop k bytes) place ∙ drop_more bytes at 0 within
+    ∙ ap (λ b. b ∷ drop (at + 1) bytes) here in
     record {
-      digits = take i bytes;
-      parts = sym (take-append-drop i bytes) ∙ ap (λ l. take i bytes ++ l) (drop-cons bytes i 0 within)
-          ∙ ap (λ b. take i bytes ++ b ∷ drop (suc i) bytes) here ∙ ap (λ l. take i bytes ++ mark ∷ l) (sym whole);
-      number = number_from (take i bytes) n (omega arith) (omega arith) h;
+      later = omega arith;
+      within = omega arith;
+      digits = take i rest;
+      parts = sym (take-append-drop i rest) ∙ ap (λ l. take i rest ++ l) behind;
+      number = number_from (take i rest) n (omega arith) (omega arith) h;
     }
 
 -- digits fail each test that is for no digits
@@ -135,19 +159,18 @@ text_line u v w a b c rest e f g =
     (sym (text_says u v w a b c e f g))
 
 -- a file that begins with `a` and a space
-pub arc_front : (bytes rest : List ℕ) → 2 ≤ length bytes → get_or bytes 0 0 ≡ 97 → get_or bytes 1 0 ≡ 32
-    → rest ≡ take (length bytes - 2) (drop 2 bytes) → bytes ≡ 97 ∷ 32 ∷ rest
-arc_front [] rest h a b e = absurd (omega arith)
-arc_front (x ∷ []) rest h a b e = absurd (omega arith)
-arc_front (x ∷ y ∷ bytes) rest h a b e =
-    let whole : rest ≡ bytes = e ∙ take_all (length (x ∷ y ∷ bytes) - 2) bytes (omega arith) in
-    rw (a, b, whole) refl
+arc_front : (bytes : List ℕ) → 2 ≤ length bytes → get_or bytes 0 0 ≡ 97 → get_or bytes 1 0 ≡ 32 → bytes ≡ 97 ∷ 32 ∷ drop 2 bytes
+arc_front [] h a b = absurd (omega arith)
+arc_front (x ∷ []) h a b = absurd (omega arith)
+arc_front (x ∷ y ∷ bytes) h a b = rw (a, b) refl
 
 -- the first line is an arc
-pub arc_first : (bytes first second third rest : List ℕ) (u v w : ℕ) → bytes ≡ 97 ∷ 32 ∷ first → IsNumberBefore 32 first u second
-    → IsNumberBefore 32 second v third → IsNumberBefore 10 third w rest → IsFirstLine bytes (Arc u v w) rest
-arc_first bytes first second third rest u v w is h k l =
-    let whole : bytes ≡ text_of h.digits k.digits l.digits ++ 10 ∷ rest = is
+pub arc_first : (bytes : List ℕ) (second third next u v w : ℕ) → 2 ≤ length bytes → get_or bytes 0 0 ≡ 97 → get_or bytes 1 0 ≡ 32
+    → IsNumberAt 32 bytes 2 u second → IsNumberAt 32 bytes second v third → IsNumberAt 10 bytes third w next
+    → IsFirstLine bytes (Arc u v w) (drop next bytes)
+arc_first bytes second third next u v w some letter space h k l =
+    let rest = drop next bytes in
+    let whole : bytes ≡ text_of h.digits k.digits l.digits ++ 10 ∷ rest = arc_front bytes some letter space
     ∙ ap (λ r. 97 ∷ 32 ∷ r) (h.parts ∙ ap (λ r. h.digits ++ 32 ∷ r) (k.parts ∙ ap (λ r. k.digits ++ 32 ∷ r) l.parts))
     ∙ sym (joined h.digits k.digits l.digits rest) in
     let size : length (text_of h.digits k.digits l.digits ++ 10 ∷ rest) ≡ length (text_of h.digits k.digits l.digits) + length (10 ∷ rest)

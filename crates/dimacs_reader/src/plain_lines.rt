@@ -1,6 +1,6 @@
 // Reads the common form of an arc line in one pass over its bytes.
-ghost use Rattle.std.specs.Prelude.{◌≡◌, [], IfSome, IfNone};
-ghost use Rattle.dimacs_reader.specs.Inside.PlainLines.{IsFirstLine, IsNumberBefore};
+ghost use Rattle.std.specs.Prelude.{◌≡◌, ◌≤◌, [], IfSome, IfNone, length};
+ghost use Rattle.dimacs_reader.specs.Inside.PlainLines.{IsFirstLine, IsNumberAt};
 
 use crate::lines::{Line, next_line, read_line};
 
@@ -32,27 +32,27 @@ fn read_plain_arc(bytes: &[u8]) -> Option<(Line, &[u8])>
     if bytes.len() < 2 || bytes[0] != b'a' || bytes[1] != b' ' {
         return None;
     }
-    let (tail, rest) = number_before(&bytes[2..], b' ')?;
-    let (head, rest) = number_before(rest, b' ')?;
-    let (minutes, rest) = number_before(rest, b'\n')?;
-    Some((Line::Arc(tail, head, minutes), rest))
+    let (tail, next) = number_at(bytes, 2, b' ')?;
+    let (head, next) = number_at(bytes, next, b' ')?;
+    let (minutes, next) = number_at(bytes, next, b'\n')?;
+    Some((Line::Arc(tail, head, minutes), &bytes[next..]))
 }
 
-// The number of 1 to 18 digits that stand before the mark, and what follows the mark; `None` for other bytes. The mark is no digit.
-fn number_before(bytes: &[u8], mark: u8) -> Option<(u64, &[u8])>
-    ensures { IfSome result (λ t. IsNumberBefore mark bytes.now t.0 t.1.now) }
+// The number of 1 to 18 digits from a place on that stand before the mark, and the place behind the mark; `None` for other bytes.
+fn number_at(bytes: &[u8], from: usize, mark: u8) -> Option<(u64, usize)>
+    requires { from ≤ length bytes.now }
+    ensures { IfSome result (λ t. IsNumberAt mark bytes.now from t.0 t.1) }
 {
-    let most = bytes.len().min(19);
+    let end = bytes.len().min(from + 18);
+    let mut at = from;
     let mut n = 0u64;
-    for i in 0..most {
-        let b = bytes[i];
-        if b < b'0' || b > b'9' {
-            if b == mark && i > 0 {
-                return Some((n, &bytes[i + 1..]));
-            }
-            return None;
-        }
-        n = 10 * n + (b - b'0') as u64;
+    while at < end && bytes[at].is_ascii_digit() {
+        n = 10 * n + (bytes[at] - b'0') as u64;
+        at += 1;
     }
-    None
+    // A return from the loop would have the compiler count along what is left of the bytes, at each digit.
+    if at == from || at == bytes.len() || bytes[at] != mark {
+        return None;
+    }
+    Some((n, at + 1))
 }

@@ -1,5 +1,5 @@
 -- Plain lines: the first line of a file, and the digits before a mark (source: own; no law).
-use Rattle.std.specs.Prelude.{◌≡◌, ◌<◌, ℕ, Some, List, ◌∷◌, ◌++◌, length}
+use Rattle.std.specs.Prelude.{◌≡◌, ◌<◌, ◌≤◌, ℕ, Some, List, ◌∷◌, ◌++◌, length, drop}
 use Rattle.route_base.specs.Digits.{number_of}
 use Rattle.dimacs_reader.specs.declared.lines.Line.{Line}
 use Rattle.dimacs_reader.specs.Lines.{lines_in}
@@ -9,8 +9,10 @@ pub record IsFirstLine (bytes : List ℕ) (line : Line) (rest : List ℕ) : Type
   pub cut : lines_in bytes ≡ line ∷ lines_in rest
   pub less : length rest < length bytes
 
--- the number of the digits before the mark, and what follows the mark
-pub record IsNumberBefore (mark : ℕ) (bytes : List ℕ) (n : ℕ) (rest : List ℕ) : Type 0 where
+-- the number of the digits from a place on before the mark, and the place behind the mark
+pub record IsNumberAt (mark : ℕ) (bytes : List ℕ) (from n next : ℕ) : Type 0 where
+  pub later : from < next
+  pub within : next ≤ length bytes
   pub digits : List ℕ
-  pub parts : bytes ≡ digits ++ mark ∷ rest
+  pub parts : drop from bytes ≡ digits ++ mark ∷ drop next bytes
   pub number : number_of digits ≡ Some n
