@@ -1,8 +1,6 @@
 -- A list by numbers from one on.
-use Rattle.std.proofs.Common.{◌≡◌, ℕ, zero, suc, ◌-◌, ◌<◌, ◌≤◌, Option, List, [], length, map, get_or, sym, ◌∙◌, ap, arith}
-use Rattle.std.specs.Prelude.{slice_get, unwrap_or}
-use Rattle.std.proofs.lemmas.List.{get_or-map}
-use Rattle.std.proofs.lemmas.Option.{unwrap_or-slice_get}
+use Rattle.std.proofs.Common.{◌≡◌, ℕ, zero, suc, ◌-◌, ◌≤◌, List, ap, arith}
+use Rattle.std.specs.Prelude.{slice_get}
 use Rattle.route_base.specs.Net.{at_number}
 use Rattle.route_base.specs.declared.types.Run.{Run}
 use Rattle.dimacs_reader.specs.GraphModel.{GraphModel}
@@ -15,16 +13,6 @@ use Rattle.network_tables.specs.Tolls.{Toll}
 pub at_number-get : {A : Type 0} (xs : List A) (a : ℕ) → 1 ≤ a → at_number xs a ≡ slice_get xs (a - 1)
 at_number-get xs zero h = absurd (omega (arith, h))
 at_number-get xs (suc k) h = (let e : k ≡ suc k - 1 = omega arith in ap (λ i. slice_get xs i) e)
-
--- the list that stands at a number
-pub list_at : {V X : Type 0} (items : V → List X) (vs : List V) (a : ℕ) (v : V) → 1 ≤ a → a ≤ length vs → v ≡ get_or vs (a - 1) v
-    → unwrap_or (at_number (map items vs) a) [] ≡ items v
-list_at items vs a v low high is =
-    let there : a - 1 < length vs = omega arith in
-    ap (λ (o : Option (List _)). unwrap_or o []) (at_number-get (map items vs) a low)
-    ∙ unwrap_or-slice_get (map items vs) (a - 1) []
-    ∙ get_or-map items vs (a - 1) v [] there
-    ∙ ap items (sym is)
 
 -- the network of these parts
 abbrev network_with : GraphModel → List Area → List ℕ → List VehicleEntry → RuleList → List (List Run) → List Parked → List Toll → NetworkModel

@@ -48,3 +48,8 @@ closed_runs closures a = map (λ c. c.run) (filter (λ c. c.arc.0 == a) closures
 -- the closed minutes of the arcs 1, 2 and so on
 unfoldable pub runs_by_arc : ℕ → List Closure → List (List Run)
 runs_by_arc arcs closures = map (closed_runs closures) (range_with_len 1 arcs)
+
+-- closures so far, with the number of arcs for which they stand
+pub record ClosuresSoFar : Type 0 where
+  pub arcs : ℕ
+  pub closures : List Closure

@@ -1,4 +1,5 @@
 pub mod Access
+pub mod ClosureLists
 pub mod Closures
 pub mod Files
 pub mod Inside

@@ -24,7 +24,7 @@ network_with parts = record {
   vehicles = parts.vehicles;
   rules = parts.rules.rules;
   passed_over = parts.rules.passed_over;
-  closures = map (λ v. v.items) parts.closures.items;
+  closures = parts.closures;
   parks = parks_with parts.parks;
   tolls = parts.tolls;
 }

@@ -1,8 +1,9 @@
 // closures.csv: the minutes in which arcs are closed.
-ghost use Rattle.std.specs.Prelude.{◌≡◌, [], List, IfOk, length, map};
+ghost use Rattle.std.specs.Prelude.{◌≡◌, ◌<◌, ◌^◌, [], IfOk, length};
 ghost use Rattle.network_tables.specs.Words.{fields_of, closure_of, closures_schema, closures_in, runs_by_arc};
 ghost use Rattle.network_tables.specs.Words.{arc_count_of, closed_runs_of, closures_fault, Reads};
 
+use crate::closure_lists::ClosureLists;
 use crate::files::read_file;
 use crate::{Files, NetworkFault};
 use calendar_days::read_instant;
@@ -20,39 +21,41 @@ pub struct Closure {
     pub run: Run,
 }
 
-/// The closed minutes of the arcs 1, 2 and so on, which contracts see as a list of lists.
+/// Closures while the table is being read, in the order of their rows, with the number of arcs for which they stand: 24 bytes a row.
 #[derive(Drop)]
-pub struct ClosureTable {
-    by_arc: Vec<Vec<Run>>,
+struct ClosureTable {
+    arcs: u32,
+    closures: Vec<Closure>,
 }
 
 impl Model for ClosureTable {
-    ghost use Rattle.std.specs.Prelude.{List, map};
-    ghost use Rattle.route_base.specs.declared.types.Run.{Run};
+    ghost use Rattle.std.specs.Prelude.{All, ◌≤◌};
+    ghost use Rattle.network_tables.specs.Closures.{ClosuresSoFar};
 
-    ghost Value = { List (List Run) };
+    ghost Value = { ClosuresSoFar };
 
-    ghost view = { λ t. map (λ v. v.items) t.by_arc.items };
+    ghost view = { λ t. record { arcs = t.arcs; closures = t.closures.items } };
+
+    ghost invariant = { λ t. All (λ c. c.arc.0 ≤ t.arcs) t.closures.items };
 }
 
 impl ClosureTable {
-    /// No closures yet, for the arcs from 1 to `arcs`. Linear in them, in time and memory.
-    pub fn new(alloc: Global, arcs: u32) -> Result<Self, OutOfMemory>
-        ensures size { IfOk result (λ t. length t ≡ arcs) }
-        ensures none { IfOk result (λ t. t ≡ runs_by_arc arcs []) }
+    // No closures yet, for the arcs from 1 to `arcs`.
+    fn new(alloc: Global, arcs: u32) -> Self
+        ensures { result ≡ record { arcs = arcs; closures = [] } }
     {
-        let mut by_arc = Vec::with_capacity(alloc, arcs as usize)?;
-        for _arc in 0..arcs {
-            by_arc.push(Vec::new(alloc))?;
+        ClosureTable {
+            arcs,
+            closures: Vec::new(alloc),
         }
-        Ok(ClosureTable { by_arc })
     }
 
-    /// The closed minutes by arc, at no cost.
-    pub fn into_lists(self) -> Vec<Vec<Run>>
-        ensures { map (λ v. v.items) result.items ≡ self }
+    // The closed minutes by arc. Linear in arcs and closures, in time and memory.
+    fn into_lists(self, alloc: Global) -> Result<ClosureLists, OutOfMemory>
+        requires { length self.closures < 2 ^ 32 }
+        ensures { IfOk result (λ lists. lists ≡ runs_by_arc self.arcs self.closures) }
     {
-        self.by_arc
+        ClosureLists::new(alloc, self.arcs, &self.closures)
     }
 }
 
@@ -71,9 +74,10 @@ fn read_closure(row: &ByteRecord) -> Option<Closure>
 }
 
 impl Table for ClosureTable {
-    ghost schema = { λ t. closures_schema (length t) };
+    ghost schema = { λ t. closures_schema t.arcs };
 
-    ghost becomes = { λ start t header rows. t ≡ runs_by_arc (length start) (closures_in rows) };
+    ghost becomes = { λ start t header rows.
+        (t.arcs ≡ start.arcs) × (t.closures ≡ closures_in rows) };
 
     fn headers(&self) -> &'static [&'static [&'static str]] {
         &[&["arc", "from", "to"]]
@@ -87,24 +91,23 @@ impl Table for ClosureTable {
         let Some(closure) = read_closure(row) else {
             return Err(RowFault::Bad(Cause::BadField));
         };
-        let arc = closure.arc.0 as usize;
-        if arc < 1 || arc > self.by_arc.len() {
+        if closure.arc.0 < 1 || closure.arc.0 > self.arcs {
             return Err(RowFault::Bad(Cause::Unknown));
         }
         if closure.run.lo >= closure.run.hi {
             return Err(RowFault::Bad(Cause::NotRising));
         }
-        self.by_arc[arc - 1].push(closure.run)?;
+        self.closures.push(closure)?;
         Ok(())
     }
 }
 
 /// The closed minutes of each arc. Linear in the bytes and the arcs.
-pub fn read_closures(alloc: Global, files: &Files, arcs: u32) -> Result<Vec<Vec<Run>>, NetworkFault>
+pub fn read_closures(alloc: Global, files: &Files, arcs: u32) -> Result<ClosureLists, NetworkFault>
     requires { arcs ≡ arc_count_of files.now }
-    ensures { Reads result (closures_fault files.now)
-        (λ lists. map (λ runs. runs.items) lists.items ≡ closed_runs_of files.now) }
+    ensures { Reads result (closures_fault files.now) (λ lists. lists ≡ closed_runs_of files.now) }
 {
-    let table = ClosureTable::new(alloc, arcs)?;
-    Ok(read_file(alloc, FileKind::Closures, &files.closures, table)?.into_lists())
+    let table = ClosureTable::new(alloc, arcs);
+    let table = read_file(alloc, FileKind::Closures, &files.closures, table)?;
+    Ok(table.into_lists(alloc)?)
 }

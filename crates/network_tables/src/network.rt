@@ -4,6 +4,7 @@ ghost use Rattle.route_base.specs.declared.limits.TheConstants.{HIGHEST_TOLL};
 ghost use Rattle.network_tables.specs.Words.{at_number, closures_of, park_of, toll_at, weight_at, IsGoodNetwork, network_with};
 ghost use Rattle.network_tables.specs.Words.{HoldsNetwork, plain_at, conditional_at, has_arc_rules, parks_with, IsTimedIn};
 
+use crate::closure_lists::ClosureLists;
 use crate::parks::Parks;
 use crate::rules::{Rules, Scope};
 use crate::tolls::Tolls;
@@ -26,7 +27,7 @@ pub struct NetworkParts {
     pub roads: Vec<u32>,
     pub vehicles: Vehicles,
     pub rules: Rules,
-    pub closures: Vec<Vec<Run>>,
+    pub closures: ClosureLists,
     pub parks: Parks,
     pub tolls: Tolls,
 }
@@ -213,7 +214,7 @@ impl Network {
         requires high { a.0 ≤ length self.now.graph.arcs }
         ensures { result ≡ length (closures_of self.now a.0) }
     {
-        self.parts.closures[a.0 as usize - 1].len()
+        self.parts.closures.count(a)
     }
 
     /// The minutes in which the arc is closed for the k-th time, from 0 in the order of its rows. In constant time.
@@ -223,6 +224,6 @@ impl Network {
         requires there { k < length (closures_of self.now a.0) }
         ensures { slice_get (closures_of self.now a.0) k ≡ Some result }
     {
-        self.parts.closures[a.0 as usize - 1][k]
+        self.parts.closures.get(a, k)
     }
 }

@@ -1,5 +1,5 @@
 // A whole network, file by file.
-ghost use Rattle.std.specs.Prelude.{◌≡◌, ◌<◌, All, IfOk, length, map};
+ghost use Rattle.std.specs.Prelude.{◌≡◌, ◌<◌, All, IfOk, length};
 ghost use Rattle.dimacs_reader.specs.GraphModel.{graph_of};
 ghost use Rattle.network_tables.specs.NetworkFiles.{closed_runs_of, contents_fault, graph_fault, network_in_files, node_count_of, parks_of};
 ghost use Rattle.network_tables.specs.Inside.{places_fault, access_fault, limits_fault, HavePlaces, IsCalendar};
@@ -8,6 +8,7 @@ ghost use Rattle.network_tables.specs.Parks.{parks_with, IsTimedIn};
 ghost use Rattle.network_tables.specs.Refusals.{Reads};
 
 use crate::area_files::{read_area_file, read_holiday_file, read_road_file, read_zone_file};
+use crate::closure_lists::ClosureLists;
 use crate::closures::read_closures;
 use crate::network::NetworkParts;
 use crate::parking::read_parking;
@@ -20,7 +21,7 @@ use crate::{Files, Network, NetworkFault};
 use area_tables::{Areas, Zones};
 use dimacs_reader::{Graph, GraphFault, read_graph};
 use opening_hours::Holidays;
-use route_base::{BadInput, FileKind, Run};
+use route_base::{BadInput, FileKind};
 use std::alloc::Global;
 use vehicle_classes::Vehicles;
 use zone_rules::Zone;
@@ -80,13 +81,13 @@ fn read_limits(
     arcs: u32,
     nodes: u32,
     areas: &Areas,
-) -> Result<(Vec<Vec<Run>>, Parks), NetworkFault>
+) -> Result<(ClosureLists, Parks), NetworkFault>
     requires arcs { arcs ≡ arc_count_of files.now }
     requires nodes { nodes ≡ node_count_of files.now }
     requires areas { names_of areas.now ≡ names_of (areas_of files.now) }
     requires some { 0 < length areas.now }
     ensures value { Reads result (limits_fault files.now)
-        (λ read. (map (λ runs. runs.items) read.0.items ≡ closed_runs_of files.now)
+        (λ read. (read.0 ≡ closed_runs_of files.now)
         × (parks_with read.1 ≡ parks_of files.now)) }
     ensures placed { IfOk result (λ read.
         All (IsTimedIn (length areas.now)) read.1.timetables) }
