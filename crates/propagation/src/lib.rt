@@ -23,8 +23,8 @@
 //! The proof speaks of functions of node and minute, never of pieces. `specs/Inside/Invariants` has what the search keeps, the part
 //! at work beside it: every wait is relaxed at once; a drive is relaxed, or its label is pending, prunable, or in the part.
 //! `Pairs` has how pairs and their borders go in, `Offers` what a part becomes on its way over an arc, `States` how vectors are
-//! seen so and which arcs a turn has read, `Measures` why the search ends, and `EntrySets` the minutes at which drives can begin, which are made once for each
-//! list of closed runs and length.
+//! seen so and which arcs a turn has read, `Measures` why the search ends, and `EntrySets` the minutes at which drives can begin: one
+//! run where an arc is never closed, and else a set that is made once for each list of closed runs and length.
 #![tactic(auto)]
 
 mod drives;
