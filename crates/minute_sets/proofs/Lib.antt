@@ -5,3 +5,4 @@ pub mod HeadRuns
 pub mod MergedRuns
 pub mod OneList
 pub mod RunSuffixes
+pub mod SplitRuns

@@ -16,6 +16,7 @@ mod entries;
 mod laws;
 mod merge;
 mod minute_set;
+mod split;
 mod sweep;
 mod threads;
 

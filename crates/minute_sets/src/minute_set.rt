@@ -1,5 +1,5 @@
 // Sets of minutes.
-ghost use Rattle.std.specs.Prelude.{◌≡◌, ◌≤◌, ◌||◌, ◌&&◌, ◌↔◌, IsTrue, not, ℕ, List, [], All, OnOk, OnErr, IfOk, take};
+ghost use Rattle.std.specs.Prelude.{◌≡◌, ◌≤◌, ◌||◌, ◌&&◌, ◌↔◌, IsTrue, not, nat_lt, ℕ, List, [], All, OnOk, OnErr, IfOk, take};
 ghost use Rattle.route_base.specs.Runs.{any_has, has_minute, AreRuns};
 ghost use Rattle.minute_sets.specs.Entries.{IsEntry};
 ghost use Rattle.route_base.specs.declared.types.Run.{Run};
@@ -7,6 +7,7 @@ ghost use Rattle.route_base.specs.declared.types.Run.{Run};
 use crate::addition::add_all;
 use crate::entries::entries_of;
 use crate::merge::{add, merged};
+use crate::split::split_before;
 use crate::sweep::{Combination, combined};
 use route_base::{Minute, OutOfMemory, Run, is_free};
 use std::alloc::Global;
@@ -49,6 +50,15 @@ impl MinuteSet {
         }
     }
 
+    /// The set without a minute, in the memory of this one.
+    pub fn cleared(self) -> MinuteSet
+        ensures { result ≡ [] }
+    {
+        let mut held = self.held;
+        held.clear();
+        MinuteSet { held }
+    }
+
     /// The minutes of the window, which may be empty (`hi <= lo`). Constant time; memory for one run.
     pub fn whole(alloc: Global, window: Run) -> Result<MinuteSet, OutOfMemory>
         ensures minutes { IfOk result (λ set. (t : ℕ) → any_has set t ≡ has_minute t window) }
@@ -70,6 +80,22 @@ impl MinuteSet {
         ensures kept { OnErr result (self.new ≡ self.old) }
     {
         add(&mut self.held, run)
+    }
+
+    /// Takes the minutes before an end out of the set and returns them, in the memory of `spare`, whatever that holds. Linear in the
+    /// number of runs; no memory but where `spare` grows. Out of memory leaves the set as it was.
+    pub fn split_before(&mut self, end: Minute, spare: MinuteSet) -> Result<MinuteSet, OutOfMemory>
+        ensures before { IfOk result (λ before. (t : ℕ) →
+            any_has before t ≡ (any_has self.old t && nat_lt t end)) }
+        ensures after { OnOk result ((t : ℕ) →
+            any_has self.new t ≡ (any_has self.old t && not (nat_lt t end))) }
+        ensures before_runs { IfOk result AreRuns }
+        ensures runs { AreRuns self.new }
+        ensures kept { OnErr result (self.new ≡ self.old) }
+    {
+        let mut before = spare.held;
+        split_before(&mut self.held, end, &mut before)?;
+        Ok(MinuteSet { held: before })
     }
 
     /// Adds the minutes of another set, in time linear in the other set's runs and in those runs that don't end before it begins;
