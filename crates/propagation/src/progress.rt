@@ -42,7 +42,14 @@ pub fn lower_at(
     ensures built { OnOk result (All AreBuilt functions.new.items) }
     ensures nodes { OnOk result (length functions.new.items ≡ length functions.old.items) }
 {
-    let improved = improve_with_spare(alloc, &mut functions[h.0 as usize - 1], offer, spare)?;
+    let spare_set = MinuteSet::empty(alloc);
+    let improved = improve_with_spare(
+        alloc,
+        &mut functions[h.0 as usize - 1],
+        offer,
+        spare,
+        spare_set,
+    )?;
     Ok(improved)
 }
 
