@@ -34,28 +34,28 @@ pub fn shift_and_prune(
         (moved_at minutes cost (kept_at f.now entries.now)) (value_at g)) }
     ensures built { IfOk result AreBuilt }
 {
-    moved_and_pruned(
+    shift_over_runs(
         spare,
         f.pieces(),
         entries.runs(),
+        minutes,
+        cost,
         until,
         pairs,
         bound,
-        minutes,
-        cost,
     )
 }
 
-// The same for pieces and runs.
-pub fn moved_and_pruned(
+/// The same for the pieces of a function and for runs that may lie anywhere, in a set or on the stack.
+pub fn shift_over_runs(
     spare: CostFn,
     pieces: &[Piece],
     runs: &[Run],
+    minutes: u64,
+    cost: Cost,
     until: Minute,
     pairs: &[Pair],
     bound: Bound,
-    minutes: u64,
-    cost: Cost,
 ) -> Result<CostFn, OutOfMemory>
     requires fit { CanMove minutes cost (kept_at pieces.now runs.now) }
     requires pieces { ArePieces pieces.now }

@@ -35,7 +35,8 @@ pub fn least(alloc: Global, f: &CostFn, g: &CostFn) -> Result<Merged, OutOfMemor
         any_has merged.improved t ≡ better_at f.now g.now t) }
     ensures built { IfOk result (λ merged. AreBuilt merged.function) }
 {
-    merged_from(alloc, Builder::new(alloc), f.pieces(), g.pieces(), 0)
+    let spare_set = MinuteSet::empty(alloc);
+    merged_from(spare_set, Builder::new(alloc), f.pieces(), g.pieces(), 0)
 }
 
 /// The same as `least` for a reduced function f that is given away. Where g is nowhere better, f stays as it is, and no memory is
@@ -51,15 +52,15 @@ pub fn improve(alloc: Global, f: CostFn, g: &CostFn) -> Result<Merged, OutOfMemo
     ensures built { IfOk result (λ merged. AreBuilt merged.function) }
 {
     let mut spare = Vec::new(alloc);
-    improve_by(alloc, f, g, &mut spare)
+    improve_by(f, g, &mut spare, MinuteSet::empty(alloc))
 }
 
-// The same, with memory for the pieces of f that are merged.
+// The same, with memory for the pieces of f that are merged, and for the minutes that are improved.
 fn improve_by(
-    alloc: Global,
     f: CostFn,
     g: &CostFn,
     spare: &mut Vec<Piece>,
+    spare_set: MinuteSet,
 ) -> Result<Merged, OutOfMemory>
     requires first { AreBuilt f }
     requires second { AreSmallPieces g.now }
@@ -69,11 +70,11 @@ fn improve_by(
     match first_better(f.pieces(), other) {
         Some(first) => {
             let own = with_room(f.into_pieces(), other.len())?;
-            improve_within(alloc, own, other, first, spare)
+            improve_within(own, other, first, spare, spare_set)
         }
         None => Ok(Merged {
             function: f,
-            improved: MinuteSet::empty(alloc),
+            improved: spare_set.cleared(),
         }),
     }
 }
@@ -90,15 +91,17 @@ pub fn improve_in_place(alloc: Global, f: &mut CostFn, g: &CostFn) -> Result<Min
     ensures err { OnErr result (f.new ≡ []) }
 {
     let mut spare = Vec::new(alloc);
-    improve_with_spare(alloc, f, g, &mut spare)
+    improve_with_spare(alloc, f, g, &mut spare, MinuteSet::empty(alloc))
 }
 
-/// The same as `improve_in_place`, with the pieces of f that are merged copied to `spare`, whatever it holds.
+/// The same as `improve_in_place`, with the pieces of f that are merged copied to `spare`, and the minutes in the memory of
+/// `spare_set`, whatever these hold.
 pub fn improve_with_spare(
     alloc: Global,
     f: &mut CostFn,
     g: &CostFn,
     spare: &mut Vec<Piece>,
+    spare_set: MinuteSet,
 ) -> Result<MinuteSet, OutOfMemory>
     requires first { AreBuilt f.old }
     requires second { AreSmallPieces g.now }
@@ -109,7 +112,7 @@ pub fn improve_with_spare(
     ensures err { OnErr result (f.new ≡ []) }
 {
     let taken = mem::replace(f, CostFn::empty(alloc));
-    let merged = improve_by(alloc, taken, g, spare)?;
+    let merged = improve_by(taken, g, spare, spare_set)?;
     let Merged { function, improved } = merged;
     *f = function;
     Ok(improved)
@@ -129,11 +132,11 @@ fn with_room(pieces: Vec<Piece>, count: usize) -> Result<Vec<Piece>, OutOfMemory
 
 // The same for pieces, where g isn't better before `first`; those that begin behind g are put back in one copy.
 fn improve_within(
-    alloc: Global,
     f: Vec<Piece>,
     g: &[Piece],
     first: Minute,
     spare: &mut Vec<Piece>,
+    spare_set: MinuteSet,
 ) -> Result<Merged, OutOfMemory>
     requires first { AreBuilt f.items }
     requires second { ArePieces g.now }
@@ -145,7 +148,7 @@ fn improve_within(
     let mut before = f;
     let tail = split_behind(&mut before, last_minute(g))?;
     move_from(&mut before, first, spare)?;
-    let merged = merged_behind(alloc, before, spare.as_slice(), g, first)?;
+    let merged = merged_behind(spare_set, before, spare.as_slice(), g, first)?;
     put_back(merged, &tail)
 }
 
@@ -204,7 +207,7 @@ fn last_minute(pieces: &[Piece]) -> Minute
 
 // The same, where the pieces of f before `first` and those from there on are apart.
 fn merged_behind(
-    alloc: Global,
+    spare_set: MinuteSet,
     before: Vec<Piece>,
     rest: &[Piece],
     g: &[Piece],
@@ -220,7 +223,7 @@ fn merged_behind(
 {
     let start = first_minute(rest, first);
     let other = find_pieces(g, start);
-    merged_from(alloc, Builder::behind(before), rest, other, start)
+    merged_from(spare_set, Builder::behind(before), rest, other, start)
 }
 
 // Moves the pieces from a place on to another list, whatever that holds.
@@ -300,9 +303,9 @@ fn better_from(f: &[Piece], g: &[Piece], start: Minute) -> Option<Minute>
     None
 }
 
-// The least values from `start` on, behind those that are built before it.
+// The least values from `start` on, behind those that are built before it. The set may hold anything: its memory is used.
 fn merged_from(
-    alloc: Global,
+    spare_set: MinuteSet,
     before: Builder,
     f: &[Piece],
     g: &[Piece],
@@ -319,7 +322,7 @@ fn merged_from(
     ensures built { IfOk result (λ merged. AreBuilt merged.function) }
 {
     let mut built = before;
-    let mut improved = MinuteSet::empty(alloc);
+    let mut improved = spare_set.cleared();
     let mut left = f;
     let mut other = g;
     let mut from: Minute = start;

@@ -1,24 +1,73 @@
 // The offer that drives over an arc make to its head.
-ghost use Rattle.std.specs.Prelude.{◌≡◌, ◌≤◌, ℕ, Option, Some, IfOk, IfSome, OnOk};
-ghost use Rattle.route_base.specs.Net.{park_at, setting_of, IsGoodPark};
+ghost use Rattle.std.specs.Prelude.{◌≡◌, ◌≤◌, ℕ, Option, Some, [], IfOk, IfSome, OnOk, option_to_list};
+ghost use Rattle.route_base.specs.Net.{at_number, park_at, runs_at, setting_of, IsGoodArc, IsGoodPark};
+ghost use Rattle.route_base.specs.Runs.{AreRuns};
 ghost use Rattle.cost_functions.specs.Pieces.{value_at, AreSmallPieces};
 ghost use Rattle.cost_functions.specs.Building.{AreBuilt};
 ghost use Rattle.potentials.specs.Sums.{bound_at};
 ghost use Rattle.propagation.specs.Inside.Invariants.{IsOffer, Reaches, point};
 ghost use Rattle.propagation.specs.Inside.Offers.{IsKnownPart, AreClearDrives, IsClearSource, IsCleared, IsWaited, Covers, CoversDrives};
-ghost use Rattle.propagation.specs.Inside.EntrySets.{AreEntrySets};
+ghost use Rattle.propagation.specs.Inside.EntrySets.{AreEntries, AreEntrySets, IsReady};
 ghost use Rattle.propagation.specs.Inside.Pairs.{AreBorders};
 ghost use Rattle.propagation.specs.Inside.States.{progress_of, task_of, IsGoodTask, IsOutgoingArc};
 
-use crate::entry_sets::{EntrySets, ready_set};
+use crate::entry_sets::{EntrySets, open_starts, ready_set};
 use crate::progress::Progress;
 use crate::spares::Spares;
 use crate::task::Task;
 use crate::ways::OutgoingArc;
 use cost_functions::CostFn;
-use function_merge::{into_pruned, shift_and_prune, wait_with_spare};
-use route_base::{Bound, Minute, NodeId, OutOfMemory, Park};
+use function_merge::{into_pruned, shift_over_runs, wait_with_spare};
+use route_base::{Bound, Minute, NodeId, OutOfMemory, Park, Run};
 use std::alloc::Global;
+
+// The place of the set of minutes at which drives over the arc can begin; none where the arc is never closed, which needs no set.
+#[inline(always)]
+fn place_for(
+    alloc: Global,
+    task: Task<'_>,
+    sets: &mut EntrySets,
+    way: OutgoingArc,
+) -> Result<Option<usize>, OutOfMemory>
+    requires is { at_number task.net.now.arcs way.id.0 ≡ Some way.arc }
+    requires good { IsGoodArc task.net.now way.arc }
+    requires entries { AreEntrySets task.net.now task.request.until sets.old }
+    ensures ready { IfOk result (IsReady (runs_at task.entry.net.now way.id.0)
+        task.entry.request.until way.arc.minutes sets.new way.arc.closed) }
+    ensures entries { OnOk result
+        (AreEntrySets task.entry.net.now task.entry.request.until sets.new) }
+{
+    let closed = task.net.closed_runs(way.id);
+    if closed.is_empty() {
+        return Ok(None);
+    }
+    let list = way.arc.closed as usize;
+    let place = ready_set(alloc, task, sets, list, closed, way.arc.minutes)?;
+    Ok(Some(place))
+}
+
+// The minutes at which drives over the arc can begin: those of the set at its place, or of `open_run` where there is no set.
+#[inline(always)]
+fn starts_at<'a>(
+    task: Task<'_>,
+    sets: &'a EntrySets,
+    way: OutgoingArc,
+    place: Option<usize>,
+    open_run: &'a Option<Run>,
+) -> &'a [Run]
+    requires ready { IsReady (runs_at task.net.now way.id.0) task.request.until way.arc.minutes
+        sets.now way.arc.closed place }
+    requires open { AreEntries [] task.request.until way.arc.minutes (option_to_list open_run.now) }
+    requires runs { AreRuns (option_to_list open_run.now) }
+    ensures entries { AreEntries (runs_at task.entry.net.now way.id.0) task.entry.request.until
+        way.arc.minutes result.now }
+    ensures runs { AreRuns result.now }
+{
+    match place {
+        Some(place) => sets.lists[way.arc.closed as usize][place].set.runs(),
+        None => open_run.as_slice(),
+    }
+}
 
 // The costs with which drives of the part over the arc end, where the goal is still worth reaching from there.
 #[inline(always)]
@@ -45,13 +94,12 @@ fn driven(
     ensures entries { OnOk result
         (AreEntrySets task.entry.net.now task.entry.request.until sets.new) }
 {
-    let closed = task.net.closed_runs(way.id);
-    let list = way.arc.closed as usize;
-    let place = ready_set(alloc, task, sets, list, closed, way.arc.minutes)?;
-    let starts = &sets.lists[list][place].set;
-    let clear = shift_and_prune(
+    let open_run = open_starts(task.request.until, way.arc.minutes);
+    let place = place_for(alloc, task, sets, way)?;
+    let starts = starts_at(task, sets, way, place, &open_run);
+    let clear = shift_over_runs(
         spares.take(alloc),
-        part,
+        part.pieces(),
         starts,
         way.arc.minutes,
         way.arc.cost,

@@ -1,6 +1,7 @@
 // The minutes at which drives can begin, made when they are first needed.
-ghost use Rattle.std.specs.Prelude.{◌≡◌, ◌≤◌, ◌<◌, ℕ, IsTrue, [], All, length, IfOk, OnOk, slice_get, slice_index_or, unwrap_or};
+ghost use Rattle.std.specs.Prelude.{◌≡◌, ◌≤◌, ◌<◌, ℕ, IsTrue, [], All, length, IfOk, OnOk, slice_get, slice_index_or, unwrap_or, option_to_list};
 ghost use Rattle.route_base.specs.Net.{Net};
+ghost use Rattle.route_base.specs.Runs.{AreRuns};
 ghost use Rattle.propagation.specs.Inside.EntrySets.{AreEntries, IsEntrySet, AreEntrySets, HasEntriesAt};
 
 use crate::task::Task;
@@ -104,6 +105,22 @@ fn is_for(list: &[EntrySet], place: usize, minutes: u64) -> bool
         Some(made) => made.minutes == minutes,
         None => false,
     }
+}
+
+// The minutes at which a drive of this length can begin where nothing is closed: those of one run, or none.
+#[inline(always)]
+pub fn open_starts(until: Minute, minutes: u64) -> Option<Run>
+    requires { 1 ≤ minutes }
+    ensures entries { AreEntries [] until minutes (option_to_list result) }
+    ensures runs { AreRuns (option_to_list result) }
+{
+    if until < minutes {
+        return None;
+    }
+    Some(Run {
+        lo: 0,
+        hi: until - minutes + 1,
+    })
 }
 
 // The minutes at which a drive can begin that avoids these runs.

@@ -7,7 +7,8 @@
 //! goal sum up to the least; it takes the pieces that begin within an hour of that minute, whole, and relaxes each arc that leaves
 //! the node for all of them at once: the part is shifted to the minutes and costs at which the drives end, pruned by the bounds
 //! and by the pairs found so far, closed under waiting where the head is rated, pruned again, and merged into the head's function
-//! if it is better anywhere. What arrives at the goal enters the pairs. The search ends where nothing is pending.
+//! if it is better anywhere. What arrives at the goal enters the pairs. The search ends where nothing is pending. Functions and sets
+//! of minutes that are done with stay in `Spares`: the next ones are made in their memory.
 //!
 //! Pruning is strict at ties: it drops what is late or can only end worse than a pair, and keeps what can end as a pair does. So
 //! the functions have every lawful itinerary of each pair of the front, and a caller can choose among them. What a pair is better
@@ -23,8 +24,8 @@
 //! The proof speaks of functions of node and minute, never of pieces. `specs/Inside/Invariants` has what the search keeps, the part
 //! at work beside it: every wait is relaxed at once; a drive is relaxed, or its label is pending, prunable, or in the part.
 //! `Pairs` has how pairs and their borders go in, `Offers` what a part becomes on its way over an arc, `States` how vectors are
-//! seen so and which arcs a turn has read, `Measures` why the search ends, and `EntrySets` the minutes at which drives can begin, which are made once for each
-//! list of closed runs and length.
+//! seen so and which arcs a turn has read, `Measures` why the search ends, and `EntrySets` the minutes at which drives can begin: one
+//! run where an arc is never closed, and else a set that is made once for each list of closed runs and length.
 #![tactic(auto)]
 
 mod drives;

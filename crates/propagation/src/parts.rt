@@ -76,7 +76,9 @@ pub fn part_of(
         &progress.borders,
         bound,
     )?;
-    requeue(&mut progress.queue, v, split.next, bound);
+    let Split { taken, next } = split;
+    spares.put_set(taken)?;
+    requeue(&mut progress.queue, v, next, bound);
     Ok(part)
 }
 

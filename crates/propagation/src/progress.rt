@@ -7,7 +7,8 @@ ghost use Rattle.label_queue.specs.Keys.{IsSet};
 ghost use Rattle.propagation.specs.Found.{cost_at};
 ghost use Rattle.propagation.specs.Inside.States.{is_pending, IsLowered, IsAwaited};
 
-use cost_functions::{CostFn, Piece};
+use crate::spares::Spares;
+use cost_functions::CostFn;
 use function_merge::improve_with_spare;
 use label_queue::LabelQueue;
 use minute_sets::MinuteSet;
@@ -31,7 +32,7 @@ pub fn lower_at(
     functions: &mut Vec<CostFn>,
     h: NodeId,
     offer: &CostFn,
-    spare: &mut Vec<Piece>,
+    spares: &mut Spares,
 ) -> Result<MinuteSet, OutOfMemory>
     requires low { 1 ≤ h.0 }
     requires high { h.0 ≤ length functions.old.items }
@@ -42,7 +43,14 @@ pub fn lower_at(
     ensures built { OnOk result (All AreBuilt functions.new.items) }
     ensures nodes { OnOk result (length functions.new.items ≡ length functions.old.items) }
 {
-    let improved = improve_with_spare(alloc, &mut functions[h.0 as usize - 1], offer, spare)?;
+    let spare_set = spares.take_set(alloc);
+    let improved = improve_with_spare(
+        alloc,
+        &mut functions[h.0 as usize - 1],
+        offer,
+        &mut spares.pieces,
+        spare_set,
+    )?;
     Ok(improved)
 }
 
@@ -50,6 +58,7 @@ pub fn lower_at(
 #[inline(always)]
 pub fn await_at(
     alloc: Global,
+    spares: &mut Spares,
     pending: &mut Vec<MinuteSet>,
     queue: &mut LabelQueue,
     h: NodeId,
@@ -66,7 +75,7 @@ pub fn await_at(
     ensures nodes { OnOk result (length pending.new.items ≡ length pending.old.items) }
 {
     let place = h.0 as usize - 1;
-    add_improved(alloc, &mut pending[place], improved)?;
+    add_improved(alloc, spares, &mut pending[place], improved)?;
     match queue.key_of(h) {
         None => queue.put(h, key),
         Some(before) => queue.lower(h, key.min(before)),
@@ -74,16 +83,22 @@ pub fn await_at(
     Ok(())
 }
 
-// Adds the minutes of the second set to the first, which becomes the second where it has none.
+// Adds the minutes of the second set to the first, which becomes the second where it has none; else the second is done with.
 #[inline(always)]
-fn add_improved(alloc: Global, own: &mut MinuteSet, more: MinuteSet) -> Result<(), OutOfMemory>
+fn add_improved(
+    alloc: Global,
+    spares: &mut Spares,
+    own: &mut MinuteSet,
+    more: MinuteSet,
+) -> Result<(), OutOfMemory>
     ensures { OnOk result ((t : ℕ) → any_has own.new t ≡ (any_has own.old t || any_has more t)) }
 {
     if let None = first_of(own) {
         *own = more;
         return Ok(());
     }
-    own.add_all(alloc, &more)
+    own.add_all(alloc, &more)?;
+    spares.put_set(more)
 }
 
 // The first minute of a set.

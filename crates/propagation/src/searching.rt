@@ -30,7 +30,7 @@ use std::alloc::Global;
 /// each position of each lawful itinerary of a pair. For each turn and arc it takes time linear in the pieces of the part and of the
 /// head's function after the part's first minute, and no step per minute. Memory for 96 bytes a node and the arcs by node, 32 bytes
 /// a piece of the functions, 48 a pair, 16 a pending run, and one entry set for each list of closed runs and length of an arc that
-/// is met. The only error is out of memory.
+/// is met and ever closed; memory that is done with is kept for what comes next. The only error is out of memory.
 pub fn search(alloc: Global, net: &TimedNet, request: Request) -> Result<Found, OutOfMemory>
     requires good { IsGoodRequest net.now request }
     requires in_time { request.depart ≤ request.until }

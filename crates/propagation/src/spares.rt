@@ -1,13 +1,15 @@
-// Functions that are done with, whose memory the next ones use.
+// Functions and sets that are done with, whose memory the next ones use.
 use crate::ways::OutgoingArc;
 use cost_functions::{CostFn, Piece};
+use minute_sets::MinuteSet;
 use route_base::OutOfMemory;
 use std::alloc::Global;
 
-/// The functions that are done with, and memory for the pieces that a merge moves and for the arcs of a turn.
+/// The functions and sets of minutes that are done with, and memory for the pieces that a merge moves and for the arcs of a turn.
 #[derive(Drop)]
 pub struct Spares {
     functions: Vec<CostFn>,
+    sets: Vec<MinuteSet>,
     pub pieces: Vec<Piece>,
     pub ways: Vec<OutgoingArc>,
 }
@@ -16,6 +18,7 @@ impl Spares {
     pub fn new(alloc: Global) -> Spares {
         Spares {
             functions: Vec::new(alloc),
+            sets: Vec::new(alloc),
             pieces: Vec::new(alloc),
             ways: Vec::new(alloc),
         }
@@ -32,6 +35,20 @@ impl Spares {
     /// Keeps a function that is done with.
     pub fn put(&mut self, spare: CostFn) -> Result<(), OutOfMemory> {
         self.functions.push(spare)?;
+        Ok(())
+    }
+
+    /// The last set that is done with, whatever it holds; one without memory, if there is none.
+    pub fn take_set(&mut self, alloc: Global) -> MinuteSet {
+        match self.sets.pop() {
+            Some(spare) => spare,
+            None => MinuteSet::empty(alloc),
+        }
+    }
+
+    /// Keeps a set that is done with.
+    pub fn put_set(&mut self, spare: MinuteSet) -> Result<(), OutOfMemory> {
+        self.sets.push(spare)?;
         Ok(())
     }
 }

@@ -205,18 +205,19 @@ pub fn take_at(
         (progress_of progress.new)) }
     ensures shape { OnOk result (IsShaped task.entry.net.now.nodes 0 progress.new) }
 {
+    let improved = lower_at(alloc, &mut progress.functions, h, offer, spares)?;
     if h.0 == task.request.goal.0 {
-        lower_at(alloc, &mut progress.functions, h, offer, &mut spares.pieces)?;
         add_pairs(&mut progress.pairs, &mut progress.borders, offer)?;
+        spares.put_set(improved)?;
         return Ok(());
     }
-    let improved = lower_at(alloc, &mut progress.functions, h, offer, &mut spares.pieces)?;
     let Some(first) = first_of(&improved) else {
-        return Ok(());
+        return spares.put_set(improved);
     };
     let key = first.saturating_add(bound.minutes);
     await_at(
         alloc,
+        spares,
         &mut progress.pending,
         &mut progress.queue,
         h,

@@ -1,5 +1,5 @@
 -- The entry sets that have been made: the minutes at which drives can begin (source: own; no law).
-use Rattle.std.specs.Prelude.{◌≡◌, ◌↔◌, ℕ, ◌<◌, IsTrue, Some, List, [], All, length, get_or, slice_get, unwrap_or, Vec}
+use Rattle.std.specs.Prelude.{◌≡◌, ◌↔◌, ℕ, ◌<◌, IsTrue, Option, Some, None, List, [], All, length, get_or, slice_get, unwrap_or, Vec}
 use Rattle.std.specs.declared.alloc.Global.{Global}
 use Rattle.route_base.specs.Net.{Net}
 use Rattle.route_base.specs.Runs.{any_has}
@@ -24,3 +24,8 @@ pub record AreEntrySets (net : Net) (until : ℕ) (sets : EntrySets) : Type 0 wh
 pub record HasEntriesAt (closed : List Run) (until minutes : ℕ) (sets : EntrySets) (i k : ℕ) : Type 0 where
   pub within : (d : Vec EntrySet Global) → k < length (get_or sets.lists.items i d).items
   pub entries : (d : Vec EntrySet Global) (e : EntrySet) → AreEntries closed until minutes (get_or (get_or sets.lists.items i d).items k e).set
+
+-- the set at a place of list i has the minutes at which drives of this length can begin; where there is no place, nothing is closed
+abbrev pub IsReady : List Run → ℕ → ℕ → EntrySets → ℕ → Option ℕ → Type 0
+IsReady closed until minutes sets i (Some k) = (i < length sets.lists.items) × HasEntriesAt closed until minutes sets i k
+IsReady closed until minutes sets i None = closed ≡ []

@@ -9,7 +9,7 @@ use Rattle.propagation.proofs.Taking.{takes_goal, takes_other}
 use Rattle.propagation.proofs.turns.take_at.Goals as goal
 
 pub returns-then-h-task-clause-takes : goal.returns-then-h-task-clause-takes
-returns-then-h-task-clause-takes c = takes_goal (task_of c.args.task) c.args.h.0 (value_at c.args.offer.now) (any_has c.in_ok-lower_at.field-0)
+returns-then-h-task-clause-takes c = takes_goal (task_of c.args.task) c.args.h.0 (value_at c.args.offer.now) (any_has c.in_ok-improved.improved)
     (progress_of c.args.progress.now)
     (progress_of (record {
       functions = c.lower_at.new.functions;
@@ -18,14 +18,14 @@ returns-then-h-task-clause-takes c = takes_goal (task_of c.args.task) c.args.h.0
       borders = c.add_pairs.new.borders;
       queue = c.args.progress.now.queue;
     }))
-    (takes_time c.args.task.net.now c.requires.asked.good) c.if-h-task.true c.in_ok-lower_at.ensures.lowered c.in_ok-add_pairs.ensures.takes
+    (takes_time c.args.task.net.now c.requires.asked.good) c.if-h-task.true c.in_ok-improved.ensures.lowered c.in_ok-add_pairs.ensures.takes
     (λ v t. refl)
 
 pub returns-clause-takes : goal.returns-clause-takes
 returns-clause-takes c = takes_other (task_of c.args.task) c.args.h.0 (value_at c.args.offer.now) (any_has c.in_ok-improved.improved)
     (progress_of c.args.progress.now)
     (progress_of (record {
-      functions = c.lower_at-2.new.functions;
+      functions = c.lower_at.new.functions;
       pending = c.await_at.new.pending;
       pairs = c.args.progress.now.pairs;
       borders = c.args.progress.now.borders;
@@ -39,7 +39,7 @@ returns-clause-shape c =
     let some = subst (λ o. IfSome o (λ t. any_has c.in_ok-improved.improved t ≡ true)) c.in-Some.is c.first_of.ensures.some in
     shaped_awaited c.args.task.net.now.nodes c.args.h.0 (any_has c.in_ok-improved.improved) c.args.progress.now
     (record {
-      functions = c.lower_at-2.new.functions;
+      functions = c.lower_at.new.functions;
       pending = c.await_at.new.pending;
       pairs = c.args.progress.now.pairs;
       borders = c.args.progress.now.borders;

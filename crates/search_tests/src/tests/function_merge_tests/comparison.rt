@@ -193,7 +193,8 @@ fn merges_in_place_as_lists<R: Abort + AllocGlobal>(
 {
     let mut in_place = f.reduce(rt.alloc()).expect(rt, "memory");
     let mut spare = g.reduce(rt.alloc()).expect(rt, "memory").into_pieces();
-    let improved = improve_with_spare(rt.alloc(), &mut in_place, g, &mut spare).expect(
+    let spare_set = MinuteSet::whole(rt.alloc(), Run { lo: 3, hi: 9 }).expect(rt, "memory");
+    let improved = improve_with_spare(rt.alloc(), &mut in_place, g, &mut spare, spare_set).expect(
         rt, "memory",
     );
     is_least(&in_place, a, b) && has_better(&improved, a, b)

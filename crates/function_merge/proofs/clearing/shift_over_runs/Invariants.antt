@@ -3,7 +3,7 @@ use Rattle.route_base.specs.Runs.{any_has, AreRuns}
 use Rattle.cost_functions.specs.Pieces.{value_at, ArePieces}
 use Rattle.function_merge.specs.Moves.{kept_at, moved_at}
 use Rattle.function_merge.specs.Inside.Prefixes.{HaveArrived, IsPrunedUpTo}
-use Rattle.function_merge.proofs.clearing.moved_and_pruned.Given as goal
+use Rattle.function_merge.proofs.clearing.shift_over_runs.Given as goal
 
 abbrev pub invariant-sweep : goal.invariant-sweep
 invariant-sweep l = record {

@@ -11,8 +11,8 @@ use Rattle.function_merge.specs.Moves.{kept_at, moved_at}
 use Rattle.function_merge.proofs.KeptParts.{moved_early, moved_late, kept_nowhere, kept_nothing, IsNextPart, first_part}
 use Rattle.function_merge.proofs.FirstPieces.{first_of}
 use Rattle.cost_functions.specs.Lines.{line_at}
-use Rattle.function_merge.proofs.clearing.moved_and_pruned.Goals.{After-min-end, in_default, in-len1-up+in_default-open}
-use Rattle.function_merge.proofs.clearing.moved_and_pruned.Goals as goal
+use Rattle.function_merge.proofs.clearing.shift_over_runs.Goals.{After-min-end, in_default, in-len1-up+in_default-open}
+use Rattle.function_merge.proofs.clearing.shift_over_runs.Goals as goal
 use Rattle.cost_functions.proofs.Values.{none_after}
 use Rattle.std.proofs.lemmas.List.Elements.{All-nil}
 
