@@ -1,4 +1,3 @@
-pub mod Halves
 pub mod Keeping
 pub mod Parting
 pub mod Offering

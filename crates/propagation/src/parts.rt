@@ -1,6 +1,6 @@
 // The part of a node's pending minutes whose arcs a turn relaxes.
-ghost use Rattle.std.specs.Prelude.{◌≡◌, ◌≤◌, ◌<◌, ◌&&◌, ◌||◌, not, nat_lt, max, ℕ, Option, Some, None, true, All, length, IfOk, OnOk};
-ghost use Rattle.route_base.specs.Runs.{any_has, has_minute, AreRuns};
+ghost use Rattle.std.specs.Prelude.{◌≡◌, ◌≤◌, ◌<◌, Option, Some, None, true, length, IfOk, OnOk};
+ghost use Rattle.route_base.specs.Runs.{any_has};
 ghost use Rattle.route_base.specs.declared.limits.TheConstants.{LAST_INSTANT};
 ghost use Rattle.cost_functions.specs.Pieces.{value_at, ArePieces, AreSmallPieces};
 ghost use Rattle.label_queue.specs.Keys.{key_at};
@@ -27,13 +27,6 @@ const SPAN: u64 = 60;
 pub struct Split {
     taken: MinuteSet,
     next: Option<Minute>,
-}
-
-// A set before a minute, and from it on.
-#[derive(Drop)]
-pub struct Halves {
-    before: MinuteSet,
-    after: MinuteSet,
 }
 
 // Takes a part of what is pending at a node that has left the queue, which is back in it if minutes are left.
@@ -65,7 +58,7 @@ pub fn part_of(
         progress.pending[place].runs(),
         first,
     );
-    let split = split_at(alloc, &mut progress.pending, v, first, end)?;
+    let split = split_at(alloc, spares, &mut progress.pending, v, first, end)?;
     let part = shift_and_prune(
         spares.take(alloc),
         &progress.functions[place],
@@ -114,9 +107,11 @@ fn last_piece_by(pieces: &[Piece], minute: Minute) -> Option<Piece>
     pieces[..count].last().copied()
 }
 
-// Takes the minutes before an end from what is pending at a node. Where these are all, the set itself is handed over.
+// Takes the minutes before an end from what is pending at a node. Where these are all, the set itself is handed over; else they are
+// copied to a set that is done with.
 fn split_at(
     alloc: Global,
+    spares: &mut Spares,
     pending: &mut Vec<MinuteSet>,
     v: NodeId,
     first: Minute,
@@ -131,18 +126,14 @@ fn split_at(
         (is_pending pending.new.items)) }
     ensures nodes { OnOk result (length pending.new.items ≡ length pending.old.items) }
 {
-    let place = v.0 as usize - 1;
-    if ends_by(&pending[place], end) {
-        let taken = mem::replace(&mut pending[place], MinuteSet::empty(alloc));
+    let own = &mut pending[v.0 as usize - 1];
+    if ends_by(own, end) {
+        let taken = mem::replace(own, MinuteSet::empty(alloc));
         return Ok(Split { taken, next: None });
     }
-    let halves = halves_at(alloc, &pending[place], end)?;
-    let next = first_of(&halves.after);
-    pending[place] = halves.after;
-    Ok(Split {
-        taken: halves.before,
-        next,
-    })
+    let taken = own.split_before(end, spares.take_set(alloc))?;
+    let next = first_of(own);
+    Ok(Split { taken, next })
 }
 
 // Whether a set has no minute at an end or later.
@@ -151,67 +142,6 @@ fn ends_by(set: &MinuteSet, end: Minute) -> bool {
         Some(run) => run.hi <= end,
         None => true,
     }
-}
-
-// The minutes of a set before an end, and the others.
-fn halves_at(alloc: Global, own: &MinuteSet, end: Minute) -> Result<Halves, OutOfMemory>
-    ensures before { IfOk result (λ halves. (t : ℕ) → any_has halves.before t
-        ≡ (any_has own.now t && nat_lt t end)) }
-    ensures after { IfOk result (λ halves. (t : ℕ) → any_has halves.after t
-        ≡ (any_has own.now t && not (nat_lt t end))) }
-{
-    halves_of(alloc, own.runs(), end)
-}
-
-// The minutes of runs before an end, and the others.
-fn halves_of(alloc: Global, runs: &[Run], end: Minute) -> Result<Halves, OutOfMemory>
-    requires { AreRuns runs.now }
-    ensures before { IfOk result (λ halves. (t : ℕ) → any_has halves.before t
-        ≡ (any_has runs.now t && nat_lt t end)) }
-    ensures after { IfOk result (λ halves. (t : ℕ) → any_has halves.after t
-        ≡ (any_has runs.now t && not (nat_lt t end))) }
-{
-    let mut before = MinuteSet::empty(alloc);
-    let mut after = MinuteSet::empty(alloc);
-    let mut left = runs;
-    'runs: while let [run, rest @ ..] = left {
-        add_before(&mut before, *run, end)?;
-        add_after(&mut after, *run, end)?;
-        left = rest;
-    }
-    Ok(Halves { before, after })
-}
-
-// Adds the minutes of a later run before an end.
-fn add_before(set: &mut MinuteSet, run: Run, end: Minute) -> Result<(), OutOfMemory>
-    requires { All (λ r. r.lo ≤ run.lo) set.old }
-    ensures minutes { OnOk result ((t : ℕ) → any_has set.new t
-        ≡ (any_has set.old t || (has_minute t run && nat_lt t end))) }
-    ensures begins { OnOk result (All (λ r. r.lo ≤ run.lo) set.new) }
-{
-    if run.lo < end {
-        set.append(Run {
-            lo: run.lo,
-            hi: run.hi.min(end),
-        })?;
-    }
-    Ok(())
-}
-
-// Adds the minutes of a later run from an end on.
-fn add_after(set: &mut MinuteSet, run: Run, end: Minute) -> Result<(), OutOfMemory>
-    requires { All (λ r. r.lo ≤ max run.lo end) set.old }
-    ensures minutes { OnOk result ((t : ℕ) → any_has set.new t
-        ≡ (any_has set.old t || (has_minute t run && not (nat_lt t end)))) }
-    ensures begins { OnOk result (All (λ r. r.lo ≤ max run.lo end) set.new) }
-{
-    if end < run.hi {
-        set.append(Run {
-            lo: run.lo.max(end),
-            hi: run.hi,
-        })?;
-    }
-    Ok(())
 }
 
 // Puts the node back, if minutes are left.
