@@ -80,7 +80,8 @@ begins roads count goal nodes most cap known keys here others key no_keys = reco
 -- the least node is taken out to work
 pub goes_to_work : (net : Net) (counted : Counted) (goal cap v x : ℕ) (known old_keys new_keys : List (Option ℕ)) → IsGoodNet net → length old_keys ≡ net.nodes
     → IsSummed net counted goal cap 0 known old_keys → IsOneOfLeastTaken old_keys new_keys v x
-    → IsSummed net counted goal cap v known new_keys × WorksAt net counted v x known new_keys × (unsettled_at net known new_keys + 1 ≤ unsettled_at net known old_keys)
+    → IsSummed net counted goal cap v known new_keys × WorksAt net counted v x known new_keys × (unsettled_at net known new_keys + 1 ≤ unsettled_at
+    net known old_keys)
 goes_to_work net counted goal cap v x known old_keys new_keys good room facts taken =
     takes_least (setting_of net).road (counted_on counted) goal net.nodes (most_on counted) cap v x (key_at known) (key_at old_keys) (key_at new_keys)
     (no_zero net good) (omega (arith, taken.node, room)) facts taken.was

@@ -17,4 +17,5 @@ pub returns-clause-early : goal.returns-clause-early
 returns-clause-early c = λ k d from upto. leb-true _ _ ((parts (goal.at.returns-clause-early c).After-partition_point).0 k d from upto)
 
 pub returns-clause-late : goal.returns-clause-late
-returns-clause-late c = λ d within. leb-false _ _ ((parts (goal.at.returns-clause-late c).After-partition_point).1 c.partition_point.result d (omega arith) within)
+returns-clause-late c = λ d within. leb-false _ _ ((parts (goal.at.returns-clause-late c).After-partition_point).1 c.partition_point.result d
+    (omega arith) within)

@@ -23,23 +23,29 @@ turns-init g c =
     }
 
 pub settle-requires-clause-facts : goal.settle-requires-clause-facts
-settle-requires-clause-facts g c = (goes_to_work c.args.net.now c.args.counted c.args.goal.0 c.args.cap c.in-Some.least.0.0 c.in-Some.least.1 c.turns.known.items
-    (g.Q.NodeQueue.keys c.turns.queue) (g.Q.NodeQueue.keys c.take_least.new.self) c.node_count-nodes.ensures.good c.turns.invariant.room c.turns.invariant.facts c.in-Some.ensures.some).0
+settle-requires-clause-facts g c = (goes_to_work c.args.net.now c.args.counted c.args.goal.0 c.args.cap c.in-Some.least.0.0 c.in-Some.least.1
+    c.turns.known.items
+    (g.Q.NodeQueue.keys c.turns.queue) (g.Q.NodeQueue.keys c.take_least.new.self) c.node_count-nodes.ensures.good c.turns.invariant.room
+    c.turns.invariant.facts c.in-Some.ensures.some).0
 
 pub settle-requires-clause-work : goal.settle-requires-clause-work
 settle-requires-clause-work g c = (goes_to_work c.args.net.now c.args.counted c.args.goal.0 c.args.cap c.in-Some.least.0.0 c.in-Some.least.1 c.turns.known.items
-    (g.Q.NodeQueue.keys c.turns.queue) (g.Q.NodeQueue.keys c.take_least.new.self) c.node_count-nodes.ensures.good c.turns.invariant.room c.turns.invariant.facts c.in-Some.ensures.some).1
+    (g.Q.NodeQueue.keys c.turns.queue) (g.Q.NodeQueue.keys c.take_least.new.self) c.node_count-nodes.ensures.good c.turns.invariant.room
+    c.turns.invariant.facts c.in-Some.ensures.some).1
 
 pub turns-smaller : goal.turns-smaller
 turns-smaller g c =
-    let less = (goes_to_work c.args.net.now c.args.counted c.args.goal.0 c.args.cap c.in-Some.least.0.0 c.in-Some.least.1 c.turns.known.items (g.Q.NodeQueue.keys c.turns.queue)
+    let less = (goes_to_work c.args.net.now c.args.counted c.args.goal.0 c.args.cap c.in-Some.least.0.0 c.in-Some.least.1 c.turns.known.items
+    (g.Q.NodeQueue.keys c.turns.queue)
     (g.Q.NodeQueue.keys c.take_least.new.self) c.node_count-nodes.ensures.good c.turns.invariant.room c.turns.invariant.facts c.in-Some.ensures.some).2 in
-    let more : unsettled_at c.args.net.now c.settle.new.known.items (g.Q.NodeQueue.keys c.settle.new.queue) + 1 ≤ unsettled_at c.args.net.now c.turns.known.items (g.Q.NodeQueue.keys c.turns.queue) =
+    let more : unsettled_at c.args.net.now c.settle.new.known.items (g.Q.NodeQueue.keys c.settle.new.queue) + 1 ≤ unsettled_at c.args.net.now
+    c.turns.known.items (g.Q.NodeQueue.keys c.turns.queue) =
     omega (arith, less, c.in_ok-settle.ensures.less) in
     omega (arith, more)
 
 pub returns-clause-least : goal.returns-clause-least
-returns-clause-least g c v = sums_below (setting_of c.args.net.now).road (counted_on c.args.counted) c.args.goal.0 c.args.net.now.nodes (most_on c.args.counted) c.args.cap
+returns-clause-least g c v = sums_below (setting_of c.args.net.now).road (counted_on c.args.counted) c.args.goal.0 c.args.net.now.nodes
+    (most_on c.args.counted) c.args.cap
     (key_at c.turns.known.items) (key_at (g.Q.NodeQueue.keys c.turns.queue)) (no_zero c.args.net.now c.node_count-nodes.ensures.good) c.turns.invariant.facts
     (c.in_default.ensures.none refl) v
 

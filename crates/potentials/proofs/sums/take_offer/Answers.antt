@@ -17,7 +17,8 @@ returns-clause-taken g c =
     let new_keys = key_at (g.Q.NodeQueue.keys c.reach.new.queue) in
     let reached : GetsSum u (counted offer.road + c.args.x) known new keys new_keys =
     subst (λ n. GetsSum u n known new keys new_keys) offer.sum c.in_ok-reach.ensures.reached in
-    let keeps = reach_keeps (setting_of net).road counted c.args.plan.goal.0 net.nodes (most_on c.args.plan.counted) c.args.plan.cap c.args.v.0 c.args.x offer.arc u
+    let keeps = reach_keeps (setting_of net).road counted c.args.plan.goal.0 net.nodes (most_on c.args.plan.counted) c.args.plan.cap c.args.v.0
+    c.args.x offer.arc u
     offer.road known new keys new_keys c.requires.facts c.requires.work offer.is offer.head offer.tail offer.cheap reached in
     record {
       nodes = c.in_ok-reach.ensures.nodes ∙ c.requires.nodes;

@@ -36,7 +36,8 @@ pub returns-clause-facts : goal.returns-clause-facts
 returns-clause-facts g c =
     let net = c.args.plan.net.now in
     let known = key_at c.loop-offer.known.items in
-    settles (setting_of net).road (counted_on c.args.plan.counted) c.args.plan.goal.0 net.nodes (most_on c.args.plan.counted) c.args.plan.cap c.args.v.0 c.args.x known
+    settles (setting_of net).road (counted_on c.args.plan.counted) c.args.plan.goal.0 net.nodes (most_on c.args.plan.counted) c.args.plan.cap
+    c.args.v.0 c.args.x known
     (key_at (g.Q.NodeQueue.keys c.loop-offer.queue)) c.loop-offer.invariant.facts c.loop-offer.invariant.work
     (λ a road by head.
     let sum = counted_on c.args.plan.counted road + c.args.x in
