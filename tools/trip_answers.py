@@ -296,13 +296,20 @@ def first_legs(roads, request, costs, arrival):
 
 
 def late_front(roads, request):
-    """For each departure, by falling ones, the least cost of an itinerary that leaves then, where it is below those before it."""
-    front, steps = [], plain_steps(roads, request.until)
+    """For each departure, by falling ones, the least cost of an itinerary that leaves then, where it is below those before it. The least
+    costs from each node and minute to the goal are found from the last minute backwards."""
+    front, steps, left = [], plain_steps(roads, request.until), {}
+    nodes = range(1, roads.network.nodes + 1)
     for departure in range(request.until, request.depart - 1, -1):
-        costs = least_costs(request.origin, departure, steps)
-        achieved = [at[request.goal] for at in costs.values() if request.goal in at]
-        if achieved and (not front or min(achieved) < front[-1][1]):
-            front.append((departure, min(achieved)))
+        left[departure] = {request.goal: 0}
+        for node in nodes:
+            for after, minutes, price in steps(node, departure):
+                if after in left[departure + minutes]:
+                    cost = left[departure + minutes][after] + price
+                    left[departure][node] = min(cost, left[departure].get(node, cost))
+        cost = left[departure].get(request.origin)
+        if cost is not None and (not front or cost < front[-1][1]):
+            front.append((departure, cost))
     return front
 
 
