@@ -7,12 +7,12 @@
 //!
 //! Arcs of one area with the same closures and the same rules of their own, or none of these, share a set; but where no arc of the
 //! network has rules of its own, an arc with one or two closures has a set to itself. Arcs of one area without rules of their own share
-//! its barred minutes (`area_bans`). `arc_digests` finds arcs that may be alike, and `arc_comparison` compares them exactly. The grouping
-//! serves all vehicles and windows: `group_arcs` finds it once for a network, and `expand_groups` makes the net of a vehicle and a window
-//! over these groups. Where many nets of one network are made, call these two in place of `expand_plain`; threads may share the groups.
-//! `expand` is `expand_plain` on several workers. Parks with the same hours in one area share
-//! their shut minutes (`shut_lists`), and `wait_open_at` says for one instant whether a park is open. `ArcGroups` is the law of groups: to
-//! every vehicle, an arc is closed at exactly the minutes at which the first arc of its group is.
+//! its barred minutes (`area_bans`). `arc_digests` finds arcs that may be alike, and `arc_comparison` compares them exactly. The
+//! grouping serves all vehicles and windows: `group_arcs` finds it once for a network, and `expand_groups` makes the net of a vehicle
+//! and a window over these groups. Where many nets of one network are made, call these two in place of `expand_plain`; threads may
+//! share the groups. `expand` is `expand_plain` on several workers. Parks with the same hours in one area share their shut minutes
+//! (`shut_lists`), and `wait_open_at` says for one instant whether a park is open. `ArcGroups` is the law of groups: to every vehicle,
+//! an arc is closed at exactly the minutes at which the first arc of its group is.
 //!
 //! The law of the parts is in `specs/`. `Layers` says what layers of minutes give: the last layer that has a minute decides whether
 //! it is closed. `overlaid` and `closed_by` meet this, and `common` has the minutes of all sets. The law `last_of_all` says that

@@ -9,8 +9,8 @@ use route_base::{NodeId, OutOfMemory};
 use std::alloc::Global;
 use std::marker::Model;
 
-/// At most one key for each node from 1 to n, where n is fixed, and all keys are from the floor, which rises, to the floor + span - 1;
-/// contracts see the list of the n keys, the floor and the span.
+/// At most one key for each node from 1 to n, where n is fixed, and all keys are from the floor, which rises, to the floor + span - 1
+/// (the queue of Dial 1969); contracts see the list of the n keys, the floor and the span.
 #[derive(Drop)]
 pub struct BucketQueue {
     ring: Ring,

@@ -29,8 +29,9 @@ pub struct Sums {
 }
 
 /// For each node the least sum of minutes and, by itself, the least sum of costs over walks of arcs to the goal; `None` exactly
-/// where there is no walk. Takes (n + m) log n steps for n nodes and m arcs, and memory linear in both. One search finds both sums
-/// where every arc costs `COST_OF_MINUTE` for each of its minutes, as without tolls; otherwise there are two.
+/// where there is no walk. One search finds both sums where every arc costs `COST_OF_MINUTE` for each of its minutes, as without
+/// tolls; otherwise there are two. For n nodes and m arcs a search takes (n + m) log n steps; but that for minutes, where no arc takes more
+/// than 256, takes n + m, and one for each minute up to the greatest sum. Memory is linear in nodes and arcs.
 pub fn to_goal(alloc: Global, net: &TimedNet, goal: NodeId) -> Result<Bounds, OutOfMemory>
     requires low { 1 ≤ goal.0 }
     requires high { goal.0 ≤ net.now.nodes }

@@ -10,10 +10,10 @@
 //! `BoundedSearch` is the trait of engines that take bounds, and `WithoutBounds` lets an engine without them be one.
 //!
 //! The least sums are found by a search from the goal over the arcs backwards, in the order of rising sums (`sums`; Dijkstra's
-//! algorithm). It is written once for any queue: minutes are searched with buckets and costs with a heap (`searches`). Where every cost is
-//! in proportion to the minutes of its arc (`proportion`), the least costs are those of the least minutes; otherwise they are found by a
-//! search of their own. A search keeps the sums below its cap; that of `to_goal` is above all sums. `bounds` puts both together.
-//! `specs/Inside` is no law: it says what the search keeps.
+//! algorithm). It is written once for any queue: minutes are searched with buckets, or with a heap where sums may lie far apart,
+//! and costs with a heap (`searches`). Where every cost is in proportion to the minutes of its arc (`proportion`), the least costs
+//! are those of the least minutes; otherwise they are found by a search of their own. A search keeps the sums below its cap; that
+//! of `to_goal` is above all sums. `bounds` puts both together. `specs/Inside` is no law: it says what the search keeps.
 #![tactic(auto)]
 
 mod bounded_search;

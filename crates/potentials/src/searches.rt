@@ -13,10 +13,10 @@ use route_base::limits::LONGEST_DRIVE;
 use route_base::{NodeId, OutOfMemory, TimedNet};
 use std::alloc::Global;
 
-// A queue of buckets takes a step for each minute up to the last sum: under a cap of more than FAR minutes and with an arc of more than
-// LONG ones a heap takes fewer.
+// The most minutes of a cap under which buckets serve whatever the arcs: they take a step for each minute up to the last sum.
 const FAR: u64 = 1_000_000;
 
+// The most minutes of an arc with which buckets serve under any cap.
 const LONG: u64 = 256;
 
 /// The least minutes to the goal that are below the cap, in a queue of buckets, of which there are as many as there are minutes that an

@@ -4,6 +4,7 @@ use Rattle.std.specs.List.{Contains, sum_by}
 use Rattle.label_queue.specs.Keys.{key_at}
 use Rattle.label_queue.specs.declared.ring.Ring.{Ring}
 
+-- a number as a key, if it is one
 abbrev pub key_by : Bool → ℕ → Option ℕ
 key_by true n = Some n
 key_by false n = None
@@ -84,7 +85,7 @@ pub record LeavesLeast (old new : Ring) (keys : List (Option ℕ)) (v : ℕ) : T
   pub ahead : (w key : ℕ) → key_at keys w ≡ Some key → IsAhead new key
   pub entries : (w key : ℕ) → key_at keys w ≡ Some key → (w ≡ v → ⊥) → HasEntry new w key
 
--- the ring holds the keys, of which there are so many
+-- the ring holds the keys, and `waiting` is their number
 pub record IsBucketed (ring : Ring) (keys : List (Option ℕ)) (waiting : ℕ) : Type 0 where
   pub holds : HoldsKeys ring keys
   pub count : waiting ≡ sum_by one_key keys
