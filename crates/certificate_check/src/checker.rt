@@ -3,6 +3,7 @@ ghost use Rattle.std.specs.Prelude.{◌≡◌, IfOk};
 ghost use Rattle.route_base.specs.Net.{setting_of, IsGoodRequest};
 ghost use Rattle.route_base.specs.Front.{IsFront, pairs_of};
 ghost use Rattle.certificate_check.specs.Conditions.{AreBoundsInRange};
+ghost use Rattle.certificate_check.specs.Inside.Reduction.{IsReduction};
 ghost use Rattle.certificate_check.specs.Verdicts.{IsVerdict};
 ghost use Rattle.certificate_check.specs.declared.checker.Verdict.TheVariants.{Accepted};
 
@@ -11,9 +12,10 @@ use crate::goal::is_goal_covered;
 use crate::legs::are_achieved;
 use crate::lookup::pieces_of;
 use crate::pairs::{are_ordered, pairs_of_routes};
+use crate::reduction::{are_reduced, reduced_copy};
 use crate::start::is_start_relaxed;
 use crate::steps::are_functions_relaxed;
-use certificate::Certificate;
+use certificate::{Certificate, NodeFunctions};
 use route_base::{OutOfMemory, Pair, Request, TimedNet};
 use std::alloc::Global;
 
@@ -27,7 +29,8 @@ pub enum Verdict {
 /// Whether the certificate is good for this net and request: then its pairs are the Pareto front.
 ///
 /// One binary search for each leg in the closed runs of its arc, two for each arc among the bounds, and a few for each arc and
-/// each rated node, at each piece and each break. Memory for the list of pairs alone.
+/// each rated node, at each break and each piece of the reduced functions. Reducing is linear in the number of pieces. Memory
+/// for the list of pairs, and only where a function isn't reduced for a reduced copy of the functions.
 pub fn check(
     alloc: Global,
     net: &TimedNet,
@@ -41,19 +44,26 @@ pub fn check(
         → IsFront (setting_of net.now) request (pairs_of certificate.now.routes)) }
 {
     let pairs = pairs_of_routes(alloc, certificate.routes.as_slice())?;
-    Ok(verdict_of(net, request, &pairs, certificate))
+    let functions = &certificate.functions;
+    if are_reduced(functions) {
+        return Ok(verdict_of(net, request, &pairs, certificate, functions));
+    }
+    let reduced = reduced_copy(alloc, functions)?;
+    Ok(verdict_of(net, request, &pairs, certificate, &reduced))
 }
 
-// The verdict, where the pairs are at hand as a list of their own. No memory.
+// The verdict, where the pairs are at hand as a list of their own, and the functions are reduced. No memory.
 fn verdict_of(
     net: &TimedNet,
     request: Request,
     pairs: &[Pair],
     certificate: &Certificate,
+    reduced: &NodeFunctions,
 ) -> Verdict
     requires request { IsGoodRequest net.now request }
     requires bounds { AreBoundsInRange certificate.now.bounds }
     requires pairs { pairs.now ≡ pairs_of certificate.now.routes }
+    requires reduced { IsReduction reduced.now certificate.now.functions }
     ensures { IsVerdict (setting_of net.now) request certificate.now result }
 {
     if !are_ordered(request.until, pairs) {
@@ -68,7 +78,7 @@ fn verdict_of(
     if !is_start_relaxed(request, pairs, certificate) {
         return Verdict::Rejected(4);
     }
-    if !are_functions_relaxed(net, request, pairs, certificate) {
+    if !are_functions_relaxed(net, request, pairs, certificate, reduced) {
         return Verdict::Rejected(5);
     }
     if !is_goal_covered(pairs, pieces_of(&certificate.functions, request.goal)) {

@@ -4,26 +4,30 @@ ghost use Rattle.route_base.specs.Net.{setting_of};
 ghost use Rattle.route_base.specs.Front.{RiseAndFall};
 ghost use Rattle.certificate.specs.ByNode.{item_at};
 ghost use Rattle.certificate_check.specs.Conditions.{IsInRange, AreFunctionsRelaxed, AreBoundsInRange};
+ghost use Rattle.certificate_check.specs.Inside.Reduction.{IsReduction};
 ghost use Rattle.certificate_check.specs.Inside.Steps.{IsGoodTrial, AreDrivesRelaxedIn, AreWaitsRelaxedIn};
 
 use crate::bounds::is_node;
 use crate::lookup::{bound_of, pieces_of};
 use crate::sweep::{Passage, pieces_pass};
-use certificate::{Certificate, NodeFunctions};
+use certificate::{Certificate, NodeBounds, NodeFunctions};
 use cost_functions::Piece;
 use route_base::{ArcId, Minute, NodeId, Pair, Request, TimedNet};
 
-/// Whether the functions are of nodes of the net and at minutes of the request, and all steps from their values are relaxed.
-/// For each arc and each rated node a few binary searches for each piece of its function, and for each closed run and each
-/// piece of the other function that the piece meets; no memory.
+/// Whether the functions are of nodes of the net and at minutes of the request, and all steps from their values are relaxed. The
+/// steps are those from the reduced functions, which have the same values in fewer pieces. For each arc and each rated node a
+/// few binary searches for each piece of its function, and for each closed run and each piece of the other function that the
+/// piece meets; no memory.
 pub fn are_functions_relaxed(
     net: &TimedNet,
     request: Request,
     pairs: &[Pair],
     certificate: &Certificate,
+    reduced: &NodeFunctions,
 ) -> bool
     requires pairs { RiseAndFall pairs.now }
     requires bounds { AreBoundsInRange certificate.now.bounds }
+    requires reduced { IsReduction reduced.now certificate.now.functions }
     ensures { IsTrue result ↔ AreFunctionsRelaxed (setting_of net.now) request pairs.now
         (item_at certificate.now.bounds) certificate.now.functions }
 {
@@ -34,7 +38,8 @@ pub fn are_functions_relaxed(
         net,
         until: request.until,
         pairs,
-        certificate,
+        bounds: &certificate.bounds,
+        functions: reduced,
     };
     if !are_drives_relaxed(trial) {
         return false;
@@ -62,13 +67,14 @@ fn are_within(request: Request, pieces: &[Piece]) -> bool
     pieces.iter().all(|piece| request.depart <= piece.lo && piece.hi <= request.until)
 }
 
-// What the steps from the values of a certificate are held against.
+// The functions whose steps are tested, and what these are held against.
 #[derive(Clone, Copy)]
 pub struct Trial<'a> {
     net: &'a TimedNet,
     until: Minute,
     pairs: &'a [Pair],
-    certificate: &'a Certificate,
+    bounds: &'a NodeBounds,
+    functions: &'a NodeFunctions,
 }
 
 // Whether the drives over all arcs are relaxed.
@@ -92,21 +98,19 @@ fn are_drives_over_relaxed(trial: Trial<'_>, a: ArcId) -> bool
     let Some(arc) = trial.net.arc(a) else {
         return true;
     };
-    let bounds = &trial.certificate.bounds;
-    let functions = &trial.certificate.functions;
     let passage = Passage {
         minutes: arc.minutes,
         cost: arc.cost,
         closed: trial.net.closed_runs(a),
-        from: bound_of(bounds, arc.tail),
-        to: bound_of(bounds, arc.head),
-        values: pieces_of(functions, arc.head),
+        from: bound_of(trial.bounds, arc.tail),
+        to: bound_of(trial.bounds, arc.head),
+        values: pieces_of(trial.functions, arc.head),
     };
     pieces_pass(
         trial.until,
         trial.pairs,
         passage,
-        pieces_of(functions, arc.tail),
+        pieces_of(trial.functions, arc.tail),
     )
 }
 
@@ -133,8 +137,8 @@ fn are_waits_at_relaxed(trial: Trial<'_>, v: NodeId) -> bool
     let Some(weight) = trial.net.weight(v) else {
         return true;
     };
-    let bound = bound_of(&trial.certificate.bounds, v);
-    let pieces = pieces_of(&trial.certificate.functions, v);
+    let bound = bound_of(trial.bounds, v);
+    let pieces = pieces_of(trial.functions, v);
     let passage = Passage {
         minutes: 1,
         cost: weight,

@@ -9,6 +9,7 @@ use Rattle.route_base.specs.declared.types.Bound.{Bound}
 use Rattle.route_base.specs.declared.types.Pair.{Pair}
 use Rattle.certificate.specs.ByNode.{item_at}
 use Rattle.certificate_check.specs.Conditions.{AreBoundsInRange, value_of}
+use Rattle.certificate_check.specs.Inside.Reduction.{AreReducedWhereSmall}
 use Rattle.certificate_check.specs.declared.steps.Trial.{Trial}
 
 -- where the head of the arc has bounds, so has its tail, and those are no larger than the way over the arc
@@ -26,20 +27,21 @@ abbrev pub AreWaitsRelaxed : Setting → ℕ → List Pair → (ℕ → Option B
 AreWaitsRelaxed s until pairs bounds value v = (p q : Position) → p.node ≡ v → value p.node p.minute ≡ Some p.cost → Waits s until p q
     → IsDominatedOrLate until pairs (bounds p.node) p ⊎ IsRelaxed until pairs bounds value q
 
--- the pairs trade time for cost, and the bounds are in their range
+-- the pairs trade time for cost, the bounds are in their range, and the functions are reduced
 pub record IsGoodTrial (trial : Trial) : Type 0 where
   pub pairs : RiseAndFall trial.pairs.now
-  pub bounds : AreBoundsInRange trial.certificate.now.bounds
+  pub bounds : AreBoundsInRange trial.bounds.now
+  pub reduced : AreReducedWhereSmall trial.functions.now
 
 -- the setting, the bounds and the values of a trial
 abbrev pub setting_in : Trial → Setting
 setting_in trial = setting_of trial.net.now
 
 abbrev pub bounds_in : Trial → ℕ → Option Bound
-bounds_in trial = item_at trial.certificate.now.bounds
+bounds_in trial = item_at trial.bounds.now
 
 abbrev pub values_in : Trial → ℕ → ℕ → Option ℕ
-values_in trial = value_of trial.certificate.now.functions
+values_in trial = value_of trial.functions.now
 
 abbrev pub AreDrivesRelaxedIn : Trial → ℕ → Type 0
 AreDrivesRelaxedIn trial a = AreDrivesRelaxed (setting_in trial) trial.until trial.pairs.now (bounds_in trial) (values_in trial) a
