@@ -17,3 +17,4 @@ pub mod Pruning
 pub mod Bordering
 pub mod EveryWay
 pub mod Gathering
+mod Rejected

@@ -20,6 +20,7 @@ use crate::spares::Spares;
 use crate::task::Task;
 use crate::ways::{OutgoingArc, read_ways};
 use cost_functions::CostFn;
+use function_merge::is_shown_no_better;
 use route_base::{Bound, NodeId, OutOfMemory};
 use std::alloc::Global;
 use std::mem;
@@ -140,7 +141,8 @@ fn drive_each(
     Ok(())
 }
 
-// Relaxes one arc that leaves the node, for the part.
+// Relaxes one arc that leaves the node, for the part. Mostly where drives lead back to the node before, no offer is made, since the costs
+// there are plainly no higher.
 #[inline(always)]
 fn drive_one(
     alloc: Global,
@@ -169,6 +171,10 @@ fn drive_one(
         → Drives (setting_of task.entry.net.now) task.entry.request.until way.id.0 (point v.0 t x) q
         → IsRelaxedIn (task_of task.entry) (progress_of progress.new) q) }
 {
+    let own = &progress.functions[way.arc.head.0 as usize - 1];
+    if is_shown_no_better(own, part.pieces(), way.arc.minutes, way.arc.cost) {
+        return Ok(());
+    }
     let offer = offered(alloc, task, sets, spares, progress, v, part, way)?;
     take_at(
         alloc,

@@ -4,8 +4,8 @@ ghost use Rattle.cost_functions.specs.Lines.{IsPiece};
 
 use cost_functions::{CostFn, Piece};
 use function_merge::{
-    Merged, can_shift, can_wait, cut, improve, improve_in_place, into_pruned, is_improved, least,
-    prune, shift, wait,
+    Merged, can_shift, can_wait, cut, improve, improve_in_place, into_pruned, is_improved,
+    is_shown_no_better, least, prune, shift, wait,
 };
 use minute_sets::MinuteSet;
 use route_base::{Bound, OutOfMemory, Pair, Run};
@@ -86,6 +86,24 @@ fn cuts_to_minutes(rt: HostRuntime) {
     let keep = MinuteSet::whole(rt.alloc(), Run { lo: 0, hi: 2 }).expect(&rt, "memory");
     let kept = cut(rt.alloc(), &f, &keep).expect(&rt, "memory");
     assert!(rt; kept.pieces() == [Piece { hi: 1, ..RISING }].as_slice());
+}
+
+// The rising line two minutes later and 7 dearer.
+const LATER: Piece = Piece {
+    lo: 2,
+    hi: 12,
+    cost: 7,
+    slope: 2,
+};
+
+// A drive of two minutes at 7 ends on the later line; a cheaper one is better there, and a longer one ends behind it.
+#[test]
+fn rejects_what_is_nowhere_better(rt: HostRuntime) {
+    let f = of_one(rt.alloc(), RISING).expect(&rt, "memory");
+    let later = of_one(rt.alloc(), LATER).expect(&rt, "memory");
+    assert!(rt; is_shown_no_better(&later, f.pieces(), 2, 7));
+    assert!(rt; !is_shown_no_better(&later, f.pieces(), 2, 6));
+    assert!(rt; !is_shown_no_better(&later, f.pieces(), 3, 9));
 }
 
 // The rising line ends at minute 4, by the horizon and by a pair.
