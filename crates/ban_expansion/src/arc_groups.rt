@@ -47,6 +47,7 @@ impl ArcGroups {
     }
 
     // Puts the next arc into a new group, which it begins.
+    #[inline(always)]
     pub(crate) fn begin(&mut self, a: ArcId) -> Result<u32, OutOfMemory>
         requires { length self.old.firsts < 2 ^ 32 }
         ensures group { IfOk result (λ group. group ≡ length self.old.firsts) }
@@ -59,6 +60,7 @@ impl ArcGroups {
     }
 
     // Puts the next arc into this group.
+    #[inline(always)]
     pub(crate) fn join(&mut self, group: u32) -> Result<(), OutOfMemory>
         ensures { OnOk result (self.new ≡ group_joined self.old group) }
     {

@@ -74,6 +74,7 @@ fn clipped(run: Run, window: Run) -> Run
 }
 
 // The minutes of the window that are in closures of the arc, of any number.
+#[inline(never)]
 fn merged_closures(
     alloc: Global,
     network: &Network,
@@ -121,6 +122,7 @@ fn closure_set(
 
 /// The minutes of the window at which the arc is closed to a vehicle, of which the barred ones are those at which its access doesn't
 /// let the vehicle in. Linear in their runs; beside, n log n for n closures.
+#[inline(always)]
 pub fn closed_over(
     alloc: Global,
     network: &Network,

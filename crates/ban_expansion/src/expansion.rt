@@ -18,6 +18,7 @@ use std::thread::Threads;
 use vehicle_classes::Vehicle;
 
 // The arc of the net with this toll, with its closed runs at this place.
+#[inline(always)]
 fn timed(arc: GraphArc, toll: Cost, place: u32) -> TimedArc
     requires minutes { arc.minutes ≤ LONGEST_DRIVE }
     requires toll { toll ≤ HIGHEST_TOLL }
@@ -33,18 +34,20 @@ fn timed(arc: GraphArc, toll: Cost, place: u32) -> TimedArc
 }
 
 // The arc of the net at place k from 0, with its closed runs at the place of its group.
-fn timed_at(network: &Network, groups: &ArcGroups, k: u32) -> TimedArc
+#[inline(always)]
+fn timed_at(network: &Network, groups: &[u32], k: u32) -> TimedArc
     requires within { k < length network.now.graph.arcs }
     requires graph { IsGoodGraph network.now.graph }
-    requires groups { AreGroups network.now groups.now }
-    ensures { IsTimedArc network.now groups.now.groups k result }
+    requires grouped { k < length groups.now }
+    ensures { IsTimedArc network.now groups.now k result }
 {
     let a = ArcId(k + 1);
     let arc = network.graph().arc(a).unwrap();
-    timed(arc, network.toll(a), groups.groups()[k as usize])
+    timed(arc, network.toll(a), groups[k as usize])
 }
 
-// All arcs, with their closed runs at the places of their groups.
+// All arcs, with their closed runs at the places of their groups. It isn't inlined, so that its loop has all registers.
+#[inline(never)]
 fn timed_arcs(
     alloc: Global,
     network: &Network,
@@ -54,10 +57,11 @@ fn timed_arcs(
     ensures { IfOk result (λ arcs.
         AreTimed network.now groups.now.groups (length network.now.graph.arcs) arcs.items) }
 {
+    let of_arcs = groups.groups();
     let count = network.graph().arc_count();
     let mut arcs = Vec::with_capacity(alloc, count as usize)?;
     for k in 0..count {
-        arcs.push_reserved(timed_at(network, groups, k));
+        arcs.push_reserved(timed_at(network, of_arcs, k));
     }
     Ok(arcs)
 }

@@ -38,14 +38,25 @@ fn has_rule(network: &Network, a: ArcId, key: Key) -> bool
     network.arc_plain(a, key).is_some() || network.arc_conditional(a, key).is_some()
 }
 
+// Whether the arc has a rule of its own for any key, by look-ups for each. It isn't inlined, so that `has_rules` is one test where
+// there are none.
+#[inline(never)]
+fn finds_rules(network: &Network, a: ArcId) -> bool
+    ensures { result ≡ list_any (has_own_rule network.now a.0) every_key }
+{
+    EVERY_KEY.iter().any(|key| has_rule(network, a, *key))
+}
+
 /// Whether the arc has a rule of its own for any key. In constant time on average.
+#[inline(always)]
 pub fn has_rules(network: &Network, a: ArcId) -> bool
     ensures { result ≡ list_any (has_own_rule network.now a.0) every_key }
 {
-    network.has_arc_rules() && EVERY_KEY.iter().any(|key| has_rule(network, a, *key))
+    network.has_arc_rules() && finds_rules(network, a)
 }
 
 // Whether the arc has closures, or a rule of its own for any key.
+#[inline(always)]
 fn has_any(network: &Network, a: ArcId) -> bool
     requires low { 1 ≤ a.0 }
     requires high { a.0 ≤ length network.now.graph.arcs }
@@ -55,6 +66,7 @@ fn has_any(network: &Network, a: ArcId) -> bool
 }
 
 // Whether no arc has rules of its own, and this one at most two closures: its set is made about as soon as an arc like it is found.
+#[inline(always)]
 fn has_short_set(network: &Network, a: ArcId) -> bool
     requires low { 1 ≤ a.0 }
     requires high { a.0 ≤ length network.now.graph.arcs }
@@ -88,6 +100,7 @@ impl Grouping {
     }
 
     // The group that the area at this place shares, if there is one yet.
+    #[inline(always)]
     fn shared_by(&self, place: usize) -> Option<u32>
         requires { place < length self.now.shared }
         ensures { slice_get self.now.shared place ≡ Some result }
@@ -147,7 +160,8 @@ impl Grouping {
     }
 
     // Groups the arc at place k from 0, which has something of its own. It shares the group of an arc like it, or begins a group; an
-    // arc with a short set begins one without a look for such an arc.
+    // arc with a short set begins one without a look for such an arc. It isn't inlined, so that the loop over other arcs is short.
+    #[inline(never)]
     fn add_own(&mut self, alloc: Global, network: &Network, k: u32) -> Result<(), OutOfMemory>
         requires { IsNext network.now k self.old }
         ensures { OnOk result (AreGrouped network.now (k + 1) self.new) }
@@ -168,6 +182,7 @@ impl Grouping {
     }
 
     // Groups the arc at place k from 0. An arc without closures or rules of its own shares the group of its area.
+    #[inline(always)]
     fn add(&mut self, alloc: Global, network: &Network, k: u32) -> Result<(), OutOfMemory>
         requires { IsNext network.now k self.old }
         ensures { OnOk result (AreGrouped network.now (k + 1) self.new) }
