@@ -19,8 +19,8 @@ use route_base::{Bound, Minute, NodeId, OutOfMemory, Run};
 use std::alloc::Global;
 use std::mem;
 
-// A turn takes the pieces that begin within 40 minutes of the first pending minute, since later costs may still fall.
-const SPAN: u64 = 40;
+// A turn takes the pieces that begin within an hour of the first pending minute, since later costs may still fall.
+const SPAN: u64 = 60;
 
 // The part that is taken, and the first minute that is left.
 #[derive(Drop)]
