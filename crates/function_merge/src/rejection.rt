@@ -9,9 +9,9 @@ use crate::suffixes::find_pieces;
 use cost_functions::{CostFn, Piece};
 use route_base::{Cost, Minute};
 
-/// Whether for each of the pieces one piece of f shows that f is no larger `minutes` later than the piece at a cost more. If so, the
-/// pieces are nowhere better than f when they are shifted; else they may be. A search in f for each piece, until one isn't shown so,
-/// mostly of a few pieces from the end of f, else a binary one; no memory.
+/// Whether for each of the pieces one piece of f shows that f is no larger `minutes` later than the piece at `cost` thousandths more. If
+/// so, the shifted pieces are nowhere better than f; else they may be. A search in f for each piece, until one isn't shown so: mostly
+/// of a few pieces from the end of f, else a binary search; no memory.
 pub fn is_shown_no_better(f: &CostFn, pieces: &[Piece], minutes: u64, cost: Cost) -> bool
     requires pieces { ArePieces pieces.now }
     requires minutes { minutes ≤ LAST_INSTANT }
