@@ -1,7 +1,8 @@
 -- Offers of sums, read one after another.
-use Rattle.std.proofs.Common.{inl, inr, ⊎_elim, ℕ, ◌+◌, List, [], ◌∷◌, ◌++◌, length, refl, ◌∙◌}
-use Rattle.std.proofs.lemmas.Option.{slice_get_within}
-use Rattle.route_base.specs.Net.{Net}
+use Rattle.std.proofs.Common.{◌≡◌, inl, inr, ⊎_elim, ℕ, zero, suc, ◌+◌, ◌-◌, ◌≤◌, Some, List, [], ◌∷◌, ◌++◌, length, get_or, refl, ◌∙◌, arith}
+use Rattle.std.proofs.lemmas.Option.{slice_get_within, slice_get-get_or}
+use Rattle.route_base.specs.Net.{Net, at_number}
+use Rattle.route_base.specs.declared.types.TimedArc.{TimedArc}
 use Rattle.route_base.proofs.Items.{slice_get-append_left, slice_get-push_end}
 use Rattle.potentials.specs.Inside.Summing.{HasOffer, IsArcRead, IsPastAt, counted_on}
 use Rattle.potentials.specs.declared.sums.Counted.{Counted}
@@ -28,3 +29,10 @@ still_read net counted cap x a old new kept read road is = ⊎_elim
     (λ (has : HasOffer old road.tail (counted_on counted road + x)). inl (kept road.tail (counted_on counted road + x) has))
     (λ (past : IsPastAt net counted cap (counted_on counted road + x)). inr past)
     (read road is)
+
+-- the arc of a number, from 1 on, is that at its place
+pub arc_read : (arcs all : List TimedArc) → arcs ≡ all → (a : ℕ) (d : TimedArc) → 1 ≤ a → a ≤ length all → at_number all a ≡ Some (get_or arcs (a - 1) d)
+arc_read arcs all same zero d low high = absurd (omega (arith, low))
+arc_read arcs all same (suc k) d low high =
+    let e : suc k - 1 ≡ k = omega arith in
+    rw (e, same) (slice_get-get_or all k d (omega (arith, high)))

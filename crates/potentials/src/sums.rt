@@ -22,6 +22,7 @@ pub enum Counted {
 }
 
 impl Counted {
+    #[inline(always)]
     fn of(self, arc: TimedArc) -> u64
         ensures { result ≡ counted_on self (road_of arc) }
     {
@@ -91,7 +92,8 @@ pub fn sums_below<Q: NodeQueue>(
 }
 
 // Settles the node at work: each arc that ends there is relaxed. All arcs are read before the first sum is reached, so that the processor
-// waits for all of them at once.
+// waits for all of them at once. It is inlined with all that it calls, so that each search has a loop that knows what it sums.
+#[inline(always)]
 fn settle<Q: NodeQueue>(
     plan: Plan<'_>,
     known: &mut Vec<Option<u64>>,
@@ -125,6 +127,7 @@ fn settle<Q: NodeQueue>(
 }
 
 // Puts the sums over the arcs that end at a node into a list, in the place of what it has, where they are below the cap.
+#[inline(always)]
 fn read_offers(
     plan: Plan<'_>,
     offers: &mut Vec<Offer>,
@@ -145,6 +148,7 @@ fn read_offers(
 }
 
 // Adds the sum over an arc that ends at a node, where it is below the cap.
+#[inline(always)]
 fn add_offer(
     plan: Plan<'_>,
     offers: &mut Vec<Offer>,
@@ -164,9 +168,7 @@ fn add_offer(
     ensures kept { OnOk result ((u sum : ℕ) → HasOffer offers.old.items u sum
         → HasOffer offers.new.items u sum) }
 {
-    let Some(arc) = plan.net.arc(a) else {
-        return Ok(());
-    };
+    let arc = plan.net.arcs()[a.0 as usize - 1];
     let sum = plan.counted.of(arc) + x;
     if sum >= plan.cap {
         return Ok(());
@@ -179,6 +181,7 @@ fn add_offer(
 }
 
 // Gives each node the sum that it is offered by an arc that ends at the node at work.
+#[inline(always)]
 fn take_offers<Q: NodeQueue>(
     plan: Plan<'_>,
     known: &mut Vec<Option<u64>>,
@@ -210,6 +213,7 @@ fn take_offers<Q: NodeQueue>(
 }
 
 // Gives a node the sum that it is offered by an arc that ends at the node at work.
+#[inline(always)]
 fn take_offer<Q: NodeQueue>(
     plan: Plan<'_>,
     known: &mut Vec<Option<u64>>,
@@ -237,6 +241,7 @@ fn take_offer<Q: NodeQueue>(
 }
 
 // Gives the node this sum, where it has none or a larger one.
+#[inline(always)]
 fn reach<Q: NodeQueue>(
     known: &mut Vec<Option<u64>>,
     queue: &mut Q,
@@ -272,6 +277,7 @@ fn reach<Q: NodeQueue>(
 }
 
 // Whether the sum that is known is no larger.
+#[inline(always)]
 fn has_within(known: Option<u64>, sum: u64) -> bool
     ensures yes { result ≡ true → IsSomeAnd known (λ least. least ≤ sum) }
     ensures no { result ≡ false → (x : ℕ) → known ≡ Some x → sum < x }
