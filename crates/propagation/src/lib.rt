@@ -3,12 +3,13 @@
 //!
 //! It is a label-correcting search over cost profiles with A* bounds (after the SEA 2020 paper on lorry routes with driving bans).
 //! Each node has a cost function of the minute, whose values only fall, and pending minutes: those at which its value fell and from
-//! which the arcs are still to be relaxed. A turn takes the node whose first pending minute and least minutes to the goal sum up to
-//! the least; it takes the pieces that begin within an hour of that minute, whole, and relaxes each arc that leaves the node for
-//! all of them at once, unless the head's function is plainly no higher: the part is shifted to the minutes and costs at which the
-//! drives end, pruned by the bounds and by the pairs found so far, closed under waiting where the head is rated, pruned again, and
-//! merged into the head's function if it is better anywhere. What arrives at the goal enters the pairs. The search ends where
-//! nothing is pending. Functions and sets of minutes that are done with stay in `Spares`: the next ones are made in their memory.
+//! which the arcs are still to be relaxed. A turn takes the node whose first pending minute comes first in `turn_order`, by the delay
+//! of the trip and then by the minute; it takes the pieces that begin within an hour of that minute, whole, and relaxes each arc that
+//! leaves the node for all of them at once, unless the head's function is plainly no higher: the part is shifted to the minutes and
+//! costs at which the drives end, pruned by the bounds and by the pairs found so far, closed under waiting where the head is rated,
+//! pruned again, and merged into the head's function if it is better anywhere. What arrives at the goal enters the pairs. The search
+//! ends where nothing is pending. Functions and sets of minutes that are done with stay in `Spares`: the next ones are made in their
+//! memory.
 //!
 //! Pruning is strict at ties: it drops what is late or can only end worse than a pair, and keeps what can end as a pair does. So
 //! the functions have every lawful itinerary of each pair of the front, and a caller can choose among them. What a pair is better
@@ -37,6 +38,7 @@ mod progress;
 mod searching;
 mod spares;
 mod task;
+mod turn_order;
 mod turns;
 mod ways;
 

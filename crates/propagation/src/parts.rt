@@ -11,6 +11,7 @@ ghost use Rattle.propagation.specs.Inside.States.{progress_of, task_of, is_pendi
 use crate::progress::{Progress, first_of};
 use crate::spares::Spares;
 use crate::task::Task;
+use crate::turn_order::turn_key;
 use cost_functions::{CostFn, Piece};
 use function_merge::{beginning_by, shift_and_prune};
 use label_queue::LabelQueue;
@@ -71,7 +72,7 @@ pub fn part_of(
     )?;
     let Split { taken, next } = split;
     spares.put_set(taken)?;
-    requeue(&mut progress.queue, v, next, bound);
+    requeue(task, &mut progress.queue, v, next, bound);
     Ok(part)
 }
 
@@ -145,7 +146,7 @@ fn ends_by(set: &MinuteSet, end: Minute) -> bool {
 }
 
 // Puts the node back, if minutes are left.
-fn requeue(queue: &mut LabelQueue, v: NodeId, next: Option<Minute>, bound: Bound)
+fn requeue(task: Task<'_>, queue: &mut LabelQueue, v: NodeId, next: Option<Minute>, bound: Bound)
     requires low { 1 ≤ v.0 }
     requires high { v.0 ≤ length queue.old }
     requires absent { key_at queue.old v.0 ≡ None }
@@ -154,5 +155,5 @@ fn requeue(queue: &mut LabelQueue, v: NodeId, next: Option<Minute>, bound: Bound
     let Some(first) = next else {
         return;
     };
-    queue.put(v, first.saturating_add(bound.minutes));
+    queue.put(v, turn_key(task, first, bound));
 }

@@ -17,6 +17,7 @@ use crate::found::Found;
 use crate::progress::Progress;
 use crate::spares::Spares;
 use crate::task::Task;
+use crate::turn_order::earliest_arrival;
 use crate::turns::{take_at, turn};
 use cost_functions::CostFn;
 use label_queue::LabelQueue;
@@ -88,6 +89,7 @@ pub fn search_with(
         outgoing,
         bounds: &bounds,
         request,
+        earliest: earliest_arrival(&bounds, request),
     };
     let progress = searched(alloc, task)?;
     Ok(Found::new(progress.pairs, progress.functions, bounds))

@@ -18,6 +18,7 @@ use crate::parts::part_of;
 use crate::progress::{Progress, await_at, first_of, lower_at};
 use crate::spares::Spares;
 use crate::task::Task;
+use crate::turn_order::turn_key;
 use crate::ways::{OutgoingArc, read_ways};
 use cost_functions::CostFn;
 use function_merge::is_shown_no_better;
@@ -220,7 +221,7 @@ pub fn take_at(
     let Some(first) = first_of(&improved) else {
         return spares.put_set(improved);
     };
-    let key = first.saturating_add(bound.minutes);
+    let key = turn_key(task, first, bound);
     await_at(
         alloc,
         spares,
