@@ -3,11 +3,11 @@ use crate::task::Task;
 use route_base::{Bound, Bounds, Minute, Request};
 
 // Delays of less than NEAR minutes are told apart by steps of FINE minutes, longer ones by steps of COARSE minutes.
-const NEAR: u64 = 64;
+const NEAR: u64 = 32;
 
 const FINE: u64 = 8;
 
-const COARSE: u64 = 128;
+const COARSE: u64 = 64;
 
 // The steps that come before the first coarse one.
 const FINE_STEPS: u64 = NEAR / FINE;
