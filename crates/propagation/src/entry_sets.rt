@@ -89,6 +89,10 @@ fn place_of(
     let place = list.partition_point(|made| made.minutes < minutes);
     if !is_for(list, place, minutes) {
         let set = entries(alloc, closed, until, minutes)?;
+        if list.is_empty() {
+            // Mostly no other set follows: a list that grows by itself takes memory for four.
+            *list = Vec::with_capacity(alloc, 1)?;
+        }
         list.insert(place, EntrySet { minutes, set })?;
     }
     Ok(place)

@@ -12,7 +12,7 @@ const COARSE: u64 = 64;
 // The steps that come before the first coarse one.
 const FINE_STEPS: u64 = NEAR / FINE;
 
-/// The earliest minute at which one could be at the goal, if nothing were closed.
+/// The earliest minute at which one could be at the goal by the bounds, as if nothing were closed.
 pub fn earliest_arrival(bounds: &Bounds, request: Request) -> Minute {
     match bounds.get(request.origin) {
         Some(bound) => request.depart.saturating_add(bound.minutes),
