@@ -3,6 +3,7 @@ use Rattle.std.proofs.Common.{◌≡◌, ℕ, zero, suc, ◌+◌, ◌&&◌, ◌|
 use Rattle.std.proofs.Common.{refl, sym, ◌∙◌, ap, subst, arith, add-one}
 use Rattle.std.proofs.Math.ListN.{set}
 use Rattle.std.proofs.lemmas.List.{length-replicate, length-set}
+use Rattle.route_base.proofs.Logic.{or-false}
 use Rattle.route_base.specs.Runs.{any_has, has_minute}
 use Rattle.route_base.specs.declared.types.Run.{Run}
 use Rattle.vehicle_classes.specs.VehicleModel.{VehicleModel}
@@ -51,10 +52,6 @@ module _ (net : NetworkModel) (vehicle : VehicleModel) (window : Run) where
         (λ before. was.each other held a before plain_a);
   }
 
-or_none : (b : Bool) → (b || false) ≡ b
-or_none true = refl
-or_none false = refl
-
 one_closure : (closures : List Run) (run : Run) → length closures ≡ 1 → slice_get closures 0 ≡ Some run → closures ≡ run ∷ []
 one_closure [] run e is = absurd (omega arith)
 one_closure (x ∷ []) run e is = let same : x ≡ run = cc in ap (λ (y : Run). y ∷ []) same
@@ -64,5 +61,5 @@ pub clipped_closure : (window run clip : Run) (closures all : List Run) → leng
     → ((t : ℕ) → has_minute t clip ≡ (has_minute t window && has_minute t run)) → ((t : ℕ) → any_has all t ≡ has_minute t clip)
     → HasThose window (any_has closures) all
 clipped_closure window run clip closures all one there clips whole = λ t.
-    whole t ∙ clips t ∙ ap (λ b. has_minute t window && b) (sym (or_none (has_minute t run)))
+    whole t ∙ clips t ∙ ap (λ b. has_minute t window && b) (sym (or-false (has_minute t run)))
     ∙ ap (λ (rs : List Run). has_minute t window && any_has rs t) (sym (one_closure closures run one there))

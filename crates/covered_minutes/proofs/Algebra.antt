@@ -24,11 +24,6 @@ pub and_agree : (b x y : Bool) → (b ≡ true → x ≡ y) → (b && x) ≡ (b 
 and_agree true x y same = same refl
 and_agree false x y same = refl
 
-pub same_from : (a b : Bool) → (a ≡ true → b ≡ true) → (b ≡ true → a ≡ true) → a ≡ b
-same_from true b to back = sym (to refl)
-same_from false true to back = back refl
-same_from false false to back = refl
-
 pub any_guarded : {X : Type 0} (a b : Bool) (p : X → Bool) (xs : List X) → list_any (λ x. a && (b && p x)) xs ≡ (a && (b && list_any p xs))
 any_guarded true true p [] = refl
 any_guarded true true p (x ∷ xs) = ap (λ c. p x || c) (any_guarded true true p xs)

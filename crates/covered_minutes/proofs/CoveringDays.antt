@@ -7,7 +7,8 @@ use Rattle.opening_hours.specs.Coverage.{day_spans, holds, is_covered}
 use Rattle.opening_hours.specs.declared.types.HoursRule.{HoursRule}
 use Rattle.opening_hours.proofs.CoverTests.{below_from}
 use Rattle.covered_minutes.specs.LocalDays.{local_covered, day_covers, days_cover}
-use Rattle.covered_minutes.proofs.Algebra.{same_from, any_guarded, below_found}
+use Rattle.covered_minutes.proofs.Algebra.{any_guarded, below_found}
+use Rattle.route_base.proofs.Logic.{same_from}
 
 module _ (rules : List HoursRule) (holidays : HolidayLists) where
   abbrev spans_hold : ℕ → ℕ → Bool

@@ -2,6 +2,7 @@
 use Rattle.std.proofs.Common.{◌≡◌, ⊎_elim, ℕ, zero, suc, ◌+◌, ◌≤◌, List, [], ◌∷◌, length, refl, sym, ap, subst, arith}
 use Rattle.std.specs.Prelude.{Contains, ◌≢◌}
 use Rattle.std.proofs.lemmas.List.{map-id}
+use Rattle.route_base.proofs.Fronts.{same_pair}
 use Rattle.route_base.specs.Setting.{Setting}
 use Rattle.route_base.specs.Itinerary.{Position, Step, Walks}
 use Rattle.route_base.specs.Legs.{start_of, end_of}
@@ -12,7 +13,7 @@ use Rattle.route_base.specs.declared.types.Request.{Request}
 use Rattle.route_base.proofs.Waiting.{same_position}
 use Rattle.front_transport.proofs.Growing.{walk_grows}
 use Rattle.front_transport.specs.ParetoFronts.{ArrivesBefore}
-use Rattle.front_transport.proofs.PairOrder.{no_worse_order, same_pair}
+use Rattle.front_transport.proofs.PairOrder.{no_worse_order}
 use Rattle.front_transport.proofs.Transport.{carried}
 use Rattle.drive_breaks.specs.Rested.{IsRestedAchieved, IsRestedFront, AchievesRested, AreRightRested}
 use Rattle.route_base.specs.declared.types.Route.{Route}

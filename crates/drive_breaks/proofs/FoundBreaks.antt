@@ -2,6 +2,7 @@
 use Rattle.std.proofs.Common.{◌≡◌, ◌⊎◌, inl, inr, ⊎_elim, ℕ, ◌+◌, ◌*◌, ◌≤◌, ◌<◌, Option, Some, List, [], ◌∷◌, ◌++◌, length, replicate, refl, sym, ◌∙◌, ap}
 use Rattle.std.proofs.Common.{subst, arith}
 use Rattle.std.proofs.lemmas.Bool.{cases_eq, cases_lt}
+use Rattle.std.proofs.lemmas.Option.{same_Some}
 use Rattle.route_base.specs.Setting.{Setting, Road}
 use Rattle.route_base.specs.Itinerary.{Position, Step, drive, wait, Moves, Walks}
 use Rattle.route_base.specs.Net.{at_number}
@@ -14,7 +15,7 @@ use Rattle.drive_breaks.specs.Inside.WithinRule.{IsWithinRule, IsWithinRuleFrom}
 use Rattle.drive_breaks.specs.Inside.StateNet.{IsStateNet, CanDrive, HasRoad}
 use Rattle.drive_states.specs.declared.rule.BreakRule.{BreakRule}
 use Rattle.drive_states.specs.declared.rule.State.{State}
-use Rattle.drive_breaks.proofs.Since.{IsLeast, least_drive, least_wait, least_within, EndsWaiting, few_waits, waits_more, by_drive}
+use Rattle.drive_breaks.proofs.Since.{IsLeast, least_drive, least_wait, least_within, EndsWaiting, few_waits, waits_more, by_drive, minutes_is}
 use Rattle.drive_breaks.proofs.SoundBreaks.{at_place}
 
 -- one more minute of waiting
@@ -23,9 +24,6 @@ cost_more k w w' c p q either was now = ⊎_elim
     (λ (none : k ≡ 0). omega (arith, ap (λ (n : ℕ). n * w) none, ap (λ (n : ℕ). (n + 1) * w') none, was, now))
     (λ (same : w ≡ w'). omega (arith, ap (λ (n : ℕ). k * n) same, was, now))
     either
-
-some_weight : (x y : ℕ) → Some x ≡ Some y → x ≡ y
-some_weight x y is = cc
 
 module _ (s z : Setting) (rule : BreakRule) (origin goal : ℕ) (states : List State) (sources : List Leg) (made : IsStateNet s z rule origin goal states sources)
     (some : 1 ≤ rule.rest) (until : ℕ) (start : Position) where
@@ -65,9 +63,6 @@ module _ (s z : Setting) (rule : BreakRule) (origin goal : ℕ) (states : List S
             (omega (arith, t.minute, t.in_time)))),
       ))
       t.rated
-
-  minutes_is : (o : Option Road) (road : Road) → o ≡ Some road → minutes_of o ≡ road.minutes
-  minutes_is o road is = ap minutes_of is
 
   can : (back : List Step) (p q : Position) (a : ℕ) (t : IsTracked back p) (move : Moves s until (drive a) p q)
       → IsWithinRule s.road rule back (minutes_of (s.road a))
@@ -139,7 +134,7 @@ module _ (s z : Setting) (rule : BreakRule) (origin goal : ℕ) (states : List S
       let rated : s.weight t.state.node.0 ≡ Some move.weight = ap s.weight (sym t.node) ∙ move.rated in
       let either : (t.k ≡ 0) ⊎ (t.weight ≡ move.weight) = ⊎_elim
       (λ (none : t.k ≡ 0). inl none)
-      (λ (was : s.weight t.state.node.0 ≡ Some t.weight). inr (some_weight t.weight move.weight (sym was ∙ rated)))
+      (λ (was : s.weight t.state.node.0 ≡ Some t.weight). inr (same_Some t.weight move.weight (sym was ∙ rated)))
       t.rated in
       record {
         i = t.i;
@@ -172,7 +167,7 @@ module _ (s z : Setting) (rule : BreakRule) (origin goal : ℕ) (states : List S
       let rated : s.weight t.state.node.0 ≡ Some move.weight = ap s.weight (sym t.node) ∙ move.rated in
       let either : (t.k ≡ 0) ⊎ (t.weight ≡ move.weight) = ⊎_elim
       (λ (none : t.k ≡ 0). inl none)
-      (λ (was : s.weight t.state.node.0 ≡ Some t.weight). inr (some_weight t.weight move.weight (sym was ∙ rated)))
+      (λ (was : s.weight t.state.node.0 ≡ Some t.weight). inr (same_Some t.weight move.weight (sym was ∙ rated)))
       t.rated in
       let next = made.breaks t.i move.weight t.state t.is rated loaded in
       let cost : t.big.cost + (t.k + 1) * move.weight ≡ q.cost = cost_more t.k t.weight move.weight t.big.cost p.cost q.cost either t.cost move.cost in

@@ -5,24 +5,16 @@ use Rattle.route_base.specs.Itinerary.{Step, drive, wait}
 use Rattle.drive_breaks.specs.Rested.{driven, minutes_of, IsSinceBreak, IsSinceLastBreak, IsStretch, KeepsRule, IsRestedFrom}
 use Rattle.drive_breaks.specs.Inside.WithinRule.{IsWithinRule, IsWithinRuleFrom}
 use Rattle.drive_states.specs.declared.rule.BreakRule.{BreakRule}
-
-head_same : (x y : Step) (xs ys : List Step) → x ∷ xs ≡ y ∷ ys → x ≡ y
-head_same x y xs ys is = cc
-
-tail_same : (x y : Step) (xs ys : List Step) → x ∷ xs ≡ y ∷ ys → xs ≡ ys
-tail_same x y xs ys is = cc
+use Rattle.drive_breaks.proofs.Since.{head_same, tail_same, no_drive}
 
 not_nil : (x : Step) (xs : List Step) → [] ≡ x ∷ xs → ⊥
 not_nil x xs is = cc
-
-not_drive : (a : ℕ) → drive a ≡ wait → ⊥
-not_drive a is = cc
 
 -- whether steps begin with so many waits
 starts : (n : ℕ) (xs : List Step) → ((early : List Step) × (xs ≡ replicate n wait ++ early)) ⊎ ((early : List Step) → xs ≡ replicate n wait ++ early → ⊥)
 starts zero xs = inl (xs, refl)
 starts (suc n) [] = inr (λ early is. not_nil wait (replicate n wait ++ early) is)
-starts (suc n) (drive a ∷ xs) = inr (λ early is. not_drive a (head_same (drive a) wait xs (replicate n wait ++ early) is))
+starts (suc n) (drive a ∷ xs) = inr (λ early is. no_drive a (head_same (drive a) wait xs (replicate n wait ++ early) is))
 starts (suc n) (wait ∷ xs) = ⊎_elim
     (λ (yes_starts : (early : List Step) × (xs ≡ replicate n wait ++ early)). inl (yes_starts.0, ap (λ (w : List Step). wait ∷ w) yes_starts.1))
     (λ (other : (early : List Step) → xs ≡ replicate n wait ++ early → ⊥). inr
@@ -77,8 +69,8 @@ module _ (roads : ℕ → Option Road) where
     where
       number_same : (i j : ℕ) → drive i ≡ drive j → i ≡ j
       number_same i j is = cc
-  front_less (drive a ∷ xs) (wait ∷ ys) more rest same le = absurd (not_drive a (head_same (drive a) wait (xs ++ more) (ys ++ rest) same))
-  front_less (wait ∷ xs) (drive b ∷ ys) more rest same le = absurd (not_drive b (sym (head_same wait (drive b) (xs ++ more) (ys ++ rest) same)))
+  front_less (drive a ∷ xs) (wait ∷ ys) more rest same le = absurd (no_drive a (head_same (drive a) wait (xs ++ more) (ys ++ rest) same))
+  front_less (wait ∷ xs) (drive b ∷ ys) more rest same le = absurd (no_drive b (sym (head_same wait (drive b) (xs ++ more) (ys ++ rest) same)))
   front_less (wait ∷ xs) (wait ∷ ys) more rest same le = front_less xs ys more rest (tail_same wait wait (xs ++ more) (ys ++ rest) same) (omega (arith, le))
 
   driven_less : (xs ys : List Step) → driven roads xs ≤ driven roads (xs ++ ys)

@@ -1,5 +1,6 @@
 -- The net with the arcs over all states is the net over states.
 use Rattle.std.proofs.Common.{◌≡◌, ◌⊎◌, inl, inr, ⊎_elim, ℕ, ◌+◌, ◌*◌, Option, Some, None, List, [], ◌∷◌, ◌++◌, length, map, All, refl, sym, ◌∙◌, ap, subst}
+use Rattle.std.proofs.lemmas.Option.{same_Some}
 use Rattle.std.specs.Prelude.{Contains, slice_get, unwrap_or}
 use Rattle.std.specs.Option.{option_map, option_flatten}
 use Rattle.std.proofs.lemmas.List.{length-map}
@@ -21,15 +22,6 @@ use Rattle.drive_states.specs.declared.rule.BreakRule.{BreakRule}
 use Rattle.drive_states.specs.declared.rule.State.{State}
 use Rattle.drive_states.specs.declared.rule.Way.{Way}
 use Rattle.drive_states.proofs.Found.{way_of}
-
-some_state : (x y : State) → Some x ≡ Some y → x ≡ y
-some_state x y is = cc
-
-some_number : (x y : ℕ) → Some x ≡ Some y → x ≡ y
-some_number x y is = cc
-
-some_road : (x y : Road) → Some x ≡ Some y → x ≡ y
-some_road x y is = cc
 
 road : ℕ → ℕ → ℕ → ℕ → Road
 road tail head minutes cost = record { tail = tail; head = head; minutes = minutes; cost = cost }
@@ -76,7 +68,7 @@ module _ (net : Net) (good : IsGoodNet net) (rule : BreakRule) (origin goal : �
   park_of at from park same is = ap (λ (w : State). park_at net w.node.0) (sym same) ∙ is
 
   weight_of : (v w : ℕ) (park : Park) → park_at net v ≡ Some park → (setting_of net).weight v ≡ Some w → park.weight ≡ w
-  weight_of v w park is rated = some_number park.weight w (ap (option_map (λ park. park.weight)) (sym is) ∙ rated)
+  weight_of v w park is rated = same_Some park.weight w (ap (option_map (λ park. park.weight)) (sym is) ∙ rated)
 
   -- a road over states, by the leg of its way
   by_leg : (leg : Leg) (x : ℕ) (r : Road) (arc : TimedArc) (from to : State) (i j : ℕ) → at_number arcs x ≡ Some arc → road_of arc ≡ r
@@ -84,7 +76,7 @@ module _ (net : Net) (good : IsGoodNet net) (rule : BreakRule) (origin goal : �
       → (at_number states j ≡ Some to) ⊎ ((j ≡ length states + 1) × (to.node.0 ≡ goal) × ((k : ℕ) → leg ≡ Wait k → ⊥))
       → IsDriveWay (setting_of net) (setting_of big) rule goal states from x r leg ⊎ IsBreakWay (setting_of net) (setting_of big) rule states from x r leg
   by_leg (Drive a) x r arc from to i j at is at_from departs made to_at =
-      let same : road_of made.0 ≡ departs.0 = some_road (road_of made.0) departs.0 (sym (ap (option_map road_of) made.1) ∙ departs.1) in
+      let same : road_of made.0 ≡ departs.0 = same_Some (road_of made.0) departs.0 (sym (ap (option_map road_of) made.1) ∙ departs.1) in
       let head : r.head ≡ j = ap (λ (w : Road). w.head) (sym is) ∙ ap (λ (w : TimedArc). w.head.0) made.2 in
       inl (record {
         arc = a;
@@ -102,7 +94,7 @@ module _ (net : Net) (good : IsGoodNet net) (rule : BreakRule) (origin goal : �
             to_at;
       })
   by_leg (Wait k) x r arc from to i j at is at_from departs made to_at =
-      let state_is : made.0 ≡ from = some_state made.0 from (sym made.1 ∙ at_from) in
+      let state_is : made.0 ≡ from = same_Some made.0 from (sym made.1 ∙ at_from) in
       ⊎_elim
       (λ (inner : at_number states j ≡ Some to). inr (record {
         is_leg = ap (λ (n : ℕ). Wait n) departs.0;
@@ -152,7 +144,7 @@ module _ (net : Net) (good : IsGoodNet net) (rule : BreakRule) (origin goal : �
             by_leg way.leg x r arc sound.from sound.to way.from (length states + 1) found.1 found.2 sound.at_from sound.departs copy.0
             (inr (
               refl,
-              ap (λ (w : State). w.node.0) (some_state sound.to copy.1.1.0 (sym sound.at_to ∙ copy.1.1.1)) ∙ copy.1.1.2,
+              ap (λ (w : State). w.node.0) (same_Some sound.to copy.1.1.0 (sym sound.at_to ∙ copy.1.1.1)) ∙ copy.1.1.2,
               λ k wait. drive_no_wait way.leg copy.1.0.0.0 k copy.1.0.1 wait,
             )))
             one.2.made;
@@ -173,7 +165,7 @@ module _ (net : Net) (good : IsGoodNet net) (rule : BreakRule) (origin goal : �
       → (road : HasRoad (setting_of big) i j over.minutes over.cost) × ((t : ℕ) → (setting_of big).shut road.x t ≡ (setting_of net).shut a t)
   unfolding big
   drive_road i j a x from over arc can at made =
-      let same : road_of made.0 ≡ over = some_road (road_of made.0) over (sym (ap (option_map road_of) made.1) ∙ can.is) in (
+      let same : road_of made.0 ≡ over = same_Some (road_of made.0) over (sym (ap (option_map road_of) made.1) ∙ can.is) in (
         record {
           x = x;
           is = ap (option_map road_of) at ∙ ap (λ (w : Road). Some w) (same_road (road_of arc) _
@@ -221,7 +213,7 @@ module _ (net : Net) (good : IsGoodNet net) (rule : BreakRule) (origin goal : �
       (refl, (weight, rated), loaded, refl, refl) in
       let arc = built.all has.way has.is_one in
       let made = arc_by i has.way.to (Wait rule.rest) has.way arc.1 has.from has.by arc.3 in
-      let state_is : made.0 ≡ from = some_state made.0 from (sym made.1 ∙ at) in
+      let state_is : made.0 ≡ from = same_Some made.0 from (sym made.1 ∙ at) in
       let park_is : park_at net from.node.0 ≡ Some made.2 = park_of made.0 from made.2 state_is made.3 in
       let weight_is : made.2.weight ≡ weight = weight_of from.node.0 weight made.2 park_is rated in (
         has.way.to,

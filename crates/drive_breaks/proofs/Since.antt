@@ -1,19 +1,22 @@
 -- Where the last break of a list of steps, the last first, can stand.
-use Rattle.std.proofs.Common.{◌≡◌, ◌⊎◌, inl, inr, ⊎_elim, ℕ, zero, suc, ◌+◌, ◌≤◌, Option, List, [], ◌∷◌, ◌++◌, replicate, refl, sym, ◌∙◌, ap, subst, arith}
+use Rattle.std.proofs.Common.{◌≡◌, ◌⊎◌, inl, inr, ⊎_elim, ℕ, zero, suc, ◌+◌, ◌≤◌, Option, Some, List, [], ◌∷◌, ◌++◌, replicate, refl, sym, ◌∙◌, ap, subst, arith}
 use Rattle.route_base.specs.Setting.{Road}
 use Rattle.route_base.specs.Itinerary.{Step, drive, wait}
 use Rattle.drive_breaks.specs.Rested.{driven, minutes_of, IsSinceBreak}
 use Rattle.drive_breaks.specs.Inside.WithinRule.{IsWithinRule, IsWithinRuleFrom}
 use Rattle.drive_states.specs.declared.rule.BreakRule.{BreakRule}
 
-head_same : (x y : Step) (xs ys : List Step) → x ∷ xs ≡ y ∷ ys → x ≡ y
+pub head_same : (x y : Step) (xs ys : List Step) → x ∷ xs ≡ y ∷ ys → x ≡ y
 head_same x y xs ys is = cc
 
-tail_same : (x y : Step) (xs ys : List Step) → x ∷ xs ≡ y ∷ ys → xs ≡ ys
+pub tail_same : (x y : Step) (xs ys : List Step) → x ∷ xs ≡ y ∷ ys → xs ≡ ys
 tail_same x y xs ys is = cc
 
-no_drive : (a : ℕ) → drive a ≡ wait → ⊥
+pub no_drive : (a : ℕ) → drive a ≡ wait → ⊥
 no_drive a is = cc
+
+pub minutes_is : (o : Option Road) (road : Road) → o ≡ Some road → minutes_of o ≡ road.minutes
+minutes_is o road is = ap minutes_of is
 
 -- behind a drive the breaks are those before it
 pub since_drive : (rest a : ℕ) (back late : List Step) → 1 ≤ rest → IsSinceBreak rest (drive a ∷ back) late

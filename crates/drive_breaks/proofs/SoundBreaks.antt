@@ -1,5 +1,6 @@
 -- A walk over states is a lawful itinerary that keeps the rule.
 use Rattle.std.proofs.Common.{◌≡◌, ◌⊎◌, inl, inr, ⊎_elim, ℕ, ◌+◌, Option, Some, None, List, [], ◌∷◌, ◌++◌, length, replicate, refl, sym, ◌∙◌, ap, subst, arith}
+use Rattle.std.proofs.lemmas.Option.{same_Some}
 use Rattle.route_base.specs.Setting.{Setting, Road}
 use Rattle.route_base.specs.Itinerary.{Position, Step, drive, wait, Moves, Walks}
 use Rattle.route_base.specs.Legs.{steps_of_leg}
@@ -14,7 +15,7 @@ use Rattle.drive_breaks.specs.Inside.StateNet.{IsDriveWay, IsBreakWay, IsStateNe
 use Rattle.drive_breaks.specs.Inside.Unpacking.{steps_by, unpacked}
 use Rattle.drive_states.specs.declared.rule.BreakRule.{BreakRule}
 use Rattle.drive_states.specs.declared.rule.State.{State}
-use Rattle.drive_breaks.proofs.Since.{HasSince, has_first, has_drive, has_wait, has_break, within_since, rested_waits}
+use Rattle.drive_breaks.proofs.Since.{HasSince, has_first, has_drive, has_wait, has_break, within_since, rested_waits, minutes_is}
 
 abbrev pub at_place : ℕ → Position → Position
 at_place node p = record { node = node; minute = p.minute; cost = p.cost }
@@ -35,12 +36,6 @@ module _ (s z : Setting) (rule : BreakRule) (origin goal : ℕ) (states : List S
     pub walk : Walks s until (unpacked sources xs) p (record { node = goal; minute = last.minute; cost = last.cost })
     pub rested : IsWithinRuleFrom s.road rule back (unpacked sources xs)
 
-  some_same : (x y : State) → Some x ≡ Some y → x ≡ y
-  some_same x y is = cc
-
-  leg_same : (x y : Leg) → Some x ≡ Some y → x ≡ y
-  leg_same x y is = cc
-
   -- no state has the number behind all states
   past_end : (state : State) → at_number states (length states + 1) ≡ Some state → ⊥
   past_end state is = omega (arith, number_within states (length states + 1) state is)
@@ -58,9 +53,6 @@ module _ (s z : Setting) (rule : BreakRule) (origin goal : ℕ) (states : List S
   ended : (xs : List Step) (p q : Position) → p.node ≡ length states + 1 → Walks z until xs p q → (xs ≡ []) × (p ≡ q)
   ended [] p q at walk = (refl, walk)
   ended (x ∷ xs) p q at walk = absurd (stops x p walk.0 at walk.1)
-
-  minutes_is : (o : Option Road) (road : Road) → o ≡ Some road → minutes_of o ≡ road.minutes
-  minutes_is o road is = ap minutes_of is
 
   -- the steps of one step over states
   step_of : Step → List Step
@@ -86,7 +78,7 @@ module _ (s z : Setting) (rule : BreakRule) (origin goal : ℕ) (states : List S
 
   same_state : (big p : Position) (back : List Step) (at : IsAt big p back) (i : ℕ) (from : State) → i ≡ big.node → at_number states i ≡ Some from
       → from ≡ at.state
-  same_state big p back at i from same is = some_same from at.state (sym is ∙ ap (at_number states) same ∙ at.is)
+  same_state big p back at i from same is = same_Some from at.state (sym is ∙ ap (at_number states) same ∙ at.is)
 
   by_drive : (x : ℕ) (big next p : Position) (back : List Step) (at : IsAt big p back) (move : Moves z until (drive x) big next) (from : State) (leg : Leg)
       → from ≡ at.state → at_number sources x ≡ Some leg → IsDriveWay s z rule goal states from x move.road leg → Stepped (drive x) next p back

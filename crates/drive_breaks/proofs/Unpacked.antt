@@ -3,6 +3,7 @@ use Rattle.std.proofs.Common.{◌≡◌, ◌≢◌, ⊎_elim, ℕ, zero, suc, �
 use Rattle.std.proofs.Common.{refl, sym, ◌∙◌, ap, arith, length-append, append_assoc, subst}
 use Rattle.std.proofs.lemmas.List.{append-nil, take_more, take-append-drop}
 use Rattle.std.proofs.lemmas.List.Elements.{All-cons, All-nil, All-tail}
+use Rattle.std.proofs.lemmas.Option.{same_Some}
 use Rattle.route_base.specs.Setting.{Setting}
 use Rattle.route_base.specs.Itinerary.{Position, Step, drive, wait, Walks}
 use Rattle.route_base.specs.Front.{pairs_of}
@@ -23,9 +24,6 @@ use Rattle.drive_breaks.specs.Rested.{AchievesRested, IsRestedFrom}
 use Rattle.drive_states.specs.declared.rule.BreakRule.{BreakRule}
 use Rattle.drive_states.specs.declared.rule.State.{State}
 
-some_leg : (x y : Leg) → Some x ≡ Some y → x ≡ y
-some_leg x y is = cc
-
 module _ (sources : List Leg) where
   pub unpacked_append : (xs ys : List Step) → unpacked sources (xs ++ ys) ≡ unpacked sources xs ++ unpacked sources ys
   unpacked_append [] ys = refl
@@ -42,7 +40,7 @@ module _ (sources : List Leg) where
   source_is x leg d is =
       let inside = number_within sources x leg is in
       let next : x - 1 + 1 ≡ x = omega (arith, inside.0) in
-      some_leg _ _ (sym (at_number-next sources (x - 1) d (omega (arith, inside.0, inside.1))) ∙ ap (at_number sources) next ∙ is)
+      same_Some _ _ (sym (at_number-next sources (x - 1) d (omega (arith, inside.0, inside.1))) ∙ ap (at_number sources) next ∙ is)
 
   pub source_steps : (x : ℕ) (leg : Leg) → at_number sources x ≡ Some leg → steps_of_leg leg ≡ unpacked sources (drive x ∷ [])
   source_steps x leg is = sym (append-nil (steps_of_leg leg)) ∙ ap (λ (o : Option Leg). steps_by o ++ []) (sym is)

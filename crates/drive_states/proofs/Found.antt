@@ -1,6 +1,7 @@
 -- What the search for all states keeps.
 use Rattle.std.proofs.Common.{length-append, ◌≡◌, ◌≢◌, ◌⊎◌, inl, inr, ⊎_elim, ℕ, zero, suc, ◌+◌, ◌-◌, ◌≤◌, ◌<◌, Some, List, [], ◌∷◌, ◌++◌, length, map, get_or}
 use Rattle.std.proofs.Common.{take, All, AllPairs, refl, sym, ◌∙◌, ap, subst, arith}
+use Rattle.std.proofs.lemmas.Option.{same_Some}
 use Rattle.std.specs.Prelude.{Contains}
 use Rattle.std.proofs.lemmas.Bool.{cases_eq}
 use Rattle.std.proofs.lemmas.List.{get_or-map, length-map, get_or_default, get_or-take, length-take-le}
@@ -15,7 +16,7 @@ use Rattle.node_arcs.specs.declared.links.End.TheVariants.{Tail}
 use Rattle.std.specs.Option.{option_map}
 use Rattle.route_base.specs.declared.types.Leg.{Leg}
 use Rattle.route_base.specs.declared.types.Leg.TheVariants.{Drive, Wait}
-use Rattle.route_base.proofs.Numbered.{number_within, at_number-next, at_number-all}
+use Rattle.route_base.proofs.Numbered.{number_within, no_number, at_number-next, at_number-all}
 use Rattle.route_base.proofs.Logic.{map_some}
 use Rattle.front_transport.proofs.Places.{at_left, at_either}
 use Rattle.front_transport.proofs.Mapped.{mapped}
@@ -28,12 +29,6 @@ use Rattle.drive_states.specs.declared.rule.State.{State}
 use Rattle.drive_states.specs.declared.rule.Way.{Way}
 use Rattle.drive_states.proofs.Counting.{number_in, fits_in}
 use Rattle.drive_states.proofs.SameStates.{same_state}
-
-some_state : (x y : State) → Some x ≡ Some y → x ≡ y
-some_state x y is = cc
-
-some_road : (x y : Road) → Some x ≡ Some y → x ≡ y
-some_road x y is = cc
 
 -- a state keeps its number
 pub grows_at : (old new : List State) (st : State) (i : ℕ) (x : State) → Grows old new st → at_number old i ≡ Some x → at_number new i ≡ Some x
@@ -67,7 +62,7 @@ grows_length old new st grows = ⊎_elim
 departs_once : (s : Setting) (rule : BreakRule) (from : State) (leg : Leg) (to other : State) → IsDeparture s rule from leg to
     → IsDeparture s rule from leg other → to ≡ other
 departs_once s rule from (Drive a) to other one two =
-    let same : one.0 ≡ two.0 = some_road one.0 two.0 (sym one.1 ∙ two.1) in
+    let same : one.0 ≡ two.0 = same_Some one.0 two.0 (sym one.1 ∙ two.1) in
     same_state to other (one.4 ∙ ap (λ (w : Road). w.head) same ∙ sym two.4)
     (omega (arith, one.5, two.5, ap (λ (w : Road). w.minutes) same))
 departs_once s rule from (Wait k) to other one two = same_state to other (one.3 ∙ sym two.3) (one.4 ∙ sym two.4)
@@ -182,7 +177,7 @@ module _ (s : Setting) (origin : ℕ) (rule : BreakRule) where
           done = λ i st l target early is departs'. has_still i l target reaches (facts.done i st l target early
               (grows_back old new to i st reaches.grows (omega (arith, early, (number_within old n from at).1)) is) departs');
           now = λ st l target one is departs'.
-              (let is_from : from ≡ st = some_state from st (sym (grows_at old new to n from reaches.grows at) ∙ is) in
+              (let is_from : from ≡ st = same_Some from st (sym (grows_at old new to n from reaches.grows at) ∙ is) in
               ⊎_elim
               (λ (was : Contains seen l). has_still n l target reaches
               (facts.now from l target was at (subst (λ (w : State). IsDeparture s rule w l target) (sym is_from) departs')))
@@ -216,7 +211,7 @@ module _ (s : Setting) (origin : ℕ) (rule : BreakRule) where
           (facts.upto k d within);
       done = facts.done;
       now = λ st l target one is departs.
-          (let is_from : from ≡ st = some_state from st (sym at ∙ is) in
+          (let is_from : from ≡ st = same_Some from st (sym at ∙ is) in
           ⊎_elim
           (λ (was : Contains seen l). facts.now st l target was is departs)
           (λ (new_leg : leg ≡ l). absurd (none target (subst (λ (w : Leg). IsDeparture s rule from w target) (sym new_leg)
@@ -242,7 +237,7 @@ module _ (s : Setting) (origin : ℕ) (rule : BreakRule) where
       done = λ i st l target early is departs. ⊎_elim
           (λ (same : i ≡ n).
           (let is_n : at_number old n ≡ Some st = ap (at_number old) (sym same) ∙ is in
-          let is_from : from ≡ st = some_state from st (sym at ∙ is_n) in
+          let is_from : from ≡ st = same_Some from st (sym at ∙ is_n) in
           subst (λ (w : ℕ). HasWay old before w l target) (sym same)
           (facts.now st l target (all l target (subst (λ (w : State). IsDeparture s rule w l target) (sym is_from) departs)) is_n departs)))
           (λ (other : i ≡ n → ⊥). facts.done i st l target (omega (arith, early, other)) is departs)
@@ -260,7 +255,7 @@ module _ (s : Setting) (origin : ℕ) (rule : BreakRule) where
     at_departure way st is =
         let inside = number_within states way.from st is in
         let next : way.from - 1 + 1 ≡ way.from = omega (arith, inside.0) in
-        some_state _ _ (sym (at_number-next states (way.from - 1) facts.first (omega (arith, inside.0, inside.1))) ∙ ap (at_number states) next ∙ is)
+        same_Some _ _ (sym (at_number-next states (way.from - 1) facts.first (omega (arith, inside.0, inside.1))) ∙ ap (at_number states) next ∙ is)
 
     apart_ways : (w v : Way) → IsSoundWay s rule states w → IsSoundWay s rule states v → ComesBefore w v → departure w ≡ departure v → ⊥
     unfolding departure
@@ -418,14 +413,10 @@ left_last net star origin rule n mid new before after from facts at taken =
     (drives_first (arcs_of star from.node.0) rule.rest) taken in
     (number_within new n from on.at).1
 
-no_item : (i : ℕ) (st : State) → at_number [] i ≡ Some st → ⊥
-no_item zero st is = cc
-no_item (suc i) st is = cc
-
 -- the search begins with one state
 one_state : (new : List State) (st : State) (i : ℕ) → Grows [] new st → at_number new i ≡ Some st → new ≡ st ∷ []
 one_state new st i grows at = ⊎_elim
-    (λ (same : new ≡ []). absurd (no_item i st (ap (λ (w : List State). at_number w i) (sym same) ∙ at)))
+    (λ (same : new ≡ []). absurd (no_number i st (ap (λ (w : List State). at_number w i) (sym same) ∙ at)))
     (λ (one : new ≡ st ∷ []). one)
     grows
 

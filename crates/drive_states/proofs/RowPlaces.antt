@@ -5,7 +5,7 @@ use Rattle.std.specs.Prelude.{Contains}
 use Rattle.std.proofs.lemmas.Bool.{cases_eq}
 use Rattle.std.proofs.lemmas.List.{get_or-set_same, get_or-set_other, get_or-map, length-map, map-set, map-append}
 use Rattle.route_base.specs.Net.{at_number}
-use Rattle.route_base.proofs.Numbered.{number_within, at_number-next}
+use Rattle.route_base.proofs.Numbered.{number_within, no_number, at_number-next}
 use Rattle.front_transport.proofs.Places.{at_left, at_either, at_last}
 use Rattle.drive_states.specs.Inside.Numbering.{number_at, HasPlace, IsNumberSet, AreNumbered}
 use Rattle.drive_states.specs.declared.rule.State.{State}
@@ -72,14 +72,10 @@ number_set rows v k n has =
           (cases_eq w v);
     }
 
-no_item : (i : ℕ) (st : State) → at_number [] i ≡ Some st → ⊥
-no_item zero st is = cc
-no_item (suc i) st is = cc
-
 -- no state is numbered
 pub none_numbered : AreNumbered [] []
 none_numbered = record {
-  each = λ i st is. absurd (no_item i st is);
+  each = λ i st is. absurd (no_number i st is);
   only = λ i st is. absurd (omega (arith, is));
 }
 

@@ -2,6 +2,7 @@
 use Rattle.std.proofs.Common.{◌≡◌, ℕ, ◌-◌, ◌≤◌, ◌<◌, true, List, [], ◌∷◌, All, arith}
 use Rattle.std.proofs.lemmas.Bool.{le-leb, lt-ltb, leb-true, ltb-true, and_from, and_parts, or_left, or_right}
 use Rattle.std.proofs.lemmas.List.Elements.{All-nil, All-cons, All-head, All-tail}
+use Rattle.route_base.proofs.FirstRuns.{minute_within}
 use Rattle.route_base.specs.Runs.{has_minute, any_has}
 use Rattle.route_base.specs.Time.{IsInstant}
 use Rattle.route_base.specs.declared.types.Run.{Run}
@@ -11,13 +12,10 @@ abbrev pub IsTimedRun : Run → Type 0
 IsTimedRun r = IsInstant r.lo × IsInstant r.hi
 
 module _ (window : Run) (from : IsInstant window.lo) (to : IsInstant window.hi) where
-  within : (t : ℕ) → has_minute t window ≡ true → (window.lo ≤ t) × (t < window.hi)
-  within t is = let parts = and_parts _ _ is in (leb-true window.lo t parts.0, ltb-true t window.hi parts.1)
-
   one_timed : (r : Run) → r.lo < r.hi → ((t : ℕ) → has_minute t r ≡ true → has_minute t window ≡ true) → IsTimedRun r
   one_timed r filled inside =
-      let first = within r.lo (inside r.lo (and_from _ _ (le-leb r.lo r.lo (omega arith)) (lt-ltb r.lo r.hi filled))) in
-      let last = within (r.hi - 1)
+      let first = minute_within r.lo window (inside r.lo (and_from _ _ (le-leb r.lo r.lo (omega arith)) (lt-ltb r.lo r.hi filled))) in
+      let last = minute_within (r.hi - 1) window
       (inside (r.hi - 1) (and_from _ _ (le-leb r.lo (r.hi - 1) (omega (arith, filled))) (lt-ltb (r.hi - 1) r.hi (omega (arith, filled))))) in
       ((omega (arith, first.0, from.0), omega (arith, first.1, to.1)), (omega (arith, filled, first.0, from.0), omega (arith, last.1, filled, to.1)))
 

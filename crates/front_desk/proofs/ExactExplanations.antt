@@ -2,8 +2,7 @@
 use Rattle.std.proofs.Common.{◌≡◌, ◌↔◌, ℕ, codes, None, Some, Option, List, get_or, ap, arith, refl, sym, subst, ◌∙◌}
 use Rattle.std.proofs.lemmas.List.{append_cancel_left}
 use Rattle.route_base.specs.Front.{IsAchieved, IsUndominated}
-use Rattle.route_base.specs.Itinerary.{Position}
-use Rattle.route_base.specs.Legs.{Achieves, end_of, start_of, steps_of}
+use Rattle.route_base.specs.Legs.{Achieves, steps_of}
 use Rattle.route_base.specs.Setting.{Setting}
 use Rattle.route_base.specs.declared.types.Leg.{Leg}
 use Rattle.route_base.specs.declared.types.Pair.{Pair}
@@ -17,9 +16,10 @@ use Rattle.trip_explain.specs.Explanations.{IsExplained, IsUnlawfulAt}
 use Rattle.trip_explain.specs.declared.explanation.Explanation.{Explanation}
 use Rattle.trip_explain.specs.declared.explanation.Explanation.TheVariants.{Lawful, Unlawful}
 use Rattle.trip_explain.specs.declared.explanation.Why.{Why}
-use Rattle.trip_explain.proofs.OneExplanation.{never_both, walks_same}
+use Rattle.trip_explain.proofs.OneExplanation.{never_both}
 use Rattle.trip_explain.proofs.OnlyExplanation.{one_explanation}
 use Rattle.trip_explain.proofs.Undominated.{undominated_by}
+use Rattle.certificate_check.proofs.Lawful.{achieved_once}
 use Rattle.front_desk.specs.Explain.{IsBetterFor, IsExplainText, IsFirstBetter}
 
 -- the text of lawful legs that no pair dominates names no better pair
@@ -30,18 +30,6 @@ none_better (Some pair) same =
     absurd (omega (arith, first))
 
 module _ (s : Setting) (r : Request) (legs : List Leg) where
-  pair_by : ℕ → ℕ → Pair
-  pair_by arrival cost = record { arrival = arrival; cost = cost }
-
-  -- lawful legs have one pair
-  pub one_pair : (p q : Pair) → Achieves s r legs p → Achieves s r legs q → p ≡ q
-  unfolding pair_by
-  one_pair p q one two =
-      let same : end_of r p ≡ end_of r q = walks_same s r.until (steps_of legs) (start_of r) (end_of r p) (end_of r q) one.walk two.walk in
-      let arrival : p.arrival ≡ q.arrival = ap (λ (w : Position). w.minute) same in
-      let cost : p.cost ≡ q.cost = ap (λ (w : Position). w.cost) same in
-      ap (λ (n : ℕ). pair_by n p.cost) arrival ∙ ap (λ (n : ℕ). pair_by q.arrival n) cost
-
   achieved_by : (pair : Pair) → Achieves s r legs pair → IsAchieved s r pair
   achieved_by pair achieves = record { in_time = achieves.in_time; steps = steps_of legs; walk = achieves.walk }
 
@@ -63,7 +51,7 @@ module _ (network : NetworkModel) (vehicle : VehicleModel) (r : Request) (legs :
       → (text ≡ explanation_text (Lawful pair) None) ↔ IsUndominated (road_setting network vehicle) r pair
   lawful_by pair achieves (Lawful p) explained better first is_text =
       let s = road_setting network vehicle in
-      let same = one_pair s r legs p pair explained achieves in
+      let same = achieved_once s r legs p pair explained achieves in
       none_named s r legs pair achieves better (subst (λ (q : Pair). IsFirstBetter s r q better) same first) text
       (subst (λ (q : Pair). text ≡ explanation_text (Lawful q) better) same is_text)
   lawful_by pair achieves (Unlawful leg minute why) unlawful better first is_text =

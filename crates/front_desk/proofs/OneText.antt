@@ -47,7 +47,8 @@ use Rattle.front_desk.specs.Gen.{IsSummary, drawn_trip, stated_network}
 use Rattle.front_desk.specs.OneText.{TellsOneText}
 use Rattle.front_desk.specs.Plan.{IsPlanned, trip_setting}
 use Rattle.front_desk.specs.Trips.{Trip, request_of, failed_check}
-use Rattle.front_desk.proofs.ExactExplanations.{one_pair, unlawful_exactly}
+use Rattle.certificate_check.proofs.Lawful.{achieved_once}
+use Rattle.front_desk.proofs.ExactExplanations.{unlawful_exactly}
 
 one_plan : (s : Setting) (p : Plan) (held : Option Contents) (after other : Option Contents) (x y : List ℕ) → IsPlanned s p held after x
     → IsPlanned s p held other y → x ≡ y
@@ -119,7 +120,7 @@ module _ (network : NetworkModel) (vehicle : VehicleModel) (r : Request) (legs :
       → (explanation : Explanation) (other : Option Pair) → IsExplained network vehicle r legs explanation → IsBetterFor s r explanation other
       → y ≡ explanation_text explanation other → x ≡ y
   both_lawful pair better achieves first is_text (Lawful p) other achieves_p second is_other =
-      let same : p ≡ pair = one_pair s r legs p pair achieves_p achieves in
+      let same : p ≡ pair = achieved_once s r legs p pair achieves_p achieves in
       let best : better ≡ other = same_better pair better other first (subst (λ (q : Pair). IsFirstBetter s r q other) same second) in
       is_text ∙ (λ i. explanation_text (Lawful (sym same i)) (best i)) ∙ sym is_other
   both_lawful pair better achieves first is_text (Unlawful leg minute why) other unlawful second is_other =

@@ -4,14 +4,8 @@ use Rattle.std.specs.Prelude.{◌≢◌}
 use Rattle.std.proofs.lemmas.Bool.{cases_eq}
 use Rattle.route_base.specs.Front.{IsNoWorse}
 use Rattle.route_base.specs.declared.types.Pair.{Pair}
+use Rattle.route_base.proofs.Fronts.{same_pair}
 use Rattle.front_transport.specs.Inside.Carrying.{IsPartialOrder}
-
-pair_of : ℕ → ℕ → Pair
-pair_of a c = record { arrival = a; cost = c }
-
-pub same_pair : (p q : Pair) → p.arrival ≡ q.arrival → p.cost ≡ q.cost → p ≡ q
-unfolding pair_of
-same_pair p q a c = ap (λ (w : ℕ). pair_of w p.cost) a ∙ ap (λ (w : ℕ). pair_of q.arrival w) c
 
 either : (p q : Pair) → (p ≡ q) ⊎ (p ≢ q)
 either p q = ⊎_elim

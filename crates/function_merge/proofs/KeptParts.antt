@@ -16,7 +16,7 @@ use Rattle.route_base.proofs.Lists.{first_and_rest}
 use Rattle.route_base.proofs.Logic.{behind_test, map_some}
 use Rattle.route_base.specs.declared.limits.TheConstants.{LAST_INSTANT}
 use Rattle.function_merge.proofs.FirstPieces.{first_of}
-use Rattle.minute_sets.proofs.FirstRuns.{in_first, before_first}
+use Rattle.route_base.proofs.FirstRuns.{in_first, before_first}
 
 -- from a minute on there is nothing before the piece and the run, and the piece's values as long as both last
 pub record IsNextPart (kept : ℕ → Option ℕ) (from : ℕ) (p : Piece) (r : Run) : Type 0 where

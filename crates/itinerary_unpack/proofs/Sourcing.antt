@@ -23,13 +23,6 @@ use Rattle.node_arcs.proofs.StarPlaces.{ends_place}
 use Rattle.propagation.specs.Inside.Invariants.{point}
 use Rattle.itinerary_unpack.specs.Inside.Sources.{ComesFrom, ComesFirst}
 
-module _ (s : Setting) (until : ℕ) (cost : ℕ → ℕ → Option ℕ) (p : Position) where
-  -- where no wait leads here, and no drive over an arc of a smaller number, the drive is the first
-  pub drives_first : HasNoMove s until cost wait p → (a : ArcId) → ((b : ℕ) → b < a.0 → HasNoMove s until cost (drive b) p)
-      → IsFirstLeg s until cost p (Drive a)
-  drives_first none a smaller wait before = none
-  drives_first none a smaller (drive b) before = smaller b before
-
 -- an arc of a smaller number than the one at a place is at an earlier place
 pub smaller_earlier : (net : Net) (star : Star) → AreIncoming net star → (v : ℕ) (arcs : List ArcId) → arcs ≡ arcs_of star v → (k : ℕ) (d : ArcId)
     → k < length arcs → (b : ℕ) → b < (get_or arcs k d).0 → EndsAt net Head v b → (i : ℕ) × (i < k) × (slice_get arcs i ≡ Some (record { 0 = b }))

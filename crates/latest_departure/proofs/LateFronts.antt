@@ -14,13 +14,12 @@ use Rattle.route_base.specs.declared.types.Leg.{Leg}
 use Rattle.route_base.specs.declared.types.Pair.{Pair}
 use Rattle.route_base.specs.declared.types.Request.{Request}
 use Rattle.route_base.specs.declared.types.Route.{Route}
-use Rattle.route_base.proofs.Walking.{walk_in_time}
+use Rattle.route_base.proofs.Walking.{walk_in_time, walk_grows}
 use Rattle.route_base.proofs.Waiting.{same_position}
 use Rattle.front_transport.specs.CheapArcs.{HasCheapArcs}
 use Rattle.front_transport.specs.Inside.Carrying.{IsPartialOrder, Carries}
 use Rattle.front_transport.specs.ParetoFronts.{ArrivesBefore}
 use Rattle.route_base.proofs.Costs.{fits}
-use Rattle.front_transport.proofs.Growing.{walk_grows}
 use Rattle.front_transport.proofs.PairOrder.{no_worse_order}
 use Rattle.front_transport.proofs.Transport.{carried}
 use Rattle.latest_departure.proofs.TurnedLegs.{steps_reversed, no_empty_reversed, apart_reversed}

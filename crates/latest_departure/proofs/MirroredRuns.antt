@@ -7,18 +7,9 @@ use Rattle.std.proofs.lemmas.List.Folds.{list_any-append}
 use Rattle.route_base.specs.Runs.{has_minute, any_has, AreRuns}
 use Rattle.route_base.specs.declared.types.Run.{Run}
 use Rattle.route_base.proofs.Lists.{pairs_append}
-use Rattle.route_base.proofs.Logic.{or-false}
+use Rattle.route_base.proofs.FirstRuns.{minute_within, within_run, runs_tail, behind_first}
+use Rattle.route_base.proofs.Logic.{or-false, same_from}
 use Rattle.latest_departure.specs.Inside.Mirror.{mirrored_run, mirrored_runs}
-
-same_bool : (a b : Bool) → (a ≡ true → b ≡ true) → (b ≡ true → a ≡ true) → a ≡ b
-same_bool true b there back = sym (there refl)
-same_bool false true there back = back refl
-same_bool false false there back = refl
-
-both_true : (a b : Bool) → (a && b) ≡ true → (a ≡ true) × (b ≡ true)
-both_true true true is = (refl, refl)
-both_true true false is = absurd (cc)
-both_true false b is = absurd (cc)
 
 or_turned : (a b : Bool) → (a || b) ≡ (b || a)
 or_turned true true = refl
@@ -38,20 +29,14 @@ kept_late : (sum : ℕ) (r : Run) → sum ≤ r.lo → kept sum r ≡ []
 unfolding kept
 kept_late sum r late = rw (le-ltb r.lo sum late) refl
 
-has_both : (t : ℕ) (r : Run) → has_minute t r ≡ true → (r.lo ≤ t) × (t < r.hi)
-has_both t r has = let h = both_true _ _ has in (leb-true _ _ h.0, ltb-true _ _ h.1)
-
-has_from : (t : ℕ) (r : Run) → r.lo ≤ t → t < r.hi → has_minute t r ≡ true
-has_from t r low high = and_from _ _ (le-leb _ _ low) (lt-ltb _ _ high)
-
 module _ (sum t u : ℕ) (mirror : t + u + 1 ≡ sum) where
   minute_mirrors : (r : Run) → r.lo < sum → has_minute t (mirrored_run sum r) ≡ has_minute u r
-  minute_mirrors r early = same_bool _ _
-      (λ has. let h = has_both t (mirrored_run sum r) has in has_from u r (omega (arith, h.1, mirror)) (omega (arith, h.0, h.1, mirror)))
-      (λ has. let h = has_both u r has in has_from t (mirrored_run sum r) (omega (arith, h.1, mirror)) (omega (arith, h.0, mirror)))
+  minute_mirrors r early = same_from _ _
+      (λ has. let h = minute_within t (mirrored_run sum r) has in within_run r u (omega (arith, h.1, mirror)) (omega (arith, h.0, h.1, mirror)))
+      (λ has. let h = minute_within u r has in within_run (mirrored_run sum r) t (omega (arith, h.1, mirror)) (omega (arith, h.0, mirror)))
 
   late_has_none : (r : Run) → sum ≤ r.lo → has_minute u r ≡ false
-  late_has_none r late = same_bool _ _ (λ has. let h = has_both u r has in absurd (omega (arith, h.0, late, mirror))) (λ no. absurd (cc))
+  late_has_none r late = same_from _ _ (λ has. let h = minute_within u r has in absurd (omega (arith, h.0, late, mirror))) (λ no. absurd (cc))
 
   kept_mirrors : (r : Run) → any_has (kept sum r) t ≡ has_minute u r
   kept_mirrors r = ⊎_elim
@@ -69,15 +54,6 @@ module _ (sum t u : ℕ) (mirror : t + u + 1 ≡ sum) where
       ∙ ap (λ (b : Bool). b || any_has (kept sum r) t) (runs_mirror rs)
       ∙ ap (λ (b : Bool). any_has rs u || b) (kept_mirrors r)
       ∙ or_turned (any_has rs u) (has_minute u r)
-
-runs_tail : (r : Run) (rs : List Run) → AreRuns (r ∷ rs) → AreRuns rs
-runs_tail r rs are = record {
-  filled = All-tail (λ q. q.lo < q.hi) r rs are.filled;
-  apart = λ i j d lt within. are.apart (suc i) (suc j) d (omega (arith, lt)) (omega (arith, within));
-}
-
-behind : (r : Run) (rs : List Run) → AreRuns (r ∷ rs) → All (λ q. r.hi < q.lo) rs
-behind r rs are k d within = are.apart 0 (suc k) d (omega arith) (omega (arith, within))
 
 kept_all : (P : Run → Type 0) (sum : ℕ) (r : Run) → (r.lo < sum → P (mirrored_run sum r)) → All P (kept sum r)
 kept_all P sum r holds = ⊎_elim
@@ -108,7 +84,7 @@ runs_apart sum (r ∷ rs) are = pairs_append (λ p q. p.hi < q.lo) (mirrored_run
     (runs_apart sum rs (runs_tail r rs are))
     (one_apart sum r)
     (kept_all (λ y. All (λ x. x.hi < y.lo) (mirrored_runs sum rs)) sum r (λ early.
-    mirrored_all (λ x. x.hi < sum - r.hi) sum rs (λ k d within before. (let far = behind r rs are k d within in omega (arith, before, far)))))
+    mirrored_all (λ x. x.hi < sum - r.hi) sum rs (λ k d within before. (let far = behind_first r rs are k d within in omega (arith, before, far)))))
 
 -- the mirrored runs are rising and apart
 pub runs_rise : (sum : ℕ) (runs : List Run) → AreRuns runs → AreRuns (mirrored_runs sum runs)

@@ -9,7 +9,7 @@ use Rattle.std.proofs.lemmas.List.Folds.{list_any-append, list_any_at}
 use Rattle.route_base.specs.Runs.{has_minute, any_has, AreRuns}
 use Rattle.route_base.specs.declared.types.Run.{Run}
 use Rattle.minute_sets.proofs.MergedRuns.{or_assoc}
-use Rattle.minute_sets.proofs.FirstRuns.{runs_tail, runs_head, runs_rise, none_before, within_run}
+use Rattle.route_base.proofs.FirstRuns.{runs_tail, runs_head, behind_first, none_before, within_run}
 
 -- a run before others that begin behind it
 pub runs_cons : (r : Run) (rs : List Run) → r.lo < r.hi → All (λ q. r.hi < q.lo) rs → AreRuns rs → AreRuns (r ∷ rs)
@@ -24,7 +24,7 @@ pub runs_append : (xs ys : List Run) → AreRuns xs → AreRuns ys → All (λ x
 runs_append [] ys first second across = second
 runs_append (x ∷ xs) ys first second across =
     runs_cons x (xs ++ ys) (runs_head x xs first)
-    (All-append (λ q. x.hi < q.lo) xs ys (runs_rise x xs first) (across 0 x (omega arith)))
+    (All-append (λ q. x.hi < q.lo) xs ys (behind_first x xs first) (across 0 x (omega arith)))
     (runs_append xs ys (runs_tail x xs first) second (All-tail (λ z. All (λ y. z.hi < y.lo) ys) x xs across))
 
 module _ (held other both : List Run) (k : ℕ) (le : k ≤ length held) (are : AreRuns held) (made : AreRuns both)

@@ -5,7 +5,7 @@ use Rattle.route_base.specs.Runs.{has_minute, any_has, AreRuns}
 use Rattle.route_base.specs.declared.types.Run.{Run}
 use Rattle.route_base.proofs.Logic.{or-false, or-true}
 use Rattle.minute_sets.specs.Entries.{IsEntry}
-use Rattle.minute_sets.proofs.FirstRuns.{not_before, not_behind, within_run}
+use Rattle.route_base.proofs.FirstRuns.{not_before, not_behind, within_run}
 use Rattle.minute_sets.proofs.HeadRuns.{head_run, head_before, head_within}
 
 -- before a minute the set has the entries, and from it on nothing yet

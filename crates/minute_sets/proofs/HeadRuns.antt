@@ -3,7 +3,7 @@ use Rattle.std.proofs.Common.{◌≡◌, ℕ, ◌-◌, ◌≤◌, ◌<◌, true,
 use Rattle.route_base.specs.Runs.{any_has, AreRuns}
 use Rattle.route_base.specs.declared.types.Run.{Run}
 use Rattle.route_base.proofs.Lists.{first_and_rest}
-use Rattle.minute_sets.proofs.FirstRuns.{before_first, in_first, in_others, not_behind, runs_tail}
+use Rattle.route_base.proofs.FirstRuns.{before_first, in_first, in_others, not_behind, runs_tail}
 
 abbrev pub head_run : List Run → Run
 head_run runs = get_or runs 0 (record { lo = 0; hi = 0 })

@@ -1,5 +1,4 @@
 pub mod AddedRuns
-pub mod FirstRuns
 pub mod FreeMinutes
 pub mod HeadRuns
 pub mod MergedRuns

@@ -3,7 +3,7 @@ use Rattle.std.proofs.Common.{◌≡◌, ⊎_elim, ℕ, ◌≤◌, ◌<◌, true
 use Rattle.std.proofs.lemmas.Bool.{cases_lt, cases_order, both_ways}
 use Rattle.route_base.specs.Runs.{any_has, AreRuns}
 use Rattle.route_base.specs.declared.types.Run.{Run}
-use Rattle.minute_sets.proofs.FirstRuns.{runs_tail, runs_head, runs_rise, in_first, in_others, not_behind, none_before, before_first}
+use Rattle.route_base.proofs.FirstRuns.{runs_tail, runs_head, behind_first, in_first, in_others, not_behind, none_before, before_first}
 
 abbrev run_of : ℕ → ℕ → Run
 run_of a b = record { lo = a; hi = b }
@@ -13,7 +13,7 @@ same_run x y a b = ap (λ (n : ℕ). run_of n x.hi) a ∙ ap (λ (n : ℕ). run_
 
 -- the others have no minute up to the first one's end
 others_later : (x : Run) (xs : List Run) (t : ℕ) → AreRuns (x ∷ xs) → t ≤ x.hi → any_has xs t ≡ false
-others_later x xs t are early = none_before xs t (λ k d within. (let rise = runs_rise x xs are k d within in omega (arith, rise, early)))
+others_later x xs t are early = none_before xs t (λ k d within. (let rise = behind_first x xs are k d within in omega (arith, rise, early)))
 
 begins : (x : Run) (xs : List Run) → AreRuns (x ∷ xs) → any_has (x ∷ xs) x.lo ≡ true
 begins x xs are = in_first x xs x.lo (omega arith) (runs_head x xs are)

@@ -5,7 +5,7 @@ use Rattle.std.specs.List.Sorted.{IsNonDecreasingBy}
 use Rattle.std.proofs.lemmas.Bool.{cases_eq}
 use Rattle.route_base.specs.Runs.{any_has, AreRuns}
 use Rattle.route_base.specs.declared.types.Run.{Run}
-use Rattle.minute_sets.proofs.FirstRuns.{in_others, not_behind}
+use Rattle.route_base.proofs.FirstRuns.{in_others, not_behind}
 
 -- those that end by a minute do not have it
 pub any_drop : (rs : List Run) (k t : ℕ) → k ≤ length rs → AllWithin (λ r. r.hi ≤ t) rs 0 k → any_has (drop k rs) t ≡ any_has rs t

@@ -7,7 +7,7 @@ use Rattle.std.proofs.lemmas.Bool.Decides.{nat_tests}
 use Rattle.std.proofs.lemmas.List.{drop_more, get_or_default, get_or-take, length-take-le}
 use Rattle.route_base.specs.Runs.{has_minute, any_has, AreRuns}
 use Rattle.route_base.specs.declared.types.Run.{Run}
-use Rattle.minute_sets.proofs.FirstRuns.{runs_tail, runs_rise, none_before}
+use Rattle.route_base.proofs.FirstRuns.{runs_tail, behind_first, none_before}
 use Rattle.minute_sets.proofs.RunSuffixes.{any_drop}
 
 regroup : (h a f b e : Bool) → (h ≡ true → e ≡ true) → (a || f) ≡ (b && e) → ((h || a) || f) ≡ ((h || b) && e)
@@ -40,7 +40,7 @@ late_runs rs k end t le early =
 
 module _ (r : Run) (rs : List Run) (end t : ℕ) (are : AreRuns (r ∷ rs)) (over : end < r.hi) where
   others_late : t < end → any_has rs t ≡ false
-  others_late before = none_before rs t (λ k d within. (let far = runs_rise r rs are k d within in omega (arith, far, over, before)))
+  others_late before = none_before rs t (λ k d within. (let far = behind_first r rs are k d within in omega (arith, far, over, before)))
 
   pub first_before : (leb r.lo t && ltb t end) ≡ (any_has (r ∷ rs) t && ltb t end)
   first_before =

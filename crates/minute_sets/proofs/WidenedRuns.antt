@@ -4,7 +4,7 @@ use Rattle.std.specs.List.{AllWithin}
 use Rattle.std.proofs.lemmas.List.Elements.{All-set}
 use Rattle.route_base.specs.Runs.{AreRuns}
 use Rattle.route_base.specs.declared.types.Run.{Run}
-use Rattle.minute_sets.proofs.FirstRuns.{runs_tail, runs_head, runs_rise}
+use Rattle.route_base.proofs.FirstRuns.{runs_tail, runs_head, behind_first}
 use Rattle.minute_sets.proofs.AddedRuns.{runs_cons, begin_late}
 
 -- those before it end before it begins, and the next one begins behind it
@@ -17,7 +17,7 @@ widened_runs (r ∷ rs) zero run are some filled early next =
     (runs_tail r rs are)
 widened_runs (r ∷ rs) (suc k) run are some filled early next =
     runs_cons r (set rs k run) (runs_head r rs are)
-    (All-set (λ q. r.hi < q.lo) rs k run (early 0 r (omega arith) (omega arith)) (runs_rise r rs are))
+    (All-set (λ q. r.hi < q.lo) rs k run (early 0 r (omega arith) (omega arith)) (behind_first r rs are))
     (widened_runs rs k run (runs_tail r rs are) (omega (arith, some)) filled
     (λ j d from upto. early (suc j) d (omega arith) (omega (arith, upto)))
     (λ d within. (let behind = next d (omega (arith, within)) in let place : suc k + 1 ≡ suc (k + 1) = omega arith in

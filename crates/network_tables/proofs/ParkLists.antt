@@ -6,7 +6,7 @@ use Rattle.std.specs.List.{list_any}
 use Rattle.std.specs.Map.{lookup}
 use Rattle.std.specs.Option.{option_map}
 use Rattle.std.specs.Str.{bytes_eq}
-use Rattle.std.proofs.lemmas.Bool.{le-leb, le-ltb, cond-false}
+use Rattle.std.proofs.lemmas.Bool.{le-leb, le-ltb, cond-false, and_parts}
 use Rattle.std.proofs.lemmas.Bool.Decides.{Decides-eqb}
 use Rattle.std.proofs.lemmas.Slice.Eq.{bytes_eq-Decides}
 use Rattle.std.proofs.lemmas.List.{map-append, length-map}
@@ -194,16 +194,6 @@ module _ (start now : ParkingSoFar) (before : List Record) (row : Record) (h : H
       all_one P x p zero d within = p
       all_one P x p (suc k) d within = absurd (omega (arith, within))
 
--- the four fields of a row by their places
-pub four : (fs : List (List ℕ)) (a b c d : List ℕ) → length fs ≡ 4 → slice_get fs 0 ≡ Some a → slice_get fs 1 ≡ Some b → slice_get fs 2 ≡ Some c
-    → slice_get fs 3 ≡ Some d → fs ≡ a ∷ b ∷ c ∷ d ∷ []
-four [] a b c d n p q r s = absurd (omega (arith, n))
-four (v ∷ []) a b c d n p q r s = absurd (omega (arith, n))
-four (v ∷ w ∷ []) a b c d n p q r s = absurd (omega (arith, n))
-four (v ∷ w ∷ x ∷ []) a b c d n p q r s = absurd (omega (arith, n))
-four (v ∷ w ∷ x ∷ y ∷ []) a b c d n p q r s = cc
-four (v ∷ w ∷ x ∷ y ∷ z ∷ fs) a b c d n p q r s = absurd (omega (arith, n))
-
 -- a field that has something is a text of hours
 pub text_in_field : (text : List ℕ) → 0 < length text → length text ≤ LONGEST_RULE
     → hours_in_field text ≡ hours_or_cause (hours_of text)
@@ -323,17 +313,12 @@ same_option None (Some y) is = absurd (cc)
 same_option (Some x) None is = absurd (cc)
 same_option (Some x) (Some y) is = ap Some ((Decides-eqb x y).0 is)
 
-both_true : (a b : Bool) → (a && b) ≡ true → (a ≡ true) × (b ≡ true)
-both_true true true is = (refl, refl)
-both_true true false is = absurd (cc)
-both_true false b is = absurd (cc)
-
 place_of : ℕ → Option ℕ → TimetablePlace
 place_of area hours = record { area = area; hours = hours }
 
 pub same_place : (a b : TimetablePlace) → (code_place.ghosts).eq a b ≡ true → a ≡ b
 unfolding place_of
 same_place a b is =
-    let both = both_true _ _ is in
+    let both = and_parts _ _ is in
     ap (λ (n : ℕ). place_of n a.hours) ((Decides-eqb a.area b.area).0 both.0)
     ∙ ap (λ (o : Option ℕ). place_of b.area o) (same_option a.hours b.hours both.1)

@@ -8,15 +8,10 @@ use Rattle.route_base.specs.Net.{Net, setting_of}
 use Rattle.route_base.specs.declared.types.ArcId.{ArcId}
 use Rattle.route_base.specs.declared.types.Leg.{Leg}
 use Rattle.route_base.specs.declared.types.Leg.TheVariants.{Drive}
-use Rattle.route_base.specs.StepsBack.{HasNoMove, IsFirstLeg}
+use Rattle.route_base.specs.StepsBack.{IsFirstLeg}
+use Rattle.route_base.proofs.GoingBack.{drives_first}
 use Rattle.plain_search.specs.Inside.Costs.{none, at, value_of}
 use Rattle.plain_search.proofs.EveryWay.{no_move}
-
--- where no wait leads here, and no drive over an arc of a smaller number, the drive is the first
-drives_first : (s : Setting) (until : ℕ) (cost : ℕ → ℕ → Option ℕ) (p : Position) → HasNoMove s until cost wait p → (a : ArcId)
-    → ((b : ℕ) → b < a.0 → HasNoMove s until cost (drive b) p) → IsFirstLeg s until cost p (Drive a)
-drives_first s until cost p none a smaller wait before = none
-drives_first s until cost p none a smaller (drive b) before = smaller b before
 
 module _ (net : Net) (until : ℕ) (cost : ℕ → ℕ → ℕ) (v t : ℕ) where
   -- no wait from a known cost ends here at this cost

@@ -10,7 +10,7 @@ use Rattle.route_base.specs.declared.types.Leg.{Leg}
 use Rattle.route_base.specs.declared.types.Leg.TheVariants.{Drive, Wait}
 use Rattle.route_base.proofs.Waiting.{waits_in_time}
 use Rattle.certificate.specs.Writable.{IsWritableLeg}
-use Rattle.certificate_check.proofs.Lawful.{walk_parts}
+use Rattle.route_base.proofs.Walking.{walk_parts}
 
 some_minutes : (k : ℕ) → Wait k ≢ Wait 0 → 1 ≤ k
 some_minutes k not = ⊎_elim

@@ -12,7 +12,7 @@ use Rattle.route_base.specs.declared.types.Leg.TheVariants.{Drive, Wait}
 use Rattle.route_base.specs.declared.types.Pair.{Pair}
 use Rattle.route_base.specs.declared.types.Request.{Request}
 use Rattle.route_base.proofs.Waiting.{same_position}
-use Rattle.route_base.proofs.Walking.{walk_in_time}
+use Rattle.route_base.proofs.Walking.{walk_in_time, walk_grows}
 use Rattle.plan_report.specs.Inside.{Lead, IsKnown, IsPassable}
 use Rattle.plan_report.specs.Stages.{Stage, no_road, road_at, weight_at, position_after, stages_from, numbered_text}
 
@@ -55,16 +55,6 @@ module _ (s : Setting) (until : ℕ) where
   known (Wait zero) rest p q some walk = absurd (some refl)
   known (Wait (suc k)) rest p q some walk = is_some (s.weight p.node) walk.1.weight walk.1.rated
 
-  -- minutes and costs rise along a walk
-  pub rises : (xs : List Step) (p q : Position) → Walks s until xs p q → (p.minute ≤ q.minute) × (p.cost ≤ q.cost)
-  rises [] p q walk = (omega (arith, ap (λ (x : Position). x.minute) walk), omega (arith, ap (λ (x : Position). x.cost) walk))
-  rises (drive a ∷ xs) p q walk =
-      let more = rises xs walk.0 q walk.2 in
-      (omega (arith, more.0, walk.1.minute), omega (arith, more.1, walk.1.cost))
-  rises (wait ∷ xs) p q walk =
-      let more = rises xs walk.0 q walk.2 in
-      (omega (arith, more.0, walk.1.minute), omega (arith, more.1, walk.1.cost))
-
   -- a leg ends no earlier than the first instant
   pub minute_after : (leg : Leg) (p : Position) → first_instant ≤ p.minute → first_instant ≤ (position_after s p leg).minute
   minute_after (Drive a) p le = omega (arith, le)
@@ -74,8 +64,8 @@ module _ (s : Setting) (until : ℕ) where
   pub good_first : (leg : Leg) (legs : List Leg) (p q : Position) → Lead s until (leg ∷ legs) p q → first_instant ≤ p.minute
       → q.minute ≤ last_instant → q.cost < 2 ^ 64 → IsPassable s p leg
   good_first leg legs p q lead early late cheap =
-      let up = rises (steps_of legs) (position_after s p leg) q (walk_after leg (steps_of legs) p q lead.walk) in
-      let all = rises (steps_of (leg ∷ legs)) p q lead.walk in
+      let up = walk_grows s until (steps_of legs) (position_after s p leg) q (walk_after leg (steps_of legs) p q lead.walk) in
+      let all = walk_grows s until (steps_of (leg ∷ legs)) p q lead.walk in
       record {
         known = known leg (steps_of legs) p q lead.no_empty_wait.0 lead.walk;
         start = (early, omega (arith, all.0, late));
@@ -87,7 +77,7 @@ module _ (s : Setting) (until : ℕ) where
 pub arrives : (s : Setting) (r : Request) (legs : List Leg) (pair : Pair) → Achieves s r legs pair → IsInstant r.depart → IsInstant r.until
     → IsInstant pair.arrival
 arrives s r legs pair lawful depart until = (
-  omega (arith, (rises s r.until (steps_of legs) (start_of r) (end_of r pair) lawful.walk).0, depart.0),
+  omega (arith, (walk_grows s r.until (steps_of legs) (start_of r) (end_of r pair) lawful.walk).0, depart.0),
   omega (arith, walk_in_time s r.until (steps_of legs) (start_of r) (end_of r pair) lawful.in_time lawful.walk, until.1),
 )
 

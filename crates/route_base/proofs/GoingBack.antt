@@ -1,5 +1,5 @@
 -- The first itinerary of a pair, found step by step from its end.
-use Rattle.std.proofs.Common.{◌≡◌, ◌⊎◌, inl, inr, ⊎_elim, ℕ, zero, suc, ◌≤◌, Option, List, [], ◌∷◌, ◌++◌, replicate, refl, sym, ◌∙◌, ap, subst, arith}
+use Rattle.std.proofs.Common.{◌≡◌, ◌⊎◌, inl, inr, ⊎_elim, ℕ, zero, suc, ◌≤◌, ◌<◌, Option, List, [], ◌∷◌, ◌++◌, replicate, refl, sym, ◌∙◌, ap, subst, arith}
 use Rattle.std.proofs.Common.{append_assoc, append-nil}
 use Rattle.std.specs.Prelude.{reverse}
 use Rattle.std.proofs.lemmas.List.{reverse-append}
@@ -7,6 +7,7 @@ use Rattle.std.proofs.lemmas.Option.{same_Some}
 use Rattle.route_base.specs.Setting.{Setting, Road}
 use Rattle.route_base.specs.Itinerary.{Position, Step, drive, wait, Moves, Walks}
 use Rattle.route_base.specs.Legs.{steps_of, steps_of_leg, start_of, end_of, Achieves, IsReachable}
+use Rattle.route_base.specs.declared.types.ArcId.{ArcId}
 use Rattle.route_base.specs.declared.types.Leg.{Leg}
 use Rattle.route_base.specs.declared.types.Leg.TheVariants.{Drive, Wait}
 use Rattle.route_base.specs.declared.types.Pair.{Pair}
@@ -17,6 +18,12 @@ use Rattle.route_base.proofs.Walking.{along, moves_later, moves_forward}
 use Rattle.route_base.specs.FirstItinerary.{IsStepBefore, ComesBefore, IsFirst}
 use Rattle.route_base.specs.StepsBack.{HasWaysTo, HasSource, HasNoMove, IsFirstLeg, GoesThrough, LeadsFirst}
 use Rattle.route_base.proofs.StepOrder.{step_order, none_before_wait, never_both, before_longer, before_at}
+
+-- where no wait leads here, and no drive over an arc of a smaller number, the drive is the first
+pub drives_first : (s : Setting) (until : ℕ) (cost : ℕ → ℕ → Option ℕ) (p : Position) → HasNoMove s until cost wait p → (a : ArcId)
+    → ((b : ℕ) → b < a.0 → HasNoMove s until cost (drive b) p) → IsFirstLeg s until cost p (Drive a)
+drives_first s until cost p none a smaller wait before = none
+drives_first s until cost p none a smaller (drive b) before = smaller b before
 
 module _ (s : Setting) (until : ℕ) where
   -- steps whose last one leads to a position

@@ -17,3 +17,13 @@ slice_get-push_end (x ∷ xs) y = slice_get-push_end xs y
 pub last_or-cons : {A : Type 0} (o : Option A) (x : A) (xs : List A) → last_or o (x ∷ xs) ≡ slice_get (x ∷ xs) (length xs)
 last_or-cons o x [] = refl
 last_or-cons o x (y ∷ ys) = last_or-cons (Some x) y ys
+
+-- four items by their places
+pub four_items : {A : Type 0} (xs : List A) (a b c d : A) → length xs ≡ 4 → slice_get xs 0 ≡ Some a → slice_get xs 1 ≡ Some b → slice_get xs 2 ≡ Some c
+    → slice_get xs 3 ≡ Some d → xs ≡ a ∷ b ∷ c ∷ d ∷ []
+four_items [] a b c d n p q r s = absurd (omega (arith, n))
+four_items (v ∷ []) a b c d n p q r s = absurd (omega (arith, n))
+four_items (v ∷ w ∷ []) a b c d n p q r s = absurd (omega (arith, n))
+four_items (v ∷ w ∷ x ∷ []) a b c d n p q r s = absurd (omega (arith, n))
+four_items (v ∷ w ∷ x ∷ y ∷ []) a b c d n p q r s = cc
+four_items (v ∷ w ∷ x ∷ y ∷ z ∷ xs) a b c d n p q r s = absurd (omega (arith, n))

@@ -5,6 +5,7 @@ pub mod Costs
 pub mod Covering
 pub mod Cuts
 pub mod DecimalDigits
+pub mod FirstRuns
 pub mod FolderStates
 pub mod FormRows
 pub mod FreeRuns
@@ -12,6 +13,7 @@ pub mod Fronts
 pub mod GoingBack
 pub mod Items
 pub mod LegLists
+pub mod ListParts
 pub mod Lists
 pub mod Logic
 pub mod Numbered

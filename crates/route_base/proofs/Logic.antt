@@ -1,5 +1,5 @@
 -- Tests and options, for the proofs of all crates.
-use Rattle.std.proofs.Common.{◌≡◌, ℕ, ◌≤◌, ◌||◌, Bool, true, false, cond, ltb, Option, Some, None, IfSome, refl, ap, arith}
+use Rattle.std.proofs.Common.{◌≡◌, ℕ, ◌≤◌, ◌||◌, Bool, true, false, cond, ltb, Option, Some, None, IfSome, refl, sym, ap, arith}
 use Rattle.std.specs.Prelude.{option_and_then, unwrap_or}
 use Rattle.std.specs.Option.{is_some, option_map, option_or}
 use Rattle.std.proofs.lemmas.Bool.{ltb-true, ltb-false}
@@ -12,6 +12,11 @@ or-false false = refl
 pub or-true : (b : Bool) → (b || true) ≡ true
 or-true true = refl
 or-true false = refl
+
+pub same_from : (a b : Bool) → (a ≡ true → b ≡ true) → (b ≡ true → a ≡ true) → a ≡ b
+same_from true b to back = sym (to refl)
+same_from false true to back = back refl
+same_from false false to back = refl
 
 pub none_from_test : {A : Type 0} (o : Option A) → is_some o ≡ false → o ≡ None
 none_from_test None h = refl

@@ -20,6 +20,11 @@ pub number_within : {A : Type 0} (xs : List A) (n : ℕ) (x : A) → at_number x
 number_within xs zero x is = absurd (cc)
 number_within xs (suc k) x is = let within = slice_get_within xs k x is in (omega arith, omega (arith, within))
 
+-- an empty list has none
+pub no_number : {A : Type 0} (n : ℕ) (x : A) → at_number [] n ≡ Some x → ⊥
+no_number zero x is = cc
+no_number (suc k) x is = cc
+
 -- no item is behind the last
 pub number_past : {A : Type 0} (xs : List A) (n : ℕ) → length xs < n → at_number xs n ≡ None
 number_past xs zero past = refl

@@ -7,6 +7,7 @@ use Rattle.std.proofs.lemmas.List.{length-map}
 use Rattle.std.proofs.lemmas.List.Elements.{All-append, All-cons, All-nil, All-map}
 use Rattle.std.proofs.lemmas.List.Folds.{list_any_none}
 use Rattle.std.proofs.lemmas.Nat.{mul-le}
+use Rattle.route_base.proofs.FirstRuns.{runs_tail, runs_head, behind_first}
 use Rattle.route_base.specs.Net.{at_number}
 use Rattle.route_base.specs.Runs.{has_minute, any_has, AreRuns}
 use Rattle.route_base.specs.declared.types.Run.{Run}
@@ -47,26 +48,13 @@ open_before late until t (run ∷ runs) early free = ⊎_elim
     (cases_lt t run.lo)))
     (cases_lt run.hi late)
 
-later_runs : (run : Run) (runs : List Run) → AreRuns (run ∷ runs) → AreRuns runs
-later_runs run runs rising = record {
-  filled = λ k d within. rising.filled (suc k) d (omega (arith, within));
-  apart = λ i j d lt within. rising.apart (suc i) (suc j) d (omega (arith, lt)) (omega (arith, within));
-}
-
--- the runs behind the first begin behind its end
-behind_first : (run : Run) (runs : List Run) → AreRuns (run ∷ runs) → All (λ q. run.hi < q.lo) runs
-behind_first run runs rising k d within = rising.apart zero (suc k) d (omega arith) (omega (arith, within))
-
-first_filled : (run : Run) (runs : List Run) → AreRuns (run ∷ runs) → run.lo < run.hi
-first_filled run runs rising = rising.filled zero run (omega arith)
-
 -- what is closed stays closed
 pub closed_still : (late until t : ℕ) (runs : List Run) → AreRuns runs → t < until → any_has (runs_and_rest late until runs) t ≡ false → any_has runs t ≡ false
 closed_still late until t [] rising in_time free = refl
 closed_still late until t (run ∷ runs) rising in_time free = ⊎_elim
     (λ (short : run.hi < late).
     (let kept = ap (λ (w : List Run). any_has w t) (sym (run_kept late until run runs short)) ∙ free in
-    or_none _ _ (or_first _ _ kept) (closed_still late until t runs (later_runs run runs rising) in_time (or_second _ _ kept))))
+    or_none _ _ (or_first _ _ kept) (closed_still late until t runs (runs_tail run runs rising) in_time (or_second _ _ kept))))
     (λ (far : late ≤ run.hi).
     (let cut = ap (λ (w : List Run). any_has w t) (sym (run_cut late until run runs far)) ∙ free in
     let low : t < min run.lo late = ⊎_elim
@@ -75,7 +63,7 @@ closed_still late until t (run ∷ runs) rising in_time free = ⊎_elim
     (cases_lt t (min run.lo late)) in
     or_none _ _ (and_left _ _ (lt-leb run.lo t (omega (arith, low))))
     (list_any_none (has_minute t) runs (λ k d within. and_left _ _ (lt-leb (get_or runs k d).lo t
-    (omega (arith, low, first_filled run runs rising, behind_first run runs rising k d within)))))))
+    (omega (arith, low, runs_head run runs rising, behind_first run runs rising k d within)))))))
     (cases_lt run.hi late)
 
 rest_filled : (late until : ℕ) → All (λ r. r.lo < r.hi) (closed_from late until)
@@ -117,10 +105,10 @@ pub still_runs : (late until : ℕ) (runs : List Run) → AreRuns runs → AreRu
 still_runs late until [] rising = rest_runs late until
 still_runs late until (run ∷ runs) rising = ⊎_elim
     (λ (short : run.hi < late).
-    (let more : AreRuns (runs_and_rest late until runs) = still_runs late until runs (later_runs run runs rising) in
+    (let more : AreRuns (runs_and_rest late until runs) = still_runs late until runs (runs_tail run runs rising) in
     let low : All (λ q. run.hi < q.lo) (runs_and_rest late until runs) = low_still run.hi late until runs short (behind_first run runs rising) in
     subst AreRuns (sym (run_kept late until run runs short)) (record {
-      filled = All-cons (λ r. r.lo < r.hi) run (runs_and_rest late until runs) (first_filled run runs rising) more.filled;
+      filled = All-cons (λ r. r.lo < r.hi) run (runs_and_rest late until runs) (runs_head run runs rising) more.filled;
       apart = pairs_append (λ p q. p.hi < q.lo) (run ∷ []) (runs_and_rest late until runs)
           (λ i j d lt within. absurd (omega (arith, lt, within))) more.apart
           (λ k d within. All-cons (λ x. x.hi < (get_or (runs_and_rest late until runs) k d).lo) run [] (low k d within)

@@ -8,7 +8,7 @@ use Rattle.route_base.specs.Legs.{steps_of, steps_of_leg, start_of, end_of, Achi
 use Rattle.route_base.specs.declared.types.Leg.{Leg}
 use Rattle.route_base.specs.declared.types.Pair.{Pair}
 use Rattle.route_base.specs.declared.types.Request.{Request}
-use Rattle.route_base.proofs.Waiting.{same_position}
+use Rattle.route_base.proofs.Walking.{walks_same, walk_parts}
 use Rattle.vehicle_classes.specs.VehicleModel.{VehicleModel}
 use Rattle.network_tables.specs.NetworkModel.{NetworkModel}
 use Rattle.network_tables.specs.RoadSetting.{road_setting}
@@ -18,34 +18,6 @@ use Rattle.trip_explain.specs.Reasons.{IsStuck, elsewhere, late, closed, unrated
 use Rattle.network_tables.proofs.ArcPlaces.{some_same}
 
 module _ (s : Setting) (until : ℕ) where
-  -- a step leads to one position
-  pub moves_same : (x : Step) (p q r : Position) → Moves s until x p q → Moves s until x p r → q ≡ r
-  moves_same (drive a) p q r one two =
-      let same : one.road ≡ two.road = some_same (s.road a) one.road two.road one.is two.is in
-      same_position q r
-      (one.node ∙ ap (λ (w : Road). w.head) same ∙ sym two.node)
-      (one.minute ∙ ap (λ (w : Road). p.minute + w.minutes) same ∙ sym two.minute)
-      (one.cost ∙ ap (λ (w : Road). p.cost + w.cost) same ∙ sym two.cost)
-  moves_same wait p q r one two =
-      let same : one.weight ≡ two.weight = some_same (s.weight p.node) one.weight two.weight one.rated two.rated in
-      same_position q r (one.node ∙ sym two.node) (one.minute ∙ sym two.minute)
-      (one.cost ∙ ap (λ (w : ℕ). p.cost + w) same ∙ sym two.cost)
-
-  -- a walk leads to one position
-  pub walks_same : (xs : List Step) (p q r : Position) → Walks s until xs p q → Walks s until xs p r → q ≡ r
-  walks_same [] p q r one two = sym one ∙ two
-  walks_same (x ∷ xs) p q r one two =
-      let next : one.0 ≡ two.0 = moves_same x p one.0 two.0 one.1 two.1 in
-      walks_same xs two.0 q r (subst (λ (w : Position). Walks s until xs w q) next one.2) two.2
-
-  -- a walk of two parts goes by a position between them
-  pub walk_parts : (xs ys : List Step) (p r : Position) → Walks s until (xs ++ ys) p r
-      → (q : Position) × Walks s until xs p q × Walks s until ys q r
-  walk_parts [] ys p r walk = (p, refl, walk)
-  walk_parts (x ∷ xs) ys p r walk =
-      let rest = walk_parts xs ys walk.0 r walk.2 in
-      (rest.0, (walk.0, walk.1, rest.1), rest.2)
-
   -- what follows the first part goes on from where the first part leads
   pub walk_on : (xs ys : List Step) (p q r : Position) → Walks s until xs p q → Walks s until (xs ++ ys) p r → Walks s until ys q r
   walk_on xs ys p q r first walk =

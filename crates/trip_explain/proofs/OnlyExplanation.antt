@@ -3,6 +3,7 @@ use Rattle.std.proofs.Common.{◌≡◌, ℕ, ◌+◌, ◌<◌, ◌≤◌, Some,
 use Rattle.std.proofs.lemmas.Bool.{cases_lt}
 use Rattle.std.proofs.lemmas.List.{take-take}
 use Rattle.std.proofs.lemmas.Option.{slice_get_within}
+use Rattle.route_base.proofs.Walking.{moves_same, walks_same, walk_parts}
 use Rattle.route_base.specs.Itinerary.{Position, Step, Walks}
 use Rattle.route_base.specs.Legs.{steps_of, steps_of_leg, start_of}
 use Rattle.route_base.specs.declared.types.Leg.{Leg}
@@ -13,7 +14,7 @@ use Rattle.network_tables.specs.RoadSetting.{road_setting}
 use Rattle.trip_explain.specs.declared.explanation.Why.{Why}
 use Rattle.trip_explain.specs.Explanations.{IsUnlawfulAt, StopsIn}
 use Rattle.trip_explain.specs.Reasons.{IsStuck}
-use Rattle.trip_explain.proofs.OneExplanation.{moves_same, walks_same, walk_parts, walk_on, legs_split, no_move}
+use Rattle.trip_explain.proofs.OneExplanation.{walk_on, legs_split, no_move}
 use Rattle.trip_explain.proofs.OnlyReason.{stuck_once}
 use Rattle.network_tables.proofs.ArcPlaces.{some_same, taken}
 

@@ -248,6 +248,12 @@ const COVERED: &[(&str, Minutes<'static>, Minutes<'static>)] = &[
         &[(18446, 480), (18474, 1320), (18475, 119), (18505, 480)],
         &[(18467, 1320), (18470, 480), (18474, 1319), (18475, 120)],
     ),
+    // The last Tuesday of August 2020 is the 25th, when six days of the month are left.
+    (
+        "Tu[-1]",
+        &[(18499, 0), (18499, 1439)],
+        &[(18492, 0), (18498, 1439), (18500, 0)],
+    ),
     // A later rule replaces the whole day.
     (
         "Mo-Fr 08:00-12:00; Mo 13:00-17:00",

@@ -2,7 +2,7 @@ use Rattle.std.proofs.Common.{◌-◌, length, get_or, take, drop, subst}
 use Rattle.route_base.specs.Runs.{AreRuns}
 use Rattle.route_base.specs.declared.types.Run.{Run}
 use Rattle.route_base.proofs.Lists.{first_and_rest}
-use Rattle.minute_sets.proofs.FirstRuns.{runs_tail}
+use Rattle.route_base.proofs.FirstRuns.{runs_tail}
 use Rattle.function_merge.proofs.suffixes.runs_from.Goals as goal
 
 pub returns-in-len1-up-clause-runs : goal.returns-in-len1-up-clause-runs

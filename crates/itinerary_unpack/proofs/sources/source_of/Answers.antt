@@ -8,7 +8,8 @@ use Rattle.potentials.proofs.Ending.{ends_of}
 use Rattle.route_base.specs.StepsBack.{HasNoMove, IsFirstLeg}
 use Rattle.propagation.specs.Inside.Invariants.{point}
 use Rattle.itinerary_unpack.specs.Inside.Requests.{setting_in, solved_cost}
-use Rattle.itinerary_unpack.proofs.Sourcing.{drives_first, smaller_earlier}
+use Rattle.itinerary_unpack.proofs.Sourcing.{smaller_earlier}
+use Rattle.route_base.proofs.GoingBack.{drives_first}
 use Rattle.itinerary_unpack.proofs.sources.source_of.Goals as goal
 
 abbrev no_arc : ArcId

@@ -7,11 +7,15 @@ use route_base::{ArcId, FileKind, Minute, NodeId, OutOfMemory, Pair, Request, Ro
 use std::alloc::Global;
 use uses::{is_open_for, plan_trip};
 
+const RATINGS: &str = "rating,weight\nyard,2.000\n";
+
+const PARKING: &str = "node,rating\n2,yard\n";
+
 // The second road is closed from 2020-07-04T01:00Z to 03:00Z, and a lorry may wait at its beginning.
 const PASS: &[(FileKind, &str)] = &[
     (FileKind::Closures, "arc,from,to\n2,26563740,26563860\n"),
-    (FileKind::Ratings, "rating,weight\nyard,2.000\n"),
-    (FileKind::Parking, "node,rating\n2,yard\n"),
+    (FileKind::Ratings, RATINGS),
+    (FileKind::Parking, PARKING),
 ];
 
 // Whether the routes have these pairs, in this order.
@@ -23,8 +27,11 @@ fn have_pairs(routes: &[Route], due: &[Pair]) -> bool {
             .all(|(route, due)| route.pair == *due)
 }
 
-// Whether the trip from the first node to the third one has these options, for any vehicle.
-fn has_options(alloc: Global, network: &Network, due: &[Pair]) -> bool {
+// Whether the trip from the first node to the third one has these options until a minute, for any vehicle.
+fn has_options(alloc: Global, network: &Network, until: Minute, due: &[Pair]) -> bool
+    requires low { 26563680 ≤ until }
+    requires high { until ≤ 26564080 }
+{
     if network.graph().node_count() != 3 || network.vehicles().len() != 1 {
         return false;
     }
@@ -32,7 +39,7 @@ fn has_options(alloc: Global, network: &Network, due: &[Pair]) -> bool {
         origin: NodeId(1),
         goal: NodeId(3),
         depart: 26_563_680,
-        until: 26_564_080,
+        until,
     };
     match plan_trip(alloc, network, network.vehicles().vehicle(0), request) {
         Ok(routes) => have_pairs(routes.as_slice(), due),
@@ -54,7 +61,43 @@ const OPTIONS: &[Pair] = &[
 #[test]
 fn waits_for_the_pass_or_drives_around_it(rt: HostRuntime) {
     let network = read(rt.alloc(), PASS).expect(&rt, "a network");
-    assert!(rt; has_options(rt.alloc(), &network, OPTIONS));
+    assert!(rt; has_options(rt.alloc(), &network, 26_564_080, OPTIONS));
+}
+
+const FIRST_OPTION: &[Pair] = &[Pair {
+    arrival: 26_563_920,
+    cost: 360_000,
+}];
+
+// Closures of the second road, which is open again for just an hour, and then for a minute less.
+const CLOSED_AGAIN: &[(&str, &[Pair])] = &[
+    (
+        "arc,from,to\n2,26563740,26563860\n2,26563920,26563921\n",
+        FIRST_OPTION,
+    ),
+    (
+        "arc,from,to\n2,26563740,26563860\n2,26563919,26563920\n",
+        &[],
+    ),
+];
+
+// Whether the trip that ends with that hour has these options under these closures.
+fn obeys_closures(alloc: Global, closures: &str, due: &[Pair]) -> Result<bool, NetworkFault> {
+    let texts = [
+        (FileKind::Closures, closures),
+        (FileKind::Ratings, RATINGS),
+        (FileKind::Parking, PARKING),
+    ];
+    let network = read(alloc, &texts)?;
+    Ok(has_options(alloc, &network, 26_563_920, due))
+}
+
+#[test]
+fn obeys_closures_until_the_last_minute(rt: HostRuntime) {
+    for (closures, due) in CLOSED_AGAIN {
+        let obeyed = obeys_closures(rt.alloc(), closures, due);
+        assert!(rt; obeyed == Ok(true), "{closures}");
+    }
 }
 
 // Whether the second road is open for an hour from a minute on, to any vehicle; none where there is no such road or vehicle.
