@@ -11,7 +11,7 @@ use Rattle.route_base.specs.declared.types.Leg.{Leg}
 use Rattle.route_base.specs.declared.types.Pair.{Pair}
 use Rattle.route_base.specs.declared.types.Request.{Request}
 use Rattle.route_base.proofs.Waiting.{same_position}
-use Rattle.front_transport.proofs.Growing.{walk_grows}
+use Rattle.route_base.proofs.Walking.{walk_grows}
 use Rattle.front_transport.specs.ParetoFronts.{ArrivesBefore}
 use Rattle.front_transport.proofs.PairOrder.{no_worse_order}
 use Rattle.front_transport.proofs.Transport.{carried}

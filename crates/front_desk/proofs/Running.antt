@@ -12,7 +12,8 @@ use Rattle.route_base.specs.declared.status.Status.TheVariants.{NoMemory, BadReq
 use Rattle.route_base.specs.declared.types.Request.{Request}
 use Rattle.certificate.specs.declared.Certificate.{Certificate}
 use Rattle.certificate.proofs.Whole.{one_certificate}
-use Rattle.certificate_check.specs.Verdicts.{IsGood, FailsFirst, first_fails, second_fails, third_fails, fourth_fails, fifth_fails, sixth_fails}
+use Rattle.certificate_check.specs.Verdicts.{IsGood}
+use Rattle.certificate_check.proofs.Failing.{good_never_fails}
 use Rattle.plan_report.specs.declared.outcomes.Refusal.{Refusal}
 use Rattle.plan_report.specs.declared.outcomes.Refusal.TheVariants as refusal
 use Rattle.front_desk.specs.Check.{no_certificate, condition_fails, FailsWith, HasGoodCertificate, IsGoodText, RejectsCertificate}
@@ -39,15 +40,6 @@ finishes (to_latest l) = (refl, λ judges. absurd judges)
 finishes (to_tour t) = (refl, λ judges. absurd judges)
 finishes (to_breaks b) = (refl, λ judges. absurd judges)
 finishes (to_explain e) = (refl, λ judges. absurd judges)
-
--- a good certificate fails no condition
-good_never_fails : (s : Setting) (r : Request) (c : Certificate) (k : ℕ) → IsGood s r c → FailsFirst s r c k → ⊥
-good_never_fails s r c _ good (first_fails not) = not good.pairs
-good_never_fails s r c _ good (second_fails a not) = not good.achieved
-good_never_fails s r c _ good (third_fails a b not) = not good.bounds
-good_never_fails s r c _ good (fourth_fails a b d not) = not good.start
-good_never_fails s r c _ good (fifth_fails a b d e not) = not good.goes_on
-good_never_fails s r c _ good (sixth_fails a b d e f not) = not good.end
 
 -- the text of a good certificate isn't rejected
 good_never_rejected : (s : Setting) (r : Request) (bytes : List ℕ) (k : ℕ) → IsGoodText s r bytes → FailsWith s r bytes k → ⊥

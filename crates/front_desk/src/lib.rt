@@ -36,4 +36,5 @@ mod shared_nets;
 mod tour;
 
 pub use desk::{run, run_gated};
+pub use latest::LONGEST_LATE_HORIZON;
 pub use laws::{explanations_are_exact, limits_are_these, one_text, written_certificates_are_good};

@@ -1,5 +1,6 @@
 //! Tests of the libraries of the search, of certificates and of reports, as a stranger calls them. Each library's tests are in a module
-//! by its name; `nets` makes the net of several tests, which `specs/WorkedNet` writes out.
+//! by its name, but those of latest departures, tours and breaks in `other_nets`; `nets` makes the net of several tests, which
+//! `specs/WorkedNet` writes out.
 //!
 //! `engines` has the tests that the two engines agree: `TableEngine` of `plain_search`, which keeps a label for each node and minute, and
 //! `FunctionEngine` of `itinerary_unpack`, which keeps cost functions, find the same pairs and the same legs on the same nets. Both are proved

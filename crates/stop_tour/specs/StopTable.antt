@@ -7,6 +7,7 @@ use Rattle.route_base.specs.declared.faults.Cause.{Cause}
 use Rattle.route_base.specs.declared.faults.Cause.TheVariants.{BadField, Unknown, NotRising}
 use Rattle.route_base.specs.declared.limits.TheConstants.{DAY_MINUTES}
 use Rattle.calendar_days.specs.Texts.{instant_of}
+use Rattle.stop_tour.specs.declared.limits.TheConstants.{MOST_STOPS}
 use Rattle.stop_tour.specs.declared.stops.Stop.{Stop}
 use Rattle.table_reader.specs.Schema.{Schema}
 use Rattle.table_reader.specs.Records.{Record}
@@ -33,11 +34,11 @@ cause_of_stop nodes None = Some BadField
 cause_of_stop nodes (Some stop) =
     if is_from_to 1 nodes stop.node.0 then (if nat_lt stop.from stop.to then None else Some NotRising) else Some Unknown
 
--- a node, the minutes of the service, and the window, in at most 50 rows; a node may have several
+-- a node, the minutes of the service, and the window, in at most `MOST_STOPS` rows; a node may have several
 abbrev pub stops_schema : ℕ → Schema
 stops_schema nodes = record {
   headers = (codes "node" ∷ codes "service" ∷ codes "from" ∷ codes "to" ∷ []) ∷ [];
-  limit = 50;
+  limit = MOST_STOPS;
   cause = λ header before row. cause_of_stop nodes (stop_of row);
 }
 

@@ -1,10 +1,15 @@
-// Settings that agree within a window have the same tours.
-ghost use Rattle.std.specs.Prelude.{◌≡◌, ◌↔◌, List};
+// Laws of the definitions that need no call.
+ghost use Rattle.std.specs.List.{AllZip};
+ghost use Rattle.std.specs.Prelude.{◌≡◌, ◌↔◌, ℕ, List, [], Some, None};
+ghost use Rattle.route_base.specs.Front.{IsFront};
 ghost use Rattle.route_base.specs.Matching.{StandsFor, IsInWindow};
 ghost use Rattle.route_base.specs.Setting.{Setting};
+ghost use Rattle.route_base.specs.declared.types.Pair.{Pair};
 ghost use Rattle.route_base.specs.declared.types.Request.{Request};
 ghost use Rattle.route_base.specs.declared.types.Run.{Run};
-ghost use Rattle.stop_tour.specs.Words.{AreRightTours, size_in};
+ghost use Rattle.stop_tour.specs.Words.{AreRightTours, IsTourFront, size_in};
+ghost use Rattle.stop_tour.specs.Words.{first_table_fault, records_of, rows_of};
+ghost use Rattle.stop_tour.specs.Words.{stop_of, stops_in, stops_schema};
 ghost use Rattle.stop_tour.specs.declared.stops.Stop.{Stop};
 ghost use Rattle.stop_tour.specs.declared.stops.TourRoute.{TourRoute};
 
@@ -16,4 +21,17 @@ pub fn tours_agree()
         → (routes : List TourRoute) → AreRightTours s r stops routes ↔ AreRightTours z r stops routes }
     ensures size { (s z : Setting) (window : Run) (stops : List Stop) → StandsFor s z window
         → size_in s stops ≡ size_in z stops }
+{}
+
+/// The law that tours without stops have the Pareto front of the trip. The call does nothing.
+pub fn no_stops_no_tour()
+    ensures { (s : Setting) (r : Request) (pairs : List Pair)
+        → IsTourFront s r [] pairs ↔ IsFront s r pairs }
+{}
+
+/// The law of a table of stops without a fault: each data row has its stop, in their order. The call does nothing.
+pub fn each_row_has_its_stop()
+    ensures { (nodes : ℕ) (bytes : List ℕ)
+        → first_table_fault (stops_schema nodes) (records_of bytes) ≡ None
+        → AllZip (λ row stop. stop_of row ≡ Some stop) (rows_of bytes) (stops_in (rows_of bytes)) }
 {}

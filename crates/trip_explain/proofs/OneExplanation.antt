@@ -1,5 +1,5 @@
 -- Legs that are unlawful somewhere achieve no pair.
-use Rattle.std.proofs.Common.{◌≡◌, ℕ, zero, suc, ◌+◌, true, false, Some, None, List, [], ◌∷◌, ◌++◌, inl, inr, length, take, slice_get, refl}
+use Rattle.std.proofs.Common.{◌≡◌, ℕ, zero, suc, ◌+◌, true, false, Some, None, List, [], ◌∷◌, ◌++◌, inl, inr, length, take, slice_get}
 use Rattle.std.proofs.Common.{sym, ◌∙◌, ap, subst, append_assoc, arith}
 use Rattle.std.proofs.lemmas.List.{take_all}
 use Rattle.route_base.specs.Setting.{Setting, Road}
@@ -21,8 +21,8 @@ module _ (s : Setting) (until : ℕ) where
   -- what follows the first part goes on from where the first part leads
   pub walk_on : (xs ys : List Step) (p q r : Position) → Walks s until xs p q → Walks s until (xs ++ ys) p r → Walks s until ys q r
   walk_on xs ys p q r first walk =
-      let parts = walk_parts xs ys p r walk in
-      subst (λ (w : Position). Walks s until ys w r) (walks_same xs p parts.0 q parts.1 first) parts.2
+      let parts = walk_parts s until xs ys p r walk in
+      subst (λ (w : Position). Walks s until ys w r) (walks_same s until xs p parts.0 q parts.1 first) parts.2
 
 -- the steps before a leg, its own and the rest
 pub legs_split : (legs : List Leg) (i : ℕ) (leg : Leg) → slice_get legs i ≡ Some leg

@@ -3,8 +3,8 @@
 //! `open_roads` asks opening hours for an instant of a zone, `clocks` reads local time, `rules` asks a conditional value for the
 //! access of a vehicle, `drives` asks whether an arc is open, `trips` judges an itinerary, `lockers` reads a table of its own, `plans`
 //! plans a trip over a network, and `judgements` takes a front from a certificate that somebody else wrote. Each call says over the
-//! definitions of the library what it answers; `Words` passes their names on, and the crate has no definitions of its own but the
-//! schema of its table (`Lockers`).
+//! definitions of the library what it answers. The crate's own are a ban at an instant (`Words`) and the schema of its table
+//! (`Lockers`).
 #![tactic(auto)]
 
 mod clocks;

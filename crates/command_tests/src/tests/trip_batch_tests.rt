@@ -1,8 +1,9 @@
-// The texts of jobs on several numbers of workers.
+// The texts of jobs on several numbers of workers, and workers that are at work at once.
 ghost use Rattle.std.specs.Prelude.{◌≡◌, ◌≤◌, length};
 
 use route_base::{Gate, JobText, NoGate, OutOfMemory};
 use std::alloc::Global;
+use std::sync::atomic::{AtomicU64, Ordering};
 use std::thread::Threads;
 use trip_batch::{JobPlanner, PartPlanner, run_batch, run_in_order};
 
@@ -81,6 +82,44 @@ fn gives_the_texts_in_the_order_of_the_jobs(rt: HostRuntime) {
             "{workers} workers"
         );
     }
+}
+
+// How often a worker looks for another one before it goes on alone.
+const MOST_LOOKS: u32 = 200_000_000;
+
+// Counts the jobs that are begun, and those whose worker looked for another one in vain.
+#[derive(Drop)]
+struct Meeting {
+    begun: AtomicU64,
+    alone: AtomicU64,
+}
+
+impl Gate for Meeting {
+    fn enter(&self, _job: usize) {
+        self.begun.fetch_add(1, Ordering::SeqCst);
+        for _ in 0..MOST_LOOKS {
+            if self.begun.load(Ordering::SeqCst) >= 2 {
+                return;
+            }
+        }
+        self.alone.fetch_add(1, Ordering::SeqCst);
+    }
+}
+
+// Plans two jobs by two workers: how many jobs are begun, and how many of them by a worker who is alone.
+fn begun_and_alone<R: Threads + Sync>(rt: &R, alloc: Global) -> Result<(u64, u64), OutOfMemory> {
+    let gate = Meeting {
+        begun: AtomicU64::new(0),
+        alone: AtomicU64::new(0),
+    };
+    run_batch(rt, alloc, &Lengths { alloc, count: 2 }, 2, 2, &gate)?;
+    let begun = gate.begun.load(Ordering::SeqCst);
+    Ok((begun, gate.alone.load(Ordering::SeqCst)))
+}
+
+#[test]
+fn plans_two_jobs_at_once(rt: HostRuntime) {
+    assert!(rt; begun_and_alone(&rt, rt.alloc()) == Ok((2, 0)));
 }
 
 // Three jobs, the last one first.
