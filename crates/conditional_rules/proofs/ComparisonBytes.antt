@@ -3,7 +3,7 @@ use Rattle.std.proofs.Common.{◌≡◌, ℕ, zero, suc, ◌+◌, ◌-◌, ◌*�
 use Rattle.std.proofs.Common.{List, [], ◌∷◌, ◌++◌, length, refl, sym, ap, ◌∙◌, arith}
 use Rattle.std.specs.Prelude.{◌==◌, nat_le, decimal}
 use Rattle.std.specs.List.{list_all, list_any}
-use Rattle.std.proofs.lemmas.Bool.{and_parts, and_from, or_from, or_left, or_right, ne_eqb, both_ways}
+use Rattle.std.proofs.lemmas.Bool.{and_from, or_from, or_left, or_right, ne_eqb, both_ways}
 use Rattle.std.proofs.lemmas.List.Folds.{list_all-append, list_any-append}
 use Rattle.route_base.specs.Digits.{digits_from}
 use Rattle.route_base.specs.Forms.{is_blank}
@@ -19,6 +19,7 @@ use Rattle.conditional_rules.specs.Conditions.{is_small_letter, has_sign, has_pa
 use Rattle.conditional_rules.specs.CanonicalText.{sign_text, last_digits, decimals_text, measure_text, part_text}
 use Rattle.conditional_rules.proofs.PrintedNumbers.{last_digits_write}
 use Rattle.conditional_rules.proofs.PrintedComparisons.{whole_below}
+use Rattle.conditional_rules.proofs.Tight.{none_of}
 
 -- a small letter, a digit, a point or a byte of a sign
 abbrev pub is_comparison_byte : ℕ → Bool
@@ -76,34 +77,26 @@ comparison_bytes text q c v h =
 pub no_other : (other b : ℕ) → is_comparison_byte other ≡ false → is_comparison_byte b ≡ true → (b == other) ≡ false
 no_other other b outside h = ne_eqb b other (λ e. both_ways (is_comparison_byte other) outside (ap is_comparison_byte (sym e) ∙ h))
 
--- a test that none of these bytes passes finds none
-pub none_among : (p : ℕ → Bool) → ((b : ℕ) → is_comparison_byte b ≡ true → p b ≡ false) → (bs : List ℕ)
-    → list_all is_comparison_byte bs ≡ true → list_any p bs ≡ false
-none_among p none [] h = refl
-none_among p none (b ∷ bs) h =
-    let parts = and_parts (is_comparison_byte b) (list_all is_comparison_byte bs) h in
-    or_from (p b) (list_any p bs) (none b parts.0) (none_among p none bs parts.1)
-
 pub comparison_no_parenthesis : (text : List ℕ) (q : Quantity) (c : Comparison) (v : ℕ) → IsComparison text q c v
     → has_parenthesis (part_text (Compare q c v)) ≡ false
 comparison_no_parenthesis text q c v h =
-    none_among (λ b. b == 40 || b == 41) (λ b is. or_from (b == 40) (b == 41) (no_other 40 b refl is) (no_other 41 b refl is))
+    none_of is_comparison_byte (λ b. b == 40 || b == 41) (λ b is. or_from (b == 40) (b == 41) (no_other 40 b refl is) (no_other 41 b refl is))
     (part_text (Compare q c v)) (comparison_bytes text q c v h)
 
 pub comparison_no_semicolon : (text : List ℕ) (q : Quantity) (c : Comparison) (v : ℕ) → IsComparison text q c v
     → list_any (λ b. b == 59) (part_text (Compare q c v)) ≡ false
 comparison_no_semicolon text q c v h =
-    none_among (λ b. b == 59) (λ b is. no_other 59 b refl is) (part_text (Compare q c v)) (comparison_bytes text q c v h)
+    none_of is_comparison_byte (λ b. b == 59) (λ b is. no_other 59 b refl is) (part_text (Compare q c v)) (comparison_bytes text q c v h)
 
 pub comparison_no_at : (text : List ℕ) (q : Quantity) (c : Comparison) (v : ℕ) → IsComparison text q c v
     → has_at (part_text (Compare q c v)) ≡ false
 comparison_no_at text q c v h =
-    none_among (λ b. b == 64) (λ b is. no_other 64 b refl is) (part_text (Compare q c v)) (comparison_bytes text q c v h)
+    none_of is_comparison_byte (λ b. b == 64) (λ b is. no_other 64 b refl is) (part_text (Compare q c v)) (comparison_bytes text q c v h)
 
 pub comparison_no_blank : (text : List ℕ) (q : Quantity) (c : Comparison) (v : ℕ) → IsComparison text q c v
     → list_any is_blank (part_text (Compare q c v)) ≡ false
 comparison_no_blank text q c v h =
-    none_among is_blank (λ b is. or_from (b == 32) (b == 9) (no_other 32 b refl is) (no_other 9 b refl is))
+    none_of is_comparison_byte is_blank (λ b is. or_from (b == 32) (b == 9) (no_other 32 b refl is) (no_other 9 b refl is))
     (part_text (Compare q c v)) (comparison_bytes text q c v h)
 
 sign_in : (c : Comparison) → has_sign (sign_text c) ≡ true

@@ -90,6 +90,8 @@ impl Conditional {
 }
 
 /// The clauses of a text of a conditional value. Linear in the text's length, in time and memory.
+///
+/// `NotConditional` comes where the text isn't in the crate's notation, and so has no clauses; `OutOfMemory` comes where memory runs out.
 #[tactic(auto, using(crate::proofs::ComputedClauses::clauses_computed, crate::proofs::ComputedClauses::nothing_computed))]
 pub fn parse(alloc: Global, text: &[u8]) -> Result<Conditional, ConditionalFault>
     // The text has these clauses.

@@ -58,10 +58,6 @@ both_parts lo from to t a b = grind (arith, nat_tests)
 pub no_minutes : (lo t : ℕ) → (leb lo t && ltb t lo) ≡ false
 no_minutes lo t = grind (arith, nat_tests)
 
-pub some_rows : (rows : List ZoneRow) → (rows ≡ [] → ⊥) → 0 < length rows
-some_rows [] h = absurd (h refl)
-some_rows (row ∷ rows) h = omega arith
-
 pub starts_increase : (rows : List ZoneRow) → IsZone rows → AllPairs (λ p q. p.start < q.start) rows
 starts_increase rows zone i j d before within =
     let starts = map (λ r. r.start) rows in

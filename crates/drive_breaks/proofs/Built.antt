@@ -1,11 +1,12 @@
 -- Arcs over states that are added one by one.
-use Rattle.std.proofs.Common.{◌≡◌, inl, inr, ⊎_elim, ℕ, zero, suc, ◌+◌, Some, List, [], ◌∷◌, ◌++◌, length, refl, sym, ◌∙◌, ap, subst, arith, length-append}
+use Rattle.std.proofs.Common.{◌≡◌, inl, inr, ⊎_elim, ℕ, ◌+◌, Some, List, [], ◌∷◌, ◌++◌, length, refl, sym, ◌∙◌, ap, subst, arith, length-append}
 use Rattle.std.specs.Prelude.{Contains}
 use Rattle.std.proofs.lemmas.List.Elements.{Contains-append_left, Contains-push, Contains-push_cases}
 use Rattle.route_base.specs.Net.{Net, at_number}
 use Rattle.route_base.specs.declared.types.Leg.{Leg}
 use Rattle.route_base.specs.declared.types.Leg.TheVariants.{Drive, Wait}
 use Rattle.route_base.specs.declared.types.TimedArc.{TimedArc}
+use Rattle.route_base.proofs.Numbered.{no_number}
 use Rattle.front_transport.proofs.Places.{at_left, at_either, at_last}
 use Rattle.drive_breaks.specs.Inside.StateNet.{IsArcFor, Arrives, IsBuiltArc, AreBuilt, AddsWay}
 use Rattle.drive_states.specs.declared.rule.State.{State}
@@ -19,10 +20,6 @@ pub copy_for : (net : Net) (states : List State) (from to last : ℕ) (leg : Leg
     → IsArcFor net states from last leg (headed arc last)
 copy_for net states from to last (Drive a) arc is = (is.0, is.1, ap (λ (w : TimedArc). headed w last) is.2)
 copy_for net states from to last (Wait k) arc is = (is.0, is.1, is.2, is.3, is.4, ap (λ (w : TimedArc). headed w last) is.5)
-
-no_number : {A : Type 0} (n : ℕ) (x : A) → at_number [] n ≡ Some x → ⊥
-no_number zero x is = cc
-no_number (suc k) x is = cc
 
 module _ (net : Net) (states : List State) (goal : ℕ) where
   pub built_none : AreBuilt net states goal [] [] []

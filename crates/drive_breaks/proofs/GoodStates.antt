@@ -1,5 +1,5 @@
 -- The net over states is well-formed, and no minute of it is dear.
-use Rattle.std.proofs.Common.{◌≡◌, ⊎_elim, ℕ, ◌+◌, ◌*◌, ◌≤◌, Option, Some, None, List, [], ◌∷◌, ◌++◌, length, map, get_or, sym, ◌∙◌, ap, arith}
+use Rattle.std.proofs.Common.{◌≡◌, ⊎_elim, ℕ, ◌+◌, ◌*◌, ◌≤◌, Some, None, List, [], ◌∷◌, ◌++◌, length, map, get_or, sym, ◌∙◌, ap, arith}
 use Rattle.std.proofs.Common.{length-append}
 use Rattle.std.specs.Option.{ForSome}
 use Rattle.std.proofs.lemmas.List.{length-map}
@@ -15,10 +15,9 @@ use Rattle.route_base.specs.declared.types.TimedArc.{TimedArc}
 use Rattle.route_base.proofs.Numbered.{at_number-all, at_number-map, number_within}
 use Rattle.route_base.proofs.Arcs.{good_arc}
 use Rattle.route_base.proofs.Costs.{IsCheap}
-use Rattle.route_base.proofs.Logic.{map_some}
+use Rattle.route_base.proofs.Logic.{flat_some, map_some}
 use Rattle.route_base.proofs.Parks.{good_park}
 use Rattle.front_transport.specs.CheapArcs.{HasCheapArcs}
-use Rattle.front_transport.proofs.NetParts.{flat_some}
 use Rattle.front_transport.proofs.Places.{at_either, by_numbers}
 use Rattle.drive_breaks.specs.Inside.StateNet.{IsArcFor, AreBuilt, net_over}
 use Rattle.drive_states.specs.StateSize.{IsDeparture}
@@ -26,7 +25,7 @@ use Rattle.drive_states.specs.Inside.StateSearch.{IsSoundWay, IsExplored}
 use Rattle.drive_states.specs.declared.rule.BreakRule.{BreakRule}
 use Rattle.drive_states.specs.declared.rule.State.{State}
 use Rattle.drive_states.specs.declared.rule.Way.{Way}
-use Rattle.drive_breaks.proofs.OverStates.{all_in}
+use Rattle.drive_breaks.proofs.OverStates.{all_in, park_over}
 
 none_some : (park : Park) → None ≡ Some park → ⊥
 none_some park same = cc
@@ -74,9 +73,6 @@ module _ (net : Net) (good : IsGoodNet net) (rule : BreakRule) (origin goal : �
       (λ copy. fine way.leg sound.from sound.to way.from (length states + 1) arc sound.departs copy.0 from (omega arith, omega arith))
       one.2.made
 
-  park_over : State → Option Park
-  park_over st = park_at net st.node.0
-
   -- the park of a node is well-formed over states too
   fine_park : (v : ℕ) → ForSome (park_at net v) (IsGoodPark (net_over net states arcs))
   fine_park v park is = let base = good_park net good v park is in record { weight = base.weight; shut = base.shut }
@@ -86,11 +82,11 @@ module _ (net : Net) (good : IsGoodNet net) (rule : BreakRule) (origin goal : �
   light v w is =
       let found = map_some (park_at (net_over net states arcs) v) (λ park. park.weight) w is in
       ⊎_elim
-      (λ (old : at_number (map park_over states) v ≡ Some (Some found.0)).
-      (let state = map_some (at_number states v) park_over (Some found.0) (sym (at_number-map park_over states v) ∙ old) in
+      (λ (old : at_number (map (park_over net) states) v ≡ Some (Some found.0)).
+      (let state = map_some (at_number states v) (park_over net) (Some found.0) (sym (at_number-map (park_over net) states v) ∙ old) in
       omega (arith, (fine_park state.0.node.0 found.0 state.2).weight, found.2)))
-      (λ (new : (v ≡ length (map park_over states) + 1) × (None ≡ Some found.0)). absurd (none_some found.0 new.1))
-      (at_either (map park_over states) None v (Some found.0) (flat_some (at_number (map park_over states ++ None ∷ []) v) found.0 found.1))
+      (λ (new : (v ≡ length (map (park_over net) states) + 1) × (None ≡ Some found.0)). absurd (none_some found.0 new.1))
+      (at_either (map (park_over net) states) None v (Some found.0) (flat_some (at_number (map (park_over net) states ++ None ∷ []) v) found.0 found.1))
 
   pub good_over : IsGoodNet (net_over net states arcs)
   unfolding park_over
@@ -98,11 +94,11 @@ module _ (net : Net) (good : IsGoodNet net) (rule : BreakRule) (origin goal : �
     nodes = omega (arith, explored.small, explored.facts.few);
     arcs = omega (arith, explored.small, built.long);
     closed = good.closed;
-    parks = omega (arith, length-append (map park_over states) (None ∷ []), length-map states park_over);
+    parks = omega (arith, length-append (map (park_over net) states) (None ∷ []), length-map states (park_over net));
     each_arc = by_numbers (IsGoodArc (net_over net states arcs)) arcs fine_at;
     each_runs = good.each_runs;
-    each_park = All-push (λ o. ForSome o (IsGoodPark (net_over net states arcs))) (map park_over states) None
-        (All-map (λ o. ForSome o (IsGoodPark (net_over net states arcs))) park_over states (λ k d within. fine_park (get_or states k d).node.0))
+    each_park = All-push (λ o. ForSome o (IsGoodPark (net_over net states arcs))) (map (park_over net) states) None
+        (All-map (λ o. ForSome o (IsGoodPark (net_over net states arcs))) (park_over net) states (λ k d within. fine_park (get_or states k d).node.0))
         (λ park is. absurd (none_some park is));
   }
 

@@ -2,10 +2,11 @@
 use Rattle.std.proofs.Common.{◌≡◌, ◌⊎◌, inl, inr, ⊎_elim, ℕ, zero, suc, ◌+◌, ◌≤◌, Option, List, [], ◌∷◌, ◌++◌, length, replicate, refl, sym, ◌∙◌, ap, arith}
 use Rattle.route_base.specs.Setting.{Road}
 use Rattle.route_base.specs.Itinerary.{Step, drive, wait}
+use Rattle.route_base.proofs.Lists.{same_head, same_tail}
 use Rattle.drive_breaks.specs.Rested.{driven, minutes_of, IsSinceBreak, IsSinceLastBreak, IsStretch, KeepsRule, IsRestedFrom}
 use Rattle.drive_breaks.specs.Inside.WithinRule.{IsWithinRule, IsWithinRuleFrom}
 use Rattle.drive_states.specs.declared.rule.BreakRule.{BreakRule}
-use Rattle.drive_breaks.proofs.Since.{head_same, tail_same, no_drive}
+use Rattle.drive_breaks.proofs.Since.{no_drive}
 
 not_nil : (x : Step) (xs : List Step) → [] ≡ x ∷ xs → ⊥
 not_nil x xs is = cc
@@ -14,11 +15,11 @@ not_nil x xs is = cc
 starts : (n : ℕ) (xs : List Step) → ((early : List Step) × (xs ≡ replicate n wait ++ early)) ⊎ ((early : List Step) → xs ≡ replicate n wait ++ early → ⊥)
 starts zero xs = inl (xs, refl)
 starts (suc n) [] = inr (λ early is. not_nil wait (replicate n wait ++ early) is)
-starts (suc n) (drive a ∷ xs) = inr (λ early is. no_drive a (head_same (drive a) wait xs (replicate n wait ++ early) is))
+starts (suc n) (drive a ∷ xs) = inr (λ early is. no_drive a (same_head is))
 starts (suc n) (wait ∷ xs) = ⊎_elim
     (λ (yes_starts : (early : List Step) × (xs ≡ replicate n wait ++ early)). inl (yes_starts.0, ap (λ (w : List Step). wait ∷ w) yes_starts.1))
     (λ (other : (early : List Step) → xs ≡ replicate n wait ++ early → ⊥). inr
-    (λ early is. other early (tail_same wait wait xs (replicate n wait ++ early) is)))
+    (λ early is. other early (same_tail is)))
     (starts n xs)
 
 -- there is a last break, or none
@@ -48,12 +49,12 @@ last_break (suc n) (x ∷ back) some = ⊎_elim
         → (other : List Step) → IsSinceBreak (suc n) (x ∷ back) other → length (x ∷ late) ≤ length other
     longer late is not_here [] since = absurd (not_here since.0 since.1)
     longer late is not_here (y ∷ other) since =
-        omega (arith, is.last other (since.0, tail_same x y back (other ++ (replicate (suc n) wait ++ since.0)) since.1))
+        omega (arith, is.last other (since.0, same_tail since.1))
 
     still : ((late : List Step) → IsSinceBreak (suc n) back late → ⊥) → ((early : List Step) → x ∷ back ≡ replicate (suc n) wait ++ early → ⊥)
         → (late : List Step) → IsSinceBreak (suc n) (x ∷ back) late → ⊥
     still none not_here [] since = not_here since.0 since.1
-    still none not_here (y ∷ late) since = none late (since.0, tail_same x y back (late ++ (replicate (suc n) wait ++ since.0)) since.1)
+    still none not_here (y ∷ late) since = none late (since.0, same_tail since.1)
 
 module _ (roads : ℕ → Option Road) where
   -- the longer of two fronts of one list has at least the drives of the shorter
@@ -63,15 +64,15 @@ module _ (roads : ℕ → Option Road) where
   front_less (drive a ∷ xs) (drive b ∷ ys) more rest same le =
       omega (
         arith,
-        front_less xs ys more rest (tail_same (drive a) (drive b) (xs ++ more) (ys ++ rest) same) (omega (arith, le)),
-        ap (λ (n : ℕ). minutes_of (roads n)) (number_same a b (head_same (drive a) (drive b) (xs ++ more) (ys ++ rest) same)),
+        front_less xs ys more rest (same_tail same) (omega (arith, le)),
+        ap (λ (n : ℕ). minutes_of (roads n)) (number_same a b (same_head same)),
       )
     where
       number_same : (i j : ℕ) → drive i ≡ drive j → i ≡ j
       number_same i j is = cc
-  front_less (drive a ∷ xs) (wait ∷ ys) more rest same le = absurd (no_drive a (head_same (drive a) wait (xs ++ more) (ys ++ rest) same))
-  front_less (wait ∷ xs) (drive b ∷ ys) more rest same le = absurd (no_drive b (sym (head_same wait (drive b) (xs ++ more) (ys ++ rest) same)))
-  front_less (wait ∷ xs) (wait ∷ ys) more rest same le = front_less xs ys more rest (tail_same wait wait (xs ++ more) (ys ++ rest) same) (omega (arith, le))
+  front_less (drive a ∷ xs) (wait ∷ ys) more rest same le = absurd (no_drive a (same_head same))
+  front_less (wait ∷ xs) (drive b ∷ ys) more rest same le = absurd (no_drive b (sym (same_head same)))
+  front_less (wait ∷ xs) (wait ∷ ys) more rest same le = front_less xs ys more rest (same_tail same) (omega (arith, le))
 
   driven_less : (xs ys : List Step) → driven roads xs ≤ driven roads (xs ++ ys)
   driven_less [] ys = omega arith

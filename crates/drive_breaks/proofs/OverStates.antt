@@ -40,6 +40,10 @@ not_wait a k is = cc
 pub all_in : {A : Type 0} (P : A → Type 0) (xs : List A) (x : A) → All P xs → Contains xs x → P x
 all_in P xs x all one = subst P one.2 (all one.0 x one.1)
 
+-- the park of the node of a state
+unfoldable pub park_over : Net → State → Option Park
+park_over net st = park_at net st.node.0
+
 module _ (net : Net) (good : IsGoodNet net) (rule : BreakRule) (origin goal : ℕ) (states : List State) (ways : List Way) (arcs : List TimedArc)
     (sources : List Leg)
     (explored : IsExplored (setting_of net) origin rule states ways)
@@ -230,14 +234,11 @@ module _ (net : Net) (good : IsGoodNet net) (rule : BreakRule) (origin goal : �
         λ t. shut_with arc.0 t from.node.0 arc.1 made.2 arc.2 park_is (ap (λ (w : TimedArc). w.closed) made.5),
       )
 
-  park_over : State → Option Park
-  park_over st = park_at net st.node.0
-
   -- a state has the park of its node
   park_here : (i : ℕ) (from : State) → at_number states i ≡ Some from → park_at (net_over net states arcs) i ≡ park_at net from.node.0
   unfolding park_over
-  park_here i from at = ap option_flatten (at_left (map park_over states) (None ∷ []) i (park_over from)
-      (at_number-map park_over states i ∙ ap (option_map park_over) at))
+  park_here i from at = ap option_flatten (at_left (map (park_over net) states) (None ∷ []) i (park_over net from)
+      (at_number-map (park_over net) states i ∙ ap (option_map (park_over net)) at))
 
   -- the lists of closed runs are the same
   same_runs : (o : Option Park) → shut_by (net_over net states arcs) o ≡ shut_by net o
@@ -257,8 +258,8 @@ module _ (net : Net) (good : IsGoodNet net) (rule : BreakRule) (origin goal : �
     wait_shut = λ i from at t. ap (λ (o : Option Park). any_has (shut_by (net_over net states arcs) o) t) (park_here i from at)
         ∙ ap (λ (w : List Run). any_has w t) (same_runs (park_at net from.node.0));
     end = ap (λ (o : Option (Option Park)). option_map (λ park. park.weight) (option_flatten o))
-        (ap (λ (n : ℕ). at_number (map park_over states ++ None ∷ []) (n + 1)) (sym (length-map states park_over))
-        ∙ at_last (map park_over states) None);
+        (ap (λ (n : ℕ). at_number (map (park_over net) states ++ None ∷ []) (n + 1)) (sym (length-map states (park_over net)))
+        ∙ at_last (map (park_over net) states) None);
     drives = drives;
     arrivals = arrivals;
     breaks = breaks;

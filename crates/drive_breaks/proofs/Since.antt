@@ -1,16 +1,12 @@
 -- Where the last break of a list of steps, the last first, can stand.
-use Rattle.std.proofs.Common.{◌≡◌, ◌⊎◌, inl, inr, ⊎_elim, ℕ, zero, suc, ◌+◌, ◌≤◌, Option, Some, List, [], ◌∷◌, ◌++◌, replicate, refl, sym, ◌∙◌, ap, subst, arith}
+use Rattle.std.proofs.Common.{◌≡◌, ◌⊎◌, inl, inr, ⊎_elim, ℕ, zero, suc, ◌+◌, ◌≤◌, Option, Some, List, [], ◌∷◌, ◌++◌, replicate}
+use Rattle.std.proofs.Common.{refl, sym, ◌∙◌, ap, subst, arith}
 use Rattle.route_base.specs.Setting.{Road}
 use Rattle.route_base.specs.Itinerary.{Step, drive, wait}
+use Rattle.route_base.proofs.Lists.{same_head, same_tail}
 use Rattle.drive_breaks.specs.Rested.{driven, minutes_of, IsSinceBreak}
 use Rattle.drive_breaks.specs.Inside.WithinRule.{IsWithinRule, IsWithinRuleFrom}
 use Rattle.drive_states.specs.declared.rule.BreakRule.{BreakRule}
-
-pub head_same : (x y : Step) (xs ys : List Step) → x ∷ xs ≡ y ∷ ys → x ≡ y
-head_same x y xs ys is = cc
-
-pub tail_same : (x y : Step) (xs ys : List Step) → x ∷ xs ≡ y ∷ ys → xs ≡ ys
-tail_same x y xs ys is = cc
 
 pub no_drive : (a : ℕ) → drive a ≡ wait → ⊥
 no_drive a is = cc
@@ -22,11 +18,11 @@ minutes_is o road is = ap minutes_of is
 pub since_drive : (rest a : ℕ) (back late : List Step) → 1 ≤ rest → IsSinceBreak rest (drive a ∷ back) late
     → (more : List Step) × IsSinceBreak rest back more × (late ≡ drive a ∷ more)
 since_drive zero a back late some since = absurd (omega (arith, some))
-since_drive (suc k) a back [] some since = absurd (no_drive a (head_same (drive a) wait back (replicate k wait ++ since.0) since.1))
+since_drive (suc k) a back [] some since = absurd (no_drive a (same_head since.1))
 since_drive (suc k) a back (x ∷ late) some since = (
   late,
-  (since.0, tail_same (drive a) x back (late ++ (replicate (suc k) wait ++ since.0)) since.1),
-  ap (λ (w : Step). w ∷ late) (sym (head_same (drive a) x back (late ++ (replicate (suc k) wait ++ since.0)) since.1)),
+  (since.0, same_tail since.1),
+  ap (λ (w : Step). w ∷ late) (sym (same_head since.1)),
 )
 
 -- behind a wait the breaks are those before it, or it ends one
@@ -37,8 +33,8 @@ since_wait zero back late some since = absurd (omega (arith, some))
 since_wait (suc k) back [] some since = inr (since.0, since.1, refl)
 since_wait (suc k) back (x ∷ late) some since = inl (
   late,
-  (since.0, tail_same wait x back (late ++ (replicate (suc k) wait ++ since.0)) since.1),
-  ap (λ (w : Step). w ∷ late) (sym (head_same wait x back (late ++ (replicate (suc k) wait ++ since.0)) since.1)),
+  (since.0, same_tail since.1),
+  ap (λ (w : Step). w ∷ late) (sym (same_head since.1)),
 )
 
 -- nothing, or a drive first
@@ -49,9 +45,9 @@ pub data IsDriven : List Step → Type 0 where
 no_more : (n k : ℕ) (front early : List Step) → IsDriven front → replicate k wait ++ front ≡ replicate n wait ++ early → n ≤ k
 no_more zero k front early is same = omega arith
 no_more (suc n) (suc k) front early is same =
-    omega (arith, no_more n k front early is (tail_same wait wait (replicate k wait ++ front) (replicate n wait ++ early) same))
+    omega (arith, no_more n k front early is (same_tail same))
 no_more (suc n) zero [] early is same = absurd (cc)
-no_more (suc n) zero (drive a ∷ xs) early is same = absurd (no_drive a (head_same (drive a) wait xs (replicate n wait ++ early) same))
+no_more (suc n) zero (drive a ∷ xs) early is same = absurd (no_drive a (same_head same))
 no_more (suc n) zero (wait ∷ xs) early is same = absurd (elim is [ ])
 
 -- exactly so many waits are the last steps

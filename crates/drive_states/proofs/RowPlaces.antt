@@ -120,22 +120,18 @@ pub state_numbered : (rows : List (List ℕ)) (states : List State) (st : State)
 state_numbered rows states st zero are is some = absurd (omega (arith, some))
 state_numbered rows states st (suc i) are is some = are.only i st (sym is)
 
--- a state at a place has its number
-at_index : (states : List State) (i : ℕ) (d : State) → i < length states → at_number states (i + 1) ≡ Some (get_or states i d)
-at_index states i d within = at_number-next states i d within
-
 -- a state whose number is 0 isn't among them
 pub not_numbered : (rows : List (List ℕ)) (states : List State) (st : State) → AreNumbered rows states → number_at rows st.node.0 st.driven ≡ 0
     → Contains states st → ⊥
 not_numbered rows states st are none one =
-    let own = are.each (one.0 + 1) st (at_index states one.0 st one.1 ∙ ap (λ (w : State). Some w) one.2) in
+    let own = are.each (one.0 + 1) st (at_number-next states one.0 st one.1 ∙ ap (λ (w : State). Some w) one.2) in
     omega (arith, own, none)
 
 -- numbered states differ
 pub numbered_distinct : (rows : List (List ℕ)) (states : List State) → AreNumbered rows states → AllPairs (λ x y. x ≢ y) states
 numbered_distinct rows states are i j d before within same =
-    let first = are.each (i + 1) _ (at_index states i d (omega (arith, before, within))) in
-    let second = are.each (j + 1) _ (at_index states j d within) in
+    let first = are.each (i + 1) _ (at_number-next states i d (omega (arith, before, within))) in
+    let second = are.each (j + 1) _ (at_number-next states j d within) in
     omega (arith, before, first, second, ap (λ (w : State). number_at rows w.node.0 w.driven) same)
 
 -- a row without numbers more, and rows of which one is another

@@ -17,7 +17,7 @@ use node_arcs::NodeArcs;
 use route_base::{ArcId, Leg, NodeId, OutOfMemory, TimedNet};
 use std::alloc::Global;
 
-// A net with its arcs by tail, and the rule and the origin of a trip over it.
+/// A net with its arcs by tail, and the rule and the origin of a trip over it.
 #[derive(Clone, Copy)]
 pub struct Plan<'a> {
     pub net: &'a TimedNet,

@@ -1,5 +1,5 @@
 // The states that were found, each once and by number.
-ghost use Rattle.std.specs.Prelude.{◌≡◌, ◌≢◌, ◌+◌, ◌<◌, ◌^◌, ◌≤◌, Some, None, [], length, AllPairs, Contains, IfOk, OnOk, IfSome, IsNone};
+ghost use Rattle.std.specs.Prelude.{◌≡◌, ◌≢◌, ◌+◌, ◌<◌, ◌^◌, ◌≤◌, Some, None, [], length, AllPairs, Contains, IfOk, OnOk, OnErr, IfSome, IsNone};
 ghost use Rattle.drive_states.specs.Words.{at_number, Grows};
 ghost use Rattle.route_base.specs.declared.limits.TheConstants.{DAY_MINUTES};
 
@@ -63,6 +63,7 @@ impl States {
         requires driven { state.driven ≤ DAY_MINUTES }
         ensures number { OnOk result (Grows self.old self.new state) }
         ensures at { IfOk result (λ n. at_number self.new n ≡ Some state) }
+        ensures kept { OnErr result (self.new ≡ self.old) }
     {
         let row = state.node.0 as usize;
         let place = state.driven as usize;

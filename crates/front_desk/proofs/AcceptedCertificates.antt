@@ -6,6 +6,7 @@ use Rattle.std.proofs.lemmas.Bool.{both_ways, le-ltb}
 use Rattle.std.proofs.lemmas.List.{append_cancel_left}
 use Rattle.route_base.specs.Contents.{Contents}
 use Rattle.route_base.specs.declared.faults.BadInput.{BadInput}
+use Rattle.route_base.proofs.Logic.{no_first, no_second}
 use Rattle.front_words.specs.Forms.{is_certificate_name}
 use Rattle.network_tables.specs.NetworkFiles.{contents_fault, network_in_files}
 use Rattle.network_tables.specs.NetworkModel.{NetworkModel}
@@ -22,15 +23,6 @@ use Rattle.front_desk.specs.Trips.{failed_check, request_of}
 -- bytes within the limit of their file are no fault of it
 short_enough : (file : FileToRead) (bytes : List ℕ) → length bytes ≤ file.limit → file_fault file (Some bytes) ≡ None
 short_enough file bytes short = ap (λ (b : Bool). cond b (Some (whole_fault file.kind file.beyond)) None) (le-ltb file.limit (length bytes) short)
-
--- neither of two faults is there
-no_first : (a b : Option BadInput) → option_or a b ≡ None → a ≡ None
-no_first None b none = refl
-no_first (Some fault) b none = cc
-
-no_second : (a b : Option BadInput) → option_or a b ≡ None → b ≡ None
-no_second None b none = none
-no_second (Some fault) b none = cc
 
 -- none of these files has the name of a certificate
 abbrev AreOthers : List FileToRead → Type 0

@@ -1,6 +1,5 @@
 -- The parts of nets: arcs of roads, parks behind options, and nets by their parts.
-use Rattle.std.proofs.Common.{◌≡◌, Option, Some, None, ℕ, List, ap}
-use Rattle.std.specs.Option.{option_flatten}
+use Rattle.std.proofs.Common.{◌≡◌, Option, Some, ℕ, List}
 use Rattle.route_base.specs.Setting.{Road}
 use Rattle.route_base.specs.Net.{Net, IsGoodArc, IsGoodNet, at_number, road_of, setting_of}
 use Rattle.route_base.specs.declared.types.TimedArc.{TimedArc}
@@ -19,8 +18,3 @@ pub road_arc : (net : Net) → IsGoodNet net → (a : ℕ) (road : Road) → (se
 road_arc net good a road is =
     let found = map_some (at_number net.arcs a) road_of road is in
     (found.0, found.1, found.2, good_arc net good a found.0 found.1)
-
-pub flat_some : {A : Type 0} (o : Option (Option A)) (x : A) → option_flatten o ≡ Some x → o ≡ Some (Some x)
-flat_some None x is = absurd (cc)
-flat_some (Some None) x is = absurd (cc)
-flat_some {A} (Some (Some y)) x is = ap (λ (w : Option A). Some w) is

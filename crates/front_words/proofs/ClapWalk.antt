@@ -7,6 +7,7 @@ use Rattle.std.specs.List.{list_all}
 use Rattle.std.proofs.lemmas.List.{map_more}
 use Rattle.std.proofs.lemmas.List.Sums.{fold_push}
 use Rattle.std.proofs.lemmas.Bool.{and_parts}
+use Rattle.route_base.proofs.Lists.{same_head, same_tail}
 use Rattle.clap.specs.Simple.{App, Shape, argument_words, built, is_simple, label_of, matches_of, new_rule, with_rule}
 use Rattle.clap.specs.Takes.{walk_passes, positional_passes, turn_passes, settle_passes, default_passes, is_valid, level_passes, built_takes, takes}
 use Rattle.clap.proofs.TakesLemmas.{leaf_takes}
@@ -208,23 +209,16 @@ due_from s p h (word ∷ words) =
     (Some (rule_at s p), (true, walk_at (p + 1) (positional_held s.rules (rule_at s p) word h)))
     ∷ due_from s (p + 1) (positional_held s.rules (rule_at s p) word h) words
 
--- equal lists have equal parts
-pub first_same : {A : Type 0} {x y : A} {xs ys : List A} → x ∷ xs ≡ y ∷ ys → x ≡ y
-first_same h = cc
-
-pub others_same : {A : Type 0} {x y : A} {xs ys : List A} → x ∷ xs ≡ y ∷ ys → xs ≡ ys
-others_same h = cc
-
 walks_places : (s : Shape) (p : ℕ) (h : Held) (words : List Text) → ArePlain words → met_from s p h words ≡ due_from s p h words
     → WalksOn s (walk_at p h) words (walk_at (place_behind p words) (held_behind s p h words)) []
 walks_places s p h [] a f = walks_nowhere
 walks_places s p h (word ∷ words) a f =
-    let met = first_same f in
+    let met = same_head f in
     then_reaches (places s p h (rule_at s p) word words a.0 (ap (λ (t : Option Rule × (Bool × Walk)). t.0) met)
     (ap (λ (t : Option Rule × (Bool × Walk)). t.1.0) met))
     (subst (λ (w : Walk). WalksOn s w words (walk_at (place_behind p (word ∷ words)) (held_behind s p h (word ∷ words))) [])
     (sym (ap (λ (t : Option Rule × (Bool × Walk)). t.1.1) met))
-    (walks_places s (p + 1) (positional_held s.rules (rule_at s p) word h) words a.1 (others_same f)))
+    (walks_places s (p + 1) (positional_held s.rules (rule_at s p) word h) words a.1 (same_tail f)))
 
 -- the texts of arguments in the rows at the end of a walk
 abbrev pub texts_in : App → Held → List Text → List (Option Text)

@@ -1,6 +1,7 @@
 -- The matches make what the words make.
 use Rattle.std.proofs.Common.{◌≡◌, ◌≢◌, ℕ, Bor, Option, Some, None, List, [], ◌∷◌, length, ap, ap₂, refl, subst, sym, ◌∙◌}
 use Rattle.std.specs.Prelude.{Result, map, option_and_then, option_map}
+use Rattle.route_base.proofs.Lists.{same_head, same_tail}
 use Rattle.clap.specs.Words.{App}
 use Rattle.clap.specs.declared.parser.matches.ArgMatches.{ArgMatches}
 use Rattle.front_words.specs.ClapCommands.{Passes, app_with, made_at, options_at, text_at, text_found, values_at}
@@ -10,7 +11,6 @@ use Rattle.front_words.specs.declared.commands.WordsFault.{WordsFault}
 use Rattle.front_words.specs.declared.splitting.Given.{Given as GivenWords}
 use Rattle.front_words.specs.Splitting.{Given, Split, only_value, values_for}
 use Rattle.front_words.specs.Usages.{OptionUsage, Usage, made_of, options_read, places_read, value_if}
-use Rattle.front_words.proofs.ClapWalk.{first_same, others_same}
 use Rattle.front_words.proofs.Places.{miscounted}
 
 no_others : {A P : Type 0} {x : A} {xs : List A} → [] ≡ x ∷ xs → P
@@ -33,7 +33,7 @@ module _ (matches : ArgMatches) (app : App) (line : List (List ℕ)) (found : (i
   same_values (id ∷ ids) (word ∷ words) [] e = refl
   same_values (id ∷ ids) (word ∷ words) (form ∷ forms) e =
       ap₂ (λ (v : Option Value) (vs : Option (List Value)). in_front v vs)
-      (ap (λ (o : Option (List ℕ)). option_and_then (value_of_word form) o) (found id ∙ first_same e)) (same_values ids words forms (others_same e))
+      (ap (λ (o : Option (List ℕ)). option_and_then (value_of_word form) o) (found id ∙ same_head e)) (same_values ids words forms (same_tail e))
 
   same_options : (ids : List (List ℕ)) (options : List OptionUsage) (given : List Given) (values : List (Option (List ℕ)))
       → map (text_found app line) ids ≡ values → map (λ o. only_value (values_for o.name given)) options ≡ map (λ v. Some v) values
@@ -45,9 +45,9 @@ module _ (matches : ArgMatches) (app : App) (line : List (List ℕ)) (found : (i
   same_options (id ∷ ids) [] given (v ∷ values) e f = no_others f
   same_options (id ∷ ids) (o ∷ options) given (v ∷ values) e f =
       ap₂ (λ (w : Option (Option Value)) (ws : Option (List (Option Value))). in_front w ws)
-      (ap (λ (t : Option (List ℕ)). value_if o.form t) (found id ∙ first_same e)
-      ∙ sym (ap (λ (t : Option (Option (List ℕ))). option_and_then (value_if o.form) t) (first_same f)))
-      (same_options ids options given values (others_same e) (others_same f))
+      (ap (λ (t : Option (List ℕ)). value_if o.form t) (found id ∙ same_head e)
+      ∙ sym (ap (λ (t : Option (Option (List ℕ))). option_and_then (value_if o.form) t) (same_head f)))
+      (same_options ids options given values (same_tail e) (same_tail f))
 
   -- the matches of a line that passes
   pub same_made : {A : Type 0} (usage : Usage A) (ids choices : List (List ℕ)) (s : Split) (values : List (Option (List ℕ)))

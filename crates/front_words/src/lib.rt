@@ -5,11 +5,11 @@
 //! the commands and their table, and `command_of`, the command that words are.
 //!
 //! `read_invocation` answers exactly this, and `read_words` the same with all words side by side (`flat`). `splitting` divides the words, and
-//! `options` finds the value of an option. `plan`, `check`, `bans`, `batch`, `generate`, `latest`, `tour`, `breaks` and `explain` have one
-//! row of the table each: where the words are as many as its forms, they go to one simple command of `clap` in one order, the options with
-//! their values and then the positional words. `clap` then fails only when it is out of memory (`refused` of `parse_line`). `positional`
-//! does this for the commands without options, each a `PositionalCommand`, whose values are in `positional_values`. `found` reads the values of the words that `clap` gives back, in
-//! the forms of `forms`; `trip_words` reads those of a trip, in all commands that have one.
+//! `options` finds the value of an option. `plan`, `check`, `bans`, `batch`, `generate`, `latest`, `tour`, `breaks` and `explain` have one row of the
+//! table each: where the words are as many as its forms, they go to one simple command of `clap` in one order, the options with their values and then
+//! the positional words. `clap` then fails only when it is out of memory (`refused` of `parse_line`). `positional` does this for the commands without
+//! options, each a `PositionalCommand`, whose values are in `positional_values`. `found` reads the values of the words that `clap` gives back, in the
+//! forms of `forms`; `trip_words` reads those of a trip, in all commands that have one.
 //!
 //! `limits` bounds the workers of a batch, and has the usual values of options; a number, rows and columns are those from which
 //! `net_generator` draws a network (`IsDrawable`).

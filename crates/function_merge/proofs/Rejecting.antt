@@ -4,7 +4,7 @@ use Rattle.cost_functions.proofs.Slopes.{further}
 use Rattle.cost_functions.specs.Lines.{line_at}
 use Rattle.cost_functions.specs.Pieces.{value_at, ArePieces}
 use Rattle.cost_functions.specs.declared.pieces.Piece.{Piece}
-use Rattle.function_merge.specs.Inside.Rejection.{IsNoBetter}
+use Rattle.function_merge.specs.Rejection.{IsNoBetter}
 use Rattle.function_merge.proofs.FirstPieces.{first_of, first_value}
 
 -- the first piece of what is left of f is no larger at the first minute of the shifted piece, and rises no more steeply along it

@@ -3,6 +3,5 @@ pub mod CarriedWaits
 pub mod EndRanges
 pub mod NextWaits
 pub mod Prefixes
-pub mod Rejection
 pub mod Segments
 pub mod Suffixes

@@ -17,6 +17,7 @@ pub enum Segment {
 }
 
 impl Segment {
+    // Its piece, whichever function has it.
     pub fn piece(self) -> Piece
         ensures { result ≡ piece_of self }
     {

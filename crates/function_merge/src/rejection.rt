@@ -3,7 +3,7 @@ ghost use Rattle.std.specs.Prelude.{◌≡◌, ◌+◌, ◌-◌, ◌*◌, ◌≤
 ghost use Rattle.route_base.specs.declared.limits.TheConstants.{LAST_INSTANT, HIGHEST_COST};
 ghost use Rattle.cost_functions.specs.Lines.{line_at, IsPiece};
 ghost use Rattle.cost_functions.specs.Pieces.{value_at, ArePieces};
-ghost use Rattle.function_merge.specs.Inside.Rejection.{IsNoBetter};
+ghost use Rattle.function_merge.specs.Rejection.{IsNoBetter};
 
 use crate::suffixes::find_pieces;
 use cost_functions::{CostFn, Piece};

@@ -106,6 +106,7 @@ pub fn ending_before(pieces: &[Piece], minute: Minute) -> usize
 pub fn beginning_by(pieces: &[Piece], minute: Minute) -> usize
     requires { ArePieces pieces.now }
     ensures within { result ≤ length pieces.now }
+    ensures before { AllWithin (λ p. p.lo ≤ minute) pieces.now 0 result }
     ensures after { AllWithin (λ p. minute < p.lo) pieces.now result (length pieces.now) }
 {
     let mut count = pieces.len();

@@ -6,7 +6,7 @@ use Rattle.std.proofs.lemmas.Option.{get_or_from_slice_get}
 use Rattle.std.specs.Option.{option_map}
 use Rattle.std.proofs.lemmas.List.{length-replicate}
 use Rattle.route_base.specs.Setting.{Setting}
-use Rattle.route_base.specs.Itinerary.{Position, drive, wait, Drives, Walks}
+use Rattle.route_base.specs.Itinerary.{Position, wait, Drives, Walks}
 use Rattle.route_base.specs.Net.{Net, road_of, setting_of, at_number}
 use Rattle.route_base.specs.Open.{IsOpen, IsWaitOpen}
 use Rattle.route_base.specs.declared.types.ArcId.{ArcId}
@@ -16,7 +16,6 @@ use Rattle.route_base.specs.declared.types.NodeId.{NodeId}
 use Rattle.route_base.specs.declared.types.TimedArc.{TimedArc}
 use Rattle.route_base.proofs.Waiting.{same_position, waits}
 use Rattle.route_base.proofs.LegLists.{some_wait}
-use Rattle.route_base.specs.StepsBack.{HasNoMove, IsFirstLeg}
 use Rattle.node_arcs.specs.Stars.{Star, arcs_of, AreIncoming, EndsAt}
 use Rattle.node_arcs.specs.declared.links.End.TheVariants.{Head}
 use Rattle.node_arcs.proofs.StarPlaces.{ends_place}

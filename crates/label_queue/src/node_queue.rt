@@ -1,5 +1,5 @@
 // The trait of both queues.
-ghost use Rattle.std.specs.Prelude.{◌≡◌, ◌≤◌, ◌<◌, ◌+◌, ◌-◌, ◌^◌, ℕ, Option, Some, None, List, length, IfSome, IsNone, OnOk};
+ghost use Rattle.std.specs.Prelude.{◌≡◌, ◌≤◌, ◌<◌, ◌+◌, ◌-◌, ◌^◌, ℕ, Option, Some, None, List, length, IfSome, IsNone, OnOk, OnErr};
 ghost use Rattle.std.specs.Option.{IsSomeAnd};
 ghost use Rattle.label_queue.specs.Keys.{key_at, IsSet, IsOneOfLeastTaken};
 ghost use Rattle.label_queue.specs.Rising.{AdmitsFrom};
@@ -24,6 +24,7 @@ pub trait NodeQueue {
         requires new { key_at (keys self.old) v.0 ≡ None }
         requires admitted { admits self.old key }
         ensures set { OnOk result (IsSet (keys self.old) (keys self.new) v.0 (Some key)) }
+        ensures kept { OnErr result (keys self.new ≡ keys self.old) }
         ensures span { span self.new ≡ span self.old }
         ensures admits { (k : ℕ) → admits self.old k → admits self.new k };
 
@@ -34,6 +35,7 @@ pub trait NodeQueue {
         requires larger { IsSomeAnd (key_at (keys self.old) v.0) (λ before. key ≤ before) }
         requires admitted { admits self.old key }
         ensures set { OnOk result (IsSet (keys self.old) (keys self.new) v.0 (Some key)) }
+        ensures kept { OnErr result (keys self.new ≡ keys self.old) }
         ensures span { span self.new ≡ span self.old }
         ensures admits { (k : ℕ) → admits self.old k → admits self.new k };
 
@@ -42,6 +44,7 @@ pub trait NodeQueue {
         ensures some { IfSome result (λ r.
             IsOneOfLeastTaken (keys self.old) (keys self.new) r.0.0 r.1) }
         ensures none { IsNone result → (v : ℕ) → key_at (keys self.old) v ≡ None }
+        ensures same { IsNone result → keys self.new ≡ keys self.old }
         ensures span { span self.new ≡ span self.old }
         ensures admits { IfSome result (λ r. AdmitsFrom (admits self.new) r.1 (span self.new)) };
 }

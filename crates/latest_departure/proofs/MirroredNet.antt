@@ -21,9 +21,9 @@ use Rattle.latest_departure.specs.Inside.Mirror.{mirrored_runs, turned, gate, fr
 use Rattle.front_transport.specs.CheapArcs.{HasCheapArcs}
 use Rattle.route_base.proofs.Costs.{IsCheap}
 use Rattle.latest_departure.proofs.MirroredRuns.{runs_mirror, runs_rise}
-use Rattle.route_base.proofs.Logic.{map_some}
+use Rattle.route_base.proofs.Logic.{flat_some, map_some}
 use Rattle.front_transport.proofs.ListPlaces.{list_at, list_last}
-use Rattle.front_transport.proofs.NetParts.{flat_some, net_of, road_arc}
+use Rattle.front_transport.proofs.NetParts.{net_of, road_arc}
 use Rattle.front_transport.proofs.Places.{at_left, at_either, at_last}
 use Rattle.latest_departure.proofs.TurnedWalks.{turned_road, IsMirror}
 

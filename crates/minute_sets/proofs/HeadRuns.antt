@@ -1,9 +1,9 @@
 -- The first run of a list that has one, and the others as a slice pattern gives them.
-use Rattle.std.proofs.Common.{◌≡◌, ℕ, ◌-◌, ◌≤◌, ◌<◌, true, false, List, ◌∷◌, length, get_or, take, drop, ◌∙◌, ap, subst, sym}
+use Rattle.std.proofs.Common.{◌≡◌, ℕ, ◌-◌, ◌≤◌, ◌<◌, true, false, List, ◌∷◌, length, get_or, take, drop, ◌∙◌, ap, subst, sym, arith}
 use Rattle.route_base.specs.Runs.{any_has, AreRuns}
 use Rattle.route_base.specs.declared.types.Run.{Run}
 use Rattle.route_base.proofs.Lists.{first_and_rest}
-use Rattle.route_base.proofs.FirstRuns.{before_first, in_first, in_others, not_behind, runs_tail}
+use Rattle.route_base.proofs.FirstRuns.{before_first, behind_first, in_first, in_others, none_before, not_behind, runs_tail}
 
 abbrev pub head_run : List Run → Run
 head_run runs = get_or runs 0 (record { lo = 0; hi = 0 })
@@ -27,6 +27,10 @@ module _ (runs : List Run) (one : 1 ≤ length runs) where
 
     pub head_before : (t : ℕ) → t < (head_run runs).lo → any_has runs t ≡ false
     head_before t early = parts_have t ∙ before_first (head_run runs) (other_runs runs) t parts_are early
+
+    pub head_ends : any_has runs (head_run runs).hi ≡ false
+    head_ends = sym (others_behind (head_run runs).hi (omega arith))
+        ∙ none_before (other_runs runs) (head_run runs).hi (behind_first (head_run runs) (other_runs runs) parts_are)
 
     pub rest_runs : AreRuns (other_runs runs)
     rest_runs = runs_tail (head_run runs) (other_runs runs) parts_are

@@ -1,5 +1,5 @@
 // Sweeps over two sets at once.
-ghost use Rattle.std.specs.Prelude.{◌≡◌, ◌≤◌, ◌<◌, ◌^◌, ◌-◌, ◌+◌, ◌↔◌, IsTrue, ℕ, Bool, IfOk, OnOk, length, get_or, All};
+ghost use Rattle.std.specs.Prelude.{◌≡◌, ◌≢◌, ◌≤◌, ◌<◌, ◌^◌, ◌-◌, ◌+◌, ◌↔◌, IsTrue, ℕ, Bool, IfOk, OnOk, length, get_or, All};
 ghost use Rattle.route_base.specs.Runs.{any_has, AreRuns};
 ghost use Rattle.minute_sets.specs.Combination.{keeps, IsSwept};
 ghost use Rattle.route_base.specs.declared.types.Run.{Run};
@@ -33,11 +33,12 @@ fn is_kept(how: Combination, first: bool, second: bool) -> bool
     }
 }
 
-/// The stretch that begins with the minute, where the first run ends later than it. No memory.
+/// The longest stretch that begins with the minute, where the first run ends later than it. No memory.
 pub fn stretch_at(runs: &[Run], from: Minute) -> Stretch
     requires runs { AreRuns runs.now }
     requires reach { (d : Run) → 0 < length runs.now → from < (get_or runs.now 0 d).hi }
     ensures same { (t : ℕ) → from ≤ t → t < result.until → any_has runs.now t ≡ result.inside }
+    ensures change { 0 < length runs.now → any_has runs.now result.until ≢ result.inside }
     ensures later { from ≤ result.until }
     ensures some { 0 < length runs.now → from < result.until }
     ensures none { length runs.now ≡ 0 → result.until ≡ 2 ^ 64 - 1 }

@@ -34,7 +34,7 @@ roads_at rows columns v s =
 abbrev pub roads_drawn : ℕ → ℕ → ℕ → Drawn Road
 roads_drawn number rows columns = drawn_to (roads_at rows columns) (rows * columns) number
 
--- a closure within the first ten days, for 1 to 25 hours
+-- a closure that begins within the first ten days, for 1 to 25 hours
 abbrev pub drawn_closure : ℕ → ℕ → Drawn Closure
 drawn_closure a s =
     let from = 26563680 + next_state s % 14400 in

@@ -20,8 +20,9 @@ pub struct Generated {
 
 /// The files of the network of these rows and columns that is drawn from a number.
 ///
-/// Roads of 20 to 60 minutes join neighbours both ways; about one arc in ten is closed once, for 1 to 25 hours within the ten days from
-/// 2020-07-04T00:00Z; about one node in eight has a parking area of one of three ratings. Linear in the nodes, in time and memory.
+/// Roads of 20 to 60 minutes join neighbours both ways; about one arc in ten is closed once, for 1 to 25 hours that begin within the ten
+/// days from 2020-07-04T00:00Z; about one node in eight has a parking area of one of three ratings. Linear in the nodes, in time and
+/// memory.
 pub fn generate(
     alloc: Global,
     number: u64,

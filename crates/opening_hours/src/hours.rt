@@ -57,6 +57,8 @@ impl Hours {
 }
 
 /// The rules of a text of hours. Linear in the text's length, in time and memory.
+///
+/// `NotHours` comes where the text isn't in the crate's notation, and so has no rules; `OutOfMemory` comes where memory runs out.
 pub fn parse(alloc: Global, text: &[u8]) -> Result<Hours, HoursFault>
     // The text has these rules.
     ensures found { IfOk result (λ hours. IsHours text.now hours) }

@@ -1,8 +1,7 @@
 -- Steps found backwards, and which of them come first.
-use Rattle.std.proofs.Common.{◌≡◌, ℕ, ◌<◌, Option, List, [], ◌∷◌, ◌++◌, reverse, sym, ap, subst}
+use Rattle.std.proofs.Common.{◌≡◌, ℕ, ◌<◌, List, [], ◌∷◌, ◌++◌, reverse, sym, ap, subst}
 use Rattle.std.proofs.lemmas.List.{reverse-append}
-use Rattle.route_base.specs.Setting.{Setting}
-use Rattle.route_base.specs.Itinerary.{Position, drive, wait, Drives, Waits}
+use Rattle.route_base.specs.Itinerary.{drive, wait, Drives, Waits}
 use Rattle.route_base.specs.Legs.{steps_of, steps_of_leg}
 use Rattle.route_base.specs.Net.{Net, setting_of}
 use Rattle.route_base.specs.declared.types.ArcId.{ArcId}

@@ -1,9 +1,9 @@
 -- The bounds and functions of a search as entries by rising node.
 use Rattle.std.proofs.Common.{◌≡◌, ◌≢◌, ℕ, ◌≤◌, Option, Some, None, List, [], ◌∷◌, All, length, get_or, refl, sym, ◌∙◌, ap}
-use Rattle.std.specs.Option.{option_flatten}
 use Rattle.route_base.specs.Net.{at_number}
 use Rattle.route_base.specs.declared.types.Bound.{Bound}
 use Rattle.route_base.specs.declared.types.NodeId.{NodeId}
+use Rattle.route_base.proofs.Logic.{flat_some}
 use Rattle.route_base.proofs.Numbered.{at_number-all, number_within}
 use Rattle.cost_functions.specs.Pieces.{value_at}
 use Rattle.cost_functions.specs.declared.pieces.Piece.{Piece}
@@ -22,16 +22,12 @@ module _ {A : Type 0} (items : ℕ → Option A) (entries : List (NodeId × A)) 
   pub same_items : item_at entries ≡ items
   same_items = λ i v. are.at v i
 
-some_bound : (o : Option (Option Bound)) (b : Bound) → option_flatten o ≡ Some b → o ≡ Some (Some b)
-some_bound None b is = absurd (cc)
-some_bound (Some o) b is = ap (λ (w : Option Bound). Some w) is
-
 -- each node with bounds is one of the list
 pub bound_within : (bounds : List (Option Bound)) (entries : List (NodeId × Bound)) → AreEntriesOf (bound_at bounds) entries
     → All (λ e. (1 ≤ e.0.0) × (e.0.0 ≤ length bounds)) entries
 bound_within bounds entries are k d within =
     let e = get_or entries k d in
-    number_within bounds e.0.0 (Some e.1) (some_bound (at_number bounds e.0.0) e.1 (each_entry (bound_at bounds) entries are k d within))
+    number_within bounds e.0.0 (Some e.1) (flat_some (at_number bounds e.0.0) e.1 (each_entry (bound_at bounds) entries are k d within))
 
 some_function : (o : Option (List Piece)) (ps : List Piece) → some_pieces o ≡ Some ps → (o ≡ Some ps) × (ps ≢ [])
 some_function None ps is = absurd (cc)

@@ -90,5 +90,6 @@ module _ (net : Net) (r : Request) (found : Finding) (answers : IsFoundFor net r
   is_tight = record {
     bounds = subst (AreLeastBounds s r.goal.0) (sym (same_items (bound_at found.bounds) c.bounds bounds)) least;
     reduced = All-weaker (λ e. AreBuilt e.1) (λ e. IsReduced e.1) (λ e h. h.reduced) c.functions built;
+    reached = justified.reachable;
     in_reach = λ v t x is. justified.tight (record { node = v; minute = t; cost = x }) is;
   }

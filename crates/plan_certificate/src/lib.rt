@@ -6,10 +6,11 @@
 //!
 //! The law is in four clauses of `certify`. `right`: the pairs are the Pareto front, and the legs of each are lawful (`IsRight`
 //! of `route_base`). `good`: the checker accepts the certificate (`IsGood` of `certificate_check`). `tight`: nothing in it is
-//! larger than it has to be (`IsTight` of `specs/Tight`): the bounds are exactly the least, functions are reduced, and from
-//! each of their minutes the goal is in reach by the horizon. `writable`: it has a text (`IsWritable` of `certificate`) where no
-//! road costs more than 10,180.000, the longest drive and the highest toll (`HasCheapRoads` of `specs/CheapRoads`). The law
-//! `certificates_agree` takes tightness and cheap roads from a net to the setting that the net stands for.
+//! larger than it has to be (`IsTight` of `specs/Tight`): the bounds are exactly the least, functions are reduced, each of
+//! their values is the cost of lawful steps from the start, and from there the goal is in reach by the horizon. `writable`: it
+//! has a text (`IsWritable` of `certificate`) where no road costs more than 10,180.000, the longest drive and the highest toll
+//! (`HasCheapRoads` of `specs/CheapRoads`). The law `certificates_agree` takes tightness and cheap roads from a net to the
+//! setting that the net stands for.
 //!
 //! The search promises the six conditions of the checker already (`IsFoundFor` of `propagation`), over lists with a place for
 //! each node. `bounds` and `functions` make entries by rising node of them that say the same (`AreEntriesOf` of `specs/Inside`,

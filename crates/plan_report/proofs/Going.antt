@@ -4,7 +4,7 @@ use Rattle.std.proofs.Common.{flat_map, drop, get_or, length, replicate, Some, r
 use Rattle.std.specs.Prelude.{◌^◌, Option, unwrap_or, IsSome}
 use Rattle.std.proofs.lemmas.List.{drop_more}
 use Rattle.route_base.specs.Setting.{Setting, Road}
-use Rattle.route_base.specs.Itinerary.{Position, Step, drive, wait, Walks}
+use Rattle.route_base.specs.Itinerary.{Position, Step, wait, Walks}
 use Rattle.route_base.specs.Legs.{steps_of, steps_of_leg, start_of, end_of, Achieves}
 use Rattle.route_base.specs.Time.{IsInstant, first_instant, last_instant}
 use Rattle.route_base.specs.declared.types.Leg.{Leg}

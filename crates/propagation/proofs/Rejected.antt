@@ -8,7 +8,7 @@ use Rattle.route_base.specs.declared.types.TimedArc.{TimedArc}
 use Rattle.route_base.proofs.Arcs.{road_is}
 use Rattle.cost_functions.specs.Pieces.{value_at}
 use Rattle.cost_functions.specs.declared.pieces.Piece.{Piece}
-use Rattle.function_merge.specs.Inside.Rejection.{IsNoBetter}
+use Rattle.function_merge.specs.Rejection.{IsNoBetter}
 use Rattle.propagation.specs.Inside.Invariants.{point}
 
 pub drive_known : (net : Net) (until a v : ℕ) (arc : TimedArc) → at_number net.arcs a ≡ Some arc → (cost : ℕ → ℕ → Option ℕ) (own : List Piece)

@@ -1,8 +1,15 @@
--- The first item of a list and the others as a slice pattern gives them, and two lists in order behind one another.
+-- The parts of equal lists, the first item of a list and the others as a slice pattern gives them, and two lists in order behind one another.
 use Rattle.std.proofs.Common.{◌≡◌, ⊎_elim, ℕ, ◌-◌, ◌≤◌, ◌<◌, suc, List, [], ◌∷◌, ◌++◌, length, get_or, take, drop, All, AllPairs, refl, ap, sym, arith}
 use Rattle.std.proofs.Common.{length-append}
 use Rattle.std.proofs.lemmas.Bool.{cases_lt}
 use Rattle.std.proofs.lemmas.List.{take_all, get_or_append_left, get_or-append_right}
+
+-- equal lists have equal parts
+pub same_head : {A : Type 0} {x y : A} {xs ys : List A} → x ∷ xs ≡ y ∷ ys → x ≡ y
+same_head same = cc
+
+pub same_tail : {A : Type 0} {x y : A} {xs ys : List A} → x ∷ xs ≡ y ∷ ys → xs ≡ ys
+same_tail same = cc
 
 pub first_and_rest : {X : Type 0} (xs : List X) (d : X) → 1 ≤ length xs → xs ≡ get_or xs 0 d ∷ take (length xs - 1) (drop 1 xs)
 first_and_rest [] d some = absurd (omega (arith, some))

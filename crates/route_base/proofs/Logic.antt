@@ -1,7 +1,7 @@
 -- Tests and options, for the proofs of all crates.
 use Rattle.std.proofs.Common.{◌≡◌, ℕ, ◌≤◌, ◌||◌, Bool, true, false, cond, ltb, Option, Some, None, IfSome, refl, sym, ap, arith}
 use Rattle.std.specs.Prelude.{option_and_then, unwrap_or}
-use Rattle.std.specs.Option.{is_some, option_map, option_or}
+use Rattle.std.specs.Option.{is_some, option_flatten, option_map, option_or}
 use Rattle.std.proofs.lemmas.Bool.{ltb-true, ltb-false}
 use Rattle.std.proofs.lemmas.Option.{option_and_then_some}
 
@@ -44,6 +44,26 @@ then_some o f y h = option_and_then_some f o y h (λ x is found. (x, is, found))
 pub map_some : {A B : Type 0} (o : Option A) (f : A → B) (y : B) → option_map f o ≡ Some y → (x : A) × (o ≡ Some x) × (f x ≡ y)
 map_some None f y h = absurd (cc)
 map_some (Some x) f y h = (x, refl, ap (λ o. unwrap_or o (f x)) h)
+
+-- nothing mapped comes from nothing
+pub none_mapped : {A B : Type 0} (f : A → B) (o : Option A) → option_map f o ≡ None → o ≡ None
+none_mapped f None h = refl
+none_mapped f (Some x) h = absurd (cc)
+
+-- what is behind two options is there
+pub flat_some : {A : Type 0} (o : Option (Option A)) (x : A) → option_flatten o ≡ Some x → o ≡ Some (Some x)
+flat_some None x is = absurd (cc)
+flat_some (Some None) x is = absurd (cc)
+flat_some {A} (Some (Some y)) x is = ap (λ (w : Option A). Some w) is
+
+-- neither of two is there
+pub no_first : {A : Type 0} (o p : Option A) → option_or o p ≡ None → o ≡ None
+no_first None p h = refl
+no_first (Some x) p h = absurd (cc)
+
+pub no_second : {A : Type 0} (o p : Option A) → option_or o p ≡ None → p ≡ None
+no_second None p h = h
+no_second (Some x) p h = absurd (cc)
 
 pub option_or-none : {A : Type 0} (o : Option A) → option_or o None ≡ o
 option_or-none None = refl

@@ -15,15 +15,13 @@ use Rattle.route_base.specs.declared.types.Pair.{Pair}
 use Rattle.route_base.specs.declared.types.Request.{Request}
 use Rattle.route_base.specs.declared.types.Route.{Route}
 use Rattle.route_base.proofs.GoingBack.{first_is_one}
+use Rattle.route_base.proofs.Lists.{same_tail}
 
 -- the first step is no wait
 abbrev IsNoWait : List Step → Type 0
 IsNoWait [] = ⊤
 IsNoWait (wait ∷ xs) = ⊥
 IsNoWait (drive a ∷ xs) = ⊤
-
-same_tail : {A : Type 0} {x y : A} {xs ys : List A} → x ∷ xs ≡ y ∷ ys → xs ≡ ys
-same_tail same = cc
 
 -- waits before other steps are as many
 same_waits : (j k : ℕ) (xs ys : List Step) → IsNoWait xs → IsNoWait ys → replicate j wait ++ xs ≡ replicate k wait ++ ys → (j ≡ k) × (xs ≡ ys)

@@ -4,6 +4,7 @@ use Rattle.std.specs.Option.{option_map, option_flatten, ForSome}
 use Rattle.route_base.specs.Net.{Net, IsGoodNet, IsGoodPark, park_at, setting_of, at_number}
 use Rattle.route_base.specs.declared.limits.TheConstants.{HEAVIEST_WEIGHT}
 use Rattle.route_base.specs.declared.types.Park.{Park}
+use Rattle.route_base.proofs.Logic.{flat_some}
 use Rattle.route_base.proofs.Numbered.{at_number-all}
 
 told : (o : Option (Option Park)) (w : ℕ) → option_map (λ park. park.weight) (option_flatten o) ≡ Some w
@@ -12,14 +13,10 @@ told None w is = absurd cc
 told (Some None) w is = absurd cc
 told (Some (Some park)) w is = (park, refl, cc)
 
-flattened : (o : Option (Option Park)) (park : Park) → option_flatten o ≡ Some park → o ≡ Some (Some park)
-flattened None park is = absurd cc
-flattened (Some o) park is = cc
-
 module _ (net : Net) (good : IsGoodNet net) where
   -- the park of a node is well-formed
   pub good_park : (v : ℕ) (park : Park) → park_at net v ≡ Some park → IsGoodPark net park
-  good_park v park is = let at = flattened (at_number net.parks v) park is in
+  good_park v park is = let at = flat_some (at_number net.parks v) park is in
       at_number-all (λ o. ForSome o (IsGoodPark net)) net.parks v (Some park) good.each_park at park refl
 
   -- a rated node has a park, which is well-formed

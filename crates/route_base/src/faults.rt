@@ -161,7 +161,7 @@ impl<T: Drop> From<AllocFailed<T>> for OutOfMemory {
 /// Why a table can't be read.
 #[derive(Clone, Copy, Debug, PartialEq, Eq)]
 pub enum TableFault {
-    /// A row's fault; rows are numbered from 1, and row 0 stands for the whole file.
+    /// The first record that has a fault, and its cause; records are numbered from 1, and the header is record 1.
     BadRow { row: u64, cause: Cause },
     /// Out of memory.
     OutOfMemory,

@@ -91,7 +91,8 @@ pub struct Park {
     pub shut: u32,
 }
 
-/// The least minutes and, by itself, the least cost from a node to a goal.
+/// A lower bound for the minutes of the ways from a node to a goal and, by itself, one for their cost in thousandths; or caps of such
+/// bounds.
 #[derive(Clone, Copy, Debug, PartialEq, Eq)]
 pub struct Bound {
     pub minutes: u64,

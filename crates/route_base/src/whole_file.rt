@@ -23,6 +23,9 @@ pub enum ReadAllFault {
 const PART: usize = 65536;
 
 /// Reads a file of at most `limit` bytes to its end. Linear in its length.
+///
+/// `Missing` comes where no file has the name, `TooLong` where it has more bytes than the limit, `Failed` where the folder couldn't read a
+/// part, and `OutOfMemory` where memory runs out.
 pub fn read_all<F: Folder>(
     alloc: Global,
     folder: &mut F,

@@ -19,9 +19,8 @@ use Rattle.route_base.proofs.Arcs.{good_arc}
 use Rattle.route_base.proofs.Lists.{pairs_append}
 use Rattle.route_base.proofs.Numbered.{at_number-all, number_within}
 use Rattle.route_base.proofs.Costs.{IsCheap}
-use Rattle.route_base.proofs.Logic.{map_some}
+use Rattle.route_base.proofs.Logic.{flat_some, map_some}
 use Rattle.front_transport.specs.CheapArcs.{HasCheapArcs}
-use Rattle.front_transport.proofs.NetParts.{flat_some}
 use Rattle.front_transport.proofs.Places.{at_both, by_numbers}
 use Rattle.stop_tour.specs.Inside.Layers.{layered, copies, service, services, outside, layered_lists, tour_net}
 use Rattle.stop_tour.specs.Tours.{IsGoodStop, size_of}

@@ -1,9 +1,9 @@
 -- Each row of a table of stops without a fault has its stop.
 use Rattle.std.proofs.Common.{◌≡◌, ℕ, ◌++◌, Bool, true, false, Option, Some, None, List, [], ◌∷◌, length, refl, subst}
 use Rattle.std.specs.List.{AllZip, cons_option}
-use Rattle.std.specs.Option.{option_map, option_or}
 use Rattle.std.specs.Prelude.{◌==◌, nat_lt, if◌then◌else◌}
 use Rattle.route_base.specs.declared.faults.Cause.TheVariants.{BadHeader, FieldCount, SizeLimit}
+use Rattle.route_base.proofs.Logic.{no_first, no_second, none_mapped}
 use Rattle.table_reader.specs.Records.{Record, records_of, rows_in, rows_of}
 use Rattle.table_reader.specs.Schema.{cause_after, first_table_fault, is_header, row_fault_from}
 use Rattle.stop_tour.specs.StopTable.{cause_of_stop, stop_of, stops_in, stops_schema}
@@ -13,14 +13,6 @@ use Rattle.stop_tour.specs.declared.stops.Stop.{Stop}
 -- the row has this stop
 abbrev HasStop : Record → Stop → Type 0
 HasStop row stop = stop_of row ≡ Some stop
-
-neither : {X : Type 0} (o p : Option X) → option_or o p ≡ None → (o ≡ None) × (p ≡ None)
-neither None p none = (refl, none)
-neither (Some x) p none = absurd (cc)
-
-none_mapped : {X Y : Type 0} (f : X → Y) (o : Option X) → option_map f o ≡ None → o ≡ None
-none_mapped f None none = refl
-none_mapped f (Some x) none = absurd (cc)
 
 module _ (nodes : ℕ) (header : Record) where
   -- a row without a stop has a cause
@@ -41,8 +33,9 @@ module _ (nodes : ℕ) (header : Record) where
   each_row : (before rows : List Record) → row_fault_from (stops_schema nodes) header before rows ≡ None → AllZip HasStop rows (stops_in rows)
   each_row before [] none = tt
   each_row before (row ∷ rows) none =
-      let parts = neither _ _ none in
-      one_more before row rows (stop_of row) refl (none_mapped _ _ parts.0) (each_row (before ++ row ∷ []) rows parts.1)
+      let here = no_first _ _ none in
+      let later = no_second _ _ none in
+      one_more before row rows (stop_of row) refl (none_mapped _ _ here) (each_row (before ++ row ∷ []) rows later)
 
 in_records : (nodes : ℕ) (records : List Record) → first_table_fault (stops_schema nodes) records ≡ None
     → AllZip HasStop (rows_in records) (stops_in (rows_in records))

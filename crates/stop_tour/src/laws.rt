@@ -24,7 +24,7 @@ pub fn tours_agree()
 {}
 
 /// The law that tours without stops have the Pareto front of the trip. The call does nothing.
-pub fn no_stops_no_tour()
+pub fn no_stops_is_the_trip()
     ensures { (s : Setting) (r : Request) (pairs : List Pair)
         → IsTourFront s r [] pairs ↔ IsFront s r pairs }
 {}

@@ -6,7 +6,7 @@
 //! nodes and arcs, is above `MOST_STATES` of `front_transport`. `read_stops` reads the stops of a table, whose rows and causes
 //! `specs/StopTable` has, each with a stop of its own (`each_row_has_its_stop`), and `tour_text` writes tours as `specs/TourText` says.
 //! Tours and sizes are the same over settings that agree (`tours_agree`), and tours without stops have the front of the trip
-//! (`no_stops_no_tour`).
+//! (`no_stops_is_the_trip`).
 //!
 //! `layers` builds a net with one layer for each number of served stops. A service is an arc from a layer to the next, closed outside
 //! the stop's window, and the arcs of a layer are closed as soon as it is too late for the stops that are left, which no bound of an
@@ -29,7 +29,7 @@ mod stops;
 mod text;
 mod tours;
 
-pub use laws::{each_row_has_its_stop, no_stops_no_tour, tours_agree};
+pub use laws::{each_row_has_its_stop, no_stops_is_the_trip, tours_agree};
 pub use limits::MOST_STOPS;
 pub use stop_table::read_stops;
 pub use stops::{Stop, Stops, TourFault, TourLeg, TourLegs, TourRoute, TourRoutes};

@@ -17,7 +17,7 @@ use Rattle.route_base.specs.declared.limits.TheConstants.{LONGEST_HORIZON}
 use Rattle.route_base.specs.declared.types.Leg.{Leg}
 use Rattle.route_base.specs.declared.types.Leg.TheVariants.{Drive, Wait}
 use Rattle.route_base.proofs.LegLists.{some_wait}
-use Rattle.route_base.proofs.Logic.{behind_test, then_some, found_within}
+use Rattle.route_base.proofs.Logic.{behind_test, then_some, found_within, none_mapped}
 use Rattle.dimacs_reader.specs.Lines.{lines_of}
 use Rattle.trip_explain.specs.ItineraryFile.{number_behind, leg_of, bad_line_of, legs_of, IsWordAndNumber, IsLegLine}
 
@@ -234,9 +234,6 @@ pub each_line : (bytes : List ℕ) → bad_line_of bytes ≡ None → AllZip IsL
 unfolding bad_line_of legs_of
 each_line bytes none = each_leg (lines_of bytes) (few (lines_of bytes) none)
   where
-    none_mapped : (o : Option ℕ) → option_map (λ k. k + 1) o ≡ None → o ≡ None
-    none_mapped None is = refl
-    none_mapped (Some k) is = absurd (cc)
-
     few : (lines : List (List ℕ)) → option_map (λ k. k + 1) (position is_bad lines) ≡ None → length lines ≤ position_or_len is_bad lines
-    few lines is = found_within (position_or_len is_bad lines) (length lines) (position_or_len is_bad lines) (none_mapped (position is_bad lines) is)
+    few lines is = found_within (position_or_len is_bad lines) (length lines) (position_or_len is_bad lines)
+        (none_mapped (λ (k : ℕ). k + 1) (position is_bad lines) is)

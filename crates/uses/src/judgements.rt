@@ -26,6 +26,9 @@ pub fn certified_routes(
         IsFront (setting_of net.now) request (pairs_of routes))) }
     ensures legs { IfOk result (λ found. IfSome found (λ routes.
         AreAchieved (setting_of net.now) request routes)) }
+    ensures read { IfOk result (λ found. IfSome found (λ routes. (c : Certificate)
+        × IsCertificateText bytes.now c × IsGood (setting_of net.now) request c
+        × (routes ≡ c.routes))) }
     ensures none { IfOk result (λ found. IfNone found ((c : Certificate)
         → IsCertificateText bytes.now c → IsGood (setting_of net.now) request c → ⊥)) }
 {

@@ -46,7 +46,7 @@ impl Vehicles {
         self.vehicles.len()
     }
 
-    /// The place from 0 of the vehicle of this name, in constant time on average.
+    /// The place from 0 of the vehicle of this name; `None` exactly where no vehicle has it. In constant time on average.
     pub fn find(&self, name: &[u8]) -> Option<usize>
         ensures place { result ≡ place_among (names_of self.now) name.now }
         ensures within { IfSome result (λ i. i < length self.now) }

@@ -1,8 +1,9 @@
 // A folder in memory that gives its files in small parts.
-ghost use Rattle.std.specs.Prelude.{◌≡◌, ◌≤◌, length, IfOk};
+ghost use Rattle.std.specs.Prelude.{◌≡◌, ◌≤◌, length, IfOk, OnOk};
 ghost use Rattle.route_base.specs.MemoryFiles.{dripping_state, after_sure_read};
-ghost use Rattle.route_base.specs.FolderState.{KeepsFiles, MissedFile, FailedToRead};
-ghost use Rattle.route_base.specs.FolderState.{ReadsPart, LacksFile};
+ghost use Rattle.route_base.specs.FolderState.{CountsRise, KeepsFiles, MissedFile, FailedToRead, FailedToWrite};
+ghost use Rattle.route_base.specs.FolderState.{ReadsPart, LacksFile, PutsFile, SpoilsFile};
+ghost use Rattle.route_base.specs.MemoryFiles.{held_in};
 
 use crate::{Folder, PartError, SureFolder, WriteError};
 use std::marker::Model;
@@ -58,7 +59,21 @@ impl Folder for DripFolder {
         self.inner.read_part(name, at, &mut buf[..room])
     }
 
-    fn write_file(&mut self, name: &str, bytes: &[u8]) -> Result<(), WriteError> {
+    // Fails for want of memory alone.
+    fn write_file(&mut self, name: &str, bytes: &[u8]) -> Result<(), WriteError>
+        ensures ok { OnOk result
+            (PutsFile (dripping_state self.old) (dripping_state self.new) name.now bytes.now) }
+        ensures spoilt { result ≡ Err WriteError.Failed
+            → SpoilsFile (dripping_state self.old) (dripping_state self.new) name.now }
+        ensures no_memory { result ≡ Err WriteError.OutOfMemory
+            → held_in self.new.inner.files ≡ held_in self.old.inner.files }
+        ensures counts { CountsRise (dripping_state self.old) (dripping_state self.new) }
+        ensures failed { result ≡ Err WriteError.Failed
+            → FailedToWrite (dripping_state self.old) (dripping_state self.new) }
+        ensures sure { result ≡ Err WriteError.Failed → ⊥ }
+        ensures after { self.new
+            ≡ record self.old { inner = record self.old.inner { files = self.new.inner.files } } }
+    {
         self.inner.write_file(name, bytes)
     }
 }

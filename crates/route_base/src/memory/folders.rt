@@ -173,7 +173,20 @@ impl Folder for SureFolder {
         }
     }
 
-    fn write_file(&mut self, name: &str, bytes: &[u8]) -> Result<(), WriteError> {
+    // Fails for want of memory alone.
+    fn write_file(&mut self, name: &str, bytes: &[u8]) -> Result<(), WriteError>
+        ensures ok { OnOk result
+            (PutsFile (sure_state self.old) (sure_state self.new) name.now bytes.now) }
+        ensures spoilt { result ≡ Err WriteError.Failed
+            → SpoilsFile (sure_state self.old) (sure_state self.new) name.now }
+        ensures no_memory { result ≡ Err WriteError.OutOfMemory
+            → held_in self.new.files ≡ held_in self.old.files }
+        ensures counts { CountsRise (sure_state self.old) (sure_state self.new) }
+        ensures failed { result ≡ Err WriteError.Failed
+            → FailedToWrite (sure_state self.old) (sure_state self.new) }
+        ensures sure { result ≡ Err WriteError.Failed → ⊥ }
+        ensures after { self.new ≡ record self.old { files = self.new.files } }
+    {
         match self.files.set(name, bytes) {
             Ok(()) => Ok(()),
             Err(OutOfMemory) => Err(WriteError::OutOfMemory),

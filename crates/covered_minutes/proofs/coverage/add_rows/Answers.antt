@@ -7,18 +7,19 @@ use Rattle.route_base.specs.Runs.{has_minute, any_has}
 use Rattle.route_base.proofs.Logic.{or-false}
 use Rattle.zone_rules.specs.Zones.{is_offset, row_at}
 use Rattle.zone_rules.specs.declared.rows.ZoneRow.{ZoneRow}
+use Rattle.zone_rules.proofs.SoundZones.{some_there}
 use Rattle.covered_minutes.specs.Coverage.{covered_at}
 use Rattle.covered_minutes.specs.LocalDays.{local_covered}
 use Rattle.covered_minutes.proofs.Algebra.{or_part, and_agree}
 use Rattle.covered_minutes.proofs.Changes.{first_counts, others_count, rows_tail, before_starts, covered_by, both_parts}
-use Rattle.covered_minutes.proofs.Changes.{no_minutes, some_rows, starts_increase}
+use Rattle.covered_minutes.proofs.Changes.{no_minutes, starts_increase}
 use Rattle.covered_minutes.proofs.coverage.add_rows.Goals as goal
 
 pub rows-init : goal.rows-init
 rows-init c = record {
   begun = omega arith;
   upto = omega arith;
-  ended = λ none. absurd (omega (arith, none, some_rows c.args.rows.now c.requires.zone.some));
+  ended = λ none. absurd (omega (arith, none, some_there c.args.rows.now c.requires.zone.some));
   rising = starts_increase c.args.rows.now c.requires.zone;
   offsets = c.requires.zone.offsets;
   same = λ t late early. refl;

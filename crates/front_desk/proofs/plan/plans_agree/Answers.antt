@@ -17,6 +17,6 @@ returns c = λ network net plan planned is ready.
     ready_stands (setting_of net) road plan
     (λ routes. (c.settings_agree.ensures.right (setting_of net) road window request is.stands within routes).0)
     (λ certificate. (c.verdicts_agree.ensures (setting_of net) road window request is.stands within certificate Accepted).0)
-    (λ certificate. (c.certificates_agree.ensures.tight (setting_of net) road window request is.stands certificate).0)
+    (λ certificate. (c.certificates_agree.ensures.tight (setting_of net) road window request is.stands within certificate).0)
     (λ routes. c.reports_agree.ensures (setting_of net) road window plan.form request routes is.stands)
     planned ready

@@ -4,7 +4,7 @@ use Rattle.std.proofs.lemmas.List.Elements.{AllWithin-more}
 use Rattle.cost_functions.specs.Lines.{line_at}
 use Rattle.cost_functions.specs.declared.pieces.Piece.{Piece}
 use Rattle.cost_functions.proofs.PieceValues.{values_of_pieces}
-use Rattle.function_merge.specs.Inside.Rejection.{IsNoBetter}
+use Rattle.function_merge.specs.Rejection.{IsNoBetter}
 use Rattle.function_merge.proofs.rejection.is_shown_no_better.Goals as goal
 
 pub loop-piece-preserved : goal.loop-piece-preserved

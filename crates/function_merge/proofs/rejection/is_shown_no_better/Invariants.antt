@@ -1,7 +1,7 @@
 use Rattle.std.proofs.Common.{◌+◌, ◌≤◌, ℕ}
 use Rattle.std.specs.List.{AllWithin}
 use Rattle.cost_functions.specs.Lines.{line_at}
-use Rattle.function_merge.specs.Inside.Rejection.{IsNoBetter}
+use Rattle.function_merge.specs.Rejection.{IsNoBetter}
 use Rattle.function_merge.proofs.rejection.is_shown_no_better.Given as goal
 
 -- the pieces that are passed are shown to be no better

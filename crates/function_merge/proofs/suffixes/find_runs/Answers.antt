@@ -5,7 +5,8 @@ use Rattle.std.proofs.lemmas.Bool.{leb-true, leb-false}
 use Rattle.std.proofs.lemmas.List.{take_rest, get_or-drop, length-drop}
 use Rattle.std.proofs.lemmas.List.Sorted.{IsPartitionedBy-leb, IsPartitionPoint-from_clause}
 use Rattle.route_base.specs.Runs.{any_has}
-use Rattle.minute_sets.proofs.RunSuffixes.{any_drop, run_ends_rise}
+use Rattle.route_base.proofs.FreeRuns.{ends_rise}
+use Rattle.minute_sets.proofs.RunSuffixes.{any_drop}
 use Rattle.function_merge.proofs.suffixes.find_runs.Goals.{After-result-1}
 use Rattle.function_merge.proofs.suffixes.find_runs.Goals as goal
 
@@ -13,7 +14,7 @@ use Rattle.function_merge.proofs.suffixes.find_runs.Goals as goal
 parted : (c : After-result-1) → AllWithin (λ r. leb r.hi c.args.from ≡ true) c.args.runs.now 0 c.partition_point.result
     × AllWithin (λ r. leb r.hi c.args.from ≡ false) c.args.runs.now c.partition_point.result (length c.args.runs.now)
 parted c = IsPartitionPoint-from_clause (λ r. leb r.hi c.args.from) c.args.runs.now c.partition_point.result c.partition_point.ensures.partitioned
-    (IsPartitionedBy-leb (λ r. r.hi) c.args.runs.now c.args.from (run_ends_rise c.args.runs.now c.requires)) (λ a r f called. search rules)
+    (IsPartitionedBy-leb (λ r. r.hi) c.args.runs.now c.args.from (ends_rise c.args.runs.now c.requires)) (λ a r f called. search rules)
 
 pub returns-clause-minutes : goal.returns-clause-minutes
 returns-clause-minutes c = λ t late.

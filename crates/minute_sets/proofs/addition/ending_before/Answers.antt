@@ -3,7 +3,7 @@ use Rattle.std.specs.List.Sorted.{IsPartitionPoint}
 use Rattle.std.proofs.lemmas.Bool.{ltb-true, ltb-false}
 use Rattle.std.proofs.lemmas.List.Sorted.{IsPartitionedBy-ltb, IsPartitionPoint-from_clause}
 use Rattle.route_base.specs.declared.types.Run.{Run}
-use Rattle.minute_sets.proofs.RunSuffixes.{run_ends_rise}
+use Rattle.route_base.proofs.FreeRuns.{ends_rise}
 use Rattle.minute_sets.proofs.addition.ending_before.Goals.{After-partition_point}
 use Rattle.minute_sets.proofs.addition.ending_before.Goals as goal
 
@@ -11,7 +11,7 @@ use Rattle.minute_sets.proofs.addition.ending_before.Goals as goal
 parts : (c : After-partition_point)
     → IsPartitionPoint (λ (r : Run). ltb r.hi c.args.minute ≡ true) (λ r. ltb r.hi c.args.minute ≡ false) c.args.runs.now c.partition_point.result
 parts c = IsPartitionPoint-from_clause (λ r. ltb r.hi c.args.minute) c.args.runs.now c.partition_point.result c.partition_point.ensures.partitioned
-    (IsPartitionedBy-ltb (λ r. r.hi) c.args.runs.now c.args.minute (run_ends_rise c.args.runs.now c.requires)) (λ a r f called. search rules)
+    (IsPartitionedBy-ltb (λ r. r.hi) c.args.runs.now c.args.minute (ends_rise c.args.runs.now c.requires)) (λ a r f called. search rules)
 
 pub returns-clause-early : goal.returns-clause-early
 returns-clause-early c = λ k d from upto. ltb-true _ _ ((parts (goal.at.returns-clause-early c).After-partition_point).0 k d from upto)

@@ -59,7 +59,8 @@ fn are_good_stops(net: &TimedNet, stops: &[Stop]) -> bool
     stops.iter().all(|stop| is_good_stop(net, *stop))
 }
 
-/// What `tour` answers, or `tour_with` by the engine that takes bounds; `None` where the lists aren't those of a small well-formed net, or the request or a stop isn't one over it.
+/// What `tour` answers, or `tour_with` by the engine that takes bounds; `None` where the lists aren't those of a small well-formed net, or the
+/// request or a stop isn't one over it.
 pub fn tour_over(
     alloc: Global,
     lists: NetLists<'_>,
@@ -83,8 +84,8 @@ pub fn tour_over(
     }
 }
 
-/// What `plan_breaks` answers, or `plan_breaks_with` by the engine that takes bounds; `None` where the lists aren't those of a small well-formed net, the request isn't one over it, or a number
-/// of the rule is out of range.
+/// What `plan_breaks` answers, or `plan_breaks_with` by the engine that takes bounds; `None` where the lists aren't those of a small well-formed net,
+/// the request isn't one over it, or a number of the rule is out of range.
 pub fn breaks_over(
     alloc: Global,
     lists: NetLists<'_>,

@@ -1,4 +1,4 @@
-use Rattle.std.proofs.Common.{◌≡◌, refl, sym, subst}
+use Rattle.std.proofs.Common.{◌≡◌, sym, subst}
 use Rattle.route_base.specs.Net.{setting_of}
 use Rattle.certificate.specs.declared.Certificate.{Certificate}
 use Rattle.certificate.proofs.Whole.{one_certificate}

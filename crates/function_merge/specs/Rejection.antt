@@ -1,4 +1,4 @@
--- A function that is no larger than an offered value (source: own; no law).
+-- A function that is no larger than an offered value (source: own).
 use Rattle.std.specs.Prelude.{◌≡◌, ℕ, ◌≤◌, Some, List}
 use Rattle.cost_functions.specs.Pieces.{value_at}
 use Rattle.cost_functions.specs.declared.pieces.Piece.{Piece}
