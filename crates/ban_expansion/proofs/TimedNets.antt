@@ -25,8 +25,8 @@ use Rattle.dimacs_reader.specs.GraphModel.{IsGoodGraph, IsGoodGraphArc}
 use Rattle.dimacs_reader.specs.declared.graph.GraphArc.{GraphArc}
 use Rattle.vehicle_classes.specs.VehicleModel.{VehicleModel}
 use Rattle.network_tables.specs.Access.{area_at, is_closed, is_open_by, is_park_open}
-use Rattle.network_tables.specs.NetworkModel.{NetworkModel, IsGoodNetwork, IsNodeOf, park_of, toll_at, weight_at}
-use Rattle.network_tables.specs.NetworkModel.{IsGoodPark as IsGoodRow}
+use Rattle.network_tables.specs.NetworkModel.{NetworkModel, IsGoodNetwork, IsParkedWithin, park_of, toll_at, weight_at}
+use Rattle.network_tables.specs.NetworkModel.{IsGoodParked}
 use Rattle.network_tables.specs.Parking.{ParkRow, Parked, park_for}
 use Rattle.network_tables.specs.Parks.{HasTimetable, ParkLists, Timetable, park_with, parks_with}
 use Rattle.network_tables.specs.RoadSetting.{road_setting, road_over}
@@ -113,7 +113,7 @@ module _ (net : NetworkModel) (vehicle : VehicleModel) (window : Run) (all : Gro
   good_park v None is there park same = absurd (cc)
   good_park v (Some node) is there park same =
       let found : park_of net v ≡ Some (park_with parks.timetables node) = row_at v ∙ ap (option_map (park_with parks.timetables)) is in
-      let row = found_good (IsGoodRow (length net.areas)) net.parks v (park_with parks.timetables node) good.parks found in
+      let row = found_good (IsGoodParked (length net.areas)) net.parks v (park_with parks.timetables node) good.parks found in
       let over : park_over (length lists) node ≡ park = cc in
       subst (IsGoodPark (net_over net arcs lists shut held)) over (record {
         weight = omega (arith, row.small);
@@ -179,7 +179,7 @@ module _ (net : NetworkModel) (vehicle : VehicleModel) (window : Run) (all : Gro
   no_row : (v : ℕ) (o : Option ParkRow) → park_of net v ≡ o → (v < 1) ⊎ (net.graph.nodes < v) → o ≡ None
   no_row v None is outside = refl
   no_row v (Some row) is outside =
-      let here = found_good (IsNodeOf net.graph.nodes) net.parks v row good.rated is in
+      let here = found_good (IsParkedWithin net.graph.nodes) net.parks v row good.rated is in
       absurd (⊎_elim (λ (low : v < 1). omega (arith, low, here.0)) (λ (high : net.graph.nodes < v). omega (arith, high, here.1)) outside)
 
   same_weight : (v : ℕ) → (setting_of (net_over net arcs lists shut held)).weight v ≡ weight_at net v

@@ -98,8 +98,8 @@ fn net_over(
 
 /// The network as a net for the vehicle, as `expand_plain` makes it, over groups that `group_arcs` found.
 ///
-/// It takes the time and memory of one `closed_set` for each group, and of one `covered_minutes` for each area and hours of parks;
-/// beside, it is linear in nodes and arcs, and looks up no rules.
+/// It takes the time and memory of one `closed_set` for each group and of one `covered_minutes` for each area and hours of parks,
+/// plus what is linear in nodes and arcs. It looks up no rules.
 pub fn expand_groups(
     alloc: Global,
     network: &Network,
@@ -138,11 +138,11 @@ pub fn expand_plain(
 /// The net that `expand_plain` makes, with the closed minutes of its groups made by several workers at once, each in its part of the
 /// groups; a worker goes through the gate before it begins a part.
 ///
-/// It takes the time of `group_arcs` and of the longest of at most eight parts, or two where no arc has rules of its own: that of one
-/// `closed_set` for each group of the part, and a step for each area. Then it takes the time of one `covered_minutes` for each area and
-/// hours of parks; beside, it is linear in nodes and arcs. A `closed_set` is linear in runs for each clause of its rules, beside
-/// n log n for n closures and the `covered_minutes` of its hours. The memory is that of `expand_plain` and, for each part but one, that
-/// of a worker, of one `closed_set`, and of the runs in which areas are barred.
+/// It takes the time of `group_arcs`, of the longest part, and of one `covered_minutes` for each area and hours of parks, plus time
+/// linear in nodes and arcs. There are at most eight parts, or two where no arc has rules of its own; a part takes one `closed_set` for
+/// each of its groups, and a step for each area. A `closed_set` takes the `covered_minutes` of its hours, n log n for n closures, and
+/// time linear in runs for each clause of its rules. The memory is that of `expand_plain` and, for each part but one, that of a worker,
+/// of one `closed_set`, and of the runs in which areas are barred.
 pub fn expand<R: Threads + Sync, G: Gate>(
     rt: &R,
     alloc: Global,

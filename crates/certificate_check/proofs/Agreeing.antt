@@ -12,10 +12,11 @@ use Rattle.route_base.specs.declared.types.NodeId.{NodeId}
 use Rattle.route_base.specs.declared.types.Request.{Request}
 use Rattle.route_base.specs.declared.types.Run.{Run}
 use Rattle.route_base.proofs.AgreeingWalks.{flipped, moves_too, walks_too}
+use Rattle.cost_functions.specs.Pieces.{value_in}
 use Rattle.cost_functions.specs.declared.pieces.Piece.{Piece}
 use Rattle.certificate.specs.ByNode.{item_at}
 use Rattle.certificate.specs.declared.Certificate.{Certificate}
-use Rattle.certificate_check.specs.Conditions.{IsInRange, value_in, value_of}
+use Rattle.certificate_check.specs.Conditions.{IsInRange, value_of}
 use Rattle.certificate_check.specs.Verdicts.{HasLawfulLegs, HasValidBounds, HasRelaxedSteps, FailsFirst, IsVerdict}
 use Rattle.certificate_check.specs.Verdicts.{first_fails, second_fails, third_fails, fourth_fails, fifth_fails, sixth_fails}
 use Rattle.certificate_check.specs.declared.checker.Verdict.{Verdict}

@@ -1,5 +1,5 @@
 -- Steps that pass from all values of a function, as itineraries have them.
-use Rattle.std.proofs.Common.{◌≡◌, ◌⊎◌, inl, inr, ⊎_elim, ℕ, ◌+◌, ◌*◌, ◌-◌, ◌≤◌, Option, Some, List, refl, sym, ◌∙◌, ap, subst, arith}
+use Rattle.std.proofs.Common.{◌≡◌, ◌⊎◌, inl, inr, ⊎_elim, ℕ, ◌+◌, ◌*◌, ◌-◌, ◌≤◌, Option, Some, List, [], ◌∷◌, length, refl, sym, ◌∙◌, ap, subst, arith}
 use Rattle.std.proofs.lemmas.Option.{same_Some}
 use Rattle.route_base.specs.Setting.{Setting, Road}
 use Rattle.route_base.specs.Itinerary.{Position, Step, drive, wait, Moves}
@@ -15,6 +15,7 @@ use Rattle.certificate_check.specs.Conditions.{AreStepsRelaxed}
 use Rattle.certificate_check.specs.Inside.Passing.{goal_point, HasValueWithin, Passes, Link}
 use Rattle.certificate_check.specs.Inside.Steps.{AreDrivesRelaxed, AreWaitsRelaxed}
 use Rattle.certificate_check.proofs.Dominated.{dominated_later, dominated_or_not}
+use Rattle.certificate_check.proofs.PieceValues.{none_some, no_value}
 
 pub line_rises : (p : Piece) (t s : ℕ) → p.lo ≤ t → t ≤ s → line_at p t ≤ line_at p s
 line_rises p t s from later = let on = further p.cost p.slope p.lo t s from later in omega (arith, on)
@@ -153,6 +154,15 @@ module _ (s : Setting) (until : ℕ) (pairs : List Pair) (bounds : ℕ → Optio
         }))
 
 module _ (s : Setting) (until : ℕ) (pairs : List Pair) (bounds : ℕ → Option Bound) (value : ℕ → ℕ → Option ℕ) where
+  -- no drive begins where there are no values
+  pub no_drives : (a : ℕ) (road : Road) → s.road a ≡ Some road → (pieces : List Piece) → length pieces ≡ 0
+      → ((t : ℕ) → value_at pieces t ≡ value road.tail t) → AreDrivesRelaxed s until pairs bounds value a
+  no_drives a road is (piece ∷ pieces) none tail p q stands drives = absurd (omega (arith, none))
+  no_drives a road is [] none tail p q stands drives =
+      let same : drives.road ≡ road = same_Some drives.road road (sym drives.is ∙ is) in
+      let at_tail : road.tail ≡ p.node = sym (ap (λ (w : Road). w.tail) same) ∙ drives.tail in
+      absurd (none_some p.cost (value_at [] p.minute) (no_value p.minute) (tail p.minute ∙ ap (λ v. value v p.minute) at_tail ∙ stands))
+
   pub all_steps : ((a : ℕ) → AreDrivesRelaxed s until pairs bounds value a) → ((v : ℕ) → AreWaitsRelaxed s until pairs bounds value v)
       → AreStepsRelaxed s until pairs bounds value
   all_steps drives waits p stands =

@@ -10,10 +10,10 @@ use Rattle.route_base.specs.Relaxing.{HasWithin, IsDominatedOrLate, IsRelaxed}
 use Rattle.route_base.specs.declared.types.Bound.{Bound}
 use Rattle.route_base.specs.declared.types.NodeId.{NodeId}
 use Rattle.route_base.specs.declared.types.Pair.{Pair}
-use Rattle.cost_functions.specs.Pieces.{value_at}
+use Rattle.cost_functions.specs.Pieces.{value_at, value_in}
 use Rattle.cost_functions.specs.declared.pieces.Piece.{Piece}
 use Rattle.certificate.specs.ByNode.{item_at, AreRising}
-use Rattle.certificate_check.specs.Conditions.{value_in, AreStepsRelaxed}
+use Rattle.certificate_check.specs.Conditions.{AreStepsRelaxed}
 use Rattle.certificate_check.specs.Inside.Reduction.{HaveSameValues, AreAlike}
 
 at_choice : (b : Bool) (ps qs : List Piece) (o p : Option (List Piece)) (t : ℕ) → value_at ps t ≡ value_at qs t → value_in o t ≡ value_in p t

@@ -10,16 +10,11 @@ use Rattle.route_base.specs.declared.types.NodeId.{NodeId}
 use Rattle.route_base.specs.declared.types.Pair.{Pair}
 use Rattle.route_base.specs.declared.types.Request.{Request}
 use Rattle.route_base.specs.declared.types.Route.{Route}
-use Rattle.cost_functions.specs.Pieces.{value_at}
+use Rattle.cost_functions.specs.Pieces.{value_in}
 use Rattle.cost_functions.specs.declared.TheConstants.{HIGHEST_PIECE_COST}
 use Rattle.cost_functions.specs.declared.pieces.Piece.{Piece}
 use Rattle.certificate.specs.ByNode.{item_at}
 use Rattle.certificate.specs.declared.limits.TheConstants.{LONGEST_BOUND}
-
--- the value at a minute of a function that may be missing
-abbrev pub value_in : Option (List Piece) → ℕ → Option ℕ
-value_in None t = None
-value_in (Some ps) t = value_at ps t
 
 -- the value of a node's function at a minute
 abbrev pub value_of : List (NodeId × List Piece) → ℕ → ℕ → Option ℕ

@@ -10,7 +10,7 @@ ghost use Rattle.certificate_check.specs.declared.checker.Verdict.TheVariants.{A
 use crate::bounds::are_node_bounds;
 use crate::goal::is_goal_covered;
 use crate::legs::are_achieved;
-use crate::lookup::pieces_of;
+use crate::lookup::{pieces_of, places_of};
 use crate::pairs::{are_ordered, pairs_of_routes};
 use crate::reduction::{are_reduced, reduced_copy};
 use crate::start::is_start_relaxed;
@@ -28,9 +28,10 @@ pub enum Verdict {
 
 /// Whether the certificate is good for this net and request: then its pairs are the Pareto front.
 ///
-/// One binary search for each leg in the closed runs of its arc, two for each arc among the bounds, and a few for each arc and
-/// each rated node, at each break and each piece of the reduced functions. Reducing is linear in the number of pieces. Memory
-/// for the list of pairs, and only where a function isn't reduced for a reduced copy of the functions.
+/// One binary search for each leg in the closed runs of its arc, and a few for each arc and each rated node, at each break and each
+/// piece of the reduced functions; where nodes are left out of the bounds, one for each end of an arc. Reducing is linear in the
+/// number of pieces. Memory for the list of pairs, 8 bytes a node, and only where a function isn't reduced for a reduced copy of the
+/// functions.
 pub fn check(
     alloc: Global,
     net: &TimedNet,
@@ -45,20 +46,23 @@ pub fn check(
 {
     let pairs = pairs_of_routes(alloc, certificate.routes.as_slice())?;
     let functions = &certificate.functions;
+    let places = places_of(alloc, functions, net.node_count())?;
     if are_reduced(functions) {
-        return Ok(verdict_of(net, request, &pairs, certificate, functions));
+        return Ok(verdict_of(net, request, &pairs, certificate, functions, &places));
     }
     let reduced = reduced_copy(alloc, functions)?;
-    Ok(verdict_of(net, request, &pairs, certificate, &reduced))
+    Ok(verdict_of(net, request, &pairs, certificate, &reduced, &places))
 }
 
-// The verdict, where the pairs are at hand as a list of their own, and the functions are reduced. No memory.
+// The verdict, where the pairs are at hand as a list of their own, and the functions are reduced and looked for at these places. No
+// memory.
 fn verdict_of(
     net: &TimedNet,
     request: Request,
     pairs: &[Pair],
     certificate: &Certificate,
     reduced: &NodeFunctions,
+    places: &[usize],
 ) -> Verdict
     requires request { IsGoodRequest net.now request }
     requires bounds { AreBoundsInRange certificate.now.bounds }
@@ -78,7 +82,7 @@ fn verdict_of(
     if !is_start_relaxed(request, pairs, certificate) {
         return Verdict::Rejected(4);
     }
-    if !are_functions_relaxed(net, request, pairs, certificate, reduced) {
+    if !are_functions_relaxed(net, request, pairs, certificate, reduced, places) {
         return Verdict::Rejected(5);
     }
     if !is_goal_covered(pairs, pieces_of(&certificate.functions, request.goal)) {

@@ -8,9 +8,10 @@ ghost use Rattle.certificate_check.specs.Inside.Passing.{IsBoundInRange};
 
 use certificate::{NodeBounds, NodeFunctions};
 use cost_functions::Piece;
-use route_base::{Bound, Minute, NodeId};
+use route_base::{Bound, Minute, NodeId, OutOfMemory};
+use std::alloc::Global;
 
-/// The bounds of a node. One binary search.
+/// The bounds of a node. Constant time where all nodes before it have bounds, a binary search otherwise.
 pub fn bound_of(bounds: &NodeBounds, node: NodeId) -> Option<Bound>
     requires { AreBoundsInRange bounds.now }
     ensures value { result ≡ item_at bounds.now node.0 }
@@ -24,7 +25,36 @@ pub fn pieces_of(functions: &NodeFunctions, node: NodeId) -> &[Piece]
     ensures pieces { ArePieces result.now }
     ensures values { (t : ℕ) → value_at result.now t ≡ value_of functions.now node.0 t }
 {
-    match functions.at(node) {
+    pieces_near(functions, node, 0)
+}
+
+/// For each node from 1 to `nodes`, the place where `pieces_near` looks first: that of its function, or of the next node's that has
+/// one. Nothing is said of it here, since what is found is right wherever it was looked for. Linear in the number of nodes.
+pub fn places_of(
+    alloc: Global,
+    functions: &NodeFunctions,
+    nodes: u32,
+) -> Result<Vec<usize>, OutOfMemory> {
+    let mut places = Vec::with_capacity(alloc, nodes as usize)?;
+    let mut next = 0;
+    for k in 0..nodes {
+        if let Some(entry) = functions.get(next)
+            && entry.0.0 <= k
+        {
+            next += 1;
+        }
+        places.push(next)?;
+    }
+    Ok(places)
+}
+
+/// The pieces of a node's function; none where it has no function. Constant time where the place is that of the function or of the
+/// next node's, a binary search otherwise.
+pub fn pieces_near(functions: &NodeFunctions, node: NodeId, place: usize) -> &[Piece]
+    ensures pieces { ArePieces result.now }
+    ensures values { (t : ℕ) → value_at result.now t ≡ value_of functions.now node.0 t }
+{
+    match functions.at_near(node, place) {
         Some(function) => function.pieces(),
         None => &[],
     }

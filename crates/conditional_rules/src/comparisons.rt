@@ -12,15 +12,9 @@ ghost use Rattle.conditional_rules.specs.Inside.Comparisons.{decimals_at, decima
 ghost use Rattle.conditional_rules.specs.Inside.Comparisons.{Compared, measured, signed, comparison_of};
 
 use crate::conditional::Comparison;
+use opening_hours::is_digit;
 use route_base::{is_blank, read_number};
 use vehicle_classes::Quantity;
-
-// Whether a byte is a decimal digit.
-fn digit(byte: u8) -> bool
-    ensures { result ≡ is_digit byte }
-{
-    b'0' <= byte && byte <= b'9'
-}
 
 /// Whether a byte is a small letter.
 pub(crate) fn small_letter(byte: u8) -> bool
@@ -40,7 +34,7 @@ fn letters(text: &[u8]) -> usize
 fn digits(text: &[u8]) -> usize
     ensures { result ≡ length (take_while is_digit text.now) }
 {
-    text.iter().take_while(|b| digit(**b)).count()
+    text.iter().take_while(|b| is_digit(**b)).count()
 }
 
 // The number of blanks at the front of a text.

@@ -8,6 +8,11 @@ unfoldable pub value_at : List Piece → ℕ → Option ℕ
 value_at [] t = None
 value_at (p ∷ ps) t = if is_on_piece t p then Some (line_at p t) else value_at ps t
 
+-- the value at a minute of a function that may be missing
+abbrev pub value_in : Option (List Piece) → ℕ → Option ℕ
+value_in None t = None
+value_in (Some ps) t = value_at ps t
+
 -- the value of points at a minute: that of the first point at it
 unfoldable pub point_at : List (ℕ × ℕ) → ℕ → Option ℕ
 point_at [] t = None

@@ -12,7 +12,7 @@ use Rattle.route_base.proofs.Costs.{IsCheap}
 use Rattle.front_transport.specs.CheapArcs.{HasCheapArcs}
 use Rattle.dimacs_reader.specs.GraphModel.{IsGoodGraph, IsGoodGraphArc}
 use Rattle.vehicle_classes.specs.VehicleModel.{VehicleModel}
-use Rattle.network_tables.specs.NetworkModel.{NetworkModel, IsGoodNetwork, IsGoodPark, park_of, toll_at, weight_at}
+use Rattle.network_tables.specs.NetworkModel.{NetworkModel, IsGoodNetwork, IsGoodParked, park_of, toll_at, weight_at}
 use Rattle.network_tables.specs.Parking.{ParkRow}
 use Rattle.network_tables.specs.RoadSetting.{road_setting, road_over}
 use Rattle.plan_certificate.specs.CheapRoads.{HasCheapRoads}
@@ -22,7 +22,7 @@ small_weight : (net : NetworkModel) → IsGoodNetwork net → (v w : ℕ) → we
 small_weight net good v w is =
     let found = map_some (park_of net v) (λ (park : ParkRow). park.weight) w is in
     let parked = Contains-from_lookup eqb-true v found.0 net.parks found.1 in
-    omega (arith, (All-contains (IsGoodPark (length net.areas)) net.parks (v, found.0) good.parks parked).small, found.2)
+    omega (arith, (All-contains (IsGoodParked (length net.areas)) net.parks (v, found.0) good.parks parked).small, found.2)
 
 module _ (net : NetworkModel) (vehicle : VehicleModel) (good : IsGoodNetwork net) (graph : IsGoodGraph net.graph) where
   -- the minutes of a road, and what it costs beside them

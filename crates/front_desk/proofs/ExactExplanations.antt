@@ -11,7 +11,7 @@ use Rattle.vehicle_classes.specs.VehicleModel.{VehicleModel}
 use Rattle.network_tables.specs.NetworkModel.{NetworkModel}
 use Rattle.network_tables.specs.RoadSetting.{road_setting}
 use Rattle.trip_explain.specs.Dominators.{first_dominator}
-use Rattle.trip_explain.specs.ExplanationText.{better_line, explanation_text, pair_line}
+use Rattle.trip_explain.specs.ExplanationText.{better_line, explanation_text, worded_pair_line}
 use Rattle.trip_explain.specs.Explanations.{IsExplained, IsUnlawfulAt}
 use Rattle.trip_explain.specs.declared.explanation.Explanation.{Explanation}
 use Rattle.trip_explain.specs.declared.explanation.Explanation.TheVariants.{Lawful, Unlawful}
@@ -40,7 +40,7 @@ module _ (s : Setting) (r : Request) (legs : List Leg) where
       let exactly : (first_dominator first.front pair ≡ None) ↔ IsUndominated s r pair = undominated_by s r first.front first.is_front pair
       (achieved_by pair achieves) in (
         (λ none. exactly.0 (sym first.is_first
-            ∙ none_better better (append_cancel_left (pair_line (codes "lawful ") pair) (better_line better) (better_line None) (sym is_text ∙ none)))),
+            ∙ none_better better (append_cancel_left (worded_pair_line (codes "lawful ") pair) (better_line better) (better_line None) (sym is_text ∙ none)))),
         (λ undominated. is_text ∙ ap (λ (o : Option Pair). explanation_text (Lawful pair) o) (first.is_first ∙ exactly.1 undominated)),
       )
 

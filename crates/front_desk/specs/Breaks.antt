@@ -16,8 +16,8 @@ use Rattle.front_desk.specs.Plan.{trip_setting}
 use Rattle.front_desk.specs.Trips.{failed_check, request_of}
 
 -- the break rule of the command
-abbrev pub rule_of : Breaks → BreakRule
-rule_of b = record { drive = b.drive; rest = b.rest }
+abbrev pub break_rule_of : Breaks → BreakRule
+break_rule_of b = record { drive = b.drive; rest = b.rest }
 
 -- the roads of the folder's network for the trip's vehicle
 abbrev pub breaks_setting : Breaks → Contents → Setting
@@ -26,7 +26,7 @@ breaks_setting b held = trip_setting (network_held held b.dir) b.trip
 -- the text reports right routes that keep the rule, their Pareto front with legs for each pair, in plain lines
 pub record IsBreaksText (s : Setting) (b : Breaks) (text : List ℕ) : Type 0 where
   pub routes : List Route
-  pub right : AreRightRested s (request_of b.trip) (rule_of b) routes
+  pub right : AreRightRested s (request_of b.trip) (break_rule_of b) routes
   pub is_text : text ≡ plain_text_of routes
 
 -- the text reports them over the folder's network
@@ -43,7 +43,7 @@ breaks_check b held = failed_check (network_held held b.dir) b.trip
 
 -- there are more states than may be: nodes with the minutes driven since the last break, and the drives and breaks that leave them
 abbrev pub HasManyStates : Setting → Breaks → Type 0
-HasManyStates s b = HasTooManyStates s b.trip.origin (rule_of b)
+HasManyStates s b = HasTooManyStates s b.trip.origin (break_rule_of b)
 
 -- the trip passes all checks, and its states aren't too many
 pub record PassesBreaks (b : Breaks) (held : Contents) : Type 0 where

@@ -69,8 +69,8 @@ abbrev pub RejectsCertificate : Check → Contents → List ℕ → Type 0
 RejectsCertificate c held text = IsRejected (check_setting c held) (request_of c.trip) (certificate_held c held) text
 
 -- the check of the certificate that the plan writes under this name
-abbrev pub check_of : Plan → List ℕ → Check
-check_of p name = record { dir = p.dir; trip = p.trip; name = name }
+abbrev pub check_of_plan : Plan → List ℕ → Check
+check_of_plan p name = record { dir = p.dir; trip = p.trip; name = name }
 
 -- the files of the check have no fault, its trip passes all checks, and its certificate is a good one
 pub record HasGoodCertificate (c : Check) (held : Contents) : Type 0 where

@@ -14,7 +14,7 @@ use Rattle.network_tables.specs.NetworkFiles.{table_fault}
 use Rattle.network_tables.specs.NetworkModel.{NetworkModel}
 use Rattle.stop_tour.specs.StopTable.{stops_in, stops_schema}
 use Rattle.stop_tour.specs.TourText.{tour_text_of}
-use Rattle.stop_tour.specs.Tours.{AreRightTours, size_in}
+use Rattle.stop_tour.specs.Tours.{AreRightTours, tour_size_in}
 use Rattle.stop_tour.specs.declared.stops.Stop.{Stop}
 use Rattle.stop_tour.specs.declared.stops.TourRoute.{TourRoute}
 use Rattle.front_words.specs.declared.commands.Tour.{Tour}
@@ -42,7 +42,7 @@ tour_fault t held = option_or (first_fault_with (stops_file t.stops) held t.dir)
 
 -- the size is above that of all states that there may be
 abbrev pub failed_size : Setting → List Stop → Option RequestFault
-failed_size s stops = if nat_lt MOST_STATES (size_in s stops) then Some TooManyStates else None
+failed_size s stops = if nat_lt MOST_STATES (tour_size_in s stops) then Some TooManyStates else None
 
 -- the first check that a tour of these stops fails: one of its trip, and behind these its size
 abbrev pub failed_tour_check : NetworkModel → Trip → List Stop → Option RequestFault

@@ -6,7 +6,7 @@ pub use Rattle.network_tables.specs.NetworkModel.{IsGoodNetwork}
 pub use Rattle.plan_report.specs.Refusals.{refusal_text_of}
 pub use Rattle.front_desk.specs.Bans.{failed_bans_check, IsBansText}
 pub use Rattle.front_desk.specs.Batch.{jobs_held, jobs_fault, batch_fault, IsBatchText}
-pub use Rattle.front_desk.specs.Breaks.{rule_of, IsBreaksText, HasManyStates}
+pub use Rattle.front_desk.specs.Breaks.{break_rule_of, IsBreaksText, HasManyStates}
 pub use Rattle.front_words.specs.declared.commands.Invocation.TheVariants.{Plan as to_plan, Check as to_check, Bans as to_bans, Batch as to_batch, Gen as to_gen}
 pub use Rattle.front_words.specs.declared.commands.Invocation.TheVariants.{Latest as to_latest, Tour as to_tour, Breaks as to_breaks}
 pub use Rattle.front_words.specs.declared.commands.Invocation.TheVariants.{Explain as to_explain}

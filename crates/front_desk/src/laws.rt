@@ -1,7 +1,7 @@
 // The numbers of the limits, and the laws of certificates, of explanations and of texts.
 ghost use Rattle.std.specs.Prelude.{◌≡◌, ◌↔◌, ℕ, List, Option, Some, None, true};
 ghost use Rattle.front_desk.specs.Batch.{IsBatchReport};
-ghost use Rattle.front_desk.specs.Check.{HasGoodCertificate, check_of};
+ghost use Rattle.front_desk.specs.Check.{HasGoodCertificate, check_of_plan};
 ghost use Rattle.front_desk.specs.Commands.{Answers};
 ghost use Rattle.front_desk.specs.Explain.{IsExplainText};
 ghost use Rattle.front_desk.specs.OneText.{TellsOneText, routes_certified};
@@ -82,7 +82,7 @@ pub fn limits_are_these()
 pub fn written_certificates_are_good()
     ensures { (plan : Plan) (name : List ℕ) (held after : Contents)
         → is_certificate_name name ≡ true → IsCertified plan name held (Some after)
-        → HasGoodCertificate (check_of plan name) after }
+        → HasGoodCertificate (check_of_plan plan name) after }
 {}
 
 /// The law of explanations: the text of lawful legs says `undominated` exactly where no lawful itinerary's pair dominates theirs, and the text

@@ -6,7 +6,7 @@ use Rattle.clap.specs.Words.{App}
 use Rattle.clap.specs.declared.parser.matches.ArgMatches.{ArgMatches}
 use Rattle.front_words.specs.ClapCommands.{Passes, app_with, made_at, options_at, text_at, text_found, values_at}
 use Rattle.front_words.specs.Forms.{Value, WordForm, value_of_word}
-use Rattle.front_words.specs.Inside.{AnswersWith, ArePlain, TakesPlaces, given_in, split_of_words}
+use Rattle.front_words.specs.Inside.{IsAnswerWith, ArePlain, TakesPlaces, given_in, split_of_words}
 use Rattle.front_words.specs.declared.commands.WordsFault.{WordsFault}
 use Rattle.front_words.specs.declared.splitting.Given.{Given as GivenWords}
 use Rattle.front_words.specs.Splitting.{Given, Split, only_value, values_for}
@@ -70,9 +70,9 @@ pub answers_line : {A B : Type 0} (value_in : B → A) (result : Result B WordsF
     (held line ids choices : List (List ℕ)) (s : Split) (values : List (Option (List ℕ))) → held ≡ line
     → ((id : List ℕ) → text_at matches id ≡ text_found app held id) → Passes app line ids s.places choices values
     → map (λ o. only_value (values_for o.name s.given)) usage.options ≡ map (λ v. Some v) values
-    → AnswersWith value_in (made_at matches usage ids choices) result → AnswersWith value_in (made_of usage s) result
+    → IsAnswerWith value_in (made_at matches usage ids choices) result → IsAnswerWith value_in (made_of usage s) result
 answers_line {A} value_in result usage matches app held line ids choices s values e found p f h =
-    subst (λ (due : Option A). AnswersWith value_in due result)
+    subst (λ (due : Option A). IsAnswerWith value_in due result)
     (same_made matches app line (λ id. found id ∙ ap (λ (ws : List (List ℕ)). text_found app ws id) e) usage ids choices s values p f) h
 
 -- the line of a command without options passes where the command's name and places are equal to these

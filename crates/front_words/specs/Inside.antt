@@ -106,11 +106,11 @@ pub record IsDivided (options words : List (List ℕ)) (done : Split) (rest : Li
   pub same : split_of options words ≡ option_map (follow done) (split_of options rest)
 
 -- the answer is what is due, or out of memory
-abbrev pub AnswersWith : {A B : Type 0} → (B → A) → Option A → Result B WordsFault → Type 0
-AnswersWith value_in due (Ok value) = due ≡ Some (value_in value)
-AnswersWith value_in due (Err NotACommand) = due ≡ None
-AnswersWith value_in due (Err OutOfMemory) = ⊤
+abbrev pub IsAnswerWith : {A B : Type 0} → (B → A) → Option A → Result B WordsFault → Type 0
+IsAnswerWith value_in due (Ok value) = due ≡ Some (value_in value)
+IsAnswerWith value_in due (Err NotACommand) = due ≡ None
+IsAnswerWith value_in due (Err OutOfMemory) = ⊤
 
 -- the same where the answer is the value itself
-abbrev pub Answers : {A : Type 0} → Option A → Result A WordsFault → Type 0
-Answers due result = AnswersWith (λ value. value) due result
+abbrev pub IsAnswer : {A : Type 0} → Option A → Result A WordsFault → Type 0
+IsAnswer due result = IsAnswerWith (λ value. value) due result

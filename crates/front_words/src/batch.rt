@@ -2,7 +2,7 @@
 ghost use Rattle.std.specs.Prelude.{◌≡◌, IfOk, map, option_map};
 ghost use Rattle.front_words.specs.ClapCommands.{batch_choices, batch_places, line_of_batch, made_at};
 ghost use Rattle.front_words.specs.Commands.{AsksSupported, batch_usage};
-ghost use Rattle.front_words.specs.Inside.{Answers, IsPlainSplit, split_of_words};
+ghost use Rattle.front_words.specs.Inside.{IsAnswer, IsPlainSplit, split_of_words};
 ghost use Rattle.front_words.specs.Usages.{made_of};
 
 use crate::clap_words::{line_of, matches_for, push_option};
@@ -22,7 +22,7 @@ const CHOICES: &[&str] = &["workers"];
 
 // The batch that the words say.
 fn batch_found(alloc: Global, matches: &ArgMatches) -> Result<Invocation, WordsFault>
-    ensures made { Answers
+    ensures made { IsAnswer
         (made_at matches.now batch_usage batch_places batch_choices) result }
     ensures supported { IfOk result AsksSupported }
 {
@@ -51,7 +51,7 @@ fn batch_line<'a>(
 // The batch of positional words and of the values of options, by `clap`.
 pub fn read_batch(alloc: Global, places: &[&str], given: &[Given]) -> Result<Invocation, WordsFault>
     requires plain { IsPlainSplit (split_of_words places.now given.now) }
-    ensures made { Answers
+    ensures made { IsAnswer
         (made_of batch_usage (split_of_words places.now given.now)) result }
     ensures supported { IfOk result AsksSupported }
 {

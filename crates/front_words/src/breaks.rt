@@ -2,7 +2,7 @@
 ghost use Rattle.std.specs.Prelude.{◌≡◌, IfOk, map, option_map};
 ghost use Rattle.front_words.specs.ClapCommands.{breaks_choices, line_of_breaks, made_at, plan_places};
 ghost use Rattle.front_words.specs.Commands.{AsksSupported, breaks_usage};
-ghost use Rattle.front_words.specs.Inside.{Answers, IsPlainSplit, split_of_words};
+ghost use Rattle.front_words.specs.Inside.{IsAnswer, IsPlainSplit, split_of_words};
 ghost use Rattle.front_words.specs.Usages.{made_of};
 
 use crate::clap_words::{line_of, matches_for, push_option};
@@ -22,7 +22,7 @@ const CHOICES: &[&str] = &["drive", "rest"];
 
 // The plan with breaks that the words say.
 fn breaks_found(alloc: Global, matches: &ArgMatches) -> Result<Invocation, WordsFault>
-    ensures made { Answers
+    ensures made { IsAnswer
         (made_at matches.now breaks_usage plan_places breaks_choices) result }
     ensures supported { IfOk result AsksSupported }
 {
@@ -58,7 +58,7 @@ pub fn read_breaks(
     given: &[Given],
 ) -> Result<Invocation, WordsFault>
     requires plain { IsPlainSplit (split_of_words places.now given.now) }
-    ensures made { Answers
+    ensures made { IsAnswer
         (made_of breaks_usage (split_of_words places.now given.now)) result }
     ensures supported { IfOk result AsksSupported }
 {

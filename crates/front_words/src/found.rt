@@ -3,7 +3,7 @@ ghost use Rattle.std.specs.Prelude.{IfOk, option_map};
 ghost use Rattle.front_words.specs.ClapCommands.{text_at, value_at};
 ghost use Rattle.front_words.specs.Commands.{name_in, number_in, report_in};
 ghost use Rattle.front_words.specs.Forms.{certificate, count, file, folder, instant, number, of_number, of_text, report, text_if, vehicle};
-ghost use Rattle.front_words.specs.Inside.{Answers, AnswersWith, IsUpTo};
+ghost use Rattle.front_words.specs.Inside.{IsAnswer, IsAnswerWith, IsUpTo};
 ghost use Rattle.front_words.specs.Usages.{value_if};
 ghost use Rattle.front_words.specs.declared.limits.TheConstants.{MOST_WORKERS, USUAL_WORKERS};
 ghost use Rattle.route_base.specs.Time.{IsInstant};
@@ -20,7 +20,7 @@ use std::alloc::Global;
 
 // A copy of a word, if it fits.
 fn copy_if(alloc: Global, fits: bool, word: &str) -> Result<Text, WordsFault>
-    ensures { AnswersWith of_text (text_if fits word.now) result }
+    ensures { IsAnswerWith of_text (text_if fits word.now) result }
 {
     if fits {
         Ok(Text::of(alloc, word)?)
@@ -31,7 +31,7 @@ fn copy_if(alloc: Global, fits: bool, word: &str) -> Result<Text, WordsFault>
 
 // The name of a folder.
 pub fn folder_at(alloc: Global, matches: &ArgMatches, id: &str) -> Result<Text, WordsFault>
-    ensures { AnswersWith of_text (value_at matches.now folder id.now) result }
+    ensures { IsAnswerWith of_text (value_at matches.now folder id.now) result }
 {
     match matches.get_str(id) {
         Some(word) => copy_if(alloc, is_folder_word(word), word),
@@ -41,7 +41,7 @@ pub fn folder_at(alloc: Global, matches: &ArgMatches, id: &str) -> Result<Text, 
 
 // The name of a vehicle.
 pub fn vehicle_at(alloc: Global, matches: &ArgMatches, id: &str) -> Result<Text, WordsFault>
-    ensures { AnswersWith of_text (value_at matches.now vehicle id.now) result }
+    ensures { IsAnswerWith of_text (value_at matches.now vehicle id.now) result }
 {
     match matches.get_str(id) {
         Some(word) => copy_if(alloc, is_name_word(word), word),
@@ -51,7 +51,7 @@ pub fn vehicle_at(alloc: Global, matches: &ArgMatches, id: &str) -> Result<Text,
 
 // The name of a file in the folder.
 pub fn file_at(alloc: Global, matches: &ArgMatches, id: &str) -> Result<Text, WordsFault>
-    ensures { AnswersWith of_text (value_at matches.now file id.now) result }
+    ensures { IsAnswerWith of_text (value_at matches.now file id.now) result }
 {
     match matches.get_str(id) {
         Some(word) => copy_if(alloc, is_name_word(word), word),
@@ -61,7 +61,7 @@ pub fn file_at(alloc: Global, matches: &ArgMatches, id: &str) -> Result<Text, Wo
 
 // The name of a certificate.
 pub fn certificate_at(alloc: Global, matches: &ArgMatches, id: &str) -> Result<Text, WordsFault>
-    ensures { AnswersWith of_text (value_at matches.now certificate id.now) result }
+    ensures { IsAnswerWith of_text (value_at matches.now certificate id.now) result }
 {
     match matches.get_str(id) {
         Some(word) => copy_if(alloc, is_certificate_word(word), word),
@@ -71,7 +71,7 @@ pub fn certificate_at(alloc: Global, matches: &ArgMatches, id: &str) -> Result<T
 
 // The number of a node or of an arc.
 pub fn number_at(matches: &ArgMatches, id: &str) -> Result<u32, WordsFault>
-    ensures { AnswersWith of_number (value_at matches.now number id.now) result }
+    ensures { IsAnswerWith of_number (value_at matches.now number id.now) result }
 {
     match matches.get_str(id) {
         Some(word) => number_word(word).ok_or(WordsFault::NotACommand),
@@ -81,7 +81,7 @@ pub fn number_at(matches: &ArgMatches, id: &str) -> Result<u32, WordsFault>
 
 // An instant.
 pub fn instant_at(matches: &ArgMatches, id: &str) -> Result<Minute, WordsFault>
-    ensures value { AnswersWith of_number (value_at matches.now instant id.now) result }
+    ensures value { IsAnswerWith of_number (value_at matches.now instant id.now) result }
     ensures instant { IfOk result IsInstant }
 {
     match matches.get_str(id) {
@@ -92,7 +92,7 @@ pub fn instant_at(matches: &ArgMatches, id: &str) -> Result<Minute, WordsFault>
 
 // A number from 1 to the limit.
 pub fn count_at(matches: &ArgMatches, id: &str, limit: u64) -> Result<u64, WordsFault>
-    ensures value { AnswersWith of_number (value_at matches.now (count limit) id.now) result }
+    ensures value { IsAnswerWith of_number (value_at matches.now (count limit) id.now) result }
     ensures within { IfOk result (IsUpTo limit) }
 {
     match matches.get_str(id) {
@@ -103,7 +103,7 @@ pub fn count_at(matches: &ArgMatches, id: &str, limit: u64) -> Result<u64, Words
 
 // A number of 32 bits from 1 to the limit.
 pub fn small_count_at(matches: &ArgMatches, id: &str, limit: u32) -> Result<u32, WordsFault>
-    ensures value { AnswersWith of_number (value_at matches.now (count limit) id.now) result }
+    ensures value { IsAnswerWith of_number (value_at matches.now (count limit) id.now) result }
     ensures within { IfOk result (IsUpTo limit) }
 {
     match matches.get_str(id) {
@@ -114,7 +114,7 @@ pub fn small_count_at(matches: &ArgMatches, id: &str, limit: u32) -> Result<u32,
 
 // The form of a report, or plain where no word says it.
 pub fn report_or_plain(matches: &ArgMatches, id: &str) -> Result<Form, WordsFault>
-    ensures { Answers (option_map report_in
+    ensures { IsAnswer (option_map report_in
         (value_if report (text_at matches.now id.now))) result }
 {
     match matches.get_str(id) {
@@ -129,7 +129,7 @@ pub fn certificate_if(
     matches: &ArgMatches,
     id: &str,
 ) -> Result<Option<Text>, WordsFault>
-    ensures { Answers (option_map name_in
+    ensures { IsAnswer (option_map name_in
         (value_if certificate (text_at matches.now id.now))) result }
 {
     match matches.get_str(id) {
@@ -140,7 +140,7 @@ pub fn certificate_if(
 
 // The number of workers, or the usual one where no word says it.
 pub fn workers_or_usual(matches: &ArgMatches, id: &str) -> Result<u32, WordsFault>
-    ensures value { Answers (option_map (number_in USUAL_WORKERS)
+    ensures value { IsAnswer (option_map (number_in USUAL_WORKERS)
         (value_if (count MOST_WORKERS) (text_at matches.now id.now))) result }
     ensures within { IfOk result (IsUpTo MOST_WORKERS) }
 {
@@ -158,7 +158,7 @@ pub fn count_or_usual(
     usual: u64,
 ) -> Result<u64, WordsFault>
     requires { IsUpTo limit usual }
-    ensures value { Answers (option_map (number_in usual)
+    ensures value { IsAnswer (option_map (number_in usual)
         (value_if (count limit) (text_at matches.now id.now))) result }
     ensures within { IfOk result (IsUpTo limit) }
 {

@@ -2,7 +2,7 @@
 ghost use Rattle.std.specs.Prelude.{◌≡◌, ◌*◌, [], IfOk, nat_le};
 ghost use Rattle.front_words.specs.ClapCommands.{gen_places, made_at, values_at};
 ghost use Rattle.front_words.specs.Commands.{AsksSupported, gen_usage};
-ghost use Rattle.front_words.specs.Inside.{Answers, AnswersWith, AreCounted, gen_values};
+ghost use Rattle.front_words.specs.Inside.{IsAnswer, IsAnswerWith, AreCounted, gen_values};
 ghost use Rattle.net_generator.specs.declared.limits.TheConstants.{MOST_GENERATED_NODES};
 
 use crate::found::{count_at, folder_at, small_count_at};
@@ -13,7 +13,7 @@ use std::alloc::Global;
 
 // The network that the words say, whose nodes may be too many.
 fn counts_found(alloc: Global, matches: &ArgMatches) -> Result<Gen, WordsFault>
-    ensures values { AnswersWith gen_values
+    ensures values { IsAnswerWith gen_values
         (values_at matches.now gen_places gen_usage.places) result }
     ensures counted { IfOk result AreCounted }
 {
@@ -35,7 +35,7 @@ fn has_few_nodes(network: &Gen) -> bool
 
 // The network that the words say, where its nodes are few enough.
 pub fn gen_found(alloc: Global, matches: &ArgMatches) -> Result<Invocation, WordsFault>
-    ensures made { Answers (made_at matches.now gen_usage gen_places []) result }
+    ensures made { IsAnswer (made_at matches.now gen_usage gen_places []) result }
     ensures supported { IfOk result AsksSupported }
 {
     let network = counts_found(alloc, matches)?;

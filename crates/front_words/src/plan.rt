@@ -2,7 +2,7 @@
 ghost use Rattle.std.specs.Prelude.{◌≡◌, IfOk, map, option_map};
 ghost use Rattle.front_words.specs.ClapCommands.{line_of_plan, made_at, plan_choices, plan_places};
 ghost use Rattle.front_words.specs.Commands.{AsksSupported, plan_usage};
-ghost use Rattle.front_words.specs.Inside.{Answers, IsPlainSplit, split_of_words};
+ghost use Rattle.front_words.specs.Inside.{IsAnswer, IsPlainSplit, split_of_words};
 ghost use Rattle.front_words.specs.Usages.{made_of};
 
 use crate::clap_words::{line_of, matches_for, push_option};
@@ -20,7 +20,7 @@ const CHOICES: &[&str] = &["form", "certificate"];
 
 // The plan that the words say.
 fn plan_found(alloc: Global, matches: &ArgMatches) -> Result<Invocation, WordsFault>
-    ensures made { Answers
+    ensures made { IsAnswer
         (made_at matches.now plan_usage plan_places plan_choices) result }
     ensures supported { IfOk result AsksSupported }
 {
@@ -52,7 +52,7 @@ fn plan_line<'a>(
 // The plan of positional words and of the values of options, by `clap`.
 pub fn read_plan(alloc: Global, places: &[&str], given: &[Given]) -> Result<Invocation, WordsFault>
     requires plain { IsPlainSplit (split_of_words places.now given.now) }
-    ensures made { Answers
+    ensures made { IsAnswer
         (made_of plan_usage (split_of_words places.now given.now)) result }
     ensures supported { IfOk result AsksSupported }
 {

@@ -2,7 +2,7 @@
 ghost use Rattle.std.specs.Prelude.{◌≡◌, [], IfOk, map};
 ghost use Rattle.front_words.specs.ClapCommands.{made_at};
 ghost use Rattle.front_words.specs.Commands.{AsksSupported};
-ghost use Rattle.front_words.specs.Inside.{Answers, ArePlain, ids_in, split_of_words, usage_in};
+ghost use Rattle.front_words.specs.Inside.{IsAnswer, ArePlain, ids_in, split_of_words, usage_in};
 ghost use Rattle.front_words.specs.Usages.{made_of};
 
 use crate::clap_words::{line_of, matches_for};
@@ -53,7 +53,7 @@ impl PositionalCommand {
 
     // The command that the words say.
     fn found(self, alloc: Global, matches: &ArgMatches) -> Result<Invocation, WordsFault>
-        ensures made { Answers (made_at matches.now (usage_in self) (ids_in self) []) result }
+        ensures made { IsAnswer (made_at matches.now (usage_in self) (ids_in self) []) result }
         ensures supported { IfOk result AsksSupported }
     {
         match self {
@@ -74,7 +74,7 @@ pub fn read_places(
     places: &[&str],
 ) -> Result<Invocation, WordsFault>
     requires { ArePlain (map (λ w. w.now) places.now) }
-    ensures made { Answers (made_of (usage_in command) (split_of_words places.now [])) result }
+    ensures made { IsAnswer (made_of (usage_in command) (split_of_words places.now [])) result }
     ensures supported { IfOk result AsksSupported }
 {
     let ids = command.places();

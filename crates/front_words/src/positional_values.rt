@@ -2,7 +2,7 @@
 ghost use Rattle.std.specs.Prelude.{[], IfOk};
 ghost use Rattle.front_words.specs.ClapCommands.{bans_places, check_places, made_at, plan_places};
 ghost use Rattle.front_words.specs.Commands.{AsksSupported, bans_usage, check_usage, explain_usage, latest_usage, tour_usage};
-ghost use Rattle.front_words.specs.Inside.{Answers};
+ghost use Rattle.front_words.specs.Inside.{IsAnswer};
 
 use crate::found::{certificate_at, file_at, folder_at, instant_at, number_at, vehicle_at};
 use crate::trip_words::trip_found;
@@ -12,7 +12,7 @@ use std::alloc::Global;
 
 // `check DIR VEHICLE FROM TO DEPART UNTIL NAME`
 pub fn check_found(alloc: Global, matches: &ArgMatches) -> Result<Invocation, WordsFault>
-    ensures made { Answers (made_at matches.now check_usage check_places []) result }
+    ensures made { IsAnswer (made_at matches.now check_usage check_places []) result }
     ensures supported { IfOk result AsksSupported }
 {
     Ok(Invocation::Check(Check {
@@ -24,7 +24,7 @@ pub fn check_found(alloc: Global, matches: &ArgMatches) -> Result<Invocation, Wo
 
 // `bans DIR VEHICLE ARC DEPART UNTIL`
 pub fn bans_found(alloc: Global, matches: &ArgMatches) -> Result<Invocation, WordsFault>
-    ensures made { Answers (made_at matches.now bans_usage bans_places []) result }
+    ensures made { IsAnswer (made_at matches.now bans_usage bans_places []) result }
     ensures supported { IfOk result AsksSupported }
 {
     Ok(Invocation::Bans(Bans {
@@ -38,7 +38,7 @@ pub fn bans_found(alloc: Global, matches: &ArgMatches) -> Result<Invocation, Wor
 
 // `latest DIR VEHICLE FROM TO DEPART UNTIL`
 pub fn latest_found(alloc: Global, matches: &ArgMatches) -> Result<Invocation, WordsFault>
-    ensures made { Answers (made_at matches.now latest_usage plan_places []) result }
+    ensures made { IsAnswer (made_at matches.now latest_usage plan_places []) result }
     ensures supported { IfOk result AsksSupported }
 {
     Ok(Invocation::Latest(Latest {
@@ -49,7 +49,7 @@ pub fn latest_found(alloc: Global, matches: &ArgMatches) -> Result<Invocation, W
 
 // `tour DIR VEHICLE FROM TO DEPART UNTIL STOPS`
 pub fn tour_found(alloc: Global, matches: &ArgMatches) -> Result<Invocation, WordsFault>
-    ensures made { Answers (made_at matches.now tour_usage check_places []) result }
+    ensures made { IsAnswer (made_at matches.now tour_usage check_places []) result }
     ensures supported { IfOk result AsksSupported }
 {
     Ok(Invocation::Tour(Tour {
@@ -61,7 +61,7 @@ pub fn tour_found(alloc: Global, matches: &ArgMatches) -> Result<Invocation, Wor
 
 // `explain DIR VEHICLE FROM TO DEPART UNTIL ITINERARY`
 pub fn explain_found(alloc: Global, matches: &ArgMatches) -> Result<Invocation, WordsFault>
-    ensures made { Answers (made_at matches.now explain_usage check_places []) result }
+    ensures made { IsAnswer (made_at matches.now explain_usage check_places []) result }
     ensures supported { IfOk result AsksSupported }
 {
     Ok(Invocation::Explain(Explain {

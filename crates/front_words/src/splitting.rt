@@ -1,7 +1,7 @@
 // Divides the words behind a command's name into positional words and options.
 ghost use Rattle.std.specs.Prelude.{◌≡◌, IfOk, map};
 ghost use Rattle.front_words.specs.Splitting.{is_dashed, is_option, piece_of, split_of};
-ghost use Rattle.front_words.specs.Inside.{AnswersWith, IsPlainSplit, piece_of_word, split_in};
+ghost use Rattle.front_words.specs.Inside.{IsAnswerWith, IsPlainSplit, piece_of_word, split_in};
 
 use crate::WordsFault;
 use route_base::Text;
@@ -75,7 +75,7 @@ pub fn split_words<'a>(
     options: &[&str],
     words: &'a [Text],
 ) -> Result<Split<'a>, WordsFault>
-    ensures split { AnswersWith split_in
+    ensures split { IsAnswerWith split_in
         (split_of (map (λ o. o.now) options.now) words.now) result }
     ensures plain { IfOk result (λ s. IsPlainSplit (split_in s)) }
 {

@@ -2,7 +2,7 @@
 ghost use Rattle.std.specs.Prelude.{IfOk};
 ghost use Rattle.front_words.specs.ClapCommands.{trip_places, values_at};
 ghost use Rattle.front_words.specs.Commands.{IsTimed, trip_forms};
-ghost use Rattle.front_words.specs.Inside.{AnswersWith, trip_values};
+ghost use Rattle.front_words.specs.Inside.{IsAnswerWith, trip_values};
 
 use crate::found::{instant_at, number_at, vehicle_at};
 use crate::{Trip, WordsFault};
@@ -17,7 +17,8 @@ pub const NAMED_TRIP_PLACES: &[&str] = &["dir", "vehicle", "from", "to", "depart
 
 // The trip that the words say.
 pub fn trip_found(alloc: Global, matches: &ArgMatches) -> Result<Trip, WordsFault>
-    ensures values { AnswersWith trip_values (values_at matches.now trip_places trip_forms) result }
+    ensures values { IsAnswerWith trip_values
+        (values_at matches.now trip_places trip_forms) result }
     ensures timed { IfOk result IsTimed }
 {
     Ok(Trip {

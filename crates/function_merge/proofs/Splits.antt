@@ -1,8 +1,9 @@
 -- Pieces cut into those before a place and those from it on.
 use Rattle.std.proofs.Common.{◌≡◌, ⊎_elim, ◌++◌, ℕ, ◌+◌, ◌≤◌, ◌<◌, false, zero, suc, Some, None, List, [], ◌∷◌, length, get_or, take, drop, All, AllPairs}
-use Rattle.std.proofs.Common.{refl, ◌∙◌, ap, sym, subst, arith}
+use Rattle.std.proofs.Common.{length-append, refl, ◌∙◌, ap, sym, subst, arith}
 use Rattle.std.specs.List.{AllWithin}
 use Rattle.std.proofs.lemmas.List.{get_or-take, get_or-drop, length-take-le, length-drop, get_or_default, take-append-drop}
+use Rattle.std.proofs.Math.Seq.{take-append-add, take-append_seam, drop-append-add, drop-append_seam}
 use Rattle.std.proofs.lemmas.Bool.{cases_lt, cases_eq}
 use Rattle.std.specs.List.Sorted.{IsNonDecreasingBy}
 use Rattle.cost_functions.proofs.Places.{ends_rise, value_onto, value_at_place, value_before_tail}
@@ -109,6 +110,30 @@ parts_at ps k le built = record {
       let same = ap (λ (p : Piece). p.hi) (get_or-take k ps i e before) in
       omega (arith, far, same));
 }
+
+-- a back that is cut: its front goes with the front
+module _ (ps xs ys rest tail : List Piece) (built : AreBuilt ps) (whole : AreParts ps xs ys) (cut : AreParts ys rest tail) where
+  rest_is : take (length rest) ys ≡ rest
+  rest_is = ap (λ zs. take (length rest) zs) cut.both ∙ take-append_seam rest tail
+
+  within : length rest ≤ length ys
+  within = omega (arith, ap length cut.both, length-append rest tail)
+
+  pub cut_front : AreParts (xs ++ rest) xs rest
+  cut_front =
+      let P : Piece → Type 0 = λ p. All (λ q. q.hi < p.lo) xs in
+      record { both = refl; front = whole.front; back = cut.front; apart = subst (All P) rest_is (every_take ys (length rest) within P whole.apart) }
+
+  pub cut_whole : AreParts ps (xs ++ rest) tail
+  cut_whole =
+      let n = length xs + length rest in
+      let front : take n ps ≡ xs ++ rest =
+      ap (λ zs. take n zs) whole.both ∙ take-append-add xs ys (length rest) ∙ ap (λ zs. xs ++ zs) rest_is in
+      let back : drop n ps ≡ tail =
+      ap (λ zs. drop n zs) whole.both ∙ drop-append-add xs ys (length rest) ∙ ap (λ zs. drop (length rest) zs) cut.both
+      ∙ drop-append_seam rest tail in
+      subst (λ zs. AreParts ps zs tail) front (subst (AreParts ps (take n ps)) back
+      (parts_at ps n (omega (arith, ap length whole.both, length-append xs ys, within)) built))
 
 -- behind the front the values are those of the back
 pub value_past : (front back : List Piece) (from t : ℕ) → All (λ p. p.hi < from) front → from ≤ t → value_at (front ++ back) t ≡ value_at back t

@@ -40,8 +40,8 @@ pub fn least(alloc: Global, f: &CostFn, g: &CostFn) -> Result<Merged, OutOfMemor
 }
 
 /// The same as `least` for a reduced function f that is given away. Where g is nowhere better, f stays as it is, and no memory is
-/// asked for. Pieces of f that end before g is better stay where they are; those that begin behind g are copied twice, each time in
-/// one block. Linear in the number of pieces of both between the ends of g.
+/// asked for. Pieces of f that end before g is better stay where they are; the others are copied away in one block, and those that begin
+/// behind g are copied back in one. Linear in the number of pieces of both between the ends of g.
 pub fn improve(alloc: Global, f: CostFn, g: &CostFn) -> Result<Merged, OutOfMemory>
     requires first { AreBuilt f }
     requires second { AreSmallPieces g.now }
@@ -66,17 +66,32 @@ fn improve_by(
     requires second { AreSmallPieces g.now }
     ensures { IfOk result (λ merged. IsLeast f g.now merged.function merged.improved) }
 {
-    let other = g.pieces();
-    match first_better(f.pieces(), other) {
-        Some(first) => {
-            let own = with_room(f.into_pieces(), other.len())?;
-            improve_within(own, other, first, spare, spare_set)
-        }
+    match first_better(f.pieces(), g.pieces()) {
+        Some(first) => improve_from(f, g, first, spare, spare_set),
         None => Ok(Merged {
             function: f,
             improved: spare_set.cleared(),
         }),
     }
+}
+
+// The same, where g is better at `first` and not before.
+fn improve_from(
+    f: CostFn,
+    g: &CostFn,
+    first: Minute,
+    spare: &mut Vec<Piece>,
+    spare_set: MinuteSet,
+) -> Result<Merged, OutOfMemory>
+    requires first { AreBuilt f }
+    requires second { AreSmallPieces g.now }
+    requires better { better_at f g.now first ≡ true }
+    requires worse { (t : ℕ) → t < first → better_at f g.now t ≡ false }
+    ensures { IfOk result (λ merged. IsLeast f g.now merged.function merged.improved) }
+{
+    let other = g.pieces();
+    let own = with_room(f.into_pieces(), other.len())?;
+    improve_within(own, other, first, spare, spare_set)
 }
 
 /// Makes f the least of f and g, and returns the minutes at which g was better. It costs as much as `improve`. Out of memory leaves
@@ -111,8 +126,11 @@ pub fn improve_with_spare(
     ensures built { AreBuilt f.new }
     ensures err { OnErr result (f.new ≡ []) }
 {
+    let Some(first) = first_better(f.pieces(), g.pieces()) else {
+        return Ok(spare_set.cleared());
+    };
     let taken = mem::replace(f, CostFn::empty(alloc));
-    let merged = improve_by(taken, g, spare, spare_set)?;
+    let merged = improve_from(taken, g, first, spare, spare_set)?;
     let Merged { function, improved } = merged;
     *f = function;
     Ok(improved)
@@ -146,21 +164,19 @@ fn improve_within(
     ensures { IfOk result (λ merged. IsLeast f.items g.now merged.function merged.improved) }
 {
     let mut before = f;
-    let tail = split_behind(&mut before, last_minute(g))?;
     move_from(&mut before, first, spare)?;
-    let merged = merged_behind(spare_set, before, spare.as_slice(), g, first)?;
-    put_back(merged, &tail)
+    let (rest, tail) = split_behind(spare.as_slice(), last_minute(g));
+    let merged = merged_behind(spare_set, before, rest, g, first)?;
+    put_back(merged, tail)
 }
 
-// Takes off the pieces that begin behind the minute.
-fn split_behind(pieces: &mut Vec<Piece>, minute: Minute) -> Result<Vec<Piece>, OutOfMemory>
-    requires { AreBuilt pieces.old.items }
-    ensures parts { IfOk result (λ tail. AreParts pieces.old.items pieces.new.items tail.items) }
-    ensures behind { IfOk result (λ tail. All (λ p. minute < p.lo) tail.items) }
+// The pieces that begin by the minute, and those behind it.
+fn split_behind(pieces: &[Piece], minute: Minute) -> (&[Piece], &[Piece])
+    requires { AreBuilt pieces.now }
+    ensures parts { AreParts pieces.now result.0.now result.1.now }
+    ensures behind { All (λ p. minute < p.lo) result.1.now }
 {
-    let keep = beginning_by(pieces, minute);
-    let tail = pieces.split_off(keep)?;
-    Ok(tail)
+    pieces.split_at(beginning_by(pieces, minute))
 }
 
 // Moves the pieces that do not end before the minute to another list, whatever that holds.
@@ -187,6 +203,9 @@ fn put_back(merged: Merged, tail: &[Piece]) -> Result<Merged, OutOfMemory>
     ensures improved { IfOk result (λ whole. whole.improved ≡ merged.improved) }
     ensures built { IfOk result (λ whole. AreBuilt whole.function) }
 {
+    if tail.is_empty() {
+        return Ok(merged);
+    }
     let Merged { function, improved } = merged;
     let mut built = Builder::behind(function.into_pieces());
     built.extend(tail)?;

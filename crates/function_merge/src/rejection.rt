@@ -1,5 +1,5 @@
 // A quick test that a shifted function is nowhere better than another.
-ghost use Rattle.std.specs.Prelude.{◌≡◌, ◌+◌, ◌-◌, ◌*◌, ◌≤◌, ℕ, Some, IsTrue};
+ghost use Rattle.std.specs.Prelude.{◌≡◌, ◌+◌, ◌≤◌, ℕ, Some, IsTrue};
 ghost use Rattle.route_base.specs.declared.limits.TheConstants.{LAST_INSTANT, HIGHEST_COST};
 ghost use Rattle.cost_functions.specs.Lines.{line_at, IsPiece};
 ghost use Rattle.cost_functions.specs.Pieces.{value_at, ArePieces};
@@ -9,9 +9,10 @@ use crate::suffixes::find_pieces;
 use cost_functions::{CostFn, Piece};
 use route_base::{Cost, Minute};
 
-/// Whether for each of the pieces one piece of f shows that f is no larger `minutes` later than the piece at `cost` thousandths more. If
-/// so, the shifted pieces are nowhere better than f; else they may be. A search in f for each piece, until one isn't shown so: mostly
-/// of a few pieces from the end of f, else a binary search; no memory.
+/// Whether pieces of f show for each of the pieces that f is no larger `minutes` later than the piece at `cost` thousandths more: at both
+/// ends of what they share with it. If so, the shifted pieces are nowhere better than f; else they may be. A search in
+/// f for each piece, until one isn't shown so: mostly of a few pieces from the end of f, else a binary search; then linear in the pieces
+/// of f that the shifted piece meets; no memory.
 pub fn is_shown_no_better(f: &CostFn, pieces: &[Piece], minutes: u64, cost: Cost) -> bool
     requires pieces { ArePieces pieces.now }
     requires minutes { minutes ≤ LAST_INSTANT }
@@ -27,8 +28,7 @@ pub fn is_shown_no_better(f: &CostFn, pieces: &[Piece], minutes: u64, cost: Cost
     true
 }
 
-// Whether one piece of f has all minutes of the piece, shifted, with values that are no larger: at the first of them, and it rises no
-// more steeply.
+// Whether pieces of f have all minutes of the piece, shifted, with values that are shown to be no larger.
 fn is_covered(f: &[Piece], piece: Piece, minutes: u64, cost: Cost) -> bool
     requires f { ArePieces f.now }
     requires piece { IsPiece piece }
@@ -37,23 +37,44 @@ fn is_covered(f: &[Piece], piece: Piece, minutes: u64, cost: Cost) -> bool
     ensures { IsTrue result → (t : ℕ) → piece.lo ≤ t → t ≤ piece.hi
         → IsNoBetter f.now (t + minutes) (line_at piece t + cost) }
 {
-    let lo: Minute = piece.lo + minutes;
-    let [own, ..] = find_pieces(f, lo) else {
-        return false;
-    };
-    if lo < own.lo || own.hi < piece.hi + minutes {
-        return false;
+    let mut from: Minute = piece.lo;
+    let mut left = find_pieces(f, from + minutes);
+    'cover: while let [own, rest @ ..] = left {
+        if !is_no_higher(*own, piece, from, minutes, cost) {
+            return false;
+        }
+        if piece.hi + minutes <= own.hi {
+            return true;
+        }
+        from = own.hi + 1 - minutes;
+        left = rest;
     }
-    if piece.cost + cost < own.value(lo) {
-        return false;
-    }
-    rises_no_more(*own, piece)
+    false
 }
 
-// Whether the first piece rises no more steeply than the second, along the second.
-fn rises_no_more(own: Piece, piece: Piece) -> bool
-    requires { piece.lo ≤ piece.hi }
-    ensures { IsTrue result → (n : ℕ) → n ≤ piece.hi - piece.lo → own.slope * n ≤ piece.slope * n }
+// Whether a piece of f has the minute `from` of the piece, shifted, with a value that is no larger, and as far as both go on rises no more
+// steeply or is no larger at the end.
+fn is_no_higher(own: Piece, piece: Piece, from: Minute, minutes: u64, cost: Cost) -> bool
+    requires own { IsPiece own }
+    requires piece { IsPiece piece }
+    requires minutes { minutes ≤ LAST_INSTANT }
+    requires cost { cost ≤ HIGHEST_COST }
+    requires from { piece.lo ≤ from }
+    requires upto { from ≤ piece.hi }
+    requires reach { from + minutes ≤ own.hi }
+    ensures begins { IsTrue result → own.lo ≤ from + minutes }
+    ensures low { IsTrue result → (t : ℕ) → from ≤ t → t ≤ piece.hi → t + minutes ≤ own.hi
+        → line_at own (t + minutes) ≤ line_at piece t + cost }
 {
-    own.slope <= piece.slope || piece.lo == piece.hi
+    if from + minutes < own.lo {
+        return false;
+    }
+    if piece.value(from) + cost < own.value(from + minutes) {
+        return false;
+    }
+    if own.slope <= piece.slope {
+        return true;
+    }
+    let last = piece.hi.min(own.hi - minutes);
+    own.value(last + minutes) <= piece.value(last) + cost
 }

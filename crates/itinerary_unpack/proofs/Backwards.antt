@@ -18,9 +18,9 @@ use Rattle.route_base.proofs.Arcs.{TakesTime, takes_time}
 use Rattle.route_base.proofs.Numbered.{number_past}
 use Rattle.route_base.specs.StepsBack.{HasWaysTo, HasSource, LeadsFirst}
 use Rattle.route_base.proofs.GoingBack.{leads_at_end, leads_before_leg, has_source}
-use Rattle.cost_functions.specs.Pieces.{value_at}
+use Rattle.cost_functions.specs.Pieces.{value_at, value_in}
 use Rattle.cost_functions.specs.declared.pieces.Piece.{Piece}
-use Rattle.propagation.specs.Found.{cost_by, cost_at, Finding, IsFoundFor}
+use Rattle.propagation.specs.Found.{cost_at, Finding, IsFoundFor}
 use Rattle.propagation.specs.Inside.Invariants.{point}
 use Rattle.itinerary_unpack.specs.Inside.Sources.{ComesFirst}
 use Rattle.itinerary_unpack.specs.Inside.Ways.{LeadsToPair}
@@ -39,15 +39,15 @@ start_free s r y takes (x ∷ xs, walk) =
 pub node_within : (functions : List (List Piece)) (u t z : ℕ) → cost_at functions u t ≡ Some z → (1 ≤ u) × (u ≤ length functions)
 node_within functions u t z is = ⊎_elim
     (λ (some : 0 < u). ⊎_elim
-    (λ (past : length functions < u). let bad : None ≡ Some z = sym (ap (λ o. cost_by o t) (number_past functions u past)) ∙ is in cc)
+    (λ (past : length functions < u). let bad : None ≡ Some z = sym (ap (λ o. value_in o t) (number_past functions u past)) ∙ is in cc)
     (λ (within : u ≤ length functions). (omega (arith, some), within))
     (cases_lt (length functions) u))
     (λ (none : u ≤ 0). let e : u ≡ 0 = omega (arith, none) in let bad : None ≡ Some z = ap (λ n. cost_at functions n t) (sym e) ∙ is in cc)
     (cases_lt 0 u)
 
 -- the cost at a node and minute is that of the node's function
-pub cost_is : (functions : List (List Piece)) (v t : ℕ) (own : List Piece) → at_number functions v ≡ Some own → cost_at functions v t ≡ cost_by (Some own) t
-cost_is functions v t own is = ap (λ o. cost_by o t) is
+pub cost_is : (functions : List (List Piece)) (v t : ℕ) (own : List Piece) → at_number functions v ≡ Some own → cost_at functions v t ≡ value_in (Some own) t
+cost_is functions v t own is = ap (λ o. value_in o t) is
 
 -- the cost that is read at a node and minute
 pub read_known : (functions : List (List Piece)) (v t here : ℕ) (own : List Piece) (at : Option ℕ) (x : ℕ) → at_number functions v ≡ Some own

@@ -18,7 +18,7 @@ use Rattle.route_base.specs.declared.faults.Cause.{Cause}
 use Rattle.table_reader.proofs.Lists.{position_within}
 use Rattle.network_tables.specs.Ratings.{Rating, rating_of, ratings_in}
 use Rattle.table_reader.specs.Records.{Record}
-use Rattle.network_tables.specs.NetworkModel.{IsGoodPark}
+use Rattle.network_tables.specs.NetworkModel.{IsGoodParked}
 use Rattle.network_tables.specs.Tolls.{Toll, toll_of, toll_for, tolls_in}
 
 -- a weight is at most 100 for a minute
@@ -110,16 +110,16 @@ module _ (nodes : ℕ) (rows : List Record) (areas : List (List ℕ)) (some : 0 
   within (b ∷ name) i is = position_within (bytes_eq (b ∷ name)) areas i is
 
   good_parts : (fields : ParkingFields) (weight area : Option ℕ) (p : Parked) → IsSmallWeight weight → ((i : ℕ) → area ≡ Some i → i < length areas)
-      → parked_stated (parked_with fields weight area) ≡ Some p → IsGoodPark (length areas) p
+      → parked_stated (parked_with fields weight area) ≡ Some p → IsGoodParked (length areas) p
   good_parts fields None area p small there is = absurd (cc)
   good_parts fields (Some w) None p small there is = absurd (cc)
   good_parts fields (Some w) (Some a) p small there is =
       let first : Parked = (fields.node, record { weight = w; area = a; hours = fields.hours }) in
       let same : first ≡ p = ap (λ (o : Option Parked). unwrap_or o first) is in
-      subst (IsGoodPark (length areas)) same (record { small = small w refl; placed = there a refl })
+      subst (IsGoodParked (length areas)) same (record { small = small w refl; placed = there a refl })
 
   good_fields : (read : Result ParkingFields Cause) (p : Parked) → parked_stated (parked_by nodes (ratings_in rows) areas read) ≡ Some p
-      → IsGoodPark (length areas) p
+      → IsGoodParked (length areas) p
   good_fields (Err cause) p is = absurd (cc)
   good_fields (Ok fields) p is =
       ⊎_elim
@@ -131,7 +131,7 @@ module _ (nodes : ℕ) (rows : List Record) (areas : List (List ℕ)) (some : 0 
       none : (p : Parked) → None ≡ Some p → ⊥
       none p same = cc
 
-  pub parked_in-good : (parked : List Record) → All (IsGoodPark (length areas)) (parked_in nodes (ratings_in rows) areas parked)
+  pub parked_in-good : (parked : List Record) → All (IsGoodParked (length areas)) (parked_in nodes (ratings_in rows) areas parked)
   parked_in-good parked =
-      all_filter_map (IsGoodPark (length areas)) (λ r. parked_stated (parked_of nodes (ratings_in rows) areas r))
+      all_filter_map (IsGoodParked (length areas)) (λ r. parked_stated (parked_of nodes (ratings_in rows) areas r))
       (λ row p is. good_fields (parking_fields_of row) p is) parked

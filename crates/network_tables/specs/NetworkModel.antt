@@ -47,13 +47,13 @@ abbrev pub toll_at : NetworkModel → ℕ → ℕ
 toll_at net a = unwrap_or (toll_for net.tolls a) 0
 
 -- a weight is at most 100 for a minute, and the area is one of this number of areas
-pub record IsGoodPark (areas : ℕ) (parked : Parked) : Type 0 where
+pub record IsGoodParked (areas : ℕ) (parked : Parked) : Type 0 where
   pub small : parked.1.weight ≤ HEAVIEST_WEIGHT
   pub placed : parked.1.area < areas
 
 -- the node is one of this number of nodes
-abbrev pub IsNodeOf : ℕ → Parked → Type 0
-IsNodeOf nodes parked = (1 ≤ parked.0) × (parked.0 ≤ nodes)
+abbrev pub IsParkedWithin : ℕ → Parked → Type 0
+IsParkedWithin nodes parked = (1 ≤ parked.0) × (parked.0 ≤ nodes)
 
 -- each of these places is below n
 abbrev pub AreBelow : ℕ → List ℕ → Type 0
@@ -64,6 +64,6 @@ pub record IsGoodNetwork (net : NetworkModel) : Type 0 where
   pub roads : length net.roads ≡ length net.graph.arcs
   pub placed : AreBelow (length net.areas) net.roads
   pub closures : length net.closures ≡ length net.graph.arcs
-  pub parks : All (IsGoodPark (length net.areas)) net.parks
-  pub rated : All (IsNodeOf net.graph.nodes) net.parks
+  pub parks : All (IsGoodParked (length net.areas)) net.parks
+  pub rated : All (IsParkedWithin net.graph.nodes) net.parks
   pub tolls : (a : ℕ) → toll_at net a ≤ HIGHEST_TOLL

@@ -20,7 +20,7 @@ use route_base::limits::{LONGEST_RULE, MOST_PARKING_ROWS};
 use route_base::{Cause, Cost, FileKind, OutOfMemory, is_name_field, read_table_number};
 use std::alloc::Global;
 use std::marker::Model;
-use table_reader::{NameIndex, RowFault, Table, field, two_fields};
+use table_reader::{NameIndex, RowFault, Table, four_fields, two_fields};
 
 /// Hours by their texts, which contracts see as a list of hours.
 #[derive(Drop)]
@@ -137,15 +137,6 @@ fn read_four<'a>(
         area,
         hours,
     })
-}
-
-// The four fields of a row.
-fn four_fields(row: &ByteRecord) -> (&[u8], &[u8], &[u8], &[u8])
-    requires { length (fields_of row.now) ≡ 4 }
-    ensures { fields_of row.now
-        ≡ result.0.now ∷ result.1.now ∷ result.2.now ∷ result.3.now ∷ [] }
-{
-    (field(row, 0), field(row, 1), field(row, 2), field(row, 3))
 }
 
 // Parses a data row, which has two fields under the shorter header.

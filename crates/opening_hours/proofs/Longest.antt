@@ -14,7 +14,7 @@ use Rattle.opening_hours.specs.declared.tokens.Token.{Token}
 use Rattle.opening_hours.specs.declared.tokens.Token.TheVariants.{Always, Time, Number, Dash, Comma, Semicolon, Colon, LeftBracket, RightBracket}
 use Rattle.opening_hours.specs.declared.tokens.Digits.TheVariants as digits
 use Rattle.opening_hours.specs.Tokens.{is_digit, is_letter, one_digit, number_of_two}
-use Rattle.opening_hours.specs.Tokens.{word_token, AreLetters, IsToken, IsFirst}
+use Rattle.opening_hours.specs.Tokens.{word_token, AreLetters, IsToken, IsFirstToken}
 use Rattle.opening_hours.specs.Tokens.{without_blanks, IsCut}
 use Rattle.opening_hours.specs.Inside.Tokenizer.{word_of, word_at, always_at, long_time_at, short_time_at, long_number_at}
 use Rattle.opening_hours.specs.Inside.Tokenizer.{short_number_at, mark_at, token_at, IsMatched}
@@ -252,7 +252,7 @@ reaches other more u tokens.left_bracket = (LeftBracket, more, mark_first 91 mor
 reaches other more u tokens.right_bracket = (RightBracket, more, mark_first 93 more RightBracket refl refl refl refl, omega arith)
 
 -- The token that is found stands at the front, and no longer one does.
-pub found_first : (text : List ℕ) (t : Token) (rest : List ℕ) → token_at text ≡ Some (t, rest) → IsFirst text t rest
+pub found_first : (text : List ℕ) (t : Token) (rest : List ℕ) → token_at text ≡ Some (t, rest) → IsFirstToken text t rest
 found_first text t rest e =
     let f = token_front text t rest e in
     record {
@@ -302,14 +302,14 @@ same_front (x ∷ xs) (y ∷ ys) cs ds e n =
     (ap (λ z. z ∷ xs) first ∙ ap (λ (zs : List ℕ). y ∷ zs) p.0, p.1)
 
 -- two longest tokens at the front are one
-one_first : (text : List ℕ) (t u : Token) (rest after : List ℕ) → IsFirst text t rest → IsFirst text u after → (t ≡ u) × (rest ≡ after)
+one_first : (text : List ℕ) (t u : Token) (rest after : List ℕ) → IsFirstToken text t rest → IsFirstToken text u after → (t ≡ u) × (rest ≡ after)
 one_first text t u rest after h k =
     let n : length h.lexeme ≡ length k.lexeme = omega (arith, h.longest k.lexeme after u k.parts k.is, k.longest h.lexeme rest t h.parts h.is) in
     let p = same_front h.lexeme k.lexeme rest after (sym h.parts ∙ k.parts) n in
     (one_token k.lexeme t u (subst (λ (w : List ℕ). IsToken w t) p.0 h.is) k.is, p.1)
 
 -- The longest token is the one that is found.
-pub first_found : (text : List ℕ) (t : Token) (rest : List ℕ) → IsFirst text t rest → token_at text ≡ Some (t, rest)
+pub first_found : (text : List ℕ) (t : Token) (rest : List ℕ) → IsFirstToken text t rest → token_at text ≡ Some (t, rest)
 first_found text t rest h = by (token_at text) refl
   where
     by : (o : Option (Token × List ℕ)) → token_at text ≡ o → o ≡ Some (t, rest)

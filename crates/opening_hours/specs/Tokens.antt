@@ -77,7 +77,7 @@ pub data IsToken : List ℕ → Token → Type 0 where
   right_bracket : IsToken (codes "]") RightBracket
 
 -- the token stands at the front of the text, and no longer one does
-pub record IsFirst (text : List ℕ) (t : Token) (rest : List ℕ) : Type 0 where
+pub record IsFirstToken (text : List ℕ) (t : Token) (rest : List ℕ) : Type 0 where
   pub lexeme : List ℕ
   pub parts : text ≡ lexeme ++ rest
   pub is : IsToken lexeme t
@@ -91,5 +91,5 @@ without_blanks (b ∷ bs) = if is_blank b then without_blanks bs else b ∷ bs
 -- the text is cut into these tokens, one at least: each is the longest at its place, and blanks stand between tokens alone
 abbrev pub IsCut : List ℕ → List Token → Type 0
 IsCut text [] = ⊥
-IsCut text (t ∷ []) = IsFirst text t []
-IsCut text (t ∷ u ∷ ts) = (rest : List ℕ) × IsFirst text t rest × IsCut (without_blanks rest) (u ∷ ts)
+IsCut text (t ∷ []) = IsFirstToken text t []
+IsCut text (t ∷ u ∷ ts) = (rest : List ℕ) × IsFirstToken text t rest × IsCut (without_blanks rest) (u ∷ ts)

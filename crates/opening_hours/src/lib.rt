@@ -36,7 +36,7 @@ pub use holidays::Holidays;
 pub use hours::{Hours, parse};
 pub use laws::{canonical_reading, computed_reading, one_reading};
 pub use printer::tokens::print;
-pub use tokenizer::behind_blanks;
+pub use tokenizer::{behind_blanks, is_digit};
 pub use types::{
     DateSpan, DateSpans, DayItem, DayItems, HoursRule, LongSpan, RuleTimes, Spans, TimeSpan,
 };

@@ -14,8 +14,8 @@ use crate::vocabulary::word;
 use route_base::{Listing, is_blank};
 use std::alloc::Global;
 
-// Whether a byte is a decimal digit.
-fn digit(byte: u8) -> bool
+/// Whether a byte is a decimal digit.
+pub fn is_digit(byte: u8) -> bool
     ensures { result ≡ is_digit byte }
 {
     b'0' <= byte && byte <= b'9'
@@ -92,7 +92,7 @@ fn long_time(text: &[u8]) -> Option<(Token, &[u8])>
 {
     match text {
         [a, b, c, d, e, rest @ ..] => {
-            if digit(*a) && digit(*b) && *c == b':' && digit(*d) && digit(*e) {
+            if is_digit(*a) && is_digit(*b) && *c == b':' && is_digit(*d) && is_digit(*e) {
                 Some((Token::Time(two(*a, *b) as u64, two(*d, *e) as u64), rest))
             } else {
                 None
@@ -108,7 +108,7 @@ fn short_time(text: &[u8]) -> Option<(Token, &[u8])>
 {
     match text {
         [a, c, d, e, rest @ ..] => {
-            if digit(*a) && *c == b':' && digit(*d) && digit(*e) {
+            if is_digit(*a) && *c == b':' && is_digit(*d) && is_digit(*e) {
                 Some((Token::Time(value(*a) as u64, two(*d, *e) as u64), rest))
             } else {
                 None
@@ -124,7 +124,7 @@ fn long_number(text: &[u8]) -> Option<(Token, &[u8])>
 {
     match text {
         [a, b, rest @ ..] => {
-            if digit(*a) && digit(*b) {
+            if is_digit(*a) && is_digit(*b) {
                 Some((Token::Number(two(*a, *b) as u32, Digits::Two), rest))
             } else {
                 None
@@ -140,7 +140,7 @@ fn short_number(text: &[u8]) -> Option<(Token, &[u8])>
 {
     match text {
         [a, rest @ ..] => {
-            if digit(*a) {
+            if is_digit(*a) {
                 Some((Token::Number(value(*a) as u32, Digits::One), rest))
             } else {
                 None

@@ -5,13 +5,13 @@ use Rattle.route_base.specs.declared.types.Bound.{Bound}
 use Rattle.route_base.specs.declared.types.NodeId.{NodeId}
 use Rattle.route_base.proofs.Logic.{flat_some}
 use Rattle.route_base.proofs.Numbered.{at_number-all, number_within}
-use Rattle.cost_functions.specs.Pieces.{value_at}
+use Rattle.cost_functions.specs.Pieces.{value_at, value_in}
 use Rattle.cost_functions.specs.declared.pieces.Piece.{Piece}
 use Rattle.potentials.specs.Sums.{bound_at}
-use Rattle.propagation.specs.Found.{cost_by, cost_at}
+use Rattle.propagation.specs.Found.{cost_at}
 use Rattle.certificate.specs.ByNode.{item_at}
 use Rattle.certificate.proofs.Entries.{item_at_place}
-use Rattle.certificate_check.specs.Conditions.{value_in, value_of}
+use Rattle.certificate_check.specs.Conditions.{value_of}
 use Rattle.plan_certificate.specs.Inside.Entries.{AreEntriesOf, some_pieces, pieces_of}
 
 module _ {A : Type 0} (items : ℕ → Option A) (entries : List (NodeId × A)) (are : AreEntriesOf items entries) where
@@ -53,7 +53,7 @@ module _ (functions : List (List Piece)) (entries : List (NodeId × List Piece))
   function_has P all k d within = let e = get_or entries k d in at_number-all P functions e.0.0 e.1 all (function_is k d within)
 
 -- what has no pieces has no value
-same_value : (o : Option (List Piece)) (t : ℕ) → value_in (some_pieces o) t ≡ cost_by o t
+same_value : (o : Option (List Piece)) (t : ℕ) → value_in (some_pieces o) t ≡ value_in o t
 unfolding value_at
 same_value None t = refl
 same_value (Some []) t = refl

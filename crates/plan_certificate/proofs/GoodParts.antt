@@ -12,11 +12,11 @@ use Rattle.route_base.specs.declared.types.Pair.{Pair}
 use Rattle.route_base.specs.declared.types.Request.{Request}
 use Rattle.cost_functions.specs.Building.{AreBuilt}
 use Rattle.cost_functions.specs.Lines.{line_at}
-use Rattle.cost_functions.specs.Pieces.{IsReduced}
+use Rattle.cost_functions.specs.Pieces.{value_in, IsReduced}
 use Rattle.cost_functions.specs.declared.pieces.Piece.{Piece}
 use Rattle.cost_functions.proofs.Places.{value_at_place}
 use Rattle.potentials.specs.Sums.{AreLeastBounds, bound_at}
-use Rattle.propagation.specs.Found.{Finding, IsFoundFor, IsJustified, cost_by, cost_at}
+use Rattle.propagation.specs.Found.{Finding, IsFoundFor, IsJustified, cost_at}
 use Rattle.certificate.specs.ByNode.{item_at}
 use Rattle.certificate.specs.declared.Certificate.{Certificate}
 use Rattle.certificate_check.specs.Conditions.{value_of, IsInRange, IsNodeOf, AreOrderedPairs}
@@ -67,8 +67,8 @@ module _ (net : Net) (r : Request) (found : Finding) (answers : IsFoundFor net r
         (known p.hi (value_at_place e.1 j f p.hi pieces inside filled (omega arith))) in
         (first, omega (arith, last.2))
       where
-        known : (t : ℕ) {x : ℕ} → cost_by (Some e.1) t ≡ Some x → cost_at found.functions e.0.0 t ≡ Some x
-        known t is = ap (λ o. cost_by o t) (function_is found.functions c.functions functions k d within) ∙ is
+        known : (t : ℕ) {x : ℕ} → value_in (Some e.1) t ≡ Some x → cost_at found.functions e.0.0 t ≡ Some x
+        known t is = ap (λ o. value_in o t) (function_is found.functions c.functions functions k d within) ∙ is
 
     range : IsInRange s r e
     range =

@@ -15,13 +15,13 @@ use Rattle.route_base.specs.declared.types.Run.{Run}
 use Rattle.plan_report.specs.Csv.{csv_kind, csv_row, csv_leg_row, csv_texts}
 use Rattle.plan_report.specs.Reports.{report_text}
 use Rattle.plan_report.specs.Routes.{RouteTexts, route_text, routes_text}
-use Rattle.plan_report.specs.Stages.{Stage, no_road, road_at, weight_at, minutes_of_leg, position_after, stages_from, stages_of, numbered_text}
+use Rattle.plan_report.specs.Stages.{Stage, no_road, road_at, price_at, minutes_of_leg, position_after, stages_from, stages_of, numbered_text}
 use Rattle.plan_report.specs.Table.{table_move_text, table_leg_text, table_texts}
 
 same_road : (s z : Setting) (window : Run) (a : ℕ) → StandsFor s z window → road_at s a ≡ road_at z a
 same_road s z window a same = ap (λ (o : Option Road). unwrap_or o no_road) (same.road a)
 
-same_weight : (s z : Setting) (window : Run) (v : ℕ) → StandsFor s z window → weight_at s v ≡ weight_at z v
+same_weight : (s z : Setting) (window : Run) (v : ℕ) → StandsFor s z window → price_at s v ≡ price_at z v
 same_weight s z window v same = ap (λ (o : Option ℕ). unwrap_or o 0) (same.weight v)
 
 same_minutes : (s z : Setting) (window : Run) (leg : Leg) → StandsFor s z window → minutes_of_leg s leg ≡ minutes_of_leg z leg

@@ -14,7 +14,7 @@ use Rattle.route_base.specs.declared.types.Request.{Request}
 use Rattle.route_base.proofs.Waiting.{same_position}
 use Rattle.route_base.proofs.Walking.{walk_in_time, walk_grows}
 use Rattle.plan_report.specs.Inside.{Lead, IsKnown, IsPassable}
-use Rattle.plan_report.specs.Stages.{Stage, no_road, road_at, weight_at, position_after, stages_from, numbered_text}
+use Rattle.plan_report.specs.Stages.{Stage, no_road, road_at, price_at, position_after, stages_from, numbered_text}
 
 is_some : {A : Type 0} (o : Option A) (x : A) → o ≡ Some x → IsSome o
 is_some o x is = subst IsSome (sym is) refl
@@ -26,8 +26,8 @@ module _ (s : Setting) (until : ℕ) where
       subst (λ (r : Position). Walks s until rest r q) (same_position p (position_after s p (Wait 0)) refl (omega arith) (omega arith)) walk
   waited (suc k) rest p q walk =
       let r : Position = walk.0 in
-      let weight : weight_at s p.node ≡ walk.1.weight = ap (λ (o : Option ℕ). unwrap_or o 0) walk.1.rated in
-      let same : weight_at s r.node ≡ walk.1.weight = ap (weight_at s) walk.1.node ∙ weight in
+      let weight : price_at s p.node ≡ walk.1.weight = ap (λ (o : Option ℕ). unwrap_or o 0) walk.1.rated in
+      let same : price_at s r.node ≡ walk.1.weight = ap (price_at s) walk.1.node ∙ weight in
       subst (λ (x : Position). Walks s until rest x q)
       (same_position (position_after s r (Wait k)) (position_after s p (Wait (suc k))) walk.1.node
       (omega (arith, walk.1.minute))

@@ -16,8 +16,8 @@ abbrev pub road_at : Setting → ℕ → Road
 road_at s a = unwrap_or (s.road a) no_road
 
 -- the cost of a minute's wait at a node
-abbrev pub weight_at : Setting → ℕ → ℕ
-weight_at s v = unwrap_or (s.weight v) 0
+abbrev pub price_at : Setting → ℕ → ℕ
+price_at s v = unwrap_or (s.weight v) 0
 
 -- the minutes of a leg
 abbrev pub minutes_of_leg : Setting → Leg → ℕ
@@ -28,7 +28,7 @@ minutes_of_leg s (Wait k) = k
 abbrev pub position_after : Setting → Position → Leg → Position
 position_after s p (Drive a) =
     record { node = (road_at s a.0).head; minute = p.minute + (road_at s a.0).minutes; cost = p.cost + (road_at s a.0).cost }
-position_after s p (Wait k) = record { node = p.node; minute = p.minute + k; cost = p.cost + k * weight_at s p.node }
+position_after s p (Wait k) = record { node = p.node; minute = p.minute + k; cost = p.cost + k * price_at s p.node }
 
 -- a leg, its number, and the position before it
 pub record Stage : Type 0 where

@@ -1,7 +1,7 @@
 // Goes over legs, from one place to the next.
 ghost use Rattle.std.specs.Prelude.{◌≡◌, IsSome};
 ghost use Rattle.plan_report.specs.Inside.{position_at, IsPassable};
-ghost use Rattle.plan_report.specs.Stages.{road_at, weight_at, position_after};
+ghost use Rattle.plan_report.specs.Stages.{road_at, price_at, position_after};
 ghost use Rattle.route_base.specs.Legs.{start_of};
 ghost use Rattle.route_base.specs.Net.{road_of, setting_of};
 
@@ -47,7 +47,7 @@ fn arc_at(net: &TimedNet, a: ArcId) -> TimedArc
 // The cost of a minute's wait at the node.
 fn weight_of(net: &TimedNet, v: NodeId) -> Cost
     requires { IsSome ((setting_of net.now).weight v.0) }
-    ensures { result ≡ weight_at (setting_of net.now) v.0 }
+    ensures { result ≡ price_at (setting_of net.now) v.0 }
 {
     net_is_good(net);
     net.weight(v).unwrap()

@@ -8,12 +8,12 @@ use Rattle.route_base.specs.Legs.{start_of}
 use Rattle.route_base.specs.Net.{at_number}
 use Rattle.label_queue.specs.Keys.{key_at, IsLeastTaken}
 use Rattle.propagation.specs.declared.progress.Progress.{Progress as ProgressHeld}
-use Rattle.cost_functions.specs.Pieces.{value_at}
+use Rattle.cost_functions.specs.Pieces.{value_at, value_in}
 use Rattle.route_base.specs.Runs.{any_has}
 use Rattle.propagation.specs.Inside.Invariants.{Progress, Task, point}
 use Rattle.propagation.specs.Inside.Offers.{IsSource}
 use Rattle.propagation.specs.Inside.Pairs.{AreBorders}
-use Rattle.propagation.specs.Found.{cost_at, cost_by}
+use Rattle.propagation.specs.Found.{cost_at}
 use Rattle.propagation.specs.Inside.States.{IsShaped, is_pending, set_has}
 use Rattle.cost_functions.specs.declared.pieces.Piece.{Piece}
 use Rattle.route_base.specs.declared.types.Run.{Run}
@@ -34,7 +34,7 @@ none f is t = ap (λ (w : List Piece). value_at w t) is
 
 -- functions without pieces have no costs
 pub all_none : (functions : List (List Piece)) → All (λ (f : List Piece). f ≡ []) functions → (v t : ℕ) → cost_at functions v t ≡ None
-all_none functions all = by_number (λ o. (t : ℕ) → cost_by o t ≡ None) functions (λ t. refl) (λ k d within t. none (get_or functions k d) (all k d within) t)
+all_none functions all = by_number (λ o. (t : ℕ) → value_in o t ≡ None) functions (λ t. refl) (λ k d within t. none (get_or functions k d) (all k d within) t)
 
 -- sets without runs have no minutes
 pub all_idle : (sets : List (List Run)) → All (λ (set : List Run). set ≡ []) sets → (v t : ℕ) → is_pending sets v t ≡ false

@@ -9,9 +9,11 @@ use Rattle.route_base.specs.declared.types.Pair.{Pair}
 use Rattle.route_base.specs.declared.types.TimedArc.{TimedArc}
 use Rattle.route_base.proofs.Items.{slice_get-append_left, slice_get-push_end}
 use Rattle.route_base.proofs.Logic.{map_some}
+use Rattle.cost_functions.specs.declared.pieces.Piece.{Piece}
 use Rattle.potentials.specs.Sums.{bound_at}
 use Rattle.propagation.specs.Inside.Invariants.{IsPrunable, IsWorseOrLate}
 use Rattle.propagation.specs.Inside.States.{HasArc, IsArcRead, task_of}
+use Rattle.propagation.specs.declared.progress.Progress.{Progress}
 use Rattle.propagation.specs.declared.task.Task.{Task}
 use Rattle.propagation.specs.declared.ways.OutgoingArc.{OutgoingArc}
 
@@ -34,8 +36,9 @@ pub added_in : (ways : List OutgoingArc) (way : OutgoingArc) → HasArc (ways ++
 added_in ways way = (length ways, way, slice_get-push_end ways way, refl)
 
 -- what was read stays read
-pub still_read : (task : Task) (old new : List OutgoingArc) (b : ℕ) → ((c : ℕ) → HasArc old c → HasArc new c) → IsArcRead task old b → IsArcRead task new b
-still_read task old new b kept read = ⊎_elim (λ (has : HasArc old b). inl (kept b has)) (λ none. inr none) read
+pub still_read : (task : Task) (progress : Progress) (v : ℕ) (part : List Piece) (old new : List OutgoingArc) (b : ℕ)
+    → ((c : ℕ) → HasArc old c → HasArc new c) → IsArcRead task progress v part old b → IsArcRead task progress v part new b
+still_read task progress v part old new b kept read = ⊎_elim (λ (has : HasArc old b). inl (kept b has)) (λ done. inr done) read
 
 -- a drive over an arc whose head has no bound needn't be followed
 pub no_way_on : (task : Task) (pairs : List Pair) (a : ℕ) (p q : Position) → Drives (setting_of task.net.now) task.request.until a p q

@@ -9,7 +9,7 @@ use Rattle.route_base.specs.Relaxing.{HasWithin, IsComplete, HasEveryWay}
 use Rattle.route_base.specs.declared.types.Bound.{Bound}
 use Rattle.route_base.specs.declared.types.Pair.{Pair}
 use Rattle.route_base.specs.declared.types.Request.{Request}
-use Rattle.cost_functions.specs.Pieces.{value_at}
+use Rattle.cost_functions.specs.Pieces.{value_in}
 use Rattle.cost_functions.specs.Building.{AreBuilt}
 use Rattle.cost_functions.specs.declared.pieces.Piece.{Piece}
 use Rattle.potentials.specs.Sums.{bound_at}
@@ -20,14 +20,9 @@ pub record Finding : Type 0 where
   pub functions : List (List Piece)
   pub bounds : List (Option Bound)
 
--- the cost of a function at a minute, where there are both
-abbrev pub cost_by : Option (List Piece) → ℕ → Option ℕ
-cost_by None t = None
-cost_by (Some f) t = value_at f t
-
 -- the cost of a node's function at a minute
 abbrev pub cost_at : List (List Piece) → ℕ → ℕ → Option ℕ
-cost_at functions v t = cost_by (at_number functions v) t
+cost_at functions v t = value_in (at_number functions v) t
 
 -- the position is at the node and the minute of the start
 abbrev pub IsStart : Request → Position → Type 0

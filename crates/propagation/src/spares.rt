@@ -15,7 +15,7 @@ pub struct Spares {
 }
 
 impl Spares {
-    /// Nothing is done with yet. No memory.
+    /// No spares yet. No memory.
     pub fn new(alloc: Global) -> Spares {
         Spares {
             functions: Vec::new(alloc),

@@ -21,7 +21,6 @@ use crate::task::Task;
 use crate::turn_order::turn_key;
 use crate::ways::{OutgoingArc, read_ways};
 use cost_functions::CostFn;
-use function_merge::is_shown_no_better;
 use route_base::{Bound, NodeId, OutOfMemory};
 use std::alloc::Global;
 use std::mem;
@@ -64,7 +63,7 @@ pub fn turn(
     Ok(())
 }
 
-// Relaxes each arc that leaves the node, for the part. Heads without bounds are left out: no way leads on from them.
+// Relaxes each arc that leaves the node, for the part.
 #[inline(always)]
 fn drive_all(
     alloc: Global,
@@ -93,7 +92,7 @@ fn drive_all(
         return Ok(());
     }
     let mut ways = mem::replace(&mut spares.ways, Vec::new(alloc));
-    read_ways(task, progress, &mut ways, v)?;
+    read_ways(task, progress, &mut ways, v, part)?;
     drive_each(
         alloc,
         task,
@@ -128,7 +127,7 @@ fn drive_each(
     requires facts { IsSearching (task_of task) (progress_of progress.old) v.0 (value_at part.now) }
     requires part { IsKnownPart (task_of task) (progress_of progress.old) v.0 (value_at part.now) }
     requires arcs { All (IsOutgoingArc task v.0) ways.now }
-    requires each { HasEachArc task v.0 ways.now }
+    requires each { HasEachArc task progress.old v.0 part.now ways.now }
     ensures entries { OnOk result
         (AreEntrySets task.entry.net.now task.entry.request.until sets.new) }
     ensures shape { OnOk result (IsShaped task.entry.net.now.nodes 0 progress.new) }
@@ -142,8 +141,7 @@ fn drive_each(
     Ok(())
 }
 
-// Relaxes one arc that leaves the node, for the part. Mostly where drives lead back to the node before, no offer is made, since the costs
-// there are plainly no higher.
+// Relaxes one arc that leaves the node, for the part.
 #[inline(always)]
 fn drive_one(
     alloc: Global,
@@ -172,10 +170,6 @@ fn drive_one(
         → Drives (setting_of task.entry.net.now) task.entry.request.until way.id.0 (point v.0 t x) q
         → IsRelaxedIn (task_of task.entry) (progress_of progress.new) q) }
 {
-    let own = &progress.functions[way.arc.head.0 as usize - 1];
-    if is_shown_no_better(own, part.pieces(), way.arc.minutes, way.arc.cost) {
-        return Ok(());
-    }
     let offer = offered(alloc, task, sets, spares, progress, v, part, way)?;
     take_at(
         alloc,

@@ -6,6 +6,8 @@ ghost use Rattle.propagation.specs.Inside.States.{IsGoodTask, IsShaped, IsOutgoi
 
 use crate::progress::Progress;
 use crate::task::Task;
+use cost_functions::CostFn;
+use function_merge::is_shown_no_better;
 use route_base::{ArcId, Bound, NodeId, OutOfMemory, Park, TimedArc};
 
 /// An arc that leaves a node, with its number, and the bound and the park of its head. `ahead` has no meaning: it is made of what a drive
@@ -19,33 +21,37 @@ pub struct OutgoingArc {
     pub ahead: u64,
 }
 
-// Puts the arcs that leave a node and whose heads have bounds into a list, in the place of what it has.
+// Puts the arcs that leave a node into a list, in the place of what it has. Left out are those whose heads have no bounds, since no way
+// leads on from there, and those, mostly back to the node before, at whose heads the costs are plainly no higher than drives of the part.
 #[inline(always)]
 pub fn read_ways(
     task: Task<'_>,
     progress: &Progress,
     ways: &mut Vec<OutgoingArc>,
     v: NodeId,
+    part: &CostFn,
 ) -> Result<(), OutOfMemory>
     requires asked { IsGoodTask task }
     requires shape { IsShaped task.net.now.nodes 0 progress.now }
     ensures arcs { OnOk result (All (IsOutgoingArc task.entry v.0) ways.new.items) }
-    ensures each { OnOk result (HasEachArc task.entry v.0 ways.new.items) }
+    ensures each { OnOk result
+        (HasEachArc task.entry progress.now v.0 part.now ways.new.items) }
 {
     ways.clear();
     for a in task.outgoing.of(v) {
-        add_way(task, progress, ways, v, *a)?;
+        add_way(task, progress, ways, v, part, *a)?;
     }
     Ok(())
 }
 
-// Adds an arc that leaves the node, if its head has a bound.
+// Adds an arc that leaves the node, unless it can be left out.
 #[inline(always)]
 fn add_way(
     task: Task<'_>,
     progress: &Progress,
     ways: &mut Vec<OutgoingArc>,
     v: NodeId,
+    part: &CostFn,
     a: ArcId,
 ) -> Result<(), OutOfMemory>
     requires asked { IsGoodTask task }
@@ -53,7 +59,8 @@ fn add_way(
     requires shape { IsShaped task.net.now.nodes 0 progress.now }
     requires arcs { All (IsOutgoingArc task v.0) ways.old.items }
     ensures arcs { OnOk result (All (IsOutgoingArc task.entry v.0) ways.new.items) }
-    ensures added { OnOk result (IsArcAdded task.entry a.0 ways.old.items ways.new.items) }
+    ensures added { OnOk result
+        (IsArcAdded task.entry progress.now v.0 part.now a.0 ways.old.items ways.new.items) }
 {
     let Some(arc) = task.net.arc(a) else {
         return Ok(());
@@ -61,6 +68,10 @@ fn add_way(
     let Some(bound) = task.bounds.get(arc.head) else {
         return Ok(());
     };
+    let own = &progress.functions[arc.head.0 as usize - 1];
+    if is_shown_no_better(own, part.pieces(), arc.minutes, arc.cost) {
+        return Ok(());
+    }
     let way = OutgoingArc {
         id: a,
         arc,
@@ -72,22 +83,17 @@ fn add_way(
     Ok(())
 }
 
-// Reads the ends of what is known and pending at a node, and its key.
+// Reads the end of what is pending at a node, and its key.
 #[inline(always)]
 fn read_ahead(progress: &Progress, h: NodeId) -> u64
     requires low { 1 ≤ h.0 }
-    requires functions { h.0 ≤ length progress.now.functions.items }
     requires pending { h.0 ≤ length progress.now.pending.items }
 {
     let place = h.0 as usize - 1;
-    let known = match progress.functions[place].pieces() {
-        [.., last] => last.hi,
-        [] => 0,
-    };
     let pending = match progress.pending[place].runs() {
         [.., last] => last.hi,
         [] => 0,
     };
     let key = progress.queue.key_of(h).unwrap_or(0);
-    known.max(pending).max(key)
+    pending.max(key)
 }

@@ -23,7 +23,7 @@ use Rattle.route_base.proofs.Logic.{flat_some, map_some}
 use Rattle.front_transport.specs.CheapArcs.{HasCheapArcs}
 use Rattle.front_transport.proofs.Places.{at_both, by_numbers}
 use Rattle.stop_tour.specs.Inside.Layers.{layered, copies, service, services, outside, layered_lists, tour_net}
-use Rattle.stop_tour.specs.Tours.{IsGoodStop, size_of}
+use Rattle.stop_tour.specs.Tours.{IsGoodStop, tour_size_of}
 use Rattle.stop_tour.specs.declared.stops.Stop.{Stop}
 use Rattle.stop_tour.proofs.LayerPlaces.{length_layered, length_copies, IsInLayer}
 use Rattle.stop_tour.proofs.LayerLists.{length_lists, place_fits, all_runs}
@@ -70,7 +70,7 @@ outside_runs until stop window =
     }
 
 module _ (net : Net) (good : IsGoodNet net) (stops : List Stop) (each_stop : All (IsGoodStop net) stops) (until : ℕ)
-    (some : 1 ≤ net.nodes) (size : size_of net stops ≤ MOST_STATES) where
+    (some : 1 ≤ net.nodes) (size : tour_size_of net stops ≤ MOST_STATES) where
   layers : ℕ
   layers = suc (length stops)
 

@@ -18,7 +18,7 @@ use Rattle.route_base.proofs.Numbered.{number_within}
 use Rattle.route_base.proofs.Costs.{fits}
 use Rattle.route_base.proofs.Logic.{map_some}
 use Rattle.stop_tour.specs.Inside.Layers.{layered, copies, services, outside, layered_lists, tour_net, tour_request}
-use Rattle.stop_tour.specs.Tours.{IsGoodStop, size_of}
+use Rattle.stop_tour.specs.Tours.{IsGoodStop, tour_size_of}
 use Rattle.front_transport.specs.CheapArcs.{HasCheapArcs}
 use Rattle.front_transport.specs.declared.limits.TheConstants.{MOST_STATES}
 use Rattle.front_transport.proofs.Growing.{walk_after}
@@ -75,7 +75,7 @@ pub routes_numbered : (net : Net) (r : Request) (routes : List Route) → IsRigh
 routes_numbered net r routes right k d within = numbered net r.until (get_or routes k d).legs _ _ (right.legs k d within).0.walk
 
 pub tour_fits : (net : Net) (good : IsGoodNet net) (stops : List Stop) (each_stop : All (IsGoodStop net) stops) (r : Request) → 1 ≤ net.nodes
-    → size_of net stops ≤ MOST_STATES → HasCheapArcs net → r.depart ≤ r.until → r.until - r.depart ≤ LONGEST_HORIZON
+    → tour_size_of net stops ≤ MOST_STATES → HasCheapArcs net → r.depart ≤ r.until → r.until - r.depart ≤ LONGEST_HORIZON
     → CostsFit (setting_of (tour_net net stops r.until)) (tour_request net stops r)
 tour_fits net good stops each_stop r some size cheap in_order short =
     fits (setting_of (tour_net net stops r.until)) (tour_request net stops r) (cheap_tour net good stops each_stop r.until some size cheap) in_order

@@ -25,12 +25,12 @@ abbrev pub IsGoodStop : Net → Stop → Type 0
 IsGoodStop net stop = IsStopAmong net.nodes stop
 
 -- the nodes and arcs, once for each number of served stops
-abbrev pub size_in : Setting → List Stop → ℕ
-size_in s stops = (length stops + 1) * (s.nodes + s.arcs)
+abbrev pub tour_size_in : Setting → List Stop → ℕ
+tour_size_in s stops = (length stops + 1) * (s.nodes + s.arcs)
 
 -- the size over a net
-abbrev pub size_of : Net → List Stop → ℕ
-size_of net stops = size_in (setting_of net) stops
+abbrev pub tour_size_of : Net → List Stop → ℕ
+tour_size_of net stops = tour_size_in (setting_of net) stops
 
 -- a position, and the number of stops that were served
 pub record TourPosition : Type 0 where

@@ -2,7 +2,7 @@
 pub use Rattle.route_base.specs.Net.{IsGoodRequest, setting_of}
 pub use Rattle.table_reader.specs.Words.{fields_of, records_of, rows_of, ReadsRows, first_table_fault}
 pub use Rattle.front_transport.specs.CheapArcs.{HasCheapArcs}
-pub use Rattle.stop_tour.specs.Tours.{AreRightTours, IsStopAmong, IsGoodStop, IsTourFront, size_in, size_of}
+pub use Rattle.stop_tour.specs.Tours.{AreRightTours, IsStopAmong, IsGoodStop, IsTourFront, tour_size_in, tour_size_of}
 pub use Rattle.stop_tour.specs.StopTable.{service_of, stop_of, stops_schema, stops_in}
 pub use Rattle.stop_tour.specs.TourText.{tour_leg_text, tour_route_text, tour_text_of}
 pub use Rattle.stop_tour.specs.Inside.LayerBounds.{sum_of, bound_in, ahead_of, bounds_of, AreLayers, IsLastLayer, IsLayerBefore, AreTourBounds}

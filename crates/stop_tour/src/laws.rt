@@ -7,7 +7,7 @@ ghost use Rattle.route_base.specs.Setting.{Setting};
 ghost use Rattle.route_base.specs.declared.types.Pair.{Pair};
 ghost use Rattle.route_base.specs.declared.types.Request.{Request};
 ghost use Rattle.route_base.specs.declared.types.Run.{Run};
-ghost use Rattle.stop_tour.specs.Words.{AreRightTours, IsTourFront, size_in};
+ghost use Rattle.stop_tour.specs.Words.{AreRightTours, IsTourFront, tour_size_in};
 ghost use Rattle.stop_tour.specs.Words.{first_table_fault, records_of, rows_of};
 ghost use Rattle.stop_tour.specs.Words.{stop_of, stops_in, stops_schema};
 ghost use Rattle.stop_tour.specs.declared.stops.Stop.{Stop};
@@ -20,7 +20,7 @@ pub fn tours_agree()
         → StandsFor s z window → IsInWindow r window
         → (routes : List TourRoute) → AreRightTours s r stops routes ↔ AreRightTours z r stops routes }
     ensures size { (s z : Setting) (window : Run) (stops : List Stop) → StandsFor s z window
-        → size_in s stops ≡ size_in z stops }
+        → tour_size_in s stops ≡ tour_size_in z stops }
 {}
 
 /// The law that tours without stops have the Pareto front of the trip. The call does nothing.

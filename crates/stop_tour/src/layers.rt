@@ -1,7 +1,7 @@
 // The layered net: one layer for each number of served stops.
 ghost use Rattle.std.specs.Prelude.{◌≡◌, ◌+◌, ◌*◌, ◌^◌, ◌≤◌, ◌<◌, ◌++◌, length, map, All, IfOk, OnOk};
 ghost use Rattle.stop_tour.specs.Words.{lifted, layered, copies, services, outside, closed_from, runs_and_rest, layered_lists};
-ghost use Rattle.stop_tour.specs.Words.{tour_net, IsGoodStop, size_of};
+ghost use Rattle.stop_tour.specs.Words.{tour_net, IsGoodStop, tour_size_of};
 ghost use Rattle.front_transport.specs.declared.limits.TheConstants.{MOST_STATES};
 
 use crate::Stop;
@@ -220,7 +220,7 @@ pub fn layered_net(
 ) -> Result<TimedNet, OutOfMemory>
     requires some { 1 ≤ net.now.nodes }
     requires stops { All (IsGoodStop net.now) stops.now }
-    requires size { size_of net.now stops.now ≤ MOST_STATES }
+    requires size { tour_size_of net.now stops.now ≤ MOST_STATES }
     ensures { IfOk result (λ made. made ≡ tour_net net.now stops.now until) }
 {
     let old = net.closed_lists();

@@ -12,7 +12,7 @@ use route_base::limits::DAY_MINUTES;
 use route_base::{Cause, NodeId, OutOfMemory, TableFault, read_table_number};
 use std::alloc::Global;
 use std::marker::Model;
-use table_reader::{RowFault, Table, field, read_table};
+use table_reader::{RowFault, Table, four_fields, read_table};
 
 // Stops while the table is being read, for the nodes from 1 to `nodes`.
 #[derive(Drop)]
@@ -68,15 +68,6 @@ impl StopTable {
     {
         self.stops
     }
-}
-
-// The four fields of a row.
-fn four_fields(row: &ByteRecord) -> (&[u8], &[u8], &[u8], &[u8])
-    requires { length (fields_of row.now) ≡ 4 }
-    ensures { fields_of row.now
-        ≡ result.0.now ∷ result.1.now ∷ result.2.now ∷ result.3.now ∷ [] }
-{
-    (field(row, 0), field(row, 1), field(row, 2), field(row, 3))
 }
 
 // Parses the minutes of a service.

@@ -1,6 +1,6 @@
 // Tours: the front of the layered net.
 ghost use Rattle.std.specs.Prelude.{◌≡◌, ◌↔◌, ◌+◌, ◌-◌, ◌*◌, ◌≤◌, ◌<◌, Err, IsTrue, IfOk, All, length, map};
-ghost use Rattle.stop_tour.specs.Words.{IsGoodRequest, setting_of, HasCheapArcs, IsGoodStop, size_of};
+ghost use Rattle.stop_tour.specs.Words.{IsGoodRequest, setting_of, HasCheapArcs, IsGoodStop, tour_size_of};
 ghost use Rattle.stop_tour.specs.Words.{AreRightTours, leg_over, route_over, IsNumbered};
 ghost use Rattle.stop_tour.specs.declared.stops.TourFault.TheVariants.{TooManyStates};
 ghost use Rattle.front_transport.specs.declared.limits.TheConstants.{MOST_STATES};
@@ -16,7 +16,7 @@ use std::alloc::Global;
 
 // Whether the layers are small enough.
 fn fits(net: &TimedNet, stops: &[Stop]) -> bool
-    ensures { IsTrue result ↔ (size_of net.now stops.now ≤ MOST_STATES) }
+    ensures { IsTrue result ↔ (tour_size_of net.now stops.now ≤ MOST_STATES) }
 {
     let layers = stops.len() as u64 + 1;
     let size = net.node_count() as u64 + net.arc_count() as u64;
@@ -98,7 +98,7 @@ fn tours_over<E: BoundedSearch>(
     requires horizon { request.until - request.depart ≤ LONGEST_HORIZON }
     requires stops { All (IsGoodStop net.now) stops.now }
     requires cheap { HasCheapArcs net.now }
-    requires size { size_of net.now stops.now ≤ MOST_STATES }
+    requires size { tour_size_of net.now stops.now ≤ MOST_STATES }
     ensures { IfOk result (AreRightTours (setting_of net.now) request stops.now) }
 {
     let bounds = tour_bounds(alloc, net, request.goal, stops)?;
@@ -132,8 +132,8 @@ pub fn tour<E: FrontSearch>(
     requires stops { All (IsGoodStop net.now) stops.now }
     requires cheap { HasCheapArcs net.now }
     ensures right { IfOk result (AreRightTours (setting_of net.now) request stops.now) }
-    ensures few { IfOk result (λ routes. size_of net.now stops.now ≤ MOST_STATES) }
-    ensures many { result ≡ Err TooManyStates → MOST_STATES < size_of net.now stops.now }
+    ensures few { IfOk result (λ routes. tour_size_of net.now stops.now ≤ MOST_STATES) }
+    ensures many { result ≡ Err TooManyStates → MOST_STATES < tour_size_of net.now stops.now }
 {
     tour_with(alloc, &WithoutBounds { engine }, net, request, stops)
 }
@@ -157,8 +157,8 @@ pub fn tour_with<E: BoundedSearch>(
     requires stops { All (IsGoodStop net.now) stops.now }
     requires cheap { HasCheapArcs net.now }
     ensures right { IfOk result (AreRightTours (setting_of net.now) request stops.now) }
-    ensures few { IfOk result (λ routes. size_of net.now stops.now ≤ MOST_STATES) }
-    ensures many { result ≡ Err TooManyStates → MOST_STATES < size_of net.now stops.now }
+    ensures few { IfOk result (λ routes. tour_size_of net.now stops.now ≤ MOST_STATES) }
+    ensures many { result ≡ Err TooManyStates → MOST_STATES < tour_size_of net.now stops.now }
 {
     if !fits(net, stops) {
         return Err(TourFault::TooManyStates);

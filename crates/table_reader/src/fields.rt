@@ -29,6 +29,15 @@ pub fn three_fields(row: &ByteRecord) -> (&[u8], &[u8], &[u8])
     (field(row, 0), field(row, 1), field(row, 2))
 }
 
+/// The four fields of a record.
+pub fn four_fields(row: &ByteRecord) -> (&[u8], &[u8], &[u8], &[u8])
+    requires { length (fields_of row.now) ≡ 4 }
+    ensures { fields_of row.now
+        ≡ result.0.now ∷ result.1.now ∷ result.2.now ∷ result.3.now ∷ [] }
+{
+    (field(row, 0), field(row, 1), field(row, 2), field(row, 3))
+}
+
 /// Whether the record has exactly these fields.
 pub fn has_fields(row: &ByteRecord, words: &[&str]) -> bool
     ensures { result ≡ record_eq (fields_of row.now) (map (λ w. w.now) words.now) }

@@ -18,6 +18,6 @@ mod threads;
 
 pub use by_number::{FieldValues, NumberedTable};
 pub use faults::RowFault;
-pub use fields::{field, has_fields, three_fields, two_fields};
+pub use fields::{field, four_fields, has_fields, three_fields, two_fields};
 pub use name_index::NameIndex;
 pub use table::{Table, read_table};

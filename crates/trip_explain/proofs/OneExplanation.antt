@@ -14,7 +14,7 @@ use Rattle.network_tables.specs.NetworkModel.{NetworkModel}
 use Rattle.network_tables.specs.RoadSetting.{road_setting}
 use Rattle.trip_explain.specs.declared.explanation.Why.{Why}
 use Rattle.trip_explain.specs.Explanations.{IsUnlawfulAt}
-use Rattle.trip_explain.specs.Reasons.{IsStuck, elsewhere, late, closed, unrated, late_wait, shut_wait}
+use Rattle.trip_explain.specs.Reasons.{IsBarred, elsewhere, late, closed, unrated, late_wait, shut_wait}
 use Rattle.network_tables.proofs.ArcPlaces.{some_same}
 
 module _ (s : Setting) (until : ℕ) where
@@ -40,7 +40,7 @@ legs_split (x ∷ xs) (suc i) leg there =
 
 -- a step for which there is a reason can't be made
 pub no_move : (net : NetworkModel) (vehicle : VehicleModel) (until : ℕ) (p q : Position) (x : Step) (t : ℕ) (why : Why)
-    → IsStuck net vehicle until p x t why → Moves (road_setting net vehicle) until x p q → ⊥
+    → IsBarred net vehicle until p x t why → Moves (road_setting net vehicle) until x p q → ⊥
 no_move net vehicle until p q (drive a) t why (elsewhere (inl none)) move =
     let bad : None ≡ Some move.road = sym none ∙ move.is in cc
 no_move net vehicle until p q (drive a) t why (elsewhere (inr (road, is, differs))) move =

@@ -13,31 +13,31 @@ use Rattle.network_tables.specs.NetworkModel.{NetworkModel}
 use Rattle.network_tables.specs.RoadSetting.{road_setting}
 use Rattle.trip_explain.specs.declared.explanation.Why.{Why}
 use Rattle.trip_explain.specs.Explanations.{IsUnlawfulAt, StopsIn}
-use Rattle.trip_explain.specs.Reasons.{IsStuck}
+use Rattle.trip_explain.specs.Reasons.{IsBarred}
 use Rattle.trip_explain.proofs.OneExplanation.{walk_on, legs_split, no_move}
 use Rattle.trip_explain.proofs.OnlyReason.{stuck_once}
 use Rattle.network_tables.proofs.ArcPlaces.{some_same, taken}
 
 module _ (net : NetworkModel) (vehicle : VehicleModel) (until : ℕ) where
   stuck_from : (p q : Position) (x y : Step) (t u : ℕ) (why other : Why) → p ≡ q → x ≡ y
-      → IsStuck net vehicle until p x t why → IsStuck net vehicle until q y u other → (t ≡ u) × (why ≡ other)
+      → IsBarred net vehicle until p x t why → IsBarred net vehicle until q y u other → (t ≡ u) × (why ≡ other)
   stuck_from p q x y t u why other same step one two =
       stuck_once net vehicle until q y t u why other
-      (subst (λ (w : Position). IsStuck net vehicle until w y t why) same
-      (subst (λ (s : Step). IsStuck net vehicle until p s t why) step one))
+      (subst (λ (w : Position). IsBarred net vehicle until w y t why) same
+      (subst (λ (s : Step). IsBarred net vehicle until p s t why) step one))
       two
 
-  stuck_later : (p q r : Position) (x y : Step) (t : ℕ) (why : Why) → p ≡ q → x ≡ y → IsStuck net vehicle until q x t why
+  stuck_later : (p q r : Position) (x y : Step) (t : ℕ) (why : Why) → p ≡ q → x ≡ y → IsBarred net vehicle until q x t why
       → (w : Position) → Walks (road_setting net vehicle) until (y ∷ []) p w → ⊥
   stuck_later p q r x y t why same step one w walk =
       no_move net vehicle until p walk.0 y t why
-      (subst (λ (w : Position). IsStuck net vehicle until w y t why) (sym same)
-      (subst (λ (s : Step). IsStuck net vehicle until q s t why) step one))
+      (subst (λ (w : Position). IsBarred net vehicle until w y t why) (sym same)
+      (subst (λ (s : Step). IsBarred net vehicle until q s t why) step one))
       walk.1
 
   stops_once : (bs cs es ds : List Step) (x y : Step) (p q r : Position) (t u : ℕ) (why other : Why) → bs ++ x ∷ es ≡ cs ++ y ∷ ds
       → Walks (road_setting net vehicle) until bs p q → Walks (road_setting net vehicle) until cs p r
-      → IsStuck net vehicle until q x t why → IsStuck net vehicle until r y u other → (t ≡ u) × (why ≡ other)
+      → IsBarred net vehicle until q x t why → IsBarred net vehicle until r y u other → (t ≡ u) × (why ≡ other)
   stops_once [] [] es ds x y p q r t u why other same one two stuck again =
       let step : x ≡ y = cc in
       stuck_from q r x y t u why other (sym one ∙ two) step stuck again

@@ -11,8 +11,8 @@ use Rattle.network_tables.specs.NetworkModel.{NetworkModel, closures_of}
 use Rattle.network_tables.specs.RoadSetting.{road_setting}
 use Rattle.trip_explain.specs.declared.explanation.Why.{Why}
 use Rattle.trip_explain.specs.declared.explanation.Why.TheVariants.{Closure}
-use Rattle.trip_explain.specs.Reasons.{Begins, ClosesFirst, IsClosedBy, IsElsewhere, IsFirstRun, IsStuck, elsewhere, late, closed, unrated, late_wait}
-use Rattle.trip_explain.specs.Reasons.{shut_wait, rule_of}
+use Rattle.trip_explain.specs.Reasons.{Begins, ClosesFirst, IsClosedBy, IsElsewhere, IsFirstRun, IsBarred, elsewhere, late, closed, unrated, late_wait}
+use Rattle.trip_explain.specs.Reasons.{shut_wait, reason_of}
 use Rattle.network_tables.proofs.ArcPlaces.{any_found, some_same, taken}
 
 not_later : (runs : List Run) (t k n : ℕ) → IsFirstRun runs t k → IsFirstRun runs t n → k < n → ⊥
@@ -34,7 +34,7 @@ one_run runs t k n one two =
 one_closing : (net : NetworkModel) (vehicle : VehicleModel) (a t : ℕ) (why other : Why) → IsClosedBy net vehicle a t why
     → IsClosedBy net vehicle a t other → why ≡ other
 one_closing net vehicle a t why other (inl one) (inl two) =
-    one.is ∙ ap rule_of (some_same _ one.ruling two.ruling one.given two.given) ∙ sym two.is
+    one.is ∙ ap reason_of (some_same _ one.ruling two.ruling one.given two.given) ∙ sym two.is
 one_closing net vehicle a t why other (inl one) (inr two) = let bad : false ≡ true = sym one.barred ∙ two.let_in in absurd (cc)
 one_closing net vehicle a t why other (inr one) (inl two) = let bad : false ≡ true = sym two.barred ∙ one.let_in in absurd (cc)
 one_closing net vehicle a t why other (inr one) (inr two) =
@@ -74,7 +74,7 @@ not_rated o weight none rated = let bad : None ≡ Some weight = sym none ∙ ra
 
 -- a step that can't be made has one minute and one reason
 pub stuck_once : (net : NetworkModel) (vehicle : VehicleModel) (until : ℕ) (p : Position) (x : Step) (t u : ℕ) (why other : Why)
-    → IsStuck net vehicle until p x t why → IsStuck net vehicle until p x u other → (t ≡ u) × (why ≡ other)
+    → IsBarred net vehicle until p x t why → IsBarred net vehicle until p x u other → (t ≡ u) × (why ≡ other)
 stuck_once net vehicle until p (drive a) t u why other (elsewhere e) (elsewhere f) = (refl, refl)
 stuck_once net vehicle until p (drive a) t u why other (elsewhere e) (late road begins after) =
     absurd (not_both (road_setting net vehicle) a p.node road e begins)

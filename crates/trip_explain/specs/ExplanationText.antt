@@ -45,13 +45,13 @@ reason_text (why.Rule of_arc key conditional clause) = rule_text of_arc key cond
 reason_text (why.Closure number) = codes "closure " ++ decimal number
 
 -- the line of a word and a pair, with the arrival in Unix minutes
-abbrev pub pair_line : List ℕ → Pair → List ℕ
-pair_line word pair = word ++ decimal pair.arrival ++ codes " " ++ thousandths_of pair.cost ++ codes "\n"
+abbrev pub worded_pair_line : List ℕ → Pair → List ℕ
+worded_pair_line word pair = word ++ decimal pair.arrival ++ codes " " ++ thousandths_of pair.cost ++ codes "\n"
 
 -- the line of the pair that is better than another, if there is one
 abbrev pub better_line : Option Pair → List ℕ
 better_line None = codes "undominated\n"
-better_line (Some pair) = pair_line (codes "dominated ") pair
+better_line (Some pair) = worded_pair_line (codes "dominated ") pair
 
 -- the line of an unlawful leg, counted from 1, with its Unix minute and the reason
 abbrev pub unlawful_line : ℕ → ℕ → Why → List ℕ
@@ -60,5 +60,5 @@ unlawful_line leg minute why =
 
 -- the pair of lawful legs and the one that is better; or the first unlawful leg, with its minute and the reason
 abbrev pub explanation_text : Explanation → Option Pair → List ℕ
-explanation_text (Lawful pair) better = pair_line (codes "lawful ") pair ++ better_line better
+explanation_text (Lawful pair) better = worded_pair_line (codes "lawful ") pair ++ better_line better
 explanation_text (Unlawful leg minute why) better = unlawful_line leg minute why

@@ -13,7 +13,7 @@ use Rattle.trip_explain.specs.declared.explanation.Explanation.{Explanation}
 use Rattle.trip_explain.specs.declared.explanation.Explanation.TheVariants.{Lawful, Unlawful}
 use Rattle.trip_explain.specs.declared.explanation.Why.{Why}
 use Rattle.trip_explain.specs.declared.explanation.Why.TheVariants.{Goal}
-use Rattle.trip_explain.specs.Reasons.{IsStuck}
+use Rattle.trip_explain.specs.Reasons.{IsBarred}
 
 -- a request between nodes of the network, at instants
 pub record IsRoadRequest (net : NetworkModel) (r : Request) : Type 0 where
@@ -32,7 +32,7 @@ pub record StopsIn (net : NetworkModel) (vehicle : VehicleModel) (until : ℕ) (
   pub at : Position
   pub steps : steps_of_leg leg ≡ made ++ step ∷ left
   pub walk : Walks (road_setting net vehicle) until made from at
-  pub stuck : IsStuck net vehicle until at step minute why
+  pub stuck : IsBarred net vehicle until at step minute why
 
 -- all steps are lawful, and don't lead to the goal
 pub record EndsElsewhere (r : Request) (legs : List Leg) (i : ℕ) (at : Position) (minute : ℕ) (why : Why) : Type 0 where

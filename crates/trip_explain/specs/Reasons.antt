@@ -15,8 +15,8 @@ use Rattle.trip_explain.specs.declared.rulings.Ruling.{Ruling}
 use Rattle.trip_explain.specs.Rulings.{ruling_given}
 
 -- the reason that a ruling is
-abbrev pub rule_of : Ruling → Why
-rule_of ruling = Rule ruling.of_arc ruling.key ruling.conditional ruling.clause
+abbrev pub reason_of : Ruling → Why
+reason_of ruling = Rule ruling.of_arc ruling.key ruling.conditional ruling.clause
 
 -- the run at this place is the first that has the minute
 pub record IsFirstRun (runs : List Run) (t k : ℕ) : Type 0 where
@@ -30,7 +30,7 @@ pub record IsBarredBy (net : NetworkModel) (vehicle : VehicleModel) (a t : ℕ) 
   pub ruling : Ruling
   pub barred : is_let_in net vehicle a t ≡ false
   pub given : ruling_given net vehicle a t (keys_of vehicle.class) ≡ Some ruling
-  pub is : why ≡ rule_of ruling
+  pub is : why ≡ reason_of ruling
 
 -- the arc lets the vehicle in, and its first closure that has the minute, counted from 1, is this one
 pub record IsInClosure (net : NetworkModel) (vehicle : VehicleModel) (a t : ℕ) (why : Why) : Type 0 where
@@ -60,15 +60,15 @@ pub record Begins (s : Setting) (a v : ℕ) (road : Road) : Type 0 where
   pub tail : road.tail ≡ v
 
 -- the step can't be made from this position; the first reason that holds, and its minute
-pub data IsStuck (net : NetworkModel) (vehicle : VehicleModel) (until : ℕ) (p : Position) : Step → ℕ → Why → Type 0 where
-  elsewhere : {a : ℕ} → IsElsewhere (road_setting net vehicle) a p.node → IsStuck net vehicle until p (drive a) p.minute Tail
+pub data IsBarred (net : NetworkModel) (vehicle : VehicleModel) (until : ℕ) (p : Position) : Step → ℕ → Why → Type 0 where
+  elsewhere : {a : ℕ} → IsElsewhere (road_setting net vehicle) a p.node → IsBarred net vehicle until p (drive a) p.minute Tail
   late : {a : ℕ} (road : Road) → Begins (road_setting net vehicle) a p.node road → until < p.minute + road.minutes
-      → IsStuck net vehicle until p (drive a) p.minute Late
+      → IsBarred net vehicle until p (drive a) p.minute Late
   closed : {a t : ℕ} {why : Why} (road : Road) → Begins (road_setting net vehicle) a p.node road → p.minute + road.minutes ≤ until
       → t < p.minute + road.minutes → ClosesFirst net vehicle a p.minute t why
-      → IsStuck net vehicle until p (drive a) t why
-  unrated : (road_setting net vehicle).weight p.node ≡ None → IsStuck net vehicle until p wait p.minute Unrated
+      → IsBarred net vehicle until p (drive a) t why
+  unrated : (road_setting net vehicle).weight p.node ≡ None → IsBarred net vehicle until p wait p.minute Unrated
   late_wait : (weight : ℕ) → (road_setting net vehicle).weight p.node ≡ Some weight → until < p.minute + 1
-      → IsStuck net vehicle until p wait p.minute Late
+      → IsBarred net vehicle until p wait p.minute Late
   shut_wait : (weight : ℕ) → (road_setting net vehicle).weight p.node ≡ Some weight → p.minute + 1 ≤ until
-      → (road_setting net vehicle).wait_shut p.node p.minute ≡ true → IsStuck net vehicle until p wait p.minute Shut
+      → (road_setting net vehicle).wait_shut p.node p.minute ≡ true → IsBarred net vehicle until p wait p.minute Shut

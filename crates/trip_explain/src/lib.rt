@@ -1,7 +1,7 @@
 //! Says why an itinerary over a road network is unlawful: the first leg that can't be travelled, the minute and the reason; or, for a
 //! lawful one, its pair, and which pair of a Pareto front is better.
 //!
-//! The law is in `specs/`. `Reasons` says why a step can't be made (`IsStuck`): each reason holds the denial of those that come before
+//! The law is in `specs/`. `Reasons` says why a step can't be made (`IsBarred`): each reason holds the denial of those that come before
 //! it. `Rulings` says which rule decides an arc's access, over the places of `network_tables`; the law `ruling_decides` ties it to
 //! `Access` there. `Explanations` says which leg is the first that fails, and what an explanation says of legs (`IsExplained`): `explain`
 //! meets it, over the road setting. Legs that are unlawful achieve no pair (`never_both`), and have one leg, minute and reason

@@ -1,7 +1,7 @@
 // Writes an explanation as plain lines.
 ghost use Rattle.std.specs.Prelude.{◌≡◌, ◌++◌, OnOk, IfOk};
 ghost use Rattle.trip_explain.specs.ExplanationText.{key_label_of, scope_label_of, kind_label_of};
-ghost use Rattle.trip_explain.specs.ExplanationText.{reason_text, rule_text, pair_line, better_line};
+ghost use Rattle.trip_explain.specs.ExplanationText.{reason_text, rule_text, worded_pair_line, better_line};
 ghost use Rattle.trip_explain.specs.ExplanationText.{unlawful_line, explanation_text};
 
 use crate::explanation::{Explanation, Why};
@@ -81,7 +81,7 @@ fn push_reason(out: &mut Vec<u8>, why: Why) -> Result<(), OutOfMemory>
 
 // Appends the line of a word and a pair.
 fn push_pair(out: &mut Vec<u8>, word: &str, pair: Pair) -> Result<(), OutOfMemory>
-    ensures { OnOk result (out.new.items ≡ out.old.items ++ pair_line word.now pair) }
+    ensures { OnOk result (out.new.items ≡ out.old.items ++ worded_pair_line word.now pair) }
 {
     push_field(out, word, pair.arrival)?;
     push_text(out, " ")?;

@@ -1,20 +1,22 @@
 -- The task and the progress that the code holds, and what its parts keep of each other (source: own; no law).
 use Rattle.std.specs.Prelude.{◌≡◌, ◌⊎◌, ℕ, ◌≤◌, Bool, true, false, ◌||◌, Option, Some, None, List, length, All, IfSome, IsNone, slice_get}
+use Rattle.route_base.specs.Itinerary.{Position, Drives}
 use Rattle.route_base.specs.Net.{IsGoodArc, IsGoodNet, IsGoodPark, IsGoodRequest, at_number, park_at, setting_of}
 use Rattle.route_base.specs.Legs.{CostsFit}
 use Rattle.route_base.specs.Relaxing.{AreBounds}
 use Rattle.route_base.specs.Runs.{any_has}
 use Rattle.route_base.specs.declared.limits.TheConstants.{HIGHEST_COST}
 use Rattle.route_base.specs.declared.types.Run.{Run}
-use Rattle.route_base.specs.declared.types.TimedArc.{TimedArc}
 use Rattle.cost_functions.specs.Building.{AreBuilt}
+use Rattle.cost_functions.specs.Pieces.{value_at}
+use Rattle.cost_functions.specs.declared.pieces.Piece.{Piece}
 use Rattle.function_merge.specs.Least.{least_of, is_better}
 use Rattle.label_queue.specs.Keys.{key_at, IsSet}
 use Rattle.node_arcs.specs.Stars.{AreOutgoing, EndsAt}
 use Rattle.node_arcs.specs.declared.links.End.TheVariants.{Tail}
 use Rattle.potentials.specs.Sums.{bound_at}
 use Rattle.propagation.specs.Found.{cost_at}
-use Rattle.propagation.specs.Inside.Invariants.{Task, Progress}
+use Rattle.propagation.specs.Inside.Invariants.{Task, Progress, IsRelaxedIn, point}
 use Rattle.propagation.specs.Inside.Pairs.{AreBorders}
 use Rattle.propagation.specs.declared.ways.OutgoingArc.{OutgoingArc}
 use Rattle.propagation.specs.declared.task.Task.{Task as TaskHeld}
@@ -56,17 +58,22 @@ pub record IsOutgoingArc (task : TaskHeld) (v : ℕ) (way : OutgoingArc) : Type 
 abbrev pub HasArc : List OutgoingArc → ℕ → Type 0
 HasArc ways a = (k : ℕ) × (way : OutgoingArc) × (slice_get ways k ≡ Some way) × (way.id.0 ≡ a)
 
--- the arc is in the list, or its head has no bound
-abbrev pub IsArcRead : TaskHeld → List OutgoingArc → ℕ → Type 0
-IsArcRead task ways a = HasArc ways a ⊎ ((arc : TimedArc) → at_number task.net.now.arcs a ≡ Some arc → bound_at task.bounds.now arc.head.0 ≡ None)
+-- all drives over the arc from the part's costs at node v are relaxed
+abbrev pub IsArcRelaxed : TaskHeld → ProgressHeld → ℕ → List Piece → ℕ → Type 0
+IsArcRelaxed task progress v part a = (t x : ℕ) (q : Position) → value_at part t ≡ Some x
+    → Drives (setting_of task.net.now) task.request.until a (point v t x) q → IsRelaxedIn (task_of task) (progress_of progress) q
 
--- each arc that leaves node v is in the list, or its head has no bound
-abbrev pub HasEachArc : TaskHeld → ℕ → List OutgoingArc → Type 0
-HasEachArc task v ways = (a : ℕ) → EndsAt task.net.now Tail v a → IsArcRead task ways a
+-- the arc is in the list, or relaxed
+abbrev pub IsArcRead : TaskHeld → ProgressHeld → ℕ → List Piece → List OutgoingArc → ℕ → Type 0
+IsArcRead task progress v part ways a = HasArc ways a ⊎ IsArcRelaxed task progress v part a
 
--- the arc is added to those of the list, or its head has no bound
-pub record IsArcAdded (task : TaskHeld) (a : ℕ) (old new : List OutgoingArc) : Type 0 where
-  pub here : IsArcRead task new a
+-- each arc that leaves node v is in the list, or relaxed
+abbrev pub HasEachArc : TaskHeld → ProgressHeld → ℕ → List Piece → List OutgoingArc → Type 0
+HasEachArc task progress v part ways = (a : ℕ) → EndsAt task.net.now Tail v a → IsArcRead task progress v part ways a
+
+-- the arc is added to those of the list, or relaxed
+pub record IsArcAdded (task : TaskHeld) (progress : ProgressHeld) (v : ℕ) (part : List Piece) (a : ℕ) (old new : List OutgoingArc) : Type 0 where
+  pub here : IsArcRead task progress v part new a
   pub kept : (b : ℕ) → HasArc old b → HasArc new b
 
 -- a place for each node, a key for each node with pending minutes but the one at work, and the borders of the pairs

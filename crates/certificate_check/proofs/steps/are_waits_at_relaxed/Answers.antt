@@ -11,7 +11,7 @@ returns c =
     let s = setting_in k in
     let weight = c.in-Some.weight in
     let bound = c.bound_of-bound in
-    let pieces = c.pieces_of-pieces in
+    let pieces = c.pieces_in-pieces in
     let shut = c.shut_runs in
     let link : Link = record { minutes = 1; cost = weight; closed = shut.result.now; from = bound.result; to = bound.result; values = pieces.result.now } in
     let rated : s.weight c.args.v.0 ≡ Some weight = sym c.in-Some.ensures.value in

@@ -1,7 +1,7 @@
 use Rattle.std.proofs.Common.{arith}
 use Rattle.route_base.specs.Matching.{IsInWindow}
 use Rattle.route_base.specs.Net.{setting_of}
-use Rattle.front_desk.specs.Breaks.{rule_of}
+use Rattle.front_desk.specs.Breaks.{break_rule_of}
 use Rattle.front_desk.specs.Inside.Planning.{trip_window}
 use Rattle.front_desk.specs.Plan.{trip_setting}
 use Rattle.front_desk.specs.Trips.{request_of}
@@ -14,7 +14,7 @@ returns-clause-text c = λ network net breaks text is right.
     let within : IsInWindow request window = (omega arith, omega arith) in
     record {
       routes = right.routes;
-      right = (c.rested_trips_agree.ensures.right (setting_of net) (trip_setting network breaks.trip) window request (rule_of breaks)
+      right = (c.rested_trips_agree.ensures.right (setting_of net) (trip_setting network breaks.trip) window request (break_rule_of breaks)
           is.stands within right.routes).0 right.right;
       is_text = right.is_text;
     }
@@ -22,4 +22,4 @@ returns-clause-text c = λ network net breaks text is right.
 pub returns-clause-states : goal.returns-clause-states
 returns-clause-states c = λ network net breaks is.
     c.rested_trips_agree.ensures.states (setting_of net) (trip_setting network breaks.trip) (trip_window breaks.trip) breaks.trip.origin
-    (rule_of breaks) is.stands
+    (break_rule_of breaks) is.stands

@@ -16,7 +16,7 @@ use Rattle.area_tables.specs.Areas.{AreaEntry, areas_in}
 use Rattle.area_tables.specs.Holidays.{holidays_named}
 use Rattle.network_tables.specs.NetworkFiles.{arc_count_of, node_count_of, zones_of, areas_of, holidays_of, ratings_of, zone_for}
 use Rattle.network_tables.specs.NetworkFiles.{network_in_files}
-use Rattle.network_tables.specs.NetworkModel.{AreBelow, IsGoodPark, IsNodeOf}
+use Rattle.network_tables.specs.NetworkModel.{AreBelow, IsGoodParked, IsParkedWithin}
 use Rattle.network_tables.specs.Parks.{parks_with, IsTimedIn}
 use Rattle.network_tables.specs.NetworkParts.{zones_at, areas_with}
 use Rattle.network_tables.specs.Tolls.{Toll, toll_for}
@@ -135,12 +135,12 @@ new-requires c =
             ∙ length-runs_by_arc _ _
             ∙ ap (λ (g : GraphModel). length g.arcs) (sym graph);
         parks =
-            subst (λ (n : ℕ). All (IsGoodPark n) (parks_with c.in_ok-closures.parks)) (sym (size ∙ area_count))
-            (subst (All (IsGoodPark (length names))) (sym c.in_ok-closures.ensures.value.stated.1)
+            subst (λ (n : ℕ). All (IsGoodParked n) (parks_with c.in_ok-closures.parks)) (sym (size ∙ area_count))
+            (subst (All (IsGoodParked (length names))) (sym c.in_ok-closures.ensures.value.stated.1)
             (parked_in-good (node_count_of files) (rows_of files.ratings) names (some_areas (areas_in (rows_of files.areas))) (rows_of files.parking)));
         rated =
-            subst (λ (n : ℕ). All (IsNodeOf n) (parks_with c.in_ok-closures.parks)) (ap (λ (g : GraphModel). g.nodes) (sym graph))
-            (subst (All (IsNodeOf (node_count_of files))) (sym c.in_ok-closures.ensures.value.stated.1)
+            subst (λ (n : ℕ). All (IsParkedWithin n) (parks_with c.in_ok-closures.parks)) (ap (λ (g : GraphModel). g.nodes) (sym graph))
+            (subst (All (IsParkedWithin (node_count_of files))) (sym c.in_ok-closures.ensures.value.stated.1)
             (parked_in-nodes (node_count_of files) (ratings_of files) names (rows_of files.parking)));
         tolls = λ a.
             subst (λ (list : List Toll). unwrap_or (toll_for list a) 0 ≤ HIGHEST_TOLL) (sym c.in_ok-tolls.ensures.stated)

@@ -1,19 +1,16 @@
-use Rattle.std.proofs.Common.{◌≡◌, inr, ⊎_elim, ◌<◌, Option, Some, None, get_or, sym, subst, arith}
+use Rattle.std.proofs.Common.{◌≡◌, ⊎_elim, ◌<◌, None, get_or, sym, subst, arith}
 use Rattle.node_arcs.proofs.DriveEnds.{drives_tail}
 use Rattle.node_arcs.proofs.StarPlaces.{earlier_or_next}
 use Rattle.route_base.specs.Itinerary.{Drives}
-use Rattle.route_base.specs.Net.{at_number, setting_of}
-use Rattle.route_base.specs.declared.types.Bound.{Bound}
-use Rattle.route_base.specs.declared.types.TimedArc.{TimedArc}
-use Rattle.potentials.specs.Sums.{bound_at}
+use Rattle.route_base.specs.Net.{setting_of}
 use Rattle.propagation.proofs.Fitting.{part_kept}
-use Rattle.propagation.proofs.Gathering.{item_within, no_way_on}
+use Rattle.propagation.proofs.Gathering.{item_within}
 use Rattle.propagation.proofs.Keeping.{relaxed_kept, improves-append}
 use Rattle.propagation.proofs.Parting.{settle}
 use Rattle.propagation.proofs.turns.drive_each.Goals as goal
 use Rattle.cost_functions.specs.Pieces.{value_at}
 use Rattle.propagation.specs.Inside.Invariants.{point}
-use Rattle.propagation.specs.Inside.States.{HasArc, progress_of, task_of}
+use Rattle.propagation.specs.Inside.States.{HasArc, IsArcRelaxed, progress_of, task_of}
 use Rattle.propagation.specs.declared.ways.OutgoingArc.{OutgoingArc}
 
 abbrev no_way : OutgoingArc
@@ -55,7 +52,6 @@ returns-clause-facts c =
     (λ (has : HasArc c.args.ways.now a). c.loop-way.invariant.relaxed has.0 has.1
     (omega (arith, item_within c.args.ways.now has.0 has.1 has.2, c.loop-way-test.false)) has.2 t x q there
     (subst (λ n. Drives (setting_of c.args.task.net.now) c.args.task.request.until n (point c.args.v.0 t x) q) (sym has.3) step))
-    (λ (none : (arc : TimedArc) → at_number c.args.task.net.now.arcs a ≡ Some arc
-    → ◌≡◌ {A = Option Bound} (bound_at c.args.task.bounds.now arc.head.0) None).
-    inr (no_way_on c.args.task c.loop-way.progress.pairs.items a (point c.args.v.0 t x) q step none))
+    (λ (done : IsArcRelaxed c.args.task c.args.progress.now c.args.v.0 c.args.part.now a).
+    relaxed_kept k (progress_of c.args.progress.now) (progress_of c.loop-way.progress) q c.loop-way.invariant.better (done t x q there step))
     (c.requires.each a (drives_tail c.args.task.net.now c.args.task.request.until a (point c.args.v.0 t x) q step)))

@@ -17,12 +17,16 @@ pub loop-a-preserved : goal.loop-a-preserved
 loop-a-preserved c =
     let arcs = c.of-a-items.result.now in
     let added = c.in_ok-add_way.ensures.added in
+    let v = c.args.v.0 in
+    let now = c.args.progress.now in
+    let part = c.args.part.now in
     record {
       arcs = c.in_ok-add_way.ensures.arcs;
       read = λ i a below is. ⊎_elim
-          (λ (before : i < c.loop-a.a-index). still_read c.args.task c.loop-a.ways.items c.add_way.new.ways.items a.0 added.kept
+          (λ (before : i < c.loop-a.a-index). still_read c.args.task now v part c.loop-a.ways.items c.add_way.new.ways.items a.0 added.kept
           (c.loop-a.invariant.read i a before is))
-          (λ (here : get_or arcs c.loop-a.a-index no_arc ≡ a). subst (λ (w : ArcId). IsArcRead c.args.task c.add_way.new.ways.items w.0) here added.here)
+          (λ (here : get_or arcs c.loop-a.a-index no_arc ≡ a).
+          subst (λ (w : ArcId). IsArcRead c.args.task now v part c.add_way.new.ways.items w.0) here added.here)
           (earlier_or_next arcs c.loop-a.a-index i a no_arc below is);
     }
 

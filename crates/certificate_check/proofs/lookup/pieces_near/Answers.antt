@@ -1,8 +1,8 @@
 use Rattle.std.proofs.Common.{◌≡◌, ◌∙◌, None, ap}
 use Rattle.certificate.specs.ByNode.{item_at}
-use Rattle.certificate_check.specs.Conditions.{value_in}
+use Rattle.cost_functions.specs.Pieces.{value_in}
 use Rattle.certificate_check.proofs.PieceValues.{no_value}
-use Rattle.certificate_check.proofs.lookup.pieces_of.Goals as goal
+use Rattle.certificate_check.proofs.lookup.pieces_near.Goals as goal
 
 pub returns-in-None-clause-values : goal.returns-in-None-clause-values
 returns-in-None-clause-values c = λ t.
