@@ -9,10 +9,13 @@ use crate::suffixes::find_pieces;
 use cost_functions::{CostFn, Piece};
 use route_base::{Cost, Minute};
 
+// The pieces of f that are looked at for one piece.
+const MOST_LOOKED_AT: usize = 4;
+
 /// Whether pieces of f show for each of the pieces that f is no larger `minutes` later than the piece at `cost` thousandths more: at both
-/// ends of what they share with it. If so, the shifted pieces are nowhere better than f; else they may be. A search in
-/// f for each piece, until one isn't shown so: mostly of a few pieces from the end of f, else a binary search; then linear in the pieces
-/// of f that the shifted piece meets; no memory.
+/// ends of what they share with it. If so, the shifted pieces are nowhere better than f; else they may be. A search in f for each
+/// piece, until one isn't shown so: mostly of a few pieces from the end of f, else a binary search; then a look at four pieces at most.
+/// No memory.
 pub fn is_shown_no_better(f: &CostFn, pieces: &[Piece], minutes: u64, cost: Cost) -> bool
     requires pieces { ArePieces pieces.now }
     requires minutes { minutes ≤ LAST_INSTANT }
@@ -39,10 +42,15 @@ fn is_covered(f: &[Piece], piece: Piece, minutes: u64, cost: Cost) -> bool
 {
     let mut from: Minute = piece.lo;
     let mut left = find_pieces(f, from + minutes);
+    let mut looked: usize = 0;
     'cover: while let [own, rest @ ..] = left {
+        if looked >= MOST_LOOKED_AT {
+            return false;
+        }
         if !is_no_higher(*own, piece, from, minutes, cost) {
             return false;
         }
+        looked += 1;
         if piece.hi + minutes <= own.hi {
             return true;
         }

@@ -23,6 +23,7 @@ cover-preserved c =
     let ends = c.if-piece-minutes.false in
     let reach = inv.reach 0 (first_of left) (omega (arith, some)) in
     record {
+      count = omega (arith, inv.count, c.if-looked-ge-MOST_LOOKED_AT.false);
       low = omega (arith, inv.low, reach);
       high = omega (arith, ends, reach);
       pieces = pieces_rest left some inv.pieces;

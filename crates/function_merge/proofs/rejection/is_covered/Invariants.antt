@@ -6,6 +6,7 @@ use Rattle.function_merge.proofs.rejection.is_covered.Given as goal
 
 abbrev pub invariant-cover : goal.invariant-cover
 invariant-cover l = record {
+  count : l.looked ≤ 4;
   low : l.piece.lo ≤ l.from;
   high : l.from ≤ l.piece.hi;
   pieces : ArePieces l.left;
