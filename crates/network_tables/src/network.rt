@@ -35,7 +35,6 @@ pub struct NetworkParts {
 /// A road network: a graph, the area of each arc with its zone and its holidays, vehicles by name, access rules of areas and
 /// arcs, the closed minutes and the toll of each arc, and the nodes where one may wait, with their weights and hours. Each zone and
 /// each text of hours is held once.
-#[derive(Drop)]
 pub struct Network {
     parts: NetworkParts,
 }
@@ -49,6 +48,13 @@ impl Model for Network {
     ghost view = { λ n. network_with n.parts };
 
     ghost invariant = { λ n. HoldsNetwork n.parts };
+}
+
+// One function for all that give a network back: the drops of its parts are proved here alone.
+impl Drop for Network {
+    fn drop(self) {
+        let Network { parts: _ } = self;
+    }
 }
 
 impl Network {
