@@ -1,5 +1,5 @@
 -- A table of jobs that was read, and the texts of its jobs.
-use Rattle.std.proofs.Common.{◌≡◌, ℕ, false, Some, None, Option, List, Ok, length, refl, ap, sym, subst, ◌∙◌}
+use Rattle.std.proofs.Common.{◌≡◌, ℕ, false, Some, None, Option, List, Ok, length, ap, sym, subst, ◌∙◌}
 use Rattle.std.specs.Option.{option_or}
 use Rattle.std.specs.Prelude.{IfSome}
 use Rattle.route_base.specs.Causes.{IsOfContents}
@@ -19,7 +19,7 @@ use Rattle.trip_batch.specs.Right.{AreRightByJob}
 use Rattle.front_desk.specs.Batch.{batch_fault, jobs_held, trip_of_job, IsTripText, IsJobText, IsTextAt, IsBatchText}
 use Rattle.front_words.specs.declared.commands.Batch.{Batch}
 use Rattle.front_words.specs.declared.commands.Plan.{Plan}
-use Rattle.front_words.specs.declared.commands.Invocation.TheVariants.{Batch as to_batch}
+use Rattle.front_desk.specs.Batch.{batch_meaning}
 use Rattle.network_folder.specs.Files.{IfTold}
 use Rattle.front_desk.specs.Inside.Ending.{Ends}
 use Rattle.front_desk.proofs.Ending.{kept_rises, reports}
@@ -33,6 +33,10 @@ use Rattle.network_folder.specs.declared.faults.LoadFault.{LoadFault}
 use Rattle.network_folder.specs.declared.faults.LoadFault.TheVariants.{Bad, Failed, OutOfMemory}
 use Rattle.front_desk.specs.declared.outcome.Report.{Report}
 use Rattle.front_desk.specs.declared.plan.Planned.{Planned}
+use Rattle.front_desk.specs.Inside.Sound.{IsSound}
+use Rattle.front_desk.specs.Batch.{IsBatchReport}
+use Rattle.front_desk.proofs.OneText.{one_batch}
+use Rattle.front_desk.proofs.Sound.{one_text_sound, reads_sound, without_request_sound}
 
 -- of two faults, of which the first counts
 module _ (old new : FolderState) (first second : Contents → Option BadInput) where
@@ -98,14 +102,19 @@ module _ (b : Batch) (old new : FolderState) (network : NetworkModel) (jobs : Li
     (stated : IfTold old (λ held. jobs ≡ jobs_held b held)) where
   -- a report that has right texts of the folder's jobs is that of the batch
   pub ends_batch : (report : Report) → report.rejects ≡ false → IsBatchText network jobs report.text.items → KeepsFiles old new
-      → Ends (to_batch b) old new (Ok report)
+      → Ends (batch_meaning b) old new (Ok report)
   ends_batch report accepts right kept = record {
-    concludes = reports (to_batch b) old new report accepts (λ held is. record {
+    concludes = reports (batch_meaning b) old new report accepts (λ held is. record {
       faultless = faultless held is;
-      good = refl;
+      good = tt;
       answer = subst (λ (n : NetworkModel). IsBatchText n (jobs_held b held) report.text.items) (found held is)
           (subst (λ (js : List Job). IsBatchText network js report.text.items) (stated held is) right);
     });
     left = kept;
     counts = kept_rises old new kept;
   }
+
+-- the meaning of the command is sound
+pub batch_sound : (b : Batch) → IsSound (batch_meaning b)
+batch_sound b = without_request_sound _
+    (one_text_sound _ (reads_sound (batch_fault b) (λ held. None) (IsBatchReport b)) (λ held after other x y. one_batch _ _ x y))

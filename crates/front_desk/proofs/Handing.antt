@@ -1,5 +1,5 @@
 -- A plan that is ready is handed over.
-use Rattle.std.proofs.Common.{◌≡◌, inl, inr, ℕ, Some, None, Option, List, Result, Ok, Err, ap, sym, subst, ◌∙◌, arith}
+use Rattle.std.proofs.Common.{◌≡◌, inl, inr, ℕ, Some, None, Option, List, Result, Ok, Err, refl, ap, sym, subst, ◌∙◌, arith}
 use Rattle.std.specs.Result.{IsErrAnd}
 use Rattle.route_base.specs.Contents.{Contents, Holds, LeavesOpen}
 use Rattle.route_base.specs.Counts.{HasRisen}
@@ -14,13 +14,11 @@ use Rattle.route_base.specs.declared.status.Status.TheVariants.{Done}
 use Rattle.network_tables.specs.NetworkModel.{NetworkModel}
 use Rattle.plan_report.specs.declared.outcomes.Refusal.TheVariants.{Usage, Input, Request}
 use Rattle.front_words.specs.declared.commands.Plan.{Plan}
-use Rattle.front_words.specs.declared.commands.Invocation.TheVariants.{Plan as to_plan}
-use Rattle.front_desk.specs.Commands.{PlanWrites, LeavesFiles, LeavesPlan}
 use Rattle.network_folder.specs.Files.{IfTold, path_of}
 use Rattle.front_desk.proofs.Ending.{kept_rises, reports, status_done}
 use Rattle.front_desk.specs.Inside.Ending.{Ends, StopsCommand, halt_of_write, status_of_halt}
 use Rattle.front_desk.specs.Inside.Planning.{IsFileFor, IsReady, IsWritten, IsUnwritten, HandsOver}
-use Rattle.front_desk.specs.Plan.{Certifies, HoldsCertificate, IsPlanned, plan_fault, plan_check, trip_setting}
+use Rattle.front_desk.specs.Plan.{Certifies, HoldsCertificate, IsPlanned, LeavesPlan, PlanWrites, plan_fault, plan_check, plan_meaning, trip_setting}
 use Rattle.network_folder.specs.ReadingOrder.{network_held}
 use Rattle.front_desk.specs.Trips.{failed_check, request_of}
 use Rattle.front_desk.specs.declared.outcome.Halt.{Halt}
@@ -28,6 +26,11 @@ use Rattle.front_desk.specs.declared.outcome.Halt.TheVariants.{Refused, ReadFaul
 use Rattle.front_desk.specs.declared.outcome.Report.{Report}
 use Rattle.front_desk.specs.declared.plan.CertificateFile.{CertificateFile}
 use Rattle.front_desk.specs.declared.plan.Planned.{Planned}
+use Rattle.front_desk.specs.Inside.Sound.{IsSound, StaysLeft}
+use Rattle.front_desk.specs.Plan.{LeavesCertificate}
+use Rattle.front_desk.proofs.OneText.{one_plan}
+use Rattle.front_desk.proofs.Sound.{never_some, same_state}
+use Rattle.route_base.specs.declared.status.Status.TheVariants as status
 
 -- what holds under a name leaves all else open
 opened : (before after : Option Contents) (path bytes : List ℕ) → Holds before after path bytes → LeavesOpen before after path
@@ -54,7 +57,7 @@ kept_leaves p (Some name) old new ReadFault kept = kept
 kept_leaves p (Some name) old new WriteFault kept = inl kept
 kept_leaves p (Some name) old new NoMemory kept = inl kept.contents
 
-pub left_unread : (p : Plan) (old new : FolderState) → KeepsFiles old new → (halt : Halt) → LeavesFiles (Some (to_plan p)) old new (status_of_halt halt)
+pub left_unread : (p : Plan) (old new : FolderState) → KeepsFiles old new → (halt : Halt) → (plan_meaning p).leaves old new (status_of_halt halt)
 left_unread p old new kept halt = kept_leaves p p.certificate old new halt kept
 
 failed_since : (old mid new : FolderState) → KeepsFiles old mid → FailedToWrite mid new → FailedToWrite old new
@@ -134,7 +137,7 @@ module _ (p : Plan) (old mid new : FolderState) (kept : KeepsFiles old mid) (net
 
     unwritten_stops : (file : Option CertificateFile) (error : WriteError)
         → IsFileFor (trip_setting network p.trip) (request_of p.trip) ready.routes p.certificate file → IsUnwritten mid new p.dir file error
-        → StopsCommand (to_plan p) old new (halt_of_write error)
+        → StopsCommand (plan_meaning p) old new (halt_of_write error)
     unwritten_stops None error for why = absurd why
     unwritten_stops (Some file) Failed for why = record {
       writes = writes p.certificate file for;
@@ -145,9 +148,9 @@ module _ (p : Plan) (old mid new : FolderState) (kept : KeepsFiles old mid) (net
     unwritten_stops (Some file) OutOfMemory for why = tt
 
     -- the text is handed over
-    ends_handed : (report : Report) → HandsOver mid new p.dir planned (Ok report) → Ends (to_plan p) old new (Ok report)
+    ends_handed : (report : Report) → HandsOver mid new p.dir planned (Ok report) → Ends (plan_meaning p) old new (Ok report)
     ends_handed report h = record {
-      concludes = reports (to_plan p) old new report h.0 (λ held is. record {
+      concludes = reports (plan_meaning p) old new report h.0 (λ held is. record {
         faultless = faultless held is;
         good = passes held is;
         answer = subst (λ (n : NetworkModel). IsPlanned (trip_setting n p.trip) p (Some held) new.contents report.text.items) (found held is)
@@ -164,7 +167,7 @@ module _ (p : Plan) (old mid new : FolderState) (kept : KeepsFiles old mid) (net
     }
 
     -- the certificate couldn't be written
-    ends_unwritten : (error : WriteError) → IsUnwritten mid new p.dir planned.certificate error → Ends (to_plan p) old new (Err (halt_of_write error))
+    ends_unwritten : (error : WriteError) → IsUnwritten mid new p.dir planned.certificate error → Ends (plan_meaning p) old new (Err (halt_of_write error))
     ends_unwritten error h = record {
       concludes = unwritten_stops planned.certificate error ready.file h;
       left = unwritten_leaves p.certificate planned.certificate error ready.file h;
@@ -172,12 +175,42 @@ module _ (p : Plan) (old mid new : FolderState) (kept : KeepsFiles old mid) (net
     }
 
     -- how the handing over ends is how the plan ends
-    pub ends_handing : (end : Result Report Halt) → HandsOver mid new p.dir planned end → Ends (to_plan p) old new end
+    pub ends_handing : (end : Result Report Halt) → HandsOver mid new p.dir planned end → Ends (plan_meaning p) old new end
     ends_handing (Ok report) h = ends_handed report h
-    ends_handing (Err halt) h = subst (λ (k : Halt). Ends (to_plan p) old new (Err k)) (sym h.is_halt) (ends_unwritten h.error h.unwritten)
+    ends_handing (Err halt) h = subst (λ (k : Halt). Ends (plan_meaning p) old new (Err k)) (sym h.is_halt) (ends_unwritten h.error h.unwritten)
 
 -- a certificate that couldn't be written stops the handing over
 pub stops_handing : (old new : FolderState) (dir : List ℕ) (planned : Planned) (end : Result Report Halt) (error : WriteError)
     → IsErrAnd end (λ h. h ≡ halt_of_write error) → IsUnwritten old new dir planned.certificate error → HandsOver old new dir planned end
 stops_handing old new dir planned (Ok report) error at why = absurd at
 stops_handing old new dir planned (Err halt) error at why = record { error = error; is_halt = at; unwritten = why }
+
+module _ (old new : FolderState) where
+  certificate_left : (p : Plan) (name : List ℕ) (due : Status) → LeavesCertificate p name old new due
+      → StaysLeft (LeavesCertificate p name old new) due
+  certificate_left p name status.Done left = (λ _. inr (inl left), λ _. inr left)
+  certificate_left p name status.Rejected left = (λ _. inl left, λ _. inl left.contents)
+  certificate_left p name status.Usage left = (λ _. inl left, λ _. inl left.contents)
+  certificate_left p name status.BadInput left = (λ _. inl left, λ _. inl left.contents)
+  certificate_left p name status.ReadFault left = (λ _. inl left, λ _. inl left.contents)
+  certificate_left p name status.WriteFault left = (λ _. left, λ not. absurd (not refl))
+  certificate_left p name status.NoMemory left = (λ not. absurd (not refl), λ _. left)
+  certificate_left p name status.BadRequest left = (λ _. inl left, λ _. inl left.contents)
+
+  plan_left : (p : Plan) (asked : Option (List ℕ)) (due : Status) → LeavesPlan p asked old new due → StaysLeft (LeavesPlan p asked old new) due
+  plan_left p None due left = (λ _. left, λ _. left)
+  plan_left p (Some name) due left = certificate_left p name due left
+
+short_plan : (p : Plan) (asked : Option (List ℕ)) (old : FolderState) → LeavesPlan p asked old old status.NoMemory
+short_plan p None old = same_state old
+short_plan p (Some name) old = inl refl
+
+-- the meaning of the command is sound
+pub plan_sound : (p : Plan) → IsSound (plan_meaning p)
+plan_sound p = record {
+  never_both = λ held failed some none. never_some (plan_check p held) some none;
+  stays = λ old new. plan_left old new p p.certificate;
+  short = short_plan p p.certificate;
+  unread = λ nothing old new left. nothing;
+  one = λ _ held after other x y. one_plan _ p (Some held) after other x y;
+}

@@ -17,7 +17,7 @@ use Rattle.plan_report.specs.declared.outcomes.Verdict3.TheVariants.{Rejected as
 use Rattle.front_desk.specs.Check.{no_certificate, condition_fails, check_check, check_fault, check_setting, certificate_held}
 use Rattle.front_desk.specs.Check.{FailsWith, IsAccepted, IsRejected}
 use Rattle.front_words.specs.declared.commands.Check.{Check}
-use Rattle.front_words.specs.declared.commands.Invocation.TheVariants.{Check as to_check}
+use Rattle.front_desk.specs.Check.{check_meaning}
 use Rattle.network_folder.specs.Files.{IfTold}
 use Rattle.front_desk.specs.Inside.Ending.{Ends, ReportsOn}
 use Rattle.front_desk.proofs.Ending.{kept_rises}
@@ -26,6 +26,10 @@ use Rattle.front_desk.specs.Plan.{trip_setting}
 use Rattle.network_folder.specs.ReadingOrder.{network_held}
 use Rattle.front_desk.specs.Trips.{failed_check, request_of}
 use Rattle.front_desk.specs.declared.outcome.Report.{Report}
+use Rattle.front_desk.specs.Inside.Sound.{IsSound}
+use Rattle.front_desk.specs.Check.{AcceptsCertificate}
+use Rattle.front_desk.proofs.OneText.{one_check}
+use Rattle.front_desk.proofs.Sound.{reads_sound}
 
 module _ (s : Setting) (request : Request) (bytes : List ℕ) (report : Report) where
   pub judged_by : (certificate : Certificate) → IsCertificateText bytes certificate → (verdict : Verdict) → IsVerdict s request certificate verdict
@@ -85,7 +89,7 @@ module _ (k : Check) (old new : FolderState) (network : NetworkModel) (bytes : L
       subst (λ (n : NetworkModel). P (trip_setting n k.trip) (certificate_held k held)) (found held is)
       (subst (λ (bs : List ℕ). P (trip_setting network k.trip) bs) (certificate held is) here)
 
-  reports_judged : IsJudged (trip_setting network k.trip) (request_of k.trip) bytes report → ReportsOn (to_check k) old new report
+  reports_judged : IsJudged (trip_setting network k.trip) (request_of k.trip) bytes report → ReportsOn (check_meaning k) old new report
   reports_judged judged = record {
     answered = λ accepts held is. record {
       faultless = faultless held is;
@@ -102,5 +106,17 @@ module _ (k : Check) (old new : FolderState) (network : NetworkModel) (bytes : L
 
   -- a report that judges the bytes of the check's certificate is that of the check
   pub ends_judged : IsJudged (trip_setting network k.trip) (request_of k.trip) bytes report → KeepsFiles old new
-      → Ends (to_check k) old new (Ok report)
+      → Ends (check_meaning k) old new (Ok report)
   ends_judged judged kept = record { concludes = reports_judged judged; left = kept; counts = kept_rises old new kept }
+
+-- the meaning of the command is sound
+pub check_sound : (c : Check) → IsSound (check_meaning c)
+check_sound c =
+    let judging = reads_sound (check_fault c) (check_check c) (AcceptsCertificate c) in
+    record {
+      never_both = judging.never_both;
+      stays = judging.stays;
+      short = judging.short;
+      unread = judging.unread;
+      one = λ _ held after other x y. one_check _ _ _ x y;
+    }

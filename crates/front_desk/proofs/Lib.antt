@@ -1,7 +1,6 @@
 pub mod AcceptedCertificates
 pub mod Batches
 pub mod CheapRoads
-pub mod Checks
 pub mod ClosedWindows
 pub mod Drawn
 pub mod Ending
@@ -11,6 +10,7 @@ pub mod Handing
 pub mod JobOrders
 pub mod Judgements
 pub mod Leaving
+pub mod Meanings
 pub mod NamedVehicles
 pub mod OneText
 pub mod ReadyPlans
@@ -23,3 +23,4 @@ pub mod ReportedTours
 pub mod Rows
 pub mod Running
 pub mod Sharing
+pub mod Sound

@@ -33,30 +33,24 @@ use Rattle.plan_report.specs.Summary.{summary_text_of}
 use Rattle.plan_report.specs.declared.outcomes.Verdict3.TheVariants.{Accepted}
 use Rattle.front_words.specs.declared.commands.Bans.{Bans}
 use Rattle.front_words.specs.declared.commands.Gen.{Gen}
-use Rattle.front_words.specs.declared.commands.Invocation.{Invocation as Command}
-use Rattle.front_words.specs.declared.commands.Invocation.TheVariants.{Plan as to_plan, Check as to_check, Bans as to_bans, Batch as to_batch, Gen as to_gen}
-use Rattle.front_words.specs.declared.commands.Invocation.TheVariants.{Latest as to_latest, Tour as to_tour, Breaks as to_breaks}
-use Rattle.front_words.specs.declared.commands.Invocation.TheVariants.{Explain as to_explain}
 use Rattle.front_words.specs.declared.commands.Plan.{Plan}
 use Rattle.front_desk.specs.Bans.{IsBansText}
 use Rattle.front_desk.specs.Batch.{IsBatchText, IsTextAt, IsTripText, trip_of_job}
 use Rattle.front_desk.specs.Check.{IsAccepted}
-use Rattle.front_desk.specs.Commands.{Answers}
 use Rattle.front_desk.specs.Explain.{IsBetterFor, IsExplainText, IsFirstBetter}
 use Rattle.front_desk.specs.Gen.{IsSummary, drawn_trip, stated_network}
-use Rattle.front_desk.specs.OneText.{TellsOneText}
 use Rattle.front_desk.specs.Plan.{IsPlanned, trip_setting}
 use Rattle.front_desk.specs.Trips.{Trip, request_of, failed_check}
 use Rattle.certificate_check.proofs.Lawful.{achieved_once}
 use Rattle.front_desk.proofs.ExactExplanations.{unlawful_exactly}
 
-one_plan : (s : Setting) (p : Plan) (held : Option Contents) (after other : Option Contents) (x y : List ℕ) → IsPlanned s p held after x
+pub one_plan : (s : Setting) (p : Plan) (held : Option Contents) (after other : Option Contents) (x y : List ℕ) → IsPlanned s p held after x
     → IsPlanned s p held other y → x ≡ y
 one_plan s p held after other x y first second =
     let same = one_answer s (request_of p.trip) first.routes second.routes first.right second.right in
     first.is_text ∙ ap (λ (routes : List Route). report_text p.form s (request_of p.trip) routes) same ∙ sym second.is_text
 
-one_check : (s : Setting) (request : Request) (bytes x y : List ℕ) → IsAccepted s request bytes x → IsAccepted s request bytes y → x ≡ y
+pub one_check : (s : Setting) (request : Request) (bytes x y : List ℕ) → IsAccepted s request bytes x → IsAccepted s request bytes y → x ≡ y
 one_check s request bytes x y first second =
     let same = one_front s request (pairs_of first.certificate.routes) (pairs_of second.certificate.routes) first.front second.front in
     let count : length first.certificate.routes ≡ length second.certificate.routes =
@@ -64,7 +58,7 @@ one_check s request bytes x y first second =
     ∙ length-map second.certificate.routes (λ (r : Route). r.pair) in
     first.is_text ∙ (λ i. check_text_of Accepted (count i)) ∙ sym second.is_text
 
-one_bans : (network : NetworkModel) (b : Bans) (x y : List ℕ) → IsBansText network b x → IsBansText network b y → x ≡ y
+pub one_bans : (network : NetworkModel) (b : Bans) (x y : List ℕ) → IsBansText network b x → IsBansText network b y → x ≡ y
 one_bans network b x y first second =
     let same = one_list first.runs second.runs first.right.clean second.right.clean (λ t. first.right.minutes t ∙ sym (second.right.minutes t)) in
     first.is_text ∙ ap (λ (runs : List Run). bans_text_of runs network.passed_over) same ∙ sym second.is_text
@@ -101,7 +95,7 @@ one_batch network jobs x y first second =
     (first.each k one is_one) (second.each k two is_two)) in
     first.is_text ∙ ap (λ (texts : List (List ℕ)). batch_text_of texts) same ∙ sym second.is_text
 
-one_summary : (g : Gen) (x y : List ℕ) → IsSummary g x → IsSummary g y → x ≡ y
+pub one_summary : (g : Gen) (x y : List ℕ) → IsSummary g x → IsSummary g y → x ≡ y
 one_summary g x y first second =
     let same = one_answer (trip_setting (stated_network g) (drawn_trip g)) (request_of (drawn_trip g)) first.routes second.routes first.right second.right in
     first.is_text ∙ ap (λ (routes : List Route). summary_text_of (stated_network g).graph.nodes (length (stated_network g).graph.arcs) routes) same
@@ -133,17 +127,5 @@ module _ (network : NetworkModel) (vehicle : VehicleModel) (r : Request) (legs :
   by_first (Unlawful leg minute why) better unlawful first is_text one two =
       unlawful_exactly network vehicle r legs x leg minute why one unlawful ∙ sym (unlawful_exactly network vehicle r legs y leg minute why two unlawful)
 
-  one_explained : IsExplainText network vehicle r legs x → IsExplainText network vehicle r legs y → x ≡ y
+  pub one_explained : IsExplainText network vehicle r legs x → IsExplainText network vehicle r legs y → x ≡ y
   one_explained one two = by_first one.explanation one.better one.explained one.is_better one.is_text one two
-
-pub one_text : (command : Command) (held : Contents) (after other : Option Contents) (x y : List ℕ) → TellsOneText command
-    → Answers command held after x → Answers command held other y → x ≡ y
-one_text (to_plan p) held after other x y tells first second = one_plan _ p (Some held) after other x y first second
-one_text (to_check c) held after other x y tells first second = one_check _ _ _ x y first second
-one_text (to_bans b) held after other x y tells first second = one_bans _ b x y first second
-one_text (to_batch b) held after other x y tells first second = one_batch _ _ x y first second
-one_text (to_gen g) held after other x y tells first second = one_summary g x y first.summary second.summary
-one_text (to_explain e) held after other x y tells first second = one_explained _ _ _ _ x y first second
-one_text (to_latest l) held after other x y tells first second = absurd tells
-one_text (to_tour t) held after other x y tells first second = absurd tells
-one_text (to_breaks b) held after other x y tells first second = absurd tells

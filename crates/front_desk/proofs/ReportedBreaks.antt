@@ -1,19 +1,23 @@
 -- The report of a trip with driver breaks is that of its command.
-use Rattle.std.proofs.Common.{◌≡◌, inr, false, None, Ok, refl, ap, sym, subst, ◌∙◌}
+use Rattle.std.proofs.Common.{◌≡◌, inr, ⊎_elim, false, None, Some, Ok, refl, ap, sym, subst, ◌∙◌}
 use Rattle.route_base.specs.FolderState.{FolderState, KeepsFiles}
 use Rattle.route_base.specs.declared.faults.RequestFault.TheVariants.{TooManyStates}
 use Rattle.network_tables.specs.NetworkModel.{NetworkModel}
 use Rattle.front_words.specs.declared.commands.Breaks.{Breaks}
-use Rattle.front_words.specs.declared.commands.Invocation.TheVariants.{Breaks as to_breaks}
+use Rattle.front_desk.specs.Breaks.{breaks_meaning}
 use Rattle.network_folder.specs.Files.{IfTold}
 use Rattle.network_folder.specs.ReadingOrder.{network_held}
 use Rattle.front_desk.specs.Breaks.{IsBreaksText, HasManyStates, breaks_fault, breaks_check}
-use Rattle.front_desk.specs.Commands.{FailsCheck}
 use Rattle.front_desk.specs.Inside.Ending.{Ends}
 use Rattle.front_desk.specs.Plan.{trip_setting}
 use Rattle.front_desk.specs.Trips.{failed_check}
 use Rattle.front_desk.specs.declared.outcome.Report.{Report}
 use Rattle.front_desk.proofs.Ending.{kept_rises, reports}
+use Rattle.route_base.specs.Contents.{Contents}
+use Rattle.route_base.specs.declared.faults.RequestFault.{RequestFault}
+use Rattle.front_desk.specs.Inside.Sound.{IsSound}
+use Rattle.front_desk.specs.Breaks.{ExceedsStates, FailsBreaks, IsBreaksReport, PassesBreaks}
+use Rattle.front_desk.proofs.Sound.{never_some, reads_sound}
 
 module _ (b : Breaks) (old new : FolderState) (network : NetworkModel) (found : IfTold old (λ held. network ≡ network_held held b.dir))
     (passed : failed_check network b.trip ≡ None) where
@@ -21,7 +25,7 @@ module _ (b : Breaks) (old new : FolderState) (network : NetworkModel) (found : 
   passes held is = ap (λ (n : NetworkModel). failed_check n b.trip) (sym (found held is)) ∙ passed
 
   -- states that are too many over the network are too many for the command
-  pub exceeds : HasManyStates (trip_setting network b.trip) b → IfTold old (λ held. FailsCheck (to_breaks b) held TooManyStates)
+  pub exceeds : HasManyStates (trip_setting network b.trip) b → IfTold old (λ held. (breaks_meaning b).fails held TooManyStates)
   exceeds many held is = inr (record {
     passed = passes held is;
     many = subst (λ (n : NetworkModel). HasManyStates (trip_setting n b.trip) b) (found held is) many;
@@ -31,9 +35,9 @@ module _ (b : Breaks) (old new : FolderState) (network : NetworkModel) (found : 
   -- a report of right routes over the folder's network is that of the command
   pub ends_breaks : IfTold old (λ held. breaks_fault b held ≡ None) → (report : Report) → report.rejects ≡ false
       → IsBreaksText (trip_setting network b.trip) b report.text.items → (HasManyStates (trip_setting network b.trip) b → ⊥) → KeepsFiles old new
-      → Ends (to_breaks b) old new (Ok report)
+      → Ends (breaks_meaning b) old new (Ok report)
   ends_breaks faultless report accepts right few kept = record {
-    concludes = reports (to_breaks b) old new report accepts (λ held is. record {
+    concludes = reports (breaks_meaning b) old new report accepts (λ held is. record {
       faultless = faultless held is;
       good = record {
         passed = passes held is;
@@ -44,3 +48,16 @@ module _ (b : Breaks) (old new : FolderState) (network : NetworkModel) (found : 
     left = kept;
     counts = kept_rises old new kept;
   }
+
+-- a request that fails a check doesn't pass all of them
+never_both : (b : Breaks) (held : Contents) (fault : RequestFault) → FailsBreaks b held fault → PassesBreaks b held → ⊥
+never_both b held fault failed passes = ⊎_elim
+    (λ (one : breaks_check b held ≡ Some fault). never_some (breaks_check b held) one passes.passed)
+    (λ (too_many : ExceedsStates b held fault). passes.few too_many.many)
+    failed
+
+-- the meaning of the command is sound
+pub breaks_sound : (b : Breaks) → IsSound (breaks_meaning b)
+breaks_sound b =
+    let reading = reads_sound (breaks_fault b) (breaks_check b) (IsBreaksReport b) in
+    record { never_both = never_both b; stays = reading.stays; short = reading.short; unread = reading.unread; one = reading.one }

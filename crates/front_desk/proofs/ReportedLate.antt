@@ -8,7 +8,7 @@ use Rattle.network_folder.specs.Files.{IfTold}
 use Rattle.network_folder.specs.ReadingOrder.{network_held}
 use Rattle.plan_report.specs.declared.outcomes.Refusal.TheVariants.{Usage, Input, Request}
 use Rattle.front_words.specs.declared.commands.Latest.{Latest}
-use Rattle.front_words.specs.declared.commands.Invocation.TheVariants.{Latest as to_latest}
+use Rattle.front_desk.specs.Latest.{latest_meaning}
 use Rattle.front_desk.specs.Inside.Ending.{Ends}
 use Rattle.front_desk.specs.Inside.Late.{IsLateRequest}
 use Rattle.front_desk.specs.Inside.Planning.{IsTripNet, StopsAtCheck}
@@ -20,31 +20,34 @@ use Rattle.front_desk.specs.declared.outcome.Halt.{Halt}
 use Rattle.front_desk.specs.declared.outcome.Halt.TheVariants.{Refused, ReadFault, WriteFault, NoMemory}
 use Rattle.front_desk.specs.declared.outcome.Report.{Report}
 use Rattle.front_desk.proofs.Ending.{ends_at, ends_refused, ends_short, kept_rises, reports}
+use Rattle.front_desk.specs.Inside.Sound.{IsSound}
+use Rattle.front_desk.specs.Latest.{IsLateReport, latest_check}
+use Rattle.front_desk.proofs.Sound.{reads_sound}
 
 module _ (l : Latest) (old new : FolderState) (network : NetworkModel) (faultless : IfTold old (λ held. latest_fault l held ≡ None))
     (found : IfTold old (λ held. network ≡ network_held held l.dir)) (kept : KeepsFiles old new) where
   stopped : (end : Result Report Halt) (halt : Halt) → IsErrAnd end (λ h. h ≡ halt)
-      → StopsAtCheck (failed_check_within LONGEST_LATE_HORIZON network l.trip) halt → Ends (to_latest l) old new end
+      → StopsAtCheck (failed_check_within LONGEST_LATE_HORIZON network l.trip) halt → Ends (latest_meaning l) old new end
   stopped end (Refused Usage) at why = absurd why
   stopped end (Refused (Input fault)) at why = absurd why
   stopped end (Refused (Request fault)) at why =
-      ends_at (to_latest l) old new end (Refused (Request fault)) at (ends_refused (to_latest l) (λ kept _. kept) kept tt faultless fault
+      ends_at (latest_meaning l) old new end (Refused (Request fault)) at (ends_refused (latest_meaning l) (λ kept _. kept) kept tt faultless fault
       (λ held told. subst (λ (n : NetworkModel). failed_check_within LONGEST_LATE_HORIZON n l.trip ≡ Some fault) (found held told) why))
   stopped end ReadFault at why = absurd why
   stopped end WriteFault at why = absurd why
-  stopped end NoMemory at why = ends_short (to_latest l) (λ kept _. kept) kept end at
+  stopped end NoMemory at why = ends_short (latest_meaning l) (λ kept _. kept) kept end at
 
   -- the command's trip has no net
   pub ends_without_net : (asked : Trip) (end : Result Report Halt) (halt : Halt) → asked ≡ l.trip → IsErrAnd end (λ h. h ≡ halt)
-      → StopsAtCheck (failed_check_within LONGEST_LATE_HORIZON network asked) halt → Ends (to_latest l) old new end
+      → StopsAtCheck (failed_check_within LONGEST_LATE_HORIZON network asked) halt → Ends (latest_meaning l) old new end
   ends_without_net asked end halt is at why =
       stopped end halt at (subst (λ (t : Trip). StopsAtCheck (failed_check_within LONGEST_LATE_HORIZON network t) halt) is why)
 
   -- a report of the latest departures over the folder's network is that of the command
   pub ends_late : (report : Report) → report.rejects ≡ false → failed_check_within LONGEST_LATE_HORIZON network l.trip ≡ None
-      → IsLateText (trip_setting network l.trip) (request_of l.trip) report.text.items → Ends (to_latest l) old new (Ok report)
+      → IsLateText (trip_setting network l.trip) (request_of l.trip) report.text.items → Ends (latest_meaning l) old new (Ok report)
   ends_late report accepts passed right = record {
-    concludes = reports (to_latest l) old new report accepts (λ held is. record {
+    concludes = reports (latest_meaning l) old new report accepts (λ held is. record {
       faultless = faultless held is;
       good = subst (λ (n : NetworkModel). failed_check_within LONGEST_LATE_HORIZON n l.trip ≡ None) (found held is) passed;
       answer = subst (λ (n : NetworkModel). IsLateText (trip_setting n l.trip) (request_of l.trip) report.text.items) (found held is) right;
@@ -64,3 +67,7 @@ late_request network trip net is good short = record {
   nodes = is.nodes;
   arcs = is.arcs;
 }
+
+-- the meaning of the command is sound
+pub latest_sound : (l : Latest) → IsSound (latest_meaning l)
+latest_sound l = reads_sound (latest_fault l) (latest_check l) (IsLateReport l)

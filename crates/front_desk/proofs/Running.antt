@@ -19,27 +19,14 @@ use Rattle.plan_report.specs.declared.outcomes.Refusal.TheVariants as refusal
 use Rattle.front_desk.specs.Check.{no_certificate, condition_fails, FailsWith, HasGoodCertificate, IsGoodText, RejectsCertificate}
 use Rattle.front_words.specs.declared.commands.Check.{Check}
 use Rattle.front_words.specs.declared.commands.Invocation.{Invocation as Command}
-use Rattle.front_words.specs.declared.commands.Invocation.TheVariants.{Plan as to_plan, Check as to_check, Bans as to_bans, Batch as to_batch, Gen as to_gen}
-use Rattle.front_words.specs.declared.commands.Invocation.TheVariants.{Latest as to_latest, Tour as to_tour, Breaks as to_breaks}
-use Rattle.front_words.specs.declared.commands.Invocation.TheVariants.{Explain as to_explain}
+use Rattle.front_words.specs.declared.commands.Invocation.TheVariants.{Check as to_check}
 use Rattle.front_words.specs.Commands.{command_of}
-use Rattle.front_desk.specs.Commands.{first_fault_for, PassesChecks, FailsCheck, IsFinished, Judges, LeavesFiles, Rejects, ReadsNothing, WritesFiles}
+use Rattle.front_desk.specs.Commands.{LeavesFiles, ReadsNothing, meaning_of}
 use Rattle.front_desk.specs.Inside.Ending.{Writes}
 use Rattle.front_desk.specs.Run.{Completes, FailsToWrite, IsCause, IsDue, IsRefused, Prints, Runs, HasFailed, StopsWriting, status_of}
-use Rattle.front_desk.proofs.Checks.{never_both}
+use Rattle.front_desk.specs.Outcomes.{IsFinished}
 use Rattle.front_desk.proofs.Leaving.{still_left}
-
--- a command comes to its end with Done, and with Rejected where it judges
-finishes : (command : Command) → IsFinished command Done × (Judges command → IsFinished command Rejected)
-finishes (to_plan p) = (refl, λ judges. absurd judges)
-finishes (to_check c) = (inl refl, λ judges. inr refl)
-finishes (to_bans b) = (refl, λ judges. absurd judges)
-finishes (to_batch b) = (refl, λ judges. absurd judges)
-finishes (to_gen g) = (refl, λ judges. absurd judges)
-finishes (to_latest l) = (refl, λ judges. absurd judges)
-finishes (to_tour t) = (refl, λ judges. absurd judges)
-finishes (to_breaks b) = (refl, λ judges. absurd judges)
-finishes (to_explain e) = (refl, λ judges. absurd judges)
+use Rattle.front_desk.proofs.Meanings.{sound}
 
 -- the text of a good certificate isn't rejected
 good_never_rejected : (s : Setting) (r : Request) (bytes : List ℕ) (k : ℕ) → IsGoodText s r bytes → FailsWith s r bytes k → ⊥
@@ -71,19 +58,20 @@ module _ (words : List (List ℕ)) (old new : FolderState) where
     same_command : (other : Command) → command_of words ≡ Some other → other ≡ command
     same_command other other_is = cc
 
-    fault_of : (other : Command) (o : Option BadInput) → command_of words ≡ Some other → first_fault_for other held ≡ o
-        → first_fault_for command held ≡ o
-    fault_of other o other_is found = subst (λ (k : Command). first_fault_for k held ≡ o) (same_command other other_is) found
+    fault_of : (other : Command) (o : Option BadInput) → command_of words ≡ Some other → (meaning_of other).fault held ≡ o
+        → (meaning_of command).fault held ≡ o
+    fault_of other o other_is found = subst (λ (k : Command). (meaning_of k).fault held ≡ o) (same_command other other_is) found
 
-    passes_of : (other : Command) → command_of words ≡ Some other → PassesChecks other held → PassesChecks command held
-    passes_of other other_is passed = subst (λ (k : Command). PassesChecks k held) (same_command other other_is) passed
+    passes_of : (other : Command) → command_of words ≡ Some other → (meaning_of other).passes held → (meaning_of command).passes held
+    passes_of other other_is passed = subst (λ (k : Command). (meaning_of k).passes held) (same_command other other_is) passed
 
-    fails_of : (other : Command) (fault : RequestFault) → command_of words ≡ Some other → FailsCheck other held fault → FailsCheck command held fault
-    fails_of other fault other_is failed = subst (λ (k : Command). FailsCheck k held fault) (same_command other other_is) failed
+    fails_of : (other : Command) (fault : RequestFault) → command_of words ≡ Some other → (meaning_of other).fails held fault
+        → (meaning_of command).fails held fault
+    fails_of other fault other_is failed = subst (λ (k : Command). (meaning_of k).fails held fault) (same_command other other_is) failed
 
     -- the files have a fault
-    module _ (fault : BadInput) (bad : first_fault_for command held ≡ Some fault) where
-      no_fault : first_fault_for command held ≡ None → ⊥
+    module _ (fault : BadInput) (bad : (meaning_of command).fault held ≡ Some fault) where
+      no_fault : (meaning_of command).fault held ≡ None → ⊥
       no_fault none = cc
 
       refusal_input : (why : Refusal) → IsCause words old new why → status_of why ≡ BadInputStatus
@@ -102,17 +90,17 @@ module _ (words : List (List ℕ)) (old new : FolderState) where
       due_input WriteFault text d = absurd d
       due_input NoMemory text d = absurd d
 
-    module _ (faultless : first_fault_for command held ≡ None) where
-      no_input : (other : Command) (f : BadInput) → command_of words ≡ Some other → first_fault_for other held ≡ Some f → ⊥
+    module _ (faultless : (meaning_of command).fault held ≡ None) where
+      no_input : (other : Command) (f : BadInput) → command_of words ≡ Some other → (meaning_of other).fault held ≡ Some f → ⊥
       no_input other f other_is bad = let here = fault_of other (Some f) other_is bad in clash here
         where
-          clash : first_fault_for command held ≡ Some f → ⊥
+          clash : (meaning_of command).fault held ≡ Some f → ⊥
           clash here = cc
 
       -- the request fails a check
-      module _ (fault : RequestFault) (bad : FailsCheck command held fault) where
-        no_check : PassesChecks command held → ⊥
-        no_check passed = never_both command held fault bad passed
+      module _ (fault : RequestFault) (bad : (meaning_of command).fails held fault) where
+        no_check : (meaning_of command).passes held → ⊥
+        no_check passed = (sound command).never_both held fault bad passed
 
         refusal_request : (why : Refusal) → IsCause words old new why → status_of why ≡ BadRequest
         refusal_request refusal.Usage cause = absurd (no_command command cause is)
@@ -130,17 +118,17 @@ module _ (words : List (List ℕ)) (old new : FolderState) where
         due_request NoMemory text d = absurd d
 
       -- the request passes all checks
-      module _ (passed : PassesChecks command held) where
+      module _ (passed : (meaning_of command).passes held) where
         no_refusal : (why : Refusal) → IsCause words old new why → ⊥
         no_refusal refusal.Usage cause = no_command command cause is
         no_refusal (refusal.Input f) cause = no_input cause.command f cause.is_command (cause.cause.first held told)
         no_refusal (refusal.Request f) cause =
-            never_both command held f (fails_of cause.command f cause.is_command (cause.cause.first held told)) passed
+            (sound command).never_both held f (fails_of cause.command f cause.is_command (cause.cause.first held told)) passed
 
-        due_finished : (status : Status) (text : List ℕ) → IsDue words old new status text → IsFinished command status
-        due_finished Done text d = (finishes command).0
+        due_finished : (status : Status) (text : List ℕ) → IsDue words old new status text → IsFinished (meaning_of command) status
+        due_finished Done text d = inl refl
         due_finished Rejected text d =
-            (finishes command).1 (subst (λ (k : Command). Judges k) (same_command d.command d.is_command) d.judges)
+            inr (subst (λ (k : Command). (meaning_of k).judges) (same_command d.command d.is_command) d.judges, refl)
         due_finished Usage text d = absurd (no_refusal d.refusal d.cause)
         due_finished BadInputStatus text d = absurd (no_refusal d.refusal d.cause)
         due_finished BadRequest text d = absurd (no_refusal d.refusal d.cause)
@@ -150,9 +138,9 @@ module _ (words : List (List ℕ)) (old new : FolderState) where
 
   module _ (held : Contents) (told : old.contents ≡ Some held) (check : Check) (is : command_of words ≡ Some (to_check check))
       (good : HasGoodCertificate check held) where
-    never_rejected : (other : Command) (text : List ℕ) → other ≡ to_check check → Rejects other held text → ⊥
+    never_rejected : (other : Command) (text : List ℕ) → other ≡ to_check check → (meaning_of other).rejects held text → ⊥
     never_rejected other text same rejects =
-        let r : RejectsCertificate check held text = subst (λ (k : Command). Rejects k held text) same rejects in
+        let r : RejectsCertificate check held text = subst (λ (k : Command). (meaning_of k).rejects held text) same rejects in
         good_never_rejected _ _ _ r.number good.good r.fails
 
     due_accepted : (status : Status) (text : List ℕ) → IsDue words old new status text → status ≡ Done
@@ -231,8 +219,9 @@ module _ (words : List (List ℕ)) (old new : FolderState) where
       bad_input_due = λ held command fault told is bad. due_or_failed BadInputStatus (due_input held told command is fault bad due text is_due);
       bad_request_due = λ held command fault told is faultless bad.
           due_or_failed BadRequest (due_request held told command is faultless fault bad due text is_due);
-      complete = λ held command told is faultless passed undisturbed. by_others (IsFinished command status ⊎ (status ≡ NoMemory))
-          (λ here. inl (subst (λ (s : Status). IsFinished command s) (sym here) (due_finished held told command is faultless passed due text is_due)))
+      complete = λ held command told is faultless passed undisturbed. by_others (IsFinished (meaning_of command) status ⊎ (status ≡ NoMemory))
+          (λ here. inl (subst (λ (s : Status). IsFinished (meaning_of command) s) (sym here)
+          (due_finished held told command is faultless passed due text is_due)))
           (λ fault. absurd (undisturbed.appends (w.fault fault not_fault))) (λ memory. inr memory);
       accepted = λ held check told is good. due_or_failed Done (due_accepted held told check is good due text is_due);
       left = still_left old new (command_of words) due status not_fault not_memory w.others left;
@@ -275,7 +264,7 @@ module _ (words : List (List ℕ)) (old new : FolderState) where
         runs_failed WriteFault (inr (inl refl)) (λ same. cc) (λ is. is) (λ _. inl (record { stops = stops; silent = refl })) (λ same. cc)
         (λ nothing same. cc)
         (λ held command told is faultless passed undisturbed. absurd (undisturbed.writes
-        (subst (λ (k : Command). WritesFiles k) (same_command held told command is stops.command stops.is_command) stops.stops.writes)
+        (subst (λ (k : Command). (meaning_of k).writes) (same_command held told command is stops.command stops.is_command) stops.stops.writes)
         stops.stops.counted)) left
 
     pub runs_short : LeavesFiles (command_of words) old new NoMemory → Runs words old new sink sink NoMemory

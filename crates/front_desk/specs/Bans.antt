@@ -11,6 +11,7 @@ use Rattle.network_tables.specs.NetworkModel.{NetworkModel}
 use Rattle.plan_report.specs.Bans.{bans_text_of}
 use Rattle.front_words.specs.declared.commands.Bans.{Bans}
 use Rattle.network_folder.specs.ReadingOrder.{first_folder_fault, network_held}
+use Rattle.front_desk.specs.Meaning.{Meaning, reads, with_one_text}
 use Rattle.front_desk.specs.Trips.{is_vehicle, is_node, failed_time, vehicle_named}
 
 -- the first check that the words fail over a network
@@ -46,3 +47,7 @@ bans_fault b held = first_folder_fault held b.dir
 -- the first check that the command's words fail
 abbrev pub bans_check : Bans → Contents → Option RequestFault
 bans_check b held = failed_bans_check (network_held held b.dir) b
+
+-- the meaning of `bans`
+abbrev pub bans_meaning : Bans → Meaning
+bans_meaning b = with_one_text (reads (bans_fault b) (bans_check b) (IsBansReport b))

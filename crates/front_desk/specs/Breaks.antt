@@ -12,6 +12,7 @@ use Rattle.drive_states.specs.declared.rule.BreakRule.{BreakRule}
 use Rattle.plan_report.specs.Plain.{plain_text_of}
 use Rattle.front_words.specs.declared.commands.Breaks.{Breaks}
 use Rattle.network_folder.specs.ReadingOrder.{first_folder_fault, network_held}
+use Rattle.front_desk.specs.Meaning.{Meaning, reads}
 use Rattle.front_desk.specs.Plan.{trip_setting}
 use Rattle.front_desk.specs.Trips.{failed_check, request_of}
 
@@ -59,3 +60,10 @@ pub record ExceedsStates (b : Breaks) (held : Contents) (fault : RequestFault) :
 -- the first check that the command fails: one of its trip, and behind these the number of its states
 abbrev pub FailsBreaks : Breaks → Contents → RequestFault → Type 0
 FailsBreaks b held fault = (breaks_check b held ≡ Some fault) ⊎ ExceedsStates b held fault
+
+-- the meaning of `breaks`, which may print any itinerary of a pair
+abbrev pub breaks_meaning : Breaks → Meaning
+breaks_meaning b = record (reads (breaks_fault b) (breaks_check b) (IsBreaksReport b)) {
+  passes = PassesBreaks b;
+  fails = FailsBreaks b;
+}

@@ -1,5 +1,5 @@
 -- The judgement of the command that checks a certificate (source: own).
-use Rattle.std.specs.Prelude.{◌≡◌, ℕ, Option, None, List, length}
+use Rattle.std.specs.Prelude.{◌≡◌, ℕ, ⊤, Option, None, List, length}
 use Rattle.route_base.specs.Contents.{Contents}
 use Rattle.route_base.specs.Front.{IsFront, pairs_of}
 use Rattle.route_base.specs.Setting.{Setting}
@@ -16,6 +16,7 @@ use Rattle.front_words.specs.declared.commands.Plan.{Plan}
 use Rattle.network_folder.specs.Files.{bytes_at}
 use Rattle.front_desk.specs.Plan.{trip_setting}
 use Rattle.network_folder.specs.ReadingOrder.{certificate_file, first_fault_with, network_held}
+use Rattle.front_desk.specs.Meaning.{Meaning, reads, with_one_text}
 use Rattle.front_desk.specs.Trips.{failed_check, request_of}
 
 -- the first fault of a check's files, of which the certificate is read last
@@ -77,3 +78,10 @@ pub record HasGoodCertificate (c : Check) (held : Contents) : Type 0 where
   pub faultless : check_fault c held ≡ None
   pub passed : check_check c held ≡ None
   pub good : IsGoodText (check_setting c held) (request_of c.trip) (certificate_held c held)
+
+-- the meaning of `check`, which may reject the certificate
+abbrev pub check_meaning : Check → Meaning
+check_meaning c = record (with_one_text (reads (check_fault c) (check_check c) (AcceptsCertificate c))) {
+  judges = ⊤;
+  rejects = RejectsCertificate c;
+}

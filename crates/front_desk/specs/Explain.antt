@@ -23,6 +23,7 @@ use Rattle.trip_explain.specs.declared.explanation.Explanation.TheVariants.{Lawf
 use Rattle.front_words.specs.declared.commands.Explain.{Explain}
 use Rattle.network_folder.specs.Files.{bytes_at}
 use Rattle.network_folder.specs.ReadingOrder.{itinerary_file, first_fault_with, network_held}
+use Rattle.front_desk.specs.Meaning.{Meaning, reads, with_one_text}
 use Rattle.front_desk.specs.Trips.{failed_check, request_of, vehicle_named}
 
 -- the bytes of the itinerary's file
@@ -73,3 +74,7 @@ pub record IsExplainText (network : NetworkModel) (vehicle : VehicleModel) (requ
 abbrev pub IsExplainReport : Explain → Contents → List ℕ → Type 0
 IsExplainReport e held text =
     IsExplainText (network_held held e.dir) (vehicle_named (network_held held e.dir) e.trip.vehicle) (request_of e.trip) (legs_held e held) text
+
+-- the meaning of `explain`
+abbrev pub explain_meaning : Explain → Meaning
+explain_meaning e = with_one_text (reads (explain_fault e) (explain_check e) (IsExplainReport e))

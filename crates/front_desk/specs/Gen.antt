@@ -1,9 +1,13 @@
 -- The files and the summary of the command that makes a network (source: own).
-use Rattle.std.specs.Prelude.{◌≡◌, ℕ, ◌*◌, Option, Some, List, [], ◌∷◌, length, codes}
+use Rattle.std.specs.Prelude.{◌≡◌, ◌⊎◌, ⊤, ℕ, ◌*◌, Option, Some, None, List, [], ◌∷◌, length, codes}
 use Rattle.route_base.specs.Contents.{Contents}
+use Rattle.route_base.specs.FolderState.{FolderState, FailedToWrite}
 use Rattle.route_base.specs.Front.{IsRight}
 use Rattle.route_base.specs.Labels.{label_of}
 use Rattle.route_base.specs.declared.faults.FileKind.TheVariants as kind
+use Rattle.route_base.specs.declared.status.Status.{Status}
+use Rattle.route_base.specs.declared.status.Status.TheVariants.{Done, Rejected, Usage, BadInput as BadInputStatus, ReadFault}
+use Rattle.route_base.specs.declared.status.Status.TheVariants.{WriteFault, NoMemory, BadRequest}
 use Rattle.route_base.specs.declared.types.Route.{Route}
 use Rattle.network_tables.specs.NetworkFiles.{network_in_files}
 use Rattle.network_tables.specs.NetworkModel.{NetworkModel}
@@ -11,7 +15,8 @@ use Rattle.net_generator.specs.Generated.{graph_file, closures_file, parking_fil
 use Rattle.drawn_network.specs.DrawnFiles.{drawn_files}
 use Rattle.plan_report.specs.Summary.{summary_text_of}
 use Rattle.front_words.specs.declared.commands.Gen.{Gen}
-use Rattle.network_folder.specs.Writing.{FileToWrite, HoldsEach}
+use Rattle.network_folder.specs.Writing.{FileToWrite, HoldsEach, HoldsFirst, SpoilsNext}
+use Rattle.front_desk.specs.Meaning.{Meaning}
 use Rattle.front_desk.specs.Plan.{trip_setting}
 use Rattle.front_desk.specs.Trips.{Trip, request_of}
 
@@ -49,3 +54,33 @@ pub record IsSummary (g : Gen) (text : List ℕ) : Type 0 where
 pub record IsGenReport (g : Gen) (held : Contents) (after : Option Contents) (text : List ℕ) : Type 0 where
   pub summary : IsSummary g text
   pub written : HoldsEach g.dir (files_written g) (Some held) after
+
+-- how the making of a network leaves the folder, by its status: the drawn files are written one after another. It ends with no other
+-- status than these three
+abbrev pub LeavesGen : Gen → FolderState → FolderState → Status → Type 0
+LeavesGen g old new Done = HoldsEach g.dir (files_written g) old.contents new.contents
+LeavesGen g old new Rejected = ⊥
+LeavesGen g old new Usage = ⊥
+LeavesGen g old new BadInputStatus = ⊥
+LeavesGen g old new ReadFault = ⊥
+LeavesGen g old new WriteFault =
+    HoldsEach g.dir (files_written g) old.contents new.contents
+    ⊎ (FailedToWrite old new × SpoilsNext g.dir (files_written g) old.contents new.contents)
+LeavesGen g old new NoMemory = HoldsFirst g.dir (files_written g) old.contents new.contents
+LeavesGen g old new BadRequest = ⊥
+
+-- the meaning of `gen`, which has no request
+abbrev pub gen_meaning : Gen → Meaning
+gen_meaning g = record {
+  fault = λ held. None;
+  asks = ⊥;
+  passes = λ held. ⊤;
+  fails = λ held failed. ⊥;
+  answers = IsGenReport g;
+  one_text = ⊤;
+  judges = ⊥;
+  rejects = λ held text. ⊥;
+  reads_nothing = ⊤;
+  writes = ⊤;
+  leaves = LeavesGen g;
+}

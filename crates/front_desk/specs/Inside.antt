@@ -5,3 +5,4 @@ pub mod Planning
 pub mod Judging
 pub mod Late
 pub mod Sharing
+pub mod Sound

@@ -7,7 +7,9 @@ pub mod Explain
 pub mod Gen
 pub mod Inside
 pub mod Latest
+pub mod Meaning
 pub mod OneText
+pub mod Outcomes
 pub mod Plan
 pub mod Run
 pub mod Tour

@@ -1,19 +1,20 @@
 -- The commands whose text follows from the files and the words (source: own).
-use Rattle.std.specs.Prelude.{⊤, ℕ, List, Option}
+use Rattle.std.specs.Prelude.{ℕ, List, Option}
 use Rattle.route_base.specs.Contents.{Contents}
 use Rattle.route_base.specs.Setting.{Setting}
 use Rattle.route_base.specs.declared.types.Request.{Request}
 use Rattle.route_base.specs.declared.types.Route.{Route}
 use Rattle.front_words.specs.declared.commands.Invocation.{Invocation as Command}
-use Rattle.front_words.specs.declared.commands.Invocation.TheVariants.{Latest as to_latest, Tour as to_tour, Breaks as to_breaks}
+use Rattle.front_desk.specs.Commands.{meaning_of}
 use Rattle.front_desk.specs.Plan.{HoldsCertificate}
 
 -- the command prints no other text over the same files; `latest`, `tour` and `breaks` may print any itinerary of a pair
 abbrev pub TellsOneText : Command → Type 0
-TellsOneText (to_latest l) = ⊥
-TellsOneText (to_tour t) = ⊥
-TellsOneText (to_breaks b) = ⊥
-TellsOneText command = ⊤
+TellsOneText command = (meaning_of command).one_text
+
+-- the text that the command prints where it is done, and what it has written into the folder
+abbrev pub Answers : Command → Contents → Option Contents → List ℕ → Type 0
+Answers command held after text = (meaning_of command).answers held after text
 
 -- the routes of the certificate that the folder holds
 abbrev pub routes_certified : {s : Setting} {r : Request} {routes : List Route} {path : List ℕ} {before after : Option Contents}

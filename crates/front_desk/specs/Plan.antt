@@ -1,11 +1,15 @@
 -- The report of the command that plans a trip (source: own).
-use Rattle.std.specs.Prelude.{◌≡◌, ℕ, ◌≤◌, ⊤, Option, Some, None, List, length}
+use Rattle.std.specs.Prelude.{◌≡◌, ◌⊎◌, ℕ, ◌≤◌, ⊤, Option, Some, None, List, length}
 use Rattle.route_base.specs.Contents.{Contents, Holds}
+use Rattle.route_base.specs.FolderState.{FolderState, KeepsFiles, SpoilsFile, FailedToWrite}
 use Rattle.route_base.specs.Front.{IsRight}
 use Rattle.route_base.specs.Setting.{Setting}
 use Rattle.route_base.specs.declared.faults.BadInput.{BadInput}
 use Rattle.route_base.specs.declared.faults.RequestFault.{RequestFault}
 use Rattle.route_base.specs.declared.limits.TheConstants.{LONGEST_CERTIFICATE}
+use Rattle.route_base.specs.declared.status.Status.{Status}
+use Rattle.route_base.specs.declared.status.Status.TheVariants.{Done, Rejected, Usage, BadInput as BadInputStatus, ReadFault}
+use Rattle.route_base.specs.declared.status.Status.TheVariants.{WriteFault, NoMemory, BadRequest}
 use Rattle.route_base.specs.declared.types.Request.{Request}
 use Rattle.route_base.specs.declared.types.Route.{Route}
 use Rattle.network_tables.specs.NetworkModel.{NetworkModel}
@@ -16,8 +20,9 @@ use Rattle.certificate_check.specs.Verdicts.{IsGood}
 use Rattle.plan_certificate.specs.Tight.{IsTight}
 use Rattle.plan_report.specs.Reports.{report_text}
 use Rattle.front_words.specs.declared.commands.Plan.{Plan}
-use Rattle.network_folder.specs.Files.{path_of}
+use Rattle.network_folder.specs.Files.{IfTold, path_of}
 use Rattle.network_folder.specs.ReadingOrder.{first_folder_fault, network_held}
+use Rattle.front_desk.specs.Meaning.{Meaning, reads, with_one_text}
 use Rattle.front_desk.specs.Trips.{Trip, failed_check, request_of, vehicle_named}
 
 -- the bytes are the text of a good and tight certificate with just these routes, and no more than `check` reads
@@ -73,3 +78,38 @@ pub record IsCertified (p : Plan) (name : List ℕ) (held : Contents) (after : O
   pub right : IsRight (trip_setting (network_held held p.dir) p.trip) (request_of p.trip) routes
   pub certified : HoldsCertificate (trip_setting (network_held held p.dir) p.trip) (request_of p.trip) routes (path_of p.dir name)
       (Some held) after
+
+-- the plan writes a file of this name
+abbrev pub PlanWrites : Option (List ℕ) → Type 0
+PlanWrites None = ⊥
+PlanWrites (Some name) = ⊤
+
+-- a certificate of the plan's routes was written under the name, whole, where the folder tells its contents; all else is as it was
+pub record PutsCertificate (p : Plan) (name : List ℕ) (old new : FolderState) : Type 0 where
+  pub others : SpoilsFile old new (path_of p.dir name)
+  pub whole : IfTold old (λ held. IsCertified p name held new.contents)
+
+-- how a plan leaves the file of its certificate, by its status
+abbrev pub LeavesCertificate : Plan → List ℕ → FolderState → FolderState → Status → Type 0
+LeavesCertificate p name old new Done = PutsCertificate p name old new
+LeavesCertificate p name old new Rejected = KeepsFiles old new
+LeavesCertificate p name old new Usage = KeepsFiles old new
+LeavesCertificate p name old new BadInputStatus = KeepsFiles old new
+LeavesCertificate p name old new ReadFault = KeepsFiles old new
+LeavesCertificate p name old new WriteFault =
+    KeepsFiles old new ⊎ (PutsCertificate p name old new ⊎ (FailedToWrite old new × SpoilsFile old new (path_of p.dir name)))
+LeavesCertificate p name old new NoMemory = (new.contents ≡ old.contents) ⊎ PutsCertificate p name old new
+LeavesCertificate p name old new BadRequest = KeepsFiles old new
+
+-- how a plan leaves the folder: all files are as they were, but for a certificate that was asked for
+abbrev pub LeavesPlan : Plan → Option (List ℕ) → FolderState → FolderState → Status → Type 0
+LeavesPlan p None old new status = KeepsFiles old new
+LeavesPlan p (Some name) old new status = LeavesCertificate p name old new status
+
+-- the meaning of `plan`
+abbrev pub plan_meaning : Plan → Meaning
+plan_meaning p = record (with_one_text (reads (plan_fault p) (plan_check p) (λ held text. ⊤))) {
+  answers = IsPlanReport p;
+  writes = PlanWrites p.certificate;
+  leaves = LeavesPlan p p.certificate;
+}

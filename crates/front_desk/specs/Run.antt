@@ -1,7 +1,7 @@
 -- The text that a run prints for its words over a folder, by its status (source: own).
-use Rattle.std.specs.Prelude.{◌≡◌, ◌≢◌, ◌⊎◌, ℕ, ⊤, Option, Some, None, List}
+use Rattle.std.specs.Prelude.{◌≡◌, ◌≢◌, ◌⊎◌, ℕ, ⊤, Some, None, List}
 use Rattle.route_base.specs.Contents.{Contents}
-use Rattle.route_base.specs.FolderState.{FolderState, CountsRise, FailedToRead, FailedToWrite}
+use Rattle.route_base.specs.FolderState.{FolderState, CountsRise, FailedToRead}
 use Rattle.route_base.specs.SinkState.{SinkState, Appends, AppendsPrefix, StaysSilent, FailedToAppend, FaultsRise}
 use Rattle.route_base.specs.declared.faults.BadInput.{BadInput}
 use Rattle.route_base.specs.declared.faults.RequestFault.{RequestFault}
@@ -16,53 +16,28 @@ use Rattle.front_words.specs.declared.commands.Check.{Check}
 use Rattle.front_words.specs.declared.commands.Invocation.{Invocation as Command}
 use Rattle.front_words.specs.declared.commands.Invocation.TheVariants.{Check as to_check}
 use Rattle.front_words.specs.Commands.{command_of}
-use Rattle.front_desk.specs.Commands.{first_fault_for, PassesChecks, FailsCheck, Answers, Judges, HasRequest, Rejects, WritesFiles, LeavesFiles}
-use Rattle.front_desk.specs.Commands.{IsFinished, IsUndisturbed, ReadsNothing}
-use Rattle.network_folder.specs.Faults.{IsFirstFault}
+use Rattle.front_desk.specs.Commands.{LeavesFiles, ReadsNothing, meaning_of}
+use Rattle.front_desk.specs.Outcomes.{IsAnsweredBy, IsCauseFor, IsFinished, IsRejectedBy, IsUndisturbed, StopsAtFile}
 use Rattle.network_folder.specs.Files.{IfTold}
-
--- the command's files have no fault, its request passes all checks, and the text is its answer
-pub record IsAnsweredBy (command : Command) (held : Contents) (after : Option Contents) (text : List ℕ) : Type 0 where
-  pub faultless : first_fault_for command held ≡ None
-  pub good : PassesChecks command held
-  pub answer : Answers command held after text
 
 -- the words are a command, and where the folder tells its contents, the text is the command's answer
 pub record IsAnswer (words : List (List ℕ)) (old new : FolderState) (text : List ℕ) : Type 0 where
   pub command : Command
   pub is_command : command_of words ≡ Some command
-  pub answered : IfTold old (λ held. IsAnsweredBy command held new.contents text)
-
--- the command's files have no fault, its request passes all checks, and the text rejects the file that it judges
-pub record IsRejectedBy (command : Command) (held : Contents) (text : List ℕ) : Type 0 where
-  pub faultless : first_fault_for command held ≡ None
-  pub good : PassesChecks command held
-  pub rejects : Rejects command held text
+  pub answered : IfTold old (λ held. IsAnsweredBy (meaning_of command) held new.contents text)
 
 -- the words are a command that judges a file, and where the folder tells its contents, the text rejects that file
 pub record IsRejection (words : List (List ℕ)) (old : FolderState) (text : List ℕ) : Type 0 where
   pub command : Command
   pub is_command : command_of words ≡ Some command
-  pub judges : Judges command
-  pub rejected : IfTold old (λ held. IsRejectedBy command held text)
-
--- the command has a request, and where the folder tells its contents, its files have no fault and this is the first check that fails
-pub record IsFailedCheck (command : Command) (old : FolderState) (fault : RequestFault) : Type 0 where
-  pub asks : HasRequest command
-  pub faultless : IfTold old (λ held. first_fault_for command held ≡ None)
-  pub first : IfTold old (λ held. FailsCheck command held fault)
-
--- why a command is refused
-abbrev pub IsCauseFor : Command → FolderState → FolderState → Refusal → Type 0
-IsCauseFor command old new UsageRefusal = ⊥
-IsCauseFor command old new (Input fault) = IsFirstFault (first_fault_for command) old new fault
-IsCauseFor command old new (Request fault) = IsFailedCheck command old fault
+  pub judges : (meaning_of command).judges
+  pub rejected : IfTold old (λ held. IsRejectedBy (meaning_of command) held text)
 
 -- the words are a command that is refused
 pub record RefusesCommand (words : List (List ℕ)) (old new : FolderState) (refusal : Refusal) : Type 0 where
   pub command : Command
   pub is_command : command_of words ≡ Some command
-  pub cause : IsCauseFor command old new refusal
+  pub cause : IsCauseFor (meaning_of command) old new refusal
 
 -- why words are refused: they are no command, or the command is refused
 abbrev pub IsCause : List (List ℕ) → FolderState → FolderState → Refusal → Type 0
@@ -120,19 +95,11 @@ pub record FailsToPrint (words : List (List ℕ)) (old new : FolderState) (from 
   pub left : LeavesFiles (command_of words) old new status
   pub gained : AppendsPrefix from to text
 
--- a command that writes files failed to write one, which was counted; where the folder tells its contents, the command's files have no
--- fault and its request passes all checks
-pub record StopsAtFile (command : Command) (old new : FolderState) : Type 0 where
-  pub writes : WritesFiles command
-  pub faultless : IfTold old (λ held. first_fault_for command held ≡ None)
-  pub good : IfTold old (λ held. PassesChecks command held)
-  pub counted : FailedToWrite old new
-
--- the words are such a command
+-- the words are a command that failed to write a file
 pub record StopsWriting (words : List (List ℕ)) (old new : FolderState) : Type 0 where
   pub command : Command
   pub is_command : command_of words ≡ Some command
-  pub stops : StopsAtFile command old new
+  pub stops : StopsAtFile (meaning_of command) old new
 
 -- a file wasn't written, and nothing was printed
 pub record FailsInFolder (words : List (List ℕ)) (old new : FolderState) (from to : SinkState) : Type 0 where
@@ -155,20 +122,20 @@ RefusesUsage words status = command_of words ≡ None → (status ≡ Usage) ⊎
 abbrev pub RefusesBadInput : List (List ℕ) → FolderState → Status → Type 0
 RefusesBadInput words old status =
     (held : Contents) (command : Command) (fault : BadInput) → old.contents ≡ Some held → command_of words ≡ Some command
-    → first_fault_for command held ≡ Some fault → (status ≡ BadInputStatus) ⊎ HasFailed status
+    → (meaning_of command).fault held ≡ Some fault → (status ≡ BadInputStatus) ⊎ HasFailed status
 
 -- the same of a command whose files have no fault and whose request fails a check
 abbrev pub RefusesBadRequest : List (List ℕ) → FolderState → Status → Type 0
 RefusesBadRequest words old status =
     (held : Contents) (command : Command) (fault : RequestFault) → old.contents ≡ Some held → command_of words ≡ Some command
-    → first_fault_for command held ≡ None → FailsCheck command held fault → (status ≡ BadRequest) ⊎ HasFailed status
+    → (meaning_of command).fault held ≡ None → (meaning_of command).fails held fault → (status ≡ BadRequest) ⊎ HasFailed status
 
 -- every other command comes to its end, unless memory runs out, where no fault was counted that could stop it
 abbrev pub Completes : List (List ℕ) → FolderState → FolderState → SinkState → SinkState → Status → Type 0
 Completes words old new from to status =
     (held : Contents) (command : Command) → old.contents ≡ Some held → command_of words ≡ Some command
-    → first_fault_for command held ≡ None → PassesChecks command held → IsUndisturbed command old new from to
-    → IsFinished command status ⊎ (status ≡ NoMemory)
+    → (meaning_of command).fault held ≡ None → (meaning_of command).passes held → IsUndisturbed (meaning_of command) old new from to
+    → IsFinished (meaning_of command) status ⊎ (status ≡ NoMemory)
 
 -- a check accepts each good certificate, unless reading, writing or memory fails
 abbrev pub AcceptsGood : List (List ℕ) → FolderState → Status → Type 0

@@ -4,26 +4,23 @@ pub use Rattle.route_base.specs.SinkState.{FaultsRise, StaysSilent}
 pub use Rattle.route_base.specs.Time.{IsInstant}
 pub use Rattle.network_tables.specs.NetworkModel.{IsGoodNetwork}
 pub use Rattle.plan_report.specs.Refusals.{refusal_text_of}
-pub use Rattle.front_desk.specs.Bans.{failed_bans_check, IsBansText}
-pub use Rattle.front_desk.specs.Batch.{jobs_held, jobs_fault, batch_fault, IsBatchText}
-pub use Rattle.front_desk.specs.Breaks.{break_rule_of, IsBreaksText, HasManyStates}
-pub use Rattle.front_words.specs.declared.commands.Invocation.TheVariants.{Plan as to_plan, Check as to_check, Bans as to_bans, Batch as to_batch, Gen as to_gen}
-pub use Rattle.front_words.specs.declared.commands.Invocation.TheVariants.{Latest as to_latest, Tour as to_tour, Breaks as to_breaks}
-pub use Rattle.front_words.specs.declared.commands.Invocation.TheVariants.{Explain as to_explain}
+pub use Rattle.front_desk.specs.Bans.{failed_bans_check, IsBansText, bans_meaning}
+pub use Rattle.front_desk.specs.Batch.{jobs_held, jobs_fault, batch_fault, IsBatchText, batch_meaning}
+pub use Rattle.front_desk.specs.Breaks.{break_rule_of, IsBreaksText, HasManyStates, breaks_meaning}
 pub use Rattle.front_words.specs.Commands.{command_of}
 pub use Rattle.front_words.specs.Commands.{AsksSupported, HasGoodRule, IsTimed}
-pub use Rattle.front_desk.specs.Check.{check_fault, certificate_held}
-pub use Rattle.front_desk.specs.Commands.{ReadsNothing, LeavesFiles}
-pub use Rattle.front_desk.specs.Explain.{legs_held, itinerary_fault, explain_fault, IsFirstBetter, IsBetterFor, IsExplainText}
+pub use Rattle.front_desk.specs.Check.{check_fault, certificate_held, check_meaning}
+pub use Rattle.front_desk.specs.Commands.{LeavesFiles, ReadsNothing, meaning_of}
+pub use Rattle.front_desk.specs.Explain.{legs_held, itinerary_fault, explain_fault, IsFirstBetter, IsBetterFor, IsExplainText, explain_meaning}
 pub use Rattle.network_folder.specs.Files.{IfTold}
 pub use Rattle.network_folder.specs.Writing.{written_in}
-pub use Rattle.front_desk.specs.Gen.{drawn_trip, stated_network, files_to_write, files_written, IsSummary}
+pub use Rattle.front_desk.specs.Gen.{drawn_trip, stated_network, files_to_write, files_written, IsSummary, gen_meaning}
 pub use Rattle.network_folder.specs.ReadingOrder.{network_held}
-pub use Rattle.front_desk.specs.Latest.{IsLateText}
-pub use Rattle.front_desk.specs.Plan.{trip_setting}
+pub use Rattle.front_desk.specs.Latest.{IsLateText, latest_meaning}
+pub use Rattle.front_desk.specs.Plan.{trip_setting, plan_meaning}
 pub use Rattle.front_desk.specs.Run.{IsAnswer, IsDue, IsRefused, Prints, FailsToWrite, status_of}
 pub use Rattle.front_desk.specs.Run.{RefusesUsage, RefusesBadInput, RefusesBadRequest, Completes, AcceptsGood, Runs}
-pub use Rattle.front_desk.specs.Tour.{stops_held, stops_fault, tour_fault, failed_size, IsTourText}
+pub use Rattle.front_desk.specs.Tour.{stops_held, stops_fault, tour_fault, failed_size, IsTourText, tour_meaning}
 pub use Rattle.front_desk.specs.Trips.{is_node, failed_time, failed_check_over, failed_check, request_of, trip_in, IsGoodTrip, is_vehicle, vehicle_named}
 pub use Rattle.front_desk.specs.Trips.{failed_time_within, failed_check_over_within, failed_check_within}
 pub use Rattle.front_desk.specs.Inside.Ending.{Ends, EndsWords, Writes}

@@ -1,7 +1,7 @@
 // The command that prints the closed minutes of an arc.
 ghost use Rattle.std.specs.Prelude.{◌≡◌, ◌≤◌, length, IfOk};
 ghost use Rattle.front_desk.specs.Words.{IsInstant, Ends};
-ghost use Rattle.front_desk.specs.Words.{to_bans, vehicle_named, IsBansText};
+ghost use Rattle.front_desk.specs.Words.{bans_meaning, vehicle_named, IsBansText};
 
 use crate::outcome::{Halt, Report};
 use crate::requests::vehicle_of_bans;
@@ -41,7 +41,7 @@ fn closed_report(
 pub fn report_bans<F: Folder>(alloc: Global, folder: &mut F, bans: &Bans) -> Result<Report, Halt>
     requires depart { IsInstant bans.now.depart }
     requires until { IsInstant bans.now.until }
-    ensures { Ends (to_bans bans.now)
+    ensures { Ends (bans_meaning bans.now)
         (F.state folder.old) (F.state folder.new) result }
 {
     let network = load_network(alloc, folder, &bans.dir)?;

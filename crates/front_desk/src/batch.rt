@@ -1,7 +1,7 @@
 // The command that plans a table of jobs.
 ghost use Rattle.std.specs.Prelude.{◌≡◌, ◌≤◌, None, All, IfOk, OnOk, IfErr};
 ghost use Rattle.front_desk.specs.Words.{KeepsFiles, IfTold, network_held, StopsReading, StopsStating, Ends};
-ghost use Rattle.front_desk.specs.Words.{to_batch, batch_fault, jobs_fault, jobs_held, IsBatchText};
+ghost use Rattle.front_desk.specs.Words.{batch_meaning, batch_fault, jobs_fault, jobs_held, IsBatchText};
 ghost use Rattle.network_tables.specs.Jobs.{IsTimedJob, jobs_in};
 ghost use Rattle.table_reader.specs.Records.{rows_of};
 
@@ -99,7 +99,7 @@ pub fn report_batch<R: Threads + Sync, F: Folder, G: Gate>(
     gate: &G,
 ) -> Result<Report, Halt>
     requires workers { 1 ≤ batch.now.workers }
-    ensures { Ends (to_batch batch.now)
+    ensures { Ends (batch_meaning batch.now)
         (F.state folder.old) (F.state folder.new) result }
 {
     let (network, jobs) = load_batch(alloc, folder, batch)?;

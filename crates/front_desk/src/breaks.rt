@@ -1,6 +1,6 @@
 // The command that plans a trip with driver breaks.
 ghost use Rattle.std.specs.Prelude.{◌↔◌, List, ℕ, IfOk, OnOk, IfErr};
-ghost use Rattle.front_desk.specs.Words.{HasGoodRule, IsBreaksText, HasManyStates, to_breaks};
+ghost use Rattle.front_desk.specs.Words.{HasGoodRule, IsBreaksText, HasManyStates, breaks_meaning};
 ghost use Rattle.front_desk.specs.Words.{trip_setting, request_of, IsTimed, IsPlannable, IsTripNet, StopsAtSize, Ends};
 ghost use Rattle.front_transport.specs.CheapArcs.{HasCheapArcs};
 ghost use Rattle.front_words.specs.declared.commands.Breaks.{Breaks as BreaksModel};
@@ -67,7 +67,7 @@ pub fn report_breaks<R: Threads + Sync, F: Folder, G: Gate>(
 ) -> Result<Report, Halt>
     requires timed { IsTimed breaks.now.trip }
     requires rule { HasGoodRule breaks.now }
-    ensures { Ends (to_breaks breaks.now)
+    ensures { Ends (breaks_meaning breaks.now)
         (F.state folder.old) (F.state folder.new) result }
 {
     let network = load_network(alloc, folder, &breaks.dir)?;

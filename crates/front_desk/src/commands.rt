@@ -1,6 +1,6 @@
 // Answers words by the command that they are: one case a command.
 ghost use Rattle.std.specs.Prelude.{◌≡◌, ◌⊎◌, Some, None, IfOk, IfErr};
-ghost use Rattle.front_desk.specs.Words.{command_of, AsksSupported, Ends, EndsWords};
+ghost use Rattle.front_desk.specs.Words.{command_of, meaning_of, AsksSupported, Ends, EndsWords};
 
 use crate::bans::report_bans;
 use crate::batch::report_batch;
@@ -41,7 +41,7 @@ fn report<R: Threads + Sync, F: Folder, G: Gate>(
     gate: &G,
 ) -> Result<Report, Halt>
     requires { AsksSupported command.now }
-    ensures { Ends command.now (F.state folder.old) (F.state folder.new) result }
+    ensures { Ends (meaning_of command.now) (F.state folder.old) (F.state folder.new) result }
 {
     match command {
         Invocation::Plan(plan) => report_plan(rt, alloc, folder, plan, gate),

@@ -1,7 +1,7 @@
 // The command that explains an itinerary.
 ghost use Rattle.std.specs.Prelude.{◌≡◌, None, Option, Some, IfOk, OnOk, IfErr};
 ghost use Rattle.front_desk.specs.Words.{KeepsFiles, IfTold, network_held, StopsReading, StopsStating, Ends};
-ghost use Rattle.front_desk.specs.Words.{legs_held, itinerary_fault, explain_fault, to_explain};
+ghost use Rattle.front_desk.specs.Words.{legs_held, itinerary_fault, explain_fault, explain_meaning};
 ghost use Rattle.front_desk.specs.Words.{IsFirstBetter, IsBetterFor, IsExplainText};
 ghost use Rattle.front_desk.specs.Words.{trip_setting, request_of, trip_in, vehicle_named, failed_check};
 ghost use Rattle.front_desk.specs.Words.{IsTimed, IsPlannable, IsTripNet, StopsTrip};
@@ -169,7 +169,7 @@ pub fn report_explain<R: Threads + Sync, F: Folder, G: Gate>(
     gate: &G,
 ) -> Result<Report, Halt>
     requires timed { IsTimed explain.now.trip }
-    ensures { Ends (to_explain explain.now)
+    ensures { Ends (explain_meaning explain.now)
         (F.state folder.old) (F.state folder.new) result }
 {
     let (network, legs) = load_itinerary(alloc, folder, explain)?;

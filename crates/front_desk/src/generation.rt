@@ -1,7 +1,7 @@
 // The command that makes a network.
 ghost use Rattle.std.specs.Prelude.{◌≡◌, map, IfOk};
 ghost use Rattle.front_desk.specs.Words.{trip_in, IsChecked};
-ghost use Rattle.front_desk.specs.Words.{to_gen, drawn_trip, stated_network, written_in, files_to_write, files_written, IsSummary};
+ghost use Rattle.front_desk.specs.Words.{gen_meaning, drawn_trip, stated_network, written_in, files_to_write, files_written, IsSummary};
 ghost use Rattle.front_desk.specs.Words.{Ends};
 ghost use Rattle.net_generator.specs.Sizes.{IsDrawable};
 
@@ -122,7 +122,7 @@ pub fn report_gen<R: Threads + Sync, F: Folder, G: Gate>(
     gate: &G,
 ) -> Result<Report, Halt>
     requires drawable { IsDrawable grid.now.number grid.now.rows grid.now.columns }
-    ensures { Ends (to_gen grid.now)
+    ensures { Ends (gen_meaning grid.now)
         (F.state folder.old) (F.state folder.new) result }
 {
     let (drawn, text) = drawn(rt, alloc, grid, gate)?;

@@ -1,7 +1,7 @@
 // The command that judges a certificate.
 ghost use Rattle.std.specs.Prelude.{◌≡◌, true, false, None, List, ℕ, IfOk, OnOk, IfErr};
 ghost use Rattle.front_desk.specs.Words.{IfTold, network_held, check_fault, certificate_held, StopsReading};
-ghost use Rattle.front_desk.specs.Words.{KeepsFiles, trip_setting, to_check, IsTimed, IsTripNet};
+ghost use Rattle.front_desk.specs.Words.{KeepsFiles, trip_setting, check_meaning, IsTimed, IsTripNet};
 ghost use Rattle.front_desk.specs.Words.{request_of, Ends, Tells, IsJudged};
 ghost use Rattle.front_desk.specs.Trips.{Trip as TripModel};
 ghost use Rattle.front_desk.specs.declared.outcome.Report.{Report as ReportModel};
@@ -108,7 +108,7 @@ pub fn report_check<R: Threads + Sync, F: Folder, G: Gate>(
     gate: &G,
 ) -> Result<Report, Halt>
     requires timed { IsTimed check.now.trip }
-    ensures { Ends (to_check check.now)
+    ensures { Ends (check_meaning check.now)
         (F.state folder.old) (F.state folder.new) result }
 {
     let (network, bytes) = load_to_check(alloc, folder, check)?;

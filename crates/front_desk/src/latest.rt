@@ -1,6 +1,6 @@
 // The command that answers how late one may leave.
 ghost use Rattle.std.specs.Prelude.{IfOk, List, ℕ};
-ghost use Rattle.front_desk.specs.Words.{trip_setting, to_latest, IsTimed, IsTripNet};
+ghost use Rattle.front_desk.specs.Words.{trip_setting, latest_meaning, IsTimed, IsTripNet};
 ghost use Rattle.front_desk.specs.Words.{request_of, Ends, IsLateText, IsLateRequest};
 ghost use Rattle.front_desk.specs.Trips.{Trip as TripModel};
 ghost use Rattle.network_tables.specs.NetworkModel.{NetworkModel};
@@ -51,7 +51,7 @@ pub fn report_latest<R: Threads + Sync, F: Folder, G: Gate>(
     gate: &G,
 ) -> Result<Report, Halt>
     requires timed { IsTimed late.now.trip }
-    ensures { Ends (to_latest late.now)
+    ensures { Ends (latest_meaning late.now)
         (F.state folder.old) (F.state folder.new) result }
 {
     let network = load_network(alloc, folder, &late.dir)?;

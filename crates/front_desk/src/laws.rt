@@ -2,9 +2,8 @@
 ghost use Rattle.std.specs.Prelude.{◌≡◌, ◌↔◌, ℕ, List, Option, Some, None, true};
 ghost use Rattle.front_desk.specs.Batch.{IsBatchReport};
 ghost use Rattle.front_desk.specs.Check.{HasGoodCertificate, check_of_plan};
-ghost use Rattle.front_desk.specs.Commands.{Answers};
 ghost use Rattle.front_desk.specs.Explain.{IsExplainText};
-ghost use Rattle.front_desk.specs.OneText.{TellsOneText, routes_certified};
+ghost use Rattle.front_desk.specs.OneText.{Answers, TellsOneText, routes_certified};
 ghost use Rattle.front_words.specs.declared.commands.Batch.{Batch};
 ghost use Rattle.front_words.specs.declared.commands.Invocation.{Invocation as Command};
 ghost use Rattle.front_words.specs.declared.commands.Plan.{Plan};

@@ -1,6 +1,6 @@
 // The command that plans a trip.
 ghost use Rattle.std.specs.Prelude.{IfOk, OnOk, IfErr};
-ghost use Rattle.front_desk.specs.Words.{trip_setting, to_plan, IsTimed};
+ghost use Rattle.front_desk.specs.Words.{trip_setting, plan_meaning, IsTimed};
 ghost use Rattle.front_desk.specs.Words.{request_of, IsPlannable, IsReady};
 ghost use Rattle.front_desk.specs.Words.{Ends, HandsOver, IsWritten, IsUnwritten};
 ghost use Rattle.front_words.specs.declared.commands.Plan.{Plan as PlanModel};
@@ -140,7 +140,7 @@ pub fn report_plan<R: Threads + Sync, F: Folder, G: Gate>(
     gate: &G,
 ) -> Result<Report, Halt>
     requires timed { IsTimed plan.now.trip }
-    ensures { Ends (to_plan plan.now)
+    ensures { Ends (plan_meaning plan.now)
         (F.state folder.old) (F.state folder.new) result }
 {
     let network = load_network(alloc, folder, &plan.dir)?;

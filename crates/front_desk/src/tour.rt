@@ -1,7 +1,7 @@
 // The command that plans a tour of stops.
 ghost use Rattle.std.specs.Prelude.{◌≡◌, None, Some, All, List, ℕ, IfOk, OnOk, IfErr};
 ghost use Rattle.front_desk.specs.Words.{KeepsFiles, IfTold, network_held, StopsReading, StopsStating, Ends};
-ghost use Rattle.front_desk.specs.Words.{stops_held, stops_fault, tour_fault, failed_size, IsTourText, to_tour};
+ghost use Rattle.front_desk.specs.Words.{stops_held, stops_fault, tour_fault, failed_size, IsTourText, tour_meaning};
 ghost use Rattle.front_desk.specs.Words.{trip_setting, request_of, IsTimed, IsPlannable, IsTripNet, StopsAtSize};
 ghost use Rattle.front_transport.specs.CheapArcs.{HasCheapArcs};
 ghost use Rattle.front_words.specs.declared.commands.Trip.{Trip as TripModel};
@@ -113,7 +113,7 @@ pub fn report_tour<R: Threads + Sync, F: Folder, G: Gate>(
     gate: &G,
 ) -> Result<Report, Halt>
     requires timed { IsTimed tour.now.trip }
-    ensures { Ends (to_tour tour.now)
+    ensures { Ends (tour_meaning tour.now)
         (F.state folder.old) (F.state folder.new) result }
 {
     let (network, stops) = load_tour(alloc, folder, tour)?;

@@ -1,5 +1,5 @@
 -- How a command ends, with its report or without, and how a text is handed to a sink (source: own).
-use Rattle.std.specs.Prelude.{◌≡◌, ◌≢◌, ◌⊎◌, ℕ, true, false, ⊤, Some, List, if◌then◌else◌, Result, Ok, Err}
+use Rattle.std.specs.Prelude.{◌≡◌, ◌≢◌, ◌⊎◌, ℕ, true, false, ⊤, List, if◌then◌else◌, Result, Ok, Err}
 use Rattle.route_base.specs.FolderState.{FolderState, CountsRise, FailedToRead}
 use Rattle.route_base.specs.SinkState.{SinkState, Appends, AppendsPrefix, StaysSilent, FaultsRise, FailedToAppend}
 use Rattle.route_base.specs.declared.sink.WriteError.{WriteError}
@@ -10,10 +10,11 @@ use Rattle.plan_report.specs.declared.outcomes.Refusal.TheVariants.{Input}
 use Rattle.network_folder.specs.Files.{IfTold}
 use Rattle.network_folder.specs.declared.faults.LoadFault.{LoadFault}
 use Rattle.network_folder.specs.declared.faults.LoadFault.TheVariants as load
-use Rattle.front_words.specs.declared.commands.Invocation.{Invocation as Command}
 use Rattle.front_words.specs.Commands.{command_of}
-use Rattle.front_desk.specs.Commands.{Judges, LeavesFiles, ReadsNothing}
-use Rattle.front_desk.specs.Run.{IsAnsweredBy, IsRejectedBy, IsCauseFor, IsCause, IsDue, StopsAtFile, StopsWriting, status_of}
+use Rattle.front_desk.specs.Commands.{LeavesFiles, ReadsNothing}
+use Rattle.front_desk.specs.Meaning.{Meaning}
+use Rattle.front_desk.specs.Outcomes.{IsAnsweredBy, IsCauseFor, IsRejectedBy, StopsAtFile}
+use Rattle.front_desk.specs.Run.{IsCause, IsDue, StopsWriting, status_of}
 use Rattle.front_desk.specs.declared.outcome.Halt.{Halt}
 use Rattle.front_desk.specs.declared.outcome.Halt.TheVariants.{Refused, ReadFault, WriteFault as WriteFaultHalt, NoMemory as NoMemoryHalt}
 use Rattle.front_desk.specs.declared.outcome.Report.{Report}
@@ -46,27 +47,27 @@ status_of_end (Ok report) = status_of_report report
 status_of_end (Err halt) = status_of_halt halt
 
 -- the report has the command's answer, or rejects the file that the command judges
-pub record ReportsOn (command : Command) (old new : FolderState) (report : Report) : Type 0 where
-  pub answered : report.rejects ≡ false → IfTold old (λ held. IsAnsweredBy command held new.contents report.text.items)
-  pub judges : report.rejects ≡ true → Judges command
-  pub rejected : report.rejects ≡ true → IfTold old (λ held. IsRejectedBy command held report.text.items)
+pub record ReportsOn (m : Meaning) (old new : FolderState) (report : Report) : Type 0 where
+  pub answered : report.rejects ≡ false → IfTold old (λ held. IsAnsweredBy m held new.contents report.text.items)
+  pub judges : report.rejects ≡ true → m.judges
+  pub rejected : report.rejects ≡ true → IfTold old (λ held. IsRejectedBy m held report.text.items)
 
 -- why a command has no answer
-abbrev pub StopsCommand : Command → FolderState → FolderState → Halt → Type 0
-StopsCommand command old new (Refused refusal) = IsCauseFor command old new refusal
-StopsCommand command old new ReadFault = FailedToRead old new
-StopsCommand command old new WriteFaultHalt = StopsAtFile command old new
-StopsCommand command old new NoMemoryHalt = ⊤
+abbrev pub StopsCommand : Meaning → FolderState → FolderState → Halt → Type 0
+StopsCommand m old new (Refused refusal) = IsCauseFor m old new refusal
+StopsCommand m old new ReadFault = FailedToRead old new
+StopsCommand m old new WriteFaultHalt = StopsAtFile m old new
+StopsCommand m old new NoMemoryHalt = ⊤
 
 -- the command has a report, or there is a cause why it has none
-abbrev pub Concludes : Command → FolderState → FolderState → Result Report Halt → Type 0
-Concludes command old new (Ok report) = ReportsOn command old new report
-Concludes command old new (Err halt) = StopsCommand command old new halt
+abbrev pub Concludes : Meaning → FolderState → FolderState → Result Report Halt → Type 0
+Concludes m old new (Ok report) = ReportsOn m old new report
+Concludes m old new (Err halt) = StopsCommand m old new halt
 
 -- how a command ends: with a report or a cause why there is none, with the files as its status leaves them; no count of faults falls
-pub record Ends (command : Command) (old new : FolderState) (end : Result Report Halt) : Type 0 where
-  pub concludes : Concludes command old new end
-  pub left : LeavesFiles (Some command) old new (status_of_end end)
+pub record Ends (m : Meaning) (old new : FolderState) (end : Result Report Halt) : Type 0 where
+  pub concludes : Concludes m old new end
+  pub left : m.leaves old new (status_of_end end)
   pub counts : CountsRise old new
 
 -- why words have no answer

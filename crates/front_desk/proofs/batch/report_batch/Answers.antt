@@ -1,5 +1,5 @@
 use Rattle.std.proofs.Common.{refl}
-use Rattle.front_words.specs.declared.commands.Invocation.TheVariants.{Batch as to_batch}
+use Rattle.front_desk.specs.Batch.{batch_meaning}
 use Rattle.front_desk.proofs.Batches.{ends_batch}
 use Rattle.front_desk.proofs.Ending.{ends_short, ends_unread}
 use Rattle.front_desk.proofs.batch.report_batch.Goals as goal
@@ -12,8 +12,8 @@ returns g c =
 
 pub returns-in_err-network : goal.returns-in_err-network
 returns-in_err-network g c =
-    ends_unread (to_batch c.args.batch.now) (λ kept _. kept) c.load_batch.ensures.kept _ _ c.from_residual.ensures.1 c.in_err-network.ensures.refused
+    ends_unread (batch_meaning c.args.batch.now) (λ kept _. kept) c.load_batch.ensures.kept _ _ c.from_residual.ensures.1 c.in_err-network.ensures.refused
 
 pub returns-in_err-texts_of_jobs : goal.returns-in_err-texts_of_jobs
 returns-in_err-texts_of_jobs g c =
-    ends_short (to_batch c.args.batch.now) (λ kept _. kept) c.load_batch.ensures.kept _ c.from_residual-in_err-texts_of_jobs.ensures.1
+    ends_short (batch_meaning c.args.batch.now) (λ kept _. kept) c.load_batch.ensures.kept _ c.from_residual-in_err-texts_of_jobs.ensures.1

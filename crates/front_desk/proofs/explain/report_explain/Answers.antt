@@ -1,5 +1,5 @@
 use Rattle.std.proofs.Common.{◌≡◌, None, refl, subst}
-use Rattle.front_words.specs.declared.commands.Invocation.TheVariants.{Explain as to_explain}
+use Rattle.front_desk.specs.Explain.{explain_meaning}
 use Rattle.front_words.specs.declared.commands.Trip.{Trip}
 use Rattle.front_desk.specs.Explain.{IsExplainText}
 use Rattle.front_desk.specs.Trips.{failed_check, request_of, vehicle_named}
@@ -9,14 +9,14 @@ use Rattle.front_desk.proofs.explain.report_explain.Goals as goal
 
 pub returns-in_err-network : goal.returns-in_err-network
 returns-in_err-network g c =
-    ends_unread (to_explain c.args.explain.now) (λ kept _. kept) c.load_itinerary.ensures.kept _ _ c.from_residual.ensures.1
+    ends_unread (explain_meaning c.args.explain.now) (λ kept _. kept) c.load_itinerary.ensures.kept _ _ c.from_residual.ensures.1
     c.in_err-network.ensures.refused
 
 pub returns-in_err-text : goal.returns-in_err-text
 returns-in_err-text g c =
     let loaded = c.in_ok-network.ensures in
     let e = c.args.explain.now in
-    ends_stopped_by (to_explain e) (λ kept _. kept) c.load_itinerary.ensures.kept c.in_ok-network.network e.trip tt loaded.faultless
+    ends_stopped_by (explain_meaning e) (λ kept _. kept) c.load_itinerary.ensures.kept c.in_ok-network.network e.trip tt loaded.faultless
     (trip_fails e (g.F.Folder.state c.args.folder.now) (g.F.Folder.state c.load_itinerary.new.folder) c.in_ok-network.network c.in_ok-network.legs
     loaded.network loaded.legs) _ _ _ c.trip_of.ensures c.from_residual-in_err-text.ensures.1 c.in_err-text.ensures.refused
 

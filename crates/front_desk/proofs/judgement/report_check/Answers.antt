@@ -1,8 +1,7 @@
 use Rattle.std.proofs.Common.{◌≡◌, None, ap, subst, ◌∙◌}
 use Rattle.route_base.specs.Net.{setting_of}
 use Rattle.route_base.specs.declared.types.Request.{Request}
-use Rattle.network_tables.specs.NetworkModel.{NetworkModel}
-use Rattle.front_words.specs.declared.commands.Invocation.TheVariants.{Check as to_check}
+use Rattle.front_desk.specs.Check.{check_meaning}
 use Rattle.front_desk.specs.Inside.Judging.{IsJudged}
 use Rattle.front_words.specs.declared.commands.Trip.{Trip}
 use Rattle.front_desk.specs.Inside.Planning.{IsTripNet}
@@ -13,14 +12,14 @@ use Rattle.front_desk.proofs.judgement.report_check.Goals as goal
 
 pub returns-in_err-report : goal.returns-in_err-report
 returns-in_err-report g c =
-    ends_short (to_check c.args.check.now) (λ kept _. kept) c.load_to_check.ensures.kept _ c.from_residual-in_err-report.ensures.1
+    ends_short (check_meaning c.args.check.now) (λ kept _. kept) c.load_to_check.ensures.kept _ c.from_residual-in_err-report.ensures.1
 
 pub returns-in_err-net : goal.returns-in_err-net
 returns-in_err-net g c =
     let e = c.in_ok-network.ensures in
-    let trip = c.args.check.now.trip in
-    ends_stopped (to_check c.args.check.now) (λ kept _. kept) c.load_to_check.ensures.kept c.in_ok-network.network trip tt e.faultless
-    (λ held is. ap (λ (n : NetworkModel). failed_check n trip) (e.found held is)) _ _ _ c.trip_of-trip.ensures
+    let k = c.args.check.now in
+    ends_stopped (check_meaning k) (λ kept _. kept) c.load_to_check.ensures.kept c.in_ok-network.network k.trip k.dir tt
+    (λ held fault fails. fails) e.faultless e.found _ _ _ c.trip_of-trip.ensures
     c.from_residual-in_err-net.ensures.1 c.in_err-net.ensures.refused
 
 pub returns : goal.returns
@@ -42,5 +41,5 @@ returns g c =
 
 pub returns-in_err-network : goal.returns-in_err-network
 returns-in_err-network g c =
-    ends_unread (to_check c.args.check.now) (λ kept _. kept) c.load_to_check.ensures.kept _ _ c.from_residual.ensures.1
+    ends_unread (check_meaning c.args.check.now) (λ kept _. kept) c.load_to_check.ensures.kept _ _ c.from_residual.ensures.1
     c.in_err-network.ensures.refused

@@ -1,7 +1,7 @@
 use Rattle.std.proofs.Common.{◌≡◌, ◌≤◌, ◌+◌, None, refl, sym, subst, ap, ◌∙◌}
 use Rattle.route_base.specs.Net.{setting_of}
 use Rattle.route_base.specs.declared.types.Request.{Request}
-use Rattle.front_words.specs.declared.commands.Invocation.TheVariants.{Latest as to_latest}
+use Rattle.front_desk.specs.Latest.{latest_meaning}
 use Rattle.front_words.specs.declared.commands.Trip.{Trip}
 use Rattle.front_desk.specs.Inside.Late.{IsLateRequest}
 use Rattle.front_desk.specs.Inside.Planning.{IsTripNet}
@@ -26,7 +26,7 @@ late_text_over-requires g c =
 
 pub returns-in_err-network : goal.returns-in_err-network
 returns-in_err-network g c =
-    ends_unread (to_latest c.args.late.now) (λ kept _. kept) c.load_network.ensures.kept _ _ c.from_residual.ensures.1
+    ends_unread (latest_meaning c.args.late.now) (λ kept _. kept) c.load_network.ensures.kept _ _ c.from_residual.ensures.1
     c.in_err-network.ensures.refused
 
 pub returns-in_err-net : goal.returns-in_err-net
@@ -37,7 +37,7 @@ returns-in_err-net g c =
 
 pub returns-in_err-text : goal.returns-in_err-text
 returns-in_err-text g c =
-    ends_short (to_latest c.args.late.now) (λ kept _. kept) c.load_network.ensures.kept _ c.from_residual-in_err-text.ensures.1
+    ends_short (latest_meaning c.args.late.now) (λ kept _. kept) c.load_network.ensures.kept _ c.from_residual-in_err-text.ensures.1
 
 pub returns : goal.returns
 returns g c =

@@ -7,11 +7,12 @@ use Rattle.network_folder.specs.ReadingOrder.{jobs_file, network_held}
 use Rattle.front_desk.specs.Batch.{IsBatchText, jobs_held}
 use Rattle.front_desk.specs.Plan.{trip_setting}
 use Rattle.front_desk.specs.Trips.{request_of}
-use Rattle.front_desk.proofs.OneText.{one_batch, one_text as only_text}
+use Rattle.front_desk.proofs.Meanings.{sound}
+use Rattle.front_desk.proofs.OneText.{one_batch}
 use Rattle.front_desk.proofs.laws.one_text.Goals as goal
 
 pub returns-clause-command : goal.returns-clause-command
-returns-clause-command c = λ command held after other x y tells first second. only_text command held after other x y tells first second
+returns-clause-command c = λ command held after other x y tells first second. (sound command).one tells held after other x y first second
 
 pub returns-clause-workers : goal.returns-clause-workers
 returns-clause-workers c = λ batch other held x y dir jobs first second.

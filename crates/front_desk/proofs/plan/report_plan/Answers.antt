@@ -1,6 +1,5 @@
-use Rattle.std.proofs.Common.{◌≡◌, None, ap, subst}
-use Rattle.network_tables.specs.NetworkModel.{NetworkModel}
-use Rattle.front_words.specs.declared.commands.Invocation.TheVariants.{Plan as to_plan}
+use Rattle.std.proofs.Common.{◌≡◌, None, subst}
+use Rattle.front_desk.specs.Plan.{plan_meaning}
 use Rattle.front_words.specs.declared.commands.Trip.{Trip}
 use Rattle.front_desk.specs.Inside.Planning.{IsTripNet}
 use Rattle.front_desk.specs.Trips.{IsGoodTrip, failed_check}
@@ -19,20 +18,20 @@ planned_over-requires g c =
 
 pub returns-in_err-network : goal.returns-in_err-network
 returns-in_err-network g c =
-    ends_unread (to_plan c.args.plan.now) (left_unread c.args.plan.now _ _) c.load_network.ensures.kept _ _ c.from_residual.ensures.1
+    ends_unread (plan_meaning c.args.plan.now) (left_unread c.args.plan.now _ _) c.load_network.ensures.kept _ _ c.from_residual.ensures.1
     c.in_err-network.ensures.refused
 
 pub returns-in_err-net : goal.returns-in_err-net
 returns-in_err-net g c =
     let e = c.in_ok-network.ensures in
-    let trip = c.args.plan.now.trip in
-    ends_stopped (to_plan c.args.plan.now) (left_unread c.args.plan.now _ _) c.load_network.ensures.kept
-    c.in_ok-network.network trip tt e.faultless (λ held is. ap (λ (n : NetworkModel). failed_check n trip) (e.found held is)) _ _ _
+    let p = c.args.plan.now in
+    ends_stopped (plan_meaning p) (left_unread p _ _) c.load_network.ensures.kept c.in_ok-network.network p.trip p.dir tt
+    (λ held fault fails. fails) e.faultless e.found _ _ _
     c.trip_of.ensures c.from_residual-in_err-net.ensures.1 c.in_err-net.ensures.refused
 
 pub returns-in_err-planned : goal.returns-in_err-planned
 returns-in_err-planned g c =
-    ends_short (to_plan c.args.plan.now) (left_unread c.args.plan.now _ _) c.load_network.ensures.kept _ c.from_residual-in_err-planned.ensures.1
+    ends_short (plan_meaning c.args.plan.now) (left_unread c.args.plan.now _ _) c.load_network.ensures.kept _ c.from_residual-in_err-planned.ensures.1
 
 pub returns : goal.returns
 returns g c =

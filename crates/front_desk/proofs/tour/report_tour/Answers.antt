@@ -2,7 +2,7 @@ use Rattle.std.proofs.Common.{◌≡◌, ◌∙◌, ℕ, None, Some, All, ap, re
 use Rattle.route_base.specs.Net.{setting_of}
 use Rattle.route_base.specs.declared.faults.RequestFault.TheVariants.{TooManyStates}
 use Rattle.route_base.specs.declared.types.Request.{Request}
-use Rattle.front_words.specs.declared.commands.Invocation.TheVariants.{Tour as to_tour}
+use Rattle.front_desk.specs.Tour.{tour_meaning}
 use Rattle.front_words.specs.declared.commands.Trip.{Trip}
 use Rattle.stop_tour.specs.Tours.{IsStopAmong}
 use Rattle.front_desk.specs.Inside.Planning.{IsPlannable, IsTripNet}
@@ -29,13 +29,13 @@ text_of_tours-requires-clause-stops g c =
 
 pub returns-in_err-network : goal.returns-in_err-network
 returns-in_err-network g c =
-    ends_unread (to_tour c.args.tour.now) (λ kept _. kept) c.load_tour.ensures.kept _ _ c.from_residual.ensures.1 c.in_err-network.ensures.refused
+    ends_unread (tour_meaning c.args.tour.now) (λ kept _. kept) c.load_tour.ensures.kept _ _ c.from_residual.ensures.1 c.in_err-network.ensures.refused
 
 pub returns-in_err-net : goal.returns-in_err-net
 returns-in_err-net g c =
     let e = c.in_ok-network.ensures in
     let t = c.args.tour.now in
-    ends_stopped_by (to_tour t) (λ kept _. kept) c.load_tour.ensures.kept c.in_ok-network.network t.trip tt e.faultless
+    ends_stopped_by (tour_meaning t) (λ kept _. kept) c.load_tour.ensures.kept c.in_ok-network.network t.trip tt e.faultless
     (trip_fails t (g.F.Folder.state c.args.folder.now) (g.F.Folder.state c.load_tour.new.folder) c.in_ok-network.network c.in_ok-network.stops
     e.network e.stops) _ _ _ c.trip_of-trip.ensures c.from_residual-in_err-net.ensures.1 c.in_err-net.ensures.refused
 
@@ -49,7 +49,7 @@ returns-in_err-text g c =
     let same = c.trip_of-trip.ensures in
     let passed = subst (λ (trip : Trip). failed_check network trip ≡ None) same c.in_ok-net.ensures.passed in
     let is = subst (λ (trip : Trip). IsTripNet network trip net) same c.in_ok-net.ensures.net in
-    ends_at_size (to_tour t) (λ kept _. kept) c.load_tour.ensures.kept (failed_size (setting_of net) stops ≡ Some TooManyStates) tt e.faultless
+    ends_at_size (tour_meaning t) (λ kept _. kept) c.load_tour.ensures.kept (failed_size (setting_of net) stops ≡ Some TooManyStates) tt e.faultless
     (λ many. size_fails t (g.F.Folder.state c.args.folder.now) (g.F.Folder.state c.load_tour.new.folder) network stops e.network e.stops passed
     (sym (c.tour_texts_agree.ensures.size network net t.trip stops is) ∙ many))
     _ _ c.from_residual-in_err-text.ensures.1 c.in_err-text.ensures.refused

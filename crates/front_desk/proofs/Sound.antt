@@ -1,0 +1,47 @@
+-- Meanings that are made from their parts are sound.
+use Rattle.std.proofs.Common.{◌≡◌, ℕ, Some, None, Option, List, refl, arith}
+use Rattle.route_base.specs.Contents.{Contents}
+use Rattle.route_base.specs.FolderState.{FolderState, KeepsFiles}
+use Rattle.route_base.specs.declared.faults.BadInput.{BadInput}
+use Rattle.route_base.specs.declared.faults.RequestFault.{RequestFault}
+use Rattle.front_desk.specs.Inside.Sound.{IsSound}
+use Rattle.front_desk.specs.Meaning.{Meaning, reads, with_one_text, without_request}
+
+pub same_state : (old : FolderState) → KeepsFiles old old
+same_state old = record { contents = refl; missing = omega arith; read_faults = omega arith; write_faults = refl }
+
+pub never_some : {fault : RequestFault} (check : Option RequestFault) → check ≡ Some fault → check ≡ None → ⊥
+never_some check some none = cc
+
+-- a command that reads and answers
+pub reads_sound : (fault : Contents → Option BadInput) (check : Contents → Option RequestFault) (answers : Contents → List ℕ → Type 0)
+    → IsSound (reads fault check answers)
+reads_sound fault check answers = record {
+  never_both = λ held failed some none. never_some (check held) some none;
+  stays = λ old new due left. (λ _. left, λ _. left);
+  short = same_state;
+  unread = λ nothing old new left. nothing;
+  one = λ several held after other x y first second. absurd several;
+}
+
+module _ (m : Meaning) (sound : IsSound m) where
+  -- the same command, which has one answer
+  pub one_text_sound : ((held : Contents) (after other : Option Contents) (x y : List ℕ) → m.answers held after x → m.answers held other y → x ≡ y)
+      → IsSound (with_one_text m)
+  one_text_sound one = record {
+    never_both = sound.never_both;
+    stays = sound.stays;
+    short = sound.short;
+    unread = sound.unread;
+    one = λ _. one;
+  }
+
+  -- the same command, which has no request
+  pub without_request_sound : IsSound (without_request m)
+  without_request_sound = record {
+    never_both = λ held failed fails passes. fails;
+    stays = sound.stays;
+    short = sound.short;
+    unread = sound.unread;
+    one = sound.one;
+  }
