@@ -1,16 +1,19 @@
 -- The matches make what the words make.
-use Rattle.std.proofs.Common.{◌≡◌, ◌≢◌, ℕ, Bor, Option, Some, None, List, [], ◌∷◌, length, ap, ap₂, refl, subst, sym, ◌∙◌}
+use Rattle.std.proofs.Common.{◌≡◌, ◌≢◌, ℕ, Bor, Option, Some, None, List, [], ◌∷◌, ◌++◌, length, ap, ap₂, refl, subst, sym, ◌∙◌}
 use Rattle.std.specs.Prelude.{Result, map, option_and_then, option_map}
+use Rattle.std.proofs.lemmas.List.{length-map}
+use Rattle.std.proofs.lemmas.Simd.{map-map}
 use Rattle.route_base.proofs.Lists.{same_head, same_tail}
 use Rattle.clap.specs.Words.{App}
 use Rattle.clap.specs.declared.parser.matches.ArgMatches.{ArgMatches}
 use Rattle.front_words.specs.ClapCommands.{Passes, app_with, made_at, options_at, text_at, text_found, values_at}
 use Rattle.front_words.specs.Forms.{Value, WordForm, value_of_word}
-use Rattle.front_words.specs.Inside.{IsAnswerWith, ArePlain, TakesPlaces, given_in, split_of_words}
+use Rattle.front_words.specs.Inside.{IsAnswerWith, ArePlain, TakesRow, given_in, split_of_words}
 use Rattle.front_words.specs.declared.commands.WordsFault.{WordsFault}
 use Rattle.front_words.specs.declared.splitting.Given.{Given as GivenWords}
 use Rattle.front_words.specs.Splitting.{Given, Split, only_value, values_for}
-use Rattle.front_words.specs.Usages.{OptionUsage, Usage, made_of, options_read, places_read, value_if}
+use Rattle.front_words.specs.Usages.{OptionUsage, Usage, made_of, option_names, options_read, places_read, value_if}
+use Rattle.front_words.proofs.GivenLines.{AreGiven, plain_given}
 use Rattle.front_words.proofs.Places.{miscounted}
 
 no_others : {A P : Type 0} {x : A} {xs : List A} → [] ≡ x ∷ xs → P
@@ -75,11 +78,25 @@ answers_line {A} value_in result usage matches app held line ids choices s value
     subst (λ (due : Option A). IsAnswerWith value_in due result)
     (same_made matches app line (λ id. found id ∙ ap (λ (ws : List (List ℕ)). text_found app ws id) e) usage ids choices s values p f) h
 
--- the line of a command without options passes where the command's name and places are equal to these
-pub passes_places : {A : Type 0} (usage : Usage A) (ids words : List (List ℕ)) (name : List ℕ) (places : List (List ℕ)) → TakesPlaces usage ids
-    → name ≡ usage.name → places ≡ ids → length words ≡ length places → ArePlain words
-    → Passes (app_with name places []) (name ∷ words) ids words [] []
-passes_places usage ids words name places t e f n plain =
-    let passed = t.passes words (n ∙ ap (λ (l : List (List ℕ)). length l) f) plain in
-    subst (λ (p : List (List ℕ)). Passes (app_with name p []) (name ∷ words) ids words [] []) (sym f)
-    (subst (λ (m : List ℕ). Passes (app_with m ids []) (m ∷ words) ids words [] []) (sym e) passed)
+-- the line of a command passes where its name, its places and its choices are equal to those of its row
+module _ {A : Type 0} (usage : Usage A) (ids choices : List (List ℕ)) (t : TakesRow usage ids choices) (s : Split) (line : List (List ℕ))
+    (g : AreGiven (option_names usage.options) s.given line) where
+  valued : length g.values ≡ length usage.options
+  valued =
+      sym (length-map g.values (λ v. Some v)) ∙ ap (λ (vs : List (Option (Option (List ℕ)))). length vs) (sym g.each)
+      ∙ length-map (option_names usage.options) (λ name. only_value (values_for name s.given)) ∙ length-map usage.options (λ o. o.name)
+
+  pub each_option : map (λ o. only_value (values_for o.name s.given)) usage.options ≡ map (λ v. Some v) g.values
+  each_option = sym (map-map (λ name. only_value (values_for name s.given)) (λ (o : OptionUsage). o.name) usage.options) ∙ g.each
+
+  pub passes_row : (name : List ℕ) (places chosen : List (List ℕ)) → name ≡ usage.name → places ≡ ids → chosen ≡ choices
+      → length s.places ≡ length places → ArePlain s.places → ArePlain (map (λ v. v.value) s.given)
+      → Passes (app_with name places chosen) (name ∷ (line ++ s.places)) ids s.places choices g.values
+  passes_row name places chosen e f h n plain values =
+      let passed = t.passes s.places g.values (n ∙ ap (λ (l : List (List ℕ)). length l) f) valued plain (plain_given s.given _ g.values values g.each) in
+      let whole : Passes (app_with usage.name ids choices) (usage.name ∷ (line ++ s.places)) ids s.places choices g.values =
+      subst (λ (l : List (List ℕ)). Passes (app_with usage.name ids choices) (usage.name ∷ l) ids s.places choices g.values)
+      (sym (g.is_line s.places)) passed in
+      subst (λ (c : List (List ℕ)). Passes (app_with name places c) (name ∷ (line ++ s.places)) ids s.places choices g.values) (sym h)
+      (subst (λ (p : List (List ℕ)). Passes (app_with name p choices) (name ∷ (line ++ s.places)) ids s.places choices g.values) (sym f)
+      (subst (λ (m : List ℕ). Passes (app_with m ids choices) (m ∷ (line ++ s.places)) ids s.places choices g.values) (sym e) whole))

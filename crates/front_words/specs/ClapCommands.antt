@@ -4,6 +4,7 @@ use Rattle.std.specs.Borrow.{Bor}
 use Rattle.std.specs.List.{fold}
 use Rattle.clap.specs.declared.parser.matches.ArgMatches.{ArgMatches}
 use Rattle.front_words.specs.Forms.{Value, WordForm, value_of_word}
+use Rattle.front_words.specs.Splitting.{Given, only_value, values_for}
 use Rattle.front_words.specs.Usages.{OptionUsage, Usage, value_if}
 use Rattle.clap.specs.Words.{App, Rule, first_of, first_value, found_of, matches_of, new_app, new_rule, takes, with_rule}
 
@@ -92,17 +93,16 @@ abbrev pub option_line : List ℕ → Option (List ℕ) → List (List ℕ)
 option_line name None = []
 option_line name (Some value) = name ∷ value ∷ []
 
--- the line of a plan that goes to `clap`
-abbrev pub line_of_plan : Option (List ℕ) → Option (List ℕ) → List (List ℕ) → List (List ℕ)
-line_of_plan form name words = codes "plan" ∷ (option_line (codes "--form") form ++ (option_line (codes "--certificate") name ++ words))
+-- options and their values, where these are given, and then other words
+abbrev pub options_line : List (List ℕ) → List (Option (List ℕ)) → List (List ℕ) → List (List ℕ)
+options_line (name ∷ names) (value ∷ values) words = option_line name value ++ options_line names values words
+options_line names values words = words
 
--- the line of a plan with breaks that goes to `clap`
-abbrev pub line_of_breaks : Option (List ℕ) → Option (List ℕ) → List (List ℕ) → List (List ℕ)
-line_of_breaks drive rest words = codes "breaks" ∷ (option_line (codes "--drive") drive ++ (option_line (codes "--rest") rest ++ words))
-
--- the line of a batch that goes to `clap`
-abbrev pub line_of_batch : Option (List ℕ) → List (List ℕ) → List (List ℕ)
-line_of_batch workers words = codes "batch" ∷ (option_line (codes "--workers") workers ++ words)
+-- the options of these names with their values, where they are given; nothing where one is given twice
+abbrev pub given_line : List (List ℕ) → List Given → Option (List (List ℕ))
+given_line [] given = Some []
+given_line (name ∷ names) given =
+    option_and_then (λ v. option_map (λ line. option_line name v ++ line) (given_line names given)) (only_value (values_for name given))
 
 -- the text of an argument in the matches, if it is there
 abbrev pub text_at : ArgMatches → List ℕ → Option (List ℕ)

@@ -1,19 +1,21 @@
 -- The facts that the calls hand to one another; no law.
-use Rattle.std.specs.Prelude.{ℕ, ◌≡◌, ◌≤◌, ⊤, false, Option, Some, None, List, [], ◌∷◌, ◌++◌, length, map, option_map, Result, Ok, Err}
+use Rattle.std.specs.Prelude.{ℕ, ◌≡◌, ◌≤◌, ⊤, false, Option, Some, None, List, [], ◌∷◌, ◌++◌, length, map, option_map, IfSome, Result, Ok, Err}
 use Rattle.std.specs.Borrow.{Bor}
 use Rattle.clap.specs.Words.{Rule}
-use Rattle.front_words.specs.ClapCommands.{Passes, app_with, choice, place, bans_places, check_places, gen_places, plan_places}
-use Rattle.front_words.specs.Commands.{Command, Gen, Trip, bans_usage, check_usage, explain_usage, gen_usage, latest_usage, tour_usage}
+use Rattle.front_words.specs.ClapCommands.{Passes, app_with, choice, options_line, place, bans_places, batch_choices, batch_places}
+use Rattle.front_words.specs.ClapCommands.{breaks_choices, check_places, gen_places, plan_choices, plan_places}
+use Rattle.front_words.specs.Commands.{Command, Gen, Trip, bans_usage, batch_usage, breaks_usage, check_usage, explain_usage}
+use Rattle.front_words.specs.Commands.{gen_usage, latest_usage, plan_usage, tour_usage}
 use Rattle.front_words.specs.Forms.{Value, of_text, of_number}
 use Rattle.front_words.specs.Splitting.{Given, Split, is_dashed, split_of, Piece, plain, named, assigned, stray}
-use Rattle.front_words.specs.Usages.{Usage}
+use Rattle.front_words.specs.Usages.{Usage, option_names}
 use Rattle.net_generator.specs.declared.limits.TheConstants.{LAST_NUMBER, MOST_LINES}
 use Rattle.front_words.specs.declared.clap_words.ArgKind.{ArgKind}
 use Rattle.front_words.specs.declared.clap_words.ArgKind.TheVariants.{Place, Choice}
 use Rattle.front_words.specs.declared.commands.WordsFault.{WordsFault}
 use Rattle.front_words.specs.declared.commands.WordsFault.TheVariants.{NotACommand, OutOfMemory}
-use Rattle.front_words.specs.declared.positional.PositionalCommand.{PositionalCommand}
-use Rattle.front_words.specs.declared.positional.PositionalCommand.TheVariants.{Check, Bans, Gen as Draws, Latest, Tour, Explain}
+use Rattle.front_words.specs.declared.table.CommandName.{CommandName}
+use Rattle.front_words.specs.declared.table.CommandName.TheVariants as row
 use Rattle.front_words.specs.declared.splitting.Given.{Given as GivenWords}
 use Rattle.front_words.specs.declared.splitting.Split.{Split as SplitWords}
 use Rattle.front_words.specs.declared.splitting.Piece.{Piece as PieceWord}
@@ -53,28 +55,48 @@ abbrev pub rule_in : ArgKind → List ℕ → Rule
 rule_in Place id = place id
 rule_in Choice id = choice id
 
--- the row of the table of a command that has positional words alone
-abbrev pub usage_in : PositionalCommand → Usage Command
-usage_in Check = check_usage
-usage_in Bans = bans_usage
-usage_in Draws = gen_usage
-usage_in Latest = latest_usage
-usage_in Tour = tour_usage
-usage_in Explain = explain_usage
+-- a row of the table, with the names that `clap` has for its positional words and for the values of its options
+pub record ClapRow : Type 0 where
+  pub usage : Usage Command
+  pub ids : List (List ℕ)
+  pub choices : List (List ℕ)
 
--- the names that `clap` has for its words
-abbrev pub ids_in : PositionalCommand → List (List ℕ)
-ids_in Bans = bans_places
-ids_in Draws = gen_places
-ids_in Latest = plan_places
-ids_in command = check_places
+abbrev pub row_with : Usage Command → List (List ℕ) → List (List ℕ) → ClapRow
+row_with usage ids choices = record { usage = usage; ids = ids; choices = choices }
 
--- a command has no option, and `clap` takes each line of its name and of as many words without a dash as it has places
-pub record TakesPlaces {A : Type 0} (usage : Usage A) (ids : List (List ℕ)) : Type 0 where
+-- the row of a command: one line a command
+abbrev pub row_in : CommandName → ClapRow
+row_in row.Plan = row_with plan_usage plan_places plan_choices
+row_in row.Check = row_with check_usage check_places []
+row_in row.Bans = row_with bans_usage bans_places []
+row_in row.Batch = row_with batch_usage batch_places batch_choices
+row_in row.Gen = row_with gen_usage gen_places []
+row_in row.Latest = row_with latest_usage plan_places []
+row_in row.Tour = row_with tour_usage check_places []
+row_in row.Breaks = row_with breaks_usage plan_places breaks_choices
+row_in row.Explain = row_with explain_usage check_places []
+
+abbrev pub usage_in : CommandName → Usage Command
+usage_in command = (row_in command).usage
+
+abbrev pub ids_in : CommandName → List (List ℕ)
+ids_in command = (row_in command).ids
+
+abbrev pub choices_in : CommandName → List (List ℕ)
+choices_in command = (row_in command).choices
+
+-- no value of an option, where it is given, begins with a dash
+abbrev pub ArePlainIf : List (Option (List ℕ)) → Type 0
+ArePlainIf [] = ⊤
+ArePlainIf (value ∷ values) = IfSome value (λ word. is_dashed word ≡ false) × ArePlainIf values
+
+-- `clap` takes each line of the command's name, of its options with their values where these are given, and of as many words without a
+-- dash as it has places
+pub record TakesRow {A : Type 0} (usage : Usage A) (ids choices : List (List ℕ)) : Type 0 where
   pub counted : length ids ≡ length usage.places
-  pub alone : usage.options ≡ []
-  pub passes : (words : List (List ℕ)) → length words ≡ length ids → ArePlain words
-      → Passes (app_with usage.name ids []) (usage.name ∷ words) ids words [] []
+  pub passes : (words : List (List ℕ)) (values : List (Option (List ℕ))) → length words ≡ length ids → length values ≡ length usage.options
+      → ArePlain words → ArePlainIf values
+      → Passes (app_with usage.name ids choices) (usage.name ∷ options_line (option_names usage.options) values words) ids words choices values
 
 -- no positional word and no value of an option begins with `-`
 pub record IsPlainSplit (s : Split) : Type 0 where

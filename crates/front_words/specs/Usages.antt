@@ -50,13 +50,11 @@ module _ {A : Type 0} where
   abbrev pub made_by : Usage A → List (List ℕ) → Option A
   made_by usage words = option_and_then (made_of usage) (split_of (option_names usage.options) words)
 
+  -- the row of a table that has this name; nothing where no row has it
+  abbrev pub usage_named : List (Usage A) → List ℕ → Option (Usage A)
+  usage_named [] name = None
+  usage_named (usage ∷ usages) name = if bytes_eq name usage.name then Some usage else usage_named usages name
+
   -- what words make by the row of a table that has their first word as its name
   abbrev pub made_in : List (Usage A) → List ℕ → List (List ℕ) → Option A
-  made_in [] name words = None
-  made_in (usage ∷ usages) name words =
-      if bytes_eq name usage.name then made_by usage words else made_in usages name words
-
-  -- the options of the row of a table that has this name; none where no row has it
-  abbrev pub options_named : List (Usage A) → List ℕ → List (List ℕ)
-  options_named [] name = []
-  options_named (usage ∷ usages) name = if bytes_eq name usage.name then option_names usage.options else options_named usages name
+  made_in usages name words = option_and_then (λ usage. made_by usage words) (usage_named usages name)

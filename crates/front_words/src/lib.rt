@@ -5,22 +5,19 @@
 //! the commands and their table, and `command_of`, the command that words are.
 //!
 //! `read_invocation` answers exactly this, and `read_words` the same with all words side by side (`flat`). `splitting` divides the words, and
-//! `options` finds the value of an option. `plan`, `check`, `bans`, `batch`, `generate`, `latest`, `tour`, `breaks` and `explain` have one row of the
-//! table each: where the words are as many as its forms, they go to one simple command of `clap` in one order, the options with their values and then
-//! the positional words. `clap` then fails only when it is out of memory (`refused` of `parse_line`). `positional` does this for the commands without
-//! options, each a `PositionalCommand`, whose values are in `positional_values`. `found` reads the values of the words that `clap` gives back, in the
-//! forms of `forms`; `trip_words` reads those of a trip, in all commands that have one.
+//! `options` finds the value of an option. `table` has a row for each command (`CommandName::row`), and one way for all of them (`read_row`): where the
+//! words are as many as the row's places, they go to one simple command of `clap` in one order, the options with their values and then the positional
+//! words. `clap` then fails only when it is out of memory (`refused` of `parse_line`). `values` and `generate` make each command from the words that
+//! `clap` gives back, which `found` reads in the forms of `forms`; `trip_words` reads those of a trip, in all commands that have one.
 //!
 //! `limits` bounds the workers of a batch, and has the usual values of options; a number, rows and columns are those from which
 //! `net_generator` draws a network (`IsDrawable`).
 //!
 //! `Inside` and `ClapCommands` are no law: they have what the calls hand to one another, and the commands as `clap` has them.
 //! `proofs/ClapWalk` is the walk of `clap` over words that begin with no dash, `proofs/Plain` shows that those of a split are such, and
-//! `proofs/ClapLines` has the line of each command, `proofs/BreaksLine` that of `breaks`.
+//! `proofs/ClapLines` has the line of each command (`takes_row`).
 #![tactic(auto)]
 
-mod batch;
-mod breaks;
 mod clap_words;
 mod commands;
 mod flat;
@@ -29,12 +26,11 @@ mod found;
 mod generate;
 mod limits;
 mod options;
-mod plan;
-mod positional;
-mod positional_values;
 mod reading;
 mod splitting;
+mod table;
 mod trip_words;
+mod values;
 
 pub use commands::{
     Bans, Batch, Breaks, Check, Explain, Gen, Invocation, Latest, Plan, Tour, Trip, WordsFault,

@@ -1,29 +1,13 @@
 // Reads the words of the command line.
-ghost use Rattle.std.specs.Prelude.{◌≡◌, None, Some, IfErr, IfOk, map};
-ghost use Rattle.front_words.specs.Commands.{AsksSupported, command_in, command_of, usages};
-ghost use Rattle.front_words.specs.Usages.{options_named};
+ghost use Rattle.std.specs.Prelude.{◌≡◌, None, Some, IfErr, IfOk};
+ghost use Rattle.front_words.specs.Commands.{AsksSupported, command_in, command_of};
 
-use crate::batch::read_batch;
-use crate::breaks::read_breaks;
 use crate::flat::side_by_side;
-use crate::plan::read_plan;
-use crate::positional::{PositionalCommand, read_places};
 use crate::splitting::split_words;
+use crate::table::{command_named, read_row};
 use crate::{Command, Invocation, WordsFault};
 use route_base::Text;
 use std::alloc::Global;
-
-// The options of a command, by the command's name.
-fn options_of(name: &str) -> &'static [&'static str]
-    ensures { map (λ o. o.now) result.now ≡ options_named usages name.now }
-{
-    match name {
-        "plan" => &["--form", "--certificate"],
-        "batch" => &["--workers"],
-        "breaks" => &["--drive", "--rest"],
-        _ => &[],
-    }
-}
 
 /// The command that the words are: the command's name first, without the name of the program. NotACommand exactly where they are none,
 /// unless memory runs out. Linear in the length of the words.
@@ -47,20 +31,16 @@ pub fn read_invocation(alloc: Global, words: &[Text]) -> Result<Invocation, Word
     let Some((name, rest)) = words.split_first() else {
         return Err(WordsFault::NotACommand);
     };
-    let split = split_words(alloc, options_of(name.as_str()), rest)?;
-    let places = split.places.as_slice();
-    match name.as_str() {
-        "plan" => read_plan(alloc, places, split.given.as_slice()),
-        "check" => read_places(alloc, PositionalCommand::Check, places),
-        "bans" => read_places(alloc, PositionalCommand::Bans, places),
-        "batch" => read_batch(alloc, places, split.given.as_slice()),
-        "gen" => read_places(alloc, PositionalCommand::Gen, places),
-        "latest" => read_places(alloc, PositionalCommand::Latest, places),
-        "tour" => read_places(alloc, PositionalCommand::Tour, places),
-        "breaks" => read_breaks(alloc, places, split.given.as_slice()),
-        "explain" => read_places(alloc, PositionalCommand::Explain, places),
-        _ => Err(WordsFault::NotACommand),
-    }
+    let Some(command) = command_named(name.as_str()) else {
+        return Err(WordsFault::NotACommand);
+    };
+    let split = split_words(alloc, command.row().options, rest)?;
+    read_row(
+        alloc,
+        command,
+        split.places.as_slice(),
+        split.given.as_slice(),
+    )
 }
 
 /// The same command, with all its words side by side. It costs what `read_invocation` costs.
