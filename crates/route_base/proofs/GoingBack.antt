@@ -59,7 +59,7 @@ module _ (s : Setting) (until : ℕ) where
   last_step (x ∷ xs) p q walk = inr (longer x xs p walk.0 q walk.1 (last_step xs walk.0 q walk.2))
 
   -- a step has one source
-  same_source : (x : Step) (p q u : Position) → Moves s until x p u → Moves s until x q u → p ≡ q
+  pub same_source : (x : Step) (p q u : Position) → Moves s until x p u → Moves s until x q u → p ≡ q
   same_source (drive a) p q u from to =
       let road : from.road ≡ to.road = same_Some from.road to.road (sym from.is ∙ to.is) in
       same_position p q (sym from.tail ∙ (ap (λ (w : Road). w.tail) road ∙ to.tail))

@@ -1,5 +1,6 @@
 pub mod AgreeingWalks
 pub mod Arcs
+pub mod BackwardWalks
 pub mod ByArrival
 pub mod Costs
 pub mod Covering
@@ -18,6 +19,7 @@ pub mod Lists
 pub mod Logic
 pub mod Numbered
 pub mod OneAnswer
+pub mod OrderedLists
 pub mod Parks
 pub mod ShortNumbers
 pub mod SoFar

@@ -1,8 +1,6 @@
 -- There is one list of right routes.
-use Rattle.std.proofs.Common.{◌≡◌, ◌⊎◌, inl, inr, ⊎_elim, ℕ, zero, suc, ◌<◌, List, [], ◌∷◌, ◌++◌, replicate}
-use Rattle.std.proofs.Common.{refl, sym, ◌∙◌, ap, subst, arith}
-use Rattle.std.specs.Prelude.{⊤, All, AllPairs, Contains}
-use Rattle.std.proofs.lemmas.Map.Made.{Contains-tail}
+use Rattle.std.proofs.Common.{◌≡◌, ℕ, zero, suc, ◌<◌, List, [], ◌∷◌, ◌++◌, replicate, refl, sym, ◌∙◌, ap, subst, arith}
+use Rattle.std.specs.Prelude.{⊤, All}
 use Rattle.route_base.specs.Setting.{Setting}
 use Rattle.route_base.specs.Itinerary.{Step, drive, wait}
 use Rattle.route_base.specs.Legs.{steps_of, HasNoEmptyWait, HasNoNeighbouringWaits, DrivesFirst, Achieves}
@@ -16,6 +14,7 @@ use Rattle.route_base.specs.declared.types.Request.{Request}
 use Rattle.route_base.specs.declared.types.Route.{Route}
 use Rattle.route_base.proofs.GoingBack.{first_is_one}
 use Rattle.route_base.proofs.Lists.{same_tail}
+use Rattle.route_base.proofs.OrderedLists.{one_list}
 
 -- the first step is no wait
 abbrev IsNoWait : List Step → Type 0
@@ -69,56 +68,12 @@ same_legs (Wait j ∷ xs) (Wait k ∷ ys) some_x some_y apart_x apart_y same =
 abbrev Rise : Pair → Pair → Type 0
 Rise p q = p.arrival < q.arrival
 
--- the first pair of a list that rises is no later than any of it
-least_first : (p : Pair) (ps : List Pair) → AllPairs Rise (p ∷ ps) → (q : Pair) → Contains (p ∷ ps) q → (p ≡ q) ⊎ (p.arrival < q.arrival)
-least_first p ps rising q (zero, within, is) = inl is
-least_first p ps rising q (suc k, within, is) =
-    inr (subst (λ (w : Pair). p.arrival < w.arrival) is (rising 0 (suc k) q (omega arith) within))
-
-rising_tail : (p : Pair) (ps : List Pair) → AllPairs Rise (p ∷ ps) → AllPairs Rise ps
-rising_tail p ps rising i j d less within = rising (suc i) (suc j) d (omega (arith, less)) (omega (arith, within))
-
-one_more : (p : Pair) (ps : List Pair) (q : Pair) → Contains ps q → Contains (p ∷ ps) q
-one_more p ps q (k, within, is) = (suc k, omega (arith, within), is)
-
-first_is_in : (p : Pair) (ps : List Pair) → Contains (p ∷ ps) p
-first_is_in p ps = (0, omega arith, refl)
-
--- lists that rise and have the same pairs are one
-one_list : (ps qs : List Pair) → AllPairs Rise ps → AllPairs Rise qs → ((p : Pair) → Contains ps p → Contains qs p)
-    → ((p : Pair) → Contains qs p → Contains ps p) → ps ≡ qs
-one_list [] [] rise_p rise_q there back = refl
-one_list [] (q ∷ qs) rise_p rise_q there back = let none = back q (first_is_in q qs) in absurd (omega (arith, none.1))
-one_list (p ∷ ps) [] rise_p rise_q there back = let none = there p (first_is_in p ps) in absurd (omega (arith, none.1))
-one_list (p ∷ ps) (q ∷ qs) rise_p rise_q there back =
-    λ i. first i ∷ one_list ps qs (rising_tail p ps rise_p) (rising_tail q qs rise_q) later back_later i
-  where
-    first : p ≡ q
-    first = ⊎_elim
-        (λ (same : p ≡ q). same)
-        (λ (before : p.arrival < q.arrival). ⊎_elim
-        (λ (same : q ≡ p). sym same)
-        (λ (after : q.arrival < p.arrival). absurd (omega (arith, before, after)))
-        (least_first q qs rise_q p (there p (first_is_in p ps))))
-        (least_first p ps rise_p q (back q (first_is_in q qs)))
-
-    behind : (u : Pair) (us : List Pair) → AllPairs Rise (u ∷ us) → (v : Pair) → Contains us v → u.arrival < v.arrival
-    behind u us rising v (k, within, is) =
-        subst (λ (w : Pair). u.arrival < w.arrival) is (rising 0 (suc k) v (omega arith) (omega (arith, within)))
-
-    later : (v : Pair) → Contains ps v → Contains qs v
-    later v one = Contains-tail q qs v (λ same. omega (arith, behind p ps rise_p v one, ap (λ (w : Pair). w.arrival) (first ∙ same)))
-        (there v (one_more p ps v one))
-
-    back_later : (v : Pair) → Contains qs v → Contains ps v
-    back_later v one = Contains-tail p ps v (λ same. omega (arith, behind q qs rise_q v one, ap (λ (w : Pair). w.arrival) (sym first ∙ same)))
-        (back v (one_more q qs v one))
-
 module _ (s : Setting) (r : Request) where
   -- two fronts are one
   pub one_front : (ps qs : List Pair) → IsFront s r ps → IsFront s r qs → ps ≡ qs
   one_front ps qs front_p front_q =
-      one_list ps qs front_p.rising front_q.rising (λ p one. (front_q.each p).1 ((front_p.each p).0 one)) (λ p one. (front_p.each p).1 ((front_q.each p).0 one))
+      one_list Rise (λ p q before after. omega (arith, before, after)) ps qs front_p.rising front_q.rising
+      (λ p one. (front_q.each p).1 ((front_p.each p).0 one)) (λ p one. (front_p.each p).1 ((front_q.each p).0 one))
 
   abbrev IsRightRoute : Route → Type 0
   IsRightRoute x = (Achieves s r x.legs x.pair × HasNoNeighbouringWaits x.legs) × IsFirst s r x.legs x.pair

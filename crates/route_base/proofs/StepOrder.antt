@@ -18,11 +18,12 @@ pub none_before_wait : (y : Step) → IsStepBefore y wait → ⊥
 none_before_wait wait h = h
 none_before_wait (drive b) h = h
 
-not_before_itself : (x : Step) → IsStepBefore x x → ⊥
+pub not_before_itself : (x : Step) → IsStepBefore x x → ⊥
 not_before_itself wait h = h
 not_before_itself (drive a) h = omega (arith, h)
 
-never_both_steps : (x y : Step) → IsStepBefore x y → IsStepBefore y x → ⊥
+-- of two steps at most one comes before the other
+pub never_both_steps : (x y : Step) → IsStepBefore x y → IsStepBefore y x → ⊥
 never_both_steps wait wait h k = h
 never_both_steps wait (drive b) h k = k
 never_both_steps (drive a) wait h k = h

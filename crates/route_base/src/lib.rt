@@ -13,8 +13,8 @@
 //! Workers say through `Gate` that they begin a piece of work; no law speaks of it.
 //!
 //! It is met here by `replay`, `read_all`, `is_free`, the readers of forms and the objects in memory; the law of a search is a
-//! clause of the trait `FrontSearch`, and there is one right answer to a request: that is the law `one_answer`. `Replay` says
-//! where a replay fails. `Relaxing` and `StepsBack` are no law: they are the invariants that all searches share, and `proofs/`
+//! clause of the trait `FrontSearch`, and a request has at most one right answer: that is the law `one_answer`. `Replay`
+//! says where a replay fails. `Relaxing` and `StepsBack` are no law: they are the invariants that all searches share, and `proofs/`
 //! has their common lemmas (`Walking`, `Waiting`, `Covering`, `Fronts`, `LegLists`, `GoingBack`).
 #![tactic(auto)]
 
