@@ -2,6 +2,7 @@ pub mod Growing
 pub mod ListPlaces
 pub mod Mapped
 pub mod NetParts
+pub mod OneFront
 pub mod PairOrder
 pub mod Places
 pub mod SameFronts
