@@ -57,4 +57,6 @@ module _ (s z : Setting) (window : Run) (r : Request) (stops : List Stop) (same 
     front = same_front IsNoWorse ArrivesBefore (IsTourAchieved s r stops) (IsTourAchieved z r stops) (achieved_too s z window r stops same within)
         (achieved_too z s window r stops (flipped s z window same) within) (map (λ x. x.pair) routes) right.front;
     legs = legs_too s z window r stops same within routes right.legs;
+    first = λ k d inside steps walk. right.first k d inside steps
+        (tour_walks_too z s window (flipped s z window same) stops r.until within.1 steps (tour_start r) _ within.0 walk);
   }

@@ -5,39 +5,26 @@ use Rattle.std.specs.Prelude.{slice_get, unwrap_or}
 use Rattle.std.specs.Option.{option_map, option_flatten}
 use Rattle.route_base.specs.Setting.{Setting, Road}
 use Rattle.route_base.specs.Itinerary.{Position, Step, drive, wait, Moves, Walks}
-use Rattle.route_base.specs.Legs.{start_of, end_of, steps_of, Achieves, HasNoNeighbouringWaits}
-use Rattle.route_base.specs.Front.{IsFront, IsAchieved, IsNoWorse, IsRight, pairs_of}
 use Rattle.route_base.specs.Runs.{any_has, AreRuns}
 use Rattle.std.proofs.lemmas.Option.{unwrap_or-slice_get}
-use Rattle.route_base.specs.Net.{Net, at_number, park_at, road_of, runs_of, runs_by, shut_by, setting_of, IsGoodArc, IsGoodNet, IsGoodRequest}
-use Rattle.route_base.specs.declared.types.Pair.{Pair}
+use Rattle.route_base.specs.Net.{Net, at_number, park_at, road_of, runs_of, runs_by, shut_by, setting_of, IsGoodArc, IsGoodNet}
 use Rattle.route_base.specs.declared.types.Park.{Park}
-use Rattle.route_base.specs.declared.types.Request.{Request}
 use Rattle.route_base.specs.declared.types.Run.{Run}
 use Rattle.route_base.specs.declared.types.TimedArc.{TimedArc}
 use Rattle.route_base.proofs.Numbered.{at_number-all, at_number-next, number_within}
 use Rattle.route_base.proofs.Arcs.{good_arc}
 use Rattle.route_base.proofs.Parks.{rated_park}
-use Rattle.route_base.proofs.Waiting.{same_position}
-use Rattle.std.proofs.lemmas.List.{map-id}
-use Rattle.front_transport.specs.ParetoFronts.{ArrivesBefore}
-use Rattle.front_transport.proofs.PairOrder.{no_worse_order}
 use Rattle.route_base.proofs.Logic.{map_some}
 use Rattle.front_transport.proofs.ListPlaces.{list_kept, list_behind}
 use Rattle.front_transport.proofs.NetParts.{road_arc}
 use Rattle.front_transport.proofs.Places.{at_left, at_right, at_both}
-use Rattle.front_transport.proofs.Transport.{carried}
-use Rattle.stop_tour.specs.Inside.Layers.{lifted, layered, copies, service, services, outside, last_minute, layered_lists, tour_net, tour_request}
-use Rattle.stop_tour.specs.Tours.{IsGoodStop, TourPosition, TourStep, go, serve, TourMoves, TourWalks, tour_start, tour_end, IsTourAchieved, IsTourFront}
-use Rattle.stop_tour.specs.Tours.{AchievesTour, AreRightTours}
-use Rattle.stop_tour.specs.Inside.Unlayering.{step_over, route_over}
+use Rattle.stop_tour.specs.Inside.Layers.{lifted, layered, copies, service, services, outside, last_minute, layered_lists, tour_net}
+use Rattle.stop_tour.specs.Tours.{IsGoodStop, TourPosition, TourStep, go, serve, TourMoves, TourWalks}
+use Rattle.stop_tour.specs.Inside.Unlayering.{step_over}
 use Rattle.std.proofs.lemmas.Nat.{mul-le, mod-mul-add}
 use Rattle.std.proofs.lemmas.Bool.{le-leb, lt-leb}
-use Rattle.std.proofs.lemmas.List.Elements.{All-map}
-use Rattle.route_base.specs.declared.types.Route.{Route}
 use Rattle.stop_tour.specs.declared.stops.Stop.{Stop}
 use Rattle.stop_tour.proofs.LayerPlaces.{length_layered, IsInLayer, in_layer, layer_at, copy_at, one_place, service_of, service_at}
-use Rattle.stop_tour.proofs.Unlayered.{steps_over, no_empty_over, apart_over}
 use Rattle.stop_tour.proofs.LayerLists.{length_lists, place_fits, runs_in_layer, list_in_layer, list_first, open_in_layer, closed_in_layer}
 use Rattle.stop_tour.proofs.LayerLists.{last_next, last_end}
 use Rattle.stop_tour.proofs.Windows.{within_window, open_within}
@@ -137,7 +124,7 @@ module _ (net : Net) (good : IsGoodNet net) (stops : List Stop) (each_stop : All
     pub in_tour : IsInTour big q
 
   -- a number up to that of the last layer is of an arc, and one behind is of a service
-  drive_over : (x j a : ℕ) → j < suc (length stops) → (1 ≤ a) × (a ≤ length net.arcs) → x ≡ j * length net.arcs + a
+  pub drive_over : (x j a : ℕ) → j < suc (length stops) → (1 ≤ a) × (a ≤ length net.arcs) → x ≡ j * length net.arcs + a
       → step_over (length net.arcs) (suc (length stops)) (drive x) ≡ go (drive a)
   drive_over x j a below inside number =
       let low : x ≤ suc (length stops) * length net.arcs = omega (
@@ -156,7 +143,7 @@ module _ (net : Net) (good : IsGoodNet net) (stops : List Stop) (each_stop : All
       ) in
       rw (le-leb x (suc (length stops) * length net.arcs) low) (ap (λ (k : ℕ). go (drive k)) rest)
 
-  serve_over : (x i : ℕ) → 1 ≤ i → x ≡ suc (length stops) * length net.arcs + i → step_over (length net.arcs) (suc (length stops)) (drive x) ≡ serve i
+  pub serve_over : (x i : ℕ) → 1 ≤ i → x ≡ suc (length stops) * length net.arcs + i → step_over (length net.arcs) (suc (length stops)) (drive x) ≡ serve i
   serve_over x i some number =
       rw (lt-leb x (suc (length stops) * length net.arcs) (omega (arith, number, some))) (ap serve (omega (arith, number)))
 
@@ -285,7 +272,7 @@ module _ (net : Net) (good : IsGoodNet net) (stops : List Stop) (each_stop : All
       (omega (arith, found.3.shut, length_lists until net.closed stops)) ∙ list_first until net.closed stops found.0.shut found.3.shut)
       ∙ ap (λ (o : Option Park). any_has (shut_by net o) t) (sym found.1)
 
-  road_at : (y : ℕ) (road : Road) → z.road y ≡ Some road → option_map road_of (at_number (tour_net net stops until).arcs y) ≡ Some road
+  pub road_at : (y : ℕ) (road : Road) → z.road y ≡ Some road → option_map road_of (at_number (tour_net net stops until).arcs y) ≡ Some road
   unfolding z
   road_at y road is = is
 
@@ -338,8 +325,9 @@ module _ (net : Net) (good : IsGoodNet net) (stops : List Stop) (each_stop : All
       }
 
   -- a step over layers for a step of a tour
-  record Placed (big : Position) (q : TourPosition) : Type 0 where
+  record Placed (big : Position) (step : TourStep) (q : TourPosition) : Type 0 where
     pub x : Step
+    pub is_step : step_over (length net.arcs) (suc (length stops)) x ≡ step
     pub next : Position
     pub move : Moves z until x big next
     pub in_tour : IsInTour next q
@@ -349,7 +337,7 @@ module _ (net : Net) (good : IsGoodNet net) (stops : List Stop) (each_stop : All
   road_from y arc is = ap (option_map road_of) is
 
   placed : (step : TourStep) (big : Position) (p q : TourPosition) → IsInTour big p → TourMoves s stops until step p q
-      → q.at.minute ≤ last_minute until stops q.served → Placed big q
+      → q.at.minute ≤ last_minute until stops q.served → Placed big step q
   unfolding s
   placed (go (drive a)) big p q at moves early_enough =
       let move = moves.0 in
@@ -363,6 +351,7 @@ module _ (net : Net) (good : IsGoodNet net) (stops : List Stop) (each_stop : All
       let minutes : base.0.minutes ≡ move.road.minutes = ap (λ (w : Road). w.minutes) base.2 in
       record {
         x = drive x;
+        is_step = drive_over x p.served a (omega (arith, at.served)) (number_within net.arcs a base.0 base.1) refl;
         next = record { node = p.served * net.nodes + base.0.head.0; minute = q.at.minute; cost = q.at.cost };
         move = record {
           road = road_of arc;
@@ -390,6 +379,7 @@ module _ (net : Net) (good : IsGoodNet net) (stops : List Stop) (each_stop : All
       let move = moves.0 in
       record {
         x = wait;
+        is_step = refl;
         next = record { node = big.node; minute = q.at.minute; cost = q.at.cost };
         move = record {
           weight = move.weight;
@@ -423,6 +413,7 @@ module _ (net : Net) (good : IsGoodNet net) (stops : List Stop) (each_stop : All
       let after : 0 + (i - 1) + 1 ≡ q.served = omega (arith, move.next, move.served) in
       record {
         x = drive x;
+        is_step = serve_over x i inside.0 (omega (arith, length_layered net.nodes (length net.closed) (length stops) net.arcs (suc (length stops))));
         next = record { node = (0 + (i - 1) + 1) * net.nodes + stop.node.0; minute = q.at.minute; cost = q.at.cost };
         move = record {
           road = road_of arc;
@@ -446,8 +437,9 @@ module _ (net : Net) (good : IsGoodNet net) (stops : List Stop) (each_stop : All
       }
 
   -- a tour is a walk over layers
-  pub record IsPlacedWalk (big : Position) (q : TourPosition) : Type 0 where
+  pub record IsPlacedWalk (big : Position) (xs : List TourStep) (q : TourPosition) : Type 0 where
     pub steps : List Step
+    pub is_over : map (step_over (length net.arcs) (suc (length stops))) steps ≡ xs
     pub last : Position
     pub walk : Walks z until steps big last
     pub in_tour : IsInTour last q
@@ -486,94 +478,16 @@ module _ (net : Net) (good : IsGoodNet net) (stops : List Stop) (each_stop : All
   tour_in_time (step ∷ steps) p q walk early = tour_in_time steps walk.0 q walk.2 (step_in_time step p walk.0 walk.1)
 
   pub placed_walk : (steps : List TourStep) (big : Position) (p q : TourPosition) → IsInTour big p → TourWalks s stops until steps p q
-      → q.served ≡ length stops → q.at.minute ≤ until → IsPlacedWalk big q
+      → q.served ≡ length stops → q.at.minute ≤ until → IsPlacedWalk big steps q
   placed_walk [] big p q at walk all in_time =
-      record { steps = []; last = big; walk = refl; in_tour = subst (λ (w : TourPosition). IsInTour big w) walk at }
+      record { steps = []; is_over = refl; last = big; walk = refl; in_tour = subst (λ (w : TourPosition). IsInTour big w) walk at }
   placed_walk (step ∷ steps) big p q at walk all in_time =
       let one = placed step big p walk.0 at walk.1 (before_stops steps walk.0 q walk.2 all in_time) in
       let more = placed_walk steps one.next walk.0 q one.in_tour walk.2 all in_time in
-      record { steps = one.x ∷ more.steps; last = more.last; walk = (one.next, one.move, more.walk); in_tour = more.in_tour }
-
-tour_position : ℕ → ℕ → ℕ → ℕ → TourPosition
-tour_position v t x j = record { at = record { node = v; minute = t; cost = x }; served = j }
-
-same_tour : (p q : TourPosition) → p.at.node ≡ q.at.node → p.at.minute ≡ q.at.minute → p.at.cost ≡ q.at.cost → p.served ≡ q.served → p ≡ q
-unfolding tour_position
-same_tour p q v t x j = ap (λ (w : ℕ). tour_position w p.at.minute p.at.cost p.served) v ∙ ap (λ (w : ℕ). tour_position q.at.node w p.at.cost p.served) t
-    ∙ ap (λ (w : ℕ). tour_position q.at.node q.at.minute w p.served) x ∙ ap (λ (w : ℕ). tour_position q.at.node q.at.minute q.at.cost w) j
-
-module _ (net : Net) (good : IsGoodNet net) (stops : List Stop) (each_stop : All (IsGoodStop net) stops) (r : Request) (asked : IsGoodRequest net r) where
-  zt : Setting
-  zt = setting_of (tour_net net stops r.until)
-
-  begins : IsInTour net good stops each_stop r.until (start_of (tour_request net stops r)) (tour_start r)
-  begins = record { node = omega arith; minute = refl; cost = refl; low = asked.origin.0; high = asked.origin.1; served = omega arith }
-
-  over : List Step → List TourStep
-  over xs = map (step_over (length net.arcs) (suc (length stops))) xs
-
-  ends : (steps : List Step) (p : Pair) → Walks zt r.until steps (start_of (tour_request net stops r)) (end_of (tour_request net stops r) p)
-      → TourWalks (setting_of net) stops r.until (over steps) (tour_start r) (tour_end r (length stops) p)
-  unfolding zt z s over
-  ends steps p walk =
-      let one = tour_walk net good stops each_stop r.until steps (start_of (tour_request net stops r)) (end_of (tour_request net stops r) p)
-      (tour_start r) begins walk in
-      let here = one_place net.nodes one.q.served (length stops) one.q.at.node r.goal.0 one.in_tour.low one.in_tour.high asked.goal.0 asked.goal.1
-      (sym one.in_tour.node) in
-      subst (λ (w : TourPosition). TourWalks (setting_of net) stops r.until (over steps) (tour_start r) w)
-      (same_tour one.q (tour_end r (length stops) p) here.1 (sym one.in_tour.minute) (sym one.in_tour.cost) here.0) one.walk
-
-  sound : (p : Pair) → IsAchieved zt (tour_request net stops r) p → IsTourAchieved (setting_of net) r stops p
-  sound p can = record { in_time = can.in_time; steps = over can.steps; walk = ends can.steps p can.walk }
-
-  covers : (p : Pair) → IsTourAchieved (setting_of net) r stops p → (q : Pair) × IsAchieved zt (tour_request net stops r) q × IsNoWorse q p
-  unfolding zt z s
-  covers p can =
-      let one = placed_walk net good stops each_stop r.until can.steps (start_of (tour_request net stops r)) (tour_start r)
-      (tour_end r (length stops) p) begins can.walk refl
-      (tour_in_time net good stops each_stop r.until can.steps (tour_start r) (tour_end r (length stops) p) can.walk can.in_time) in (
-        p,
-        record {
-          in_time = can.in_time;
-          steps = one.steps;
-          walk = subst (λ (w : Position). Walks (setting_of (tour_net net stops r.until)) r.until one.steps (start_of (tour_request net stops r)) w)
-              (same_position one.last _ one.in_tour.node one.in_tour.minute one.in_tour.cost) one.walk;
-        },
-        (omega arith, omega arith),
-      )
-
-  -- the front of the layered net is the tour front
-  pub tour_front : (pairs : List Pair) → IsFront (setting_of (tour_net net stops r.until)) (tour_request net stops r) pairs
-      → IsTourFront (setting_of net) r stops pairs
-  unfolding zt
-  tour_front pairs front =
-      subst (IsTourFront (setting_of net) r stops) (map-id pairs)
-      (carried IsNoWorse ArrivesBefore (IsAchieved zt (tour_request net stops r)) IsNoWorse ArrivesBefore (IsTourAchieved (setting_of net) r stops) (λ p. p)
-      no_worse_order no_worse_order
-      (record { sound = sound; covers = covers; keeps = λ a c can_a can_c le. le; tells = λ a c can_a can_c le. le; before = λ a c can_a can_c lt. lt })
-      pairs (record { ordered = front.rising; each = front.each }))
-
-  tour_route : (route : Route) → Achieves (setting_of (tour_net net stops r.until)) (tour_request net stops r) route.legs route.pair
-      × HasNoNeighbouringWaits route.legs
-      → AchievesTour (setting_of net) r stops (route_over (length net.arcs) (suc (length stops)) route)
-  unfolding zt over
-  tour_route route fine = record {
-    in_time = fine.0.in_time;
-    no_empty_wait = no_empty_over (length net.arcs) (suc (length stops)) route.legs fine.0.no_empty_wait;
-    walk = subst (λ (w : List TourStep). TourWalks (setting_of net) stops r.until w (tour_start r) (tour_end r (length stops) route.pair))
-        (sym (steps_over (length net.arcs) (suc (length stops)) route.legs)) (ends (steps_of route.legs) route.pair fine.0.walk);
-    apart = apart_over (length net.arcs) (suc (length stops)) route.legs fine.1;
-  }
-
-  same_pairs : (routes : List Route) → pairs_of routes ≡ map (λ x. x.pair) (map (route_over (length net.arcs) (suc (length stops))) routes)
-  same_pairs [] = refl
-  same_pairs (route ∷ routes) = ap (λ (w : List Pair). route.pair ∷ w) (same_pairs routes)
-
-  -- the routes over layers are those of the tour front
-  pub right_tours : (routes : List Route) → IsRight (setting_of (tour_net net stops r.until)) (tour_request net stops r) routes
-      → AreRightTours (setting_of net) r stops (map (route_over (length net.arcs) (suc (length stops))) routes)
-  right_tours routes right = record {
-    front = subst (IsTourFront (setting_of net) r stops) (same_pairs routes) (tour_front (pairs_of routes) right.front);
-    legs = All-map (AchievesTour (setting_of net) r stops) (route_over (length net.arcs) (suc (length stops))) routes
-        (λ k d within. tour_route _ (right.legs k d within));
-  }
+      record {
+        steps = one.x ∷ more.steps;
+        is_over = λ i. one.is_step i ∷ more.is_over i;
+        last = more.last;
+        walk = (one.next, one.move, more.walk);
+        in_tour = more.in_tour;
+      }

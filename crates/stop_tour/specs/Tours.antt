@@ -1,7 +1,8 @@
 -- Tours that serve stops in their order, and their Pareto front (source: own, after SEA 2020).
-use Rattle.std.specs.Prelude.{◌≡◌, ◌≢◌, ℕ, ◌+◌, ◌*◌, ◌≤◌, ◌<◌, ⊤, Some, List, [], ◌∷◌, ◌++◌, length, replicate, map, All}
+use Rattle.std.specs.Prelude.{◌≡◌, ◌≢◌, ◌⊎◌, ℕ, ◌+◌, ◌*◌, ◌≤◌, ◌<◌, ⊤, Some, List, [], ◌∷◌, ◌++◌, length, replicate, reverse, map, All}
 use Rattle.route_base.specs.Setting.{Setting}
 use Rattle.route_base.specs.Itinerary.{Position, Step, drive, wait, Moves}
+use Rattle.route_base.specs.FirstItinerary.{IsStepBefore}
 use Rattle.route_base.specs.Legs.{start_of, end_of}
 use Rattle.route_base.specs.Front.{IsNoWorse}
 use Rattle.route_base.specs.Net.{Net, at_number, setting_of}
@@ -119,7 +120,26 @@ pub record AchievesTour (s : Setting) (r : Request) (stops : List Stop) (route :
   pub walk : TourWalks s stops r.until (tour_steps_of route.legs) (tour_start r) (tour_end r (length stops) route.pair)
   pub apart : HasNoNeighbouringTourWaits route.legs
 
--- the pairs are the Pareto front of tours, each with legs of its own
+-- the steps of an itinerary have its order, in which a wait comes before a drive, and each of them comes before a service
+abbrev pub IsTourStepBefore : TourStep → TourStep → Type 0
+IsTourStepBefore (go x) (go y) = IsStepBefore x y
+IsTourStepBefore (go x) (serve j) = ⊤
+IsTourStepBefore (serve i) (go y) = ⊥
+IsTourStepBefore (serve i) (serve j) = i < j
+
+-- of two lists of steps, the last step first, the first list comes before the second: at the first difference its step does
+abbrev pub TourComesBefore : List TourStep → List TourStep → Type 0
+TourComesBefore [] ys = ⊥
+TourComesBefore (x ∷ xs) [] = ⊥
+TourComesBefore (x ∷ xs) (y ∷ ys) = IsTourStepBefore x y ⊎ ((x ≡ y) × TourComesBefore xs ys)
+
+-- of all lawful tours of the pair, these legs are the first, compared from the end
+abbrev pub IsFirstTour : Setting → Request → List Stop → TourRoute → Type 0
+IsFirstTour s r stops route = (steps : List TourStep) → TourWalks s stops r.until steps (tour_start r) (tour_end r (length stops) route.pair)
+    → (steps ≡ tour_steps_of route.legs) ⊎ TourComesBefore (reverse (tour_steps_of route.legs)) (reverse steps)
+
+-- the pairs are the Pareto front of tours, each with legs of its own, which are the first of the pair
 pub record AreRightTours (s : Setting) (r : Request) (stops : List Stop) (routes : List TourRoute) : Type 0 where
   pub front : IsTourFront s r stops (map (λ x. x.pair) routes)
   pub legs : All (AchievesTour s r stops) routes
+  pub first : All (IsFirstTour s r stops) routes

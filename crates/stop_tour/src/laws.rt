@@ -23,6 +23,14 @@ pub fn tours_agree()
         → tour_size_in s stops ≡ tour_size_in z stops }
 {}
 
+/// The law that a tour has at most one right answer: two lists of right tours are one, pair by pair and leg by leg. The call does
+/// nothing.
+pub fn one_tour_answer()
+    ensures { (s : Setting) (r : Request) (stops : List Stop) (xs ys : List TourRoute)
+        → AreRightTours s r stops xs → AreRightTours s r stops ys
+        → xs ≡ ys }
+{}
+
 /// The law that tours without stops have the Pareto front of the trip. The call does nothing.
 pub fn no_stops_is_the_trip()
     ensures { (s : Setting) (r : Request) (pairs : List Pair)

@@ -11,8 +11,8 @@ use Rattle.stop_tour.specs.Tours.{AreRightTours}
 use Rattle.stop_tour.specs.Inside.Unlayering.{route_over, IsNumbered}
 use Rattle.stop_tour.specs.declared.stops.Stop.{Stop}
 use Rattle.stop_tour.proofs.LayerBounds.{tour_bounds_hold, tour_bounds_long}
-use Rattle.stop_tour.proofs.Layered.{right_tours}
 use Rattle.stop_tour.proofs.MadeTour.{tour_fits, routes_numbered}
+use Rattle.stop_tour.proofs.TourFronts.{right_tours}
 use Rattle.stop_tour.proofs.tours.tours_over.Goals as goal
 
 trip : ℕ → List Stop → Request → Request
