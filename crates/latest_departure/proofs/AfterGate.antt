@@ -8,7 +8,7 @@ use Rattle.latest_departure.specs.Inside.Mirror.{after_gate}
 use Rattle.latest_departure.proofs.Gate.{beyond}
 use Rattle.latest_departure.proofs.TurnedLegs.{apart_tail}
 
-waits_beyond : (k : ℕ) (ys : List Step) → beyond (replicate k wait ++ ys) ≡ beyond ys
+pub waits_beyond : (k : ℕ) (ys : List Step) → beyond (replicate k wait ++ ys) ≡ beyond ys
 waits_beyond zero ys = refl
 waits_beyond (suc k) ys = waits_beyond k ys
 

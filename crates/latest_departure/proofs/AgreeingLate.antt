@@ -53,4 +53,6 @@ module _ (s z : Setting) (window : Run) (r : Request) (same : StandsFor s z wind
   right_late_too routes right = record {
     front = late_front_too (map late_pair_of routes) right.front;
     legs = λ k d inside. achieves_late_too s z window r same within _ (right.legs k d inside);
+    first = λ k d inside steps arrival walk. right.first k d inside steps arrival
+        (walks_too z s window (flipped s z window same) r.until within.1 steps _ _ (omega (arith, within.0, (right.legs k d inside).from)) walk);
   }

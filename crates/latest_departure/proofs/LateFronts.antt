@@ -3,10 +3,12 @@ use Rattle.std.proofs.Common.{◌≡◌, ◌⊎◌, inl, inr, ⊎_elim, ℕ, ◌
 use Rattle.std.proofs.Common.{◌∙◌, ap, subst, arith}
 use Rattle.std.specs.Prelude.{⊤, ◌≢◌}
 use Rattle.std.proofs.lemmas.Bool.{cases_eq}
+use Rattle.std.proofs.lemmas.List.{reverse-reverse}
 use Rattle.std.proofs.lemmas.List.Elements.{All-map}
 use Rattle.route_base.specs.Setting.{Setting}
 use Rattle.route_base.specs.Itinerary.{Position, Step, drive, wait, Moves, Walks}
 use Rattle.route_base.specs.Legs.{start_of, end_of, steps_of, Achieves, HasNoNeighbouringWaits, CostsFit}
+use Rattle.route_base.specs.FirstItinerary.{ComesBefore, IsFirst}
 use Rattle.route_base.specs.Front.{IsAchieved, IsNoWorse, IsRight, pairs_of}
 use Rattle.route_base.specs.Net.{Net, setting_of, IsGoodNet, IsGoodRequest}
 use Rattle.route_base.specs.declared.limits.TheConstants.{LONGEST_HORIZON}
@@ -24,10 +26,11 @@ use Rattle.front_transport.proofs.PairOrder.{no_worse_order}
 use Rattle.front_transport.proofs.Transport.{carried}
 use Rattle.latest_departure.proofs.TurnedLegs.{steps_reversed, no_empty_reversed, apart_reversed}
 use Rattle.latest_departure.specs.LateFront.{LatePair, request_from, pair_at, IsLateAchieved, IsLateNoWorse, DepartsAfter, IsLateFront, late_pair_of}
-use Rattle.latest_departure.specs.LateFront.{AchievesLate, AreRightLate}
+use Rattle.latest_departure.specs.LateFront.{AchievesLate, AreRightLate, GoesOnBefore, IsFirstLate}
 use Rattle.latest_departure.specs.Inside.Mirror.{mirrored, mirrored_request, after_gate, late_of}
-use Rattle.latest_departure.proofs.AfterGate.{steps_after, no_empty_after, apart_after}
-use Rattle.latest_departure.proofs.Gate.{beyond, at_place, through, entered}
+use Rattle.latest_departure.proofs.AfterGate.{steps_after, no_empty_after, apart_after, waits_beyond}
+use Rattle.latest_departure.proofs.FirstLate.{behind_others, gate_last}
+use Rattle.latest_departure.proofs.Gate.{beyond, at_place, through, entered, IsBehind}
 use Rattle.latest_departure.proofs.MirroredNet.{z, z_is, there, back, head_inner, cheap_mirrored}
 use Rattle.latest_departure.proofs.TurnedWalks.{mirror_at, turned_walk}
 
@@ -62,6 +65,10 @@ late_pair_at sum p = record { departure = sum - p.arrival; cost = p.cost }
 same_items : (sum : ℕ) (routes : List Route) → map (late_pair_at sum) (pairs_of routes) ≡ map late_pair_of (map (late_of sum) routes)
 same_items sum [] = refl
 same_items sum (route ∷ routes) = ap (λ (w : List LatePair). late_pair_at sum route.pair ∷ w) (same_items sum routes)
+
+two_lists : (xs ys us vs : List Step) → xs ≡ us → ys ≡ vs → ComesBefore xs ys → ComesBefore us vs
+two_lists xs ys us vs first second before =
+    subst (λ (w : List Step). ComesBefore us w) second (subst (λ (w : List Step). ComesBefore w ys) first before)
 
 between : (s : Setting) (until : ℕ) (xs : List Step) (p q p' q' : Position) → p ≡ p' → q ≡ q' → Walks s until xs p q → Walks s until xs p' q'
 between s until xs p q p' q' first last walk =
@@ -118,32 +125,36 @@ module _ (net : Net) (good : IsGoodNet net) (r : Request) (asked : IsGoodRequest
       }
 
   -- a late itinerary in the other order, behind the gate, is a walk of the mirrored net
+  mirrored_way : (steps : List Step) (departure arrival cost : ℕ) → r.depart ≤ departure → departure ≤ r.until
+      → Walks (setting_of net) r.until steps (start_of (request_from r departure)) (end_of (request_from r departure) (pair_at arrival cost))
+      → Walks zs (r.until + 1 - r.depart) (replicate (r.until - arrival) wait ++ drive (length net.arcs + 1) ∷ reverse steps)
+      (start_of (mirrored_request net r)) (end_of (mirrored_request net r) (pair_at (r.until + 1 - departure) cost))
+  unfolding zs
+  mirrored_way steps departure arrival cost from early walk =
+      let first : Position = start_of (request_from r departure) in
+      let last : Position = end_of (request_from r departure) (pair_at arrival cost) in
+      let late : arrival ≤ r.until = walk_in_time (setting_of net) r.until steps first last early walk in
+      let grows = walk_grows (setting_of net) r.until steps first last walk in
+      let back : Walks zs (r.until + 1 - r.depart) (reverse steps) (mirror_at (r.until + 1) cost last) (mirror_at (r.until + 1) cost first) =
+      turned_walk (setting_of net) zs (r.until + 1) cost r.until (r.until + 1 - r.depart) r.depart (λ v. ⊤)
+      (there net good r.goal.0 (r.until + 1)) (omega (arith, in_order)) (λ x p q inner move. tt) steps first last
+      from (omega (arith, late)) (omega arith) tt walk in
+      entered net good r.goal.0 (r.until + 1) (r.until + 1 - r.depart) (r.until - arrival) (reverse steps)
+      (end_of (mirrored_request net r) (pair_at (r.until + 1 - departure) cost)) (omega (arith, late, grows.0, from, in_order))
+      (between zs (r.until + 1 - r.depart) (reverse steps) (mirror_at (r.until + 1) cost last) (mirror_at (r.until + 1) cost first) _ _
+      (same_position _ _ refl (omega (arith, late)) (omega arith)) (same_position _ _ refl refl (omega arith)) back)
+
   covers : (b : LatePair) → IsLateAchieved (setting_of net) r b
       → (p : Pair) × IsAchieved zs (mirrored_request net r) p × IsLateNoWorse (late_pair_at (r.until + 1) p) b
-  unfolding zs
-  covers b left =
-      let first : Position = start_of (request_from r b.departure) in
-      let last : Position = end_of (request_from r b.departure) (pair_at left.arrival b.cost) in
-      let steps = left.achieved.steps in
-      let late : left.arrival ≤ r.until = walk_in_time (setting_of net) r.until steps first last left.achieved.in_time left.achieved.walk in
-      let grows = walk_grows (setting_of net) r.until steps first last left.achieved.walk in
-      let back : Walks zs (r.until + 1 - r.depart) (reverse steps) (mirror_at (r.until + 1) b.cost last) (mirror_at (r.until + 1) b.cost first) =
-      turned_walk (setting_of net) zs (r.until + 1) b.cost r.until (r.until + 1 - r.depart) r.depart (λ v. ⊤)
-      (there net good r.goal.0 (r.until + 1)) (omega (arith, in_order)) (λ x p q inner move. tt) steps first last
-      left.from (omega (arith, late)) (omega arith) tt left.achieved.walk in
-      let free : ℕ = r.until - left.arrival in
-      let p : Pair = pair_at (r.until + 1 - b.departure) b.cost in (
-        p,
-        record {
-          in_time = omega arith;
-          steps = replicate free wait ++ drive (length net.arcs + 1) ∷ reverse steps;
-          walk = entered net good r.goal.0 (r.until + 1) (r.until + 1 - r.depart) free (reverse steps) (end_of (mirrored_request net r) p)
-              (omega (arith, late, grows.0, left.from, in_order))
-              (between zs (r.until + 1 - r.depart) (reverse steps) (mirror_at (r.until + 1) b.cost last) (mirror_at (r.until + 1) b.cost first) _ _
-              (same_position _ _ refl (omega (arith, late)) (omega arith)) (same_position _ _ refl refl (omega arith)) back);
-        },
-        (omega (arith, left.achieved.in_time), omega arith),
-      )
+  covers b left = (
+    pair_at (r.until + 1 - b.departure) b.cost,
+    record {
+      in_time = omega arith;
+      steps = replicate (r.until - left.arrival) wait ++ drive (length net.arcs + 1) ∷ reverse left.achieved.steps;
+      walk = mirrored_way left.achieved.steps b.departure left.arrival b.cost left.from left.achieved.in_time left.achieved.walk;
+    },
+    (omega (arith, left.achieved.in_time), omega arith),
+  )
 
   in_time : (p : Pair) → IsAchieved zs (mirrored_request net r) p → p.arrival ≤ r.until + 1
   in_time p can = (turned can.steps p can.walk).late
@@ -176,6 +187,43 @@ module _ (net : Net) (good : IsGoodNet net) (r : Request) (asked : IsGoodRequest
         apart = apart_reversed legs (apart_after route.legs fine.1);
       }
 
+  -- the first itinerary of the mirrored net, which is compared from its end, is the first late one
+  first_late : (route : Route) → Achieves zs (mirrored_request net r) route.legs route.pair × HasNoNeighbouringWaits route.legs
+      → IsFirst zs (mirrored_request net r) route.legs route.pair → IsFirstLate (setting_of net) r (late_of (r.until + 1) route)
+  unfolding zs
+  first_late route fine first steps arrival walk = ⊎_elim
+      (λ (same : replicate free wait ++ gate_step ∷ reverse steps ≡ steps_of route.legs).
+      inl (sym (reverse-reverse steps) ∙ ap reverse (sym (waits_beyond free (gate_step ∷ reverse steps)) ∙ ap beyond same) ∙ legs_are))
+      (λ (before : ComesBefore (reverse (steps_of route.legs)) (reverse (replicate free wait ++ gate_step ∷ reverse steps))). ⊎_elim
+      (λ (same : steps ≡ reverse (beyond (steps_of route.legs))). inl (same ∙ legs_are))
+      (λ (goes_on : GoesOnBefore (reverse (beyond (steps_of route.legs))) steps).
+      inr (subst (λ (w : List Step). GoesOnBefore w steps) legs_are goes_on))
+      (gate_last net r.until (reverse (beyond (steps_of route.legs))) steps (replicate behind.waits wait) (replicate free wait) _ _ walk
+      (two_lists _ _ _ _
+      (ap reverse behind.is ∙ behind_others behind.waits (length net.arcs + 1) (beyond (steps_of route.legs)))
+      (behind_others free (length net.arcs + 1) (reverse steps)
+      ∙ ap (λ (w : List Step). w ++ gate_step ∷ replicate free wait) (reverse-reverse steps)) before)))
+      (first (replicate free wait ++ gate_step ∷ reverse steps)
+      (between zs (r.until + 1 - r.depart) (replicate free wait ++ gate_step ∷ reverse steps) _ _ _ _ refl
+      (same_position _ _ refl (omega (arith, back.late)) refl)
+      (mirrored_way steps (r.until + 1 - route.pair.arrival) arrival route.pair.cost back.from back.early walk)))
+    where
+      back : IsTurned (steps_of route.legs) route.pair
+      back = turned (steps_of route.legs) route.pair fine.0.walk
+
+      free : ℕ
+      free = r.until - arrival
+
+      gate_step : Step
+      gate_step = drive (length net.arcs + 1)
+
+      behind : IsBehind net good r.goal.0 (r.until + 1) (r.until + 1 - r.depart) (steps_of route.legs) 0 (end_of (mirrored_request net r) route.pair)
+      behind = through net good r.goal.0 (r.until + 1) (r.until + 1 - r.depart) (steps_of route.legs) 0 (end_of (mirrored_request net r) route.pair)
+          asked.origin.1 fine.0.walk
+
+      legs_are : reverse (beyond (steps_of route.legs)) ≡ steps_of (reverse (after_gate route.legs))
+      legs_are = ap reverse (steps_after route.legs fine.1) ∙ sym (steps_reversed (after_gate route.legs))
+
   right_there : (routes : List Route) → IsRight zs (mirrored_request net r) routes → AreRightLate (setting_of net) r (map (late_of (r.until + 1)) routes)
   right_there routes right = record {
     front = subst (IsLateFront (setting_of net) r) (same_items (r.until + 1) routes)
@@ -183,6 +231,8 @@ module _ (net : Net) (good : IsGoodNet net) (r : Request) (asked : IsGoodRequest
         (late_pair_at (r.until + 1)) no_worse_order late_order carries (pairs_of routes)
         (record { ordered = right.front.rising; each = right.front.each }));
     legs = All-map (AchievesLate (setting_of net) r) (late_of (r.until + 1)) routes (λ k d within. leaves _ (right.legs k d within));
+    first = All-map (IsFirstLate (setting_of net) r) (late_of (r.until + 1)) routes
+        (λ k d within. first_late _ (right.legs k d within) (right.first k d within));
   }
 
   in_time_there : (routes : List Route) → IsRight zs (mirrored_request net r) routes → All (λ x. x.pair.arrival ≤ r.until + 1) routes

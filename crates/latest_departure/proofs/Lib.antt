@@ -1,8 +1,10 @@
 pub mod AfterGate
 pub mod AgreeingLate
+pub mod FirstLate
 pub mod Gate
 pub mod LateFronts
 pub mod MirroredNet
 pub mod MirroredRuns
+pub mod OneLate
 pub mod TurnedLegs
 pub mod TurnedWalks

@@ -229,7 +229,8 @@ module _ (net : Net) (good : IsGoodNet net) (goal sum : ℕ) where
     good_made made is nodes arcs closed = subst IsGoodNet (z_is ∙ sym is) (good_mirrored nodes arcs closed)
 
   -- the gate is the only road from the further node
-  pub gate_only : (a : ℕ) (road : Road) → (setting_of z).road a ≡ Some road → road.tail ≡ net.nodes + 1 → gate_road net goal ≡ road
+  pub gate_only : (a : ℕ) (road : Road) → (setting_of z).road a ≡ Some road → road.tail ≡ net.nodes + 1
+      → (a ≡ length net.arcs + 1) × (gate_road net goal ≡ road)
   unfolding last
   gate_only a road is outer =
       let found = map_some (at_number z.arcs a) road_of road is in
@@ -237,7 +238,7 @@ module _ (net : Net) (good : IsGoodNet net) (goal sum : ℕ) where
       (λ (old : (arc : TimedArc) × (at_number net.arcs a ≡ Some arc) × (turned arc ≡ found.0)).
       (let fine : IsGoodArc net old.0 = good_arc net good a old.0 old.1 in
       absurd (omega (arith, outer, fine.head.1, ap (λ (w : TimedArc). w.tail.0) old.2, ap (λ (w : Road). w.tail) found.2))))
-      (λ (new : (a ≡ length net.arcs + 1) × (last ≡ found.0)). ap road_of new.1 ∙ found.2)
+      (λ (new : (a ≡ length net.arcs + 1) × (last ≡ found.0)). (new.0, ap road_of new.1 ∙ found.2))
       (turned_from a found.0 found.1)
 
   gate_at : at_number z.arcs (length net.arcs + 1) ≡ Some last

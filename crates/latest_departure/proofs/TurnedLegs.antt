@@ -11,7 +11,7 @@ use Rattle.route_base.proofs.LegLists.{steps_of-push, no_empty-push}
 reverse-cons : {A : Type 0} (x : A) (xs : List A) → reverse (x ∷ xs) ≡ reverse xs ++ x ∷ []
 reverse-cons x xs = reverse-append (x ∷ []) xs
 
-waits_reversed : (k : ℕ) → reverse (replicate k wait) ≡ replicate k wait
+pub waits_reversed : (k : ℕ) → reverse (replicate k wait) ≡ replicate k wait
 waits_reversed zero = refl
 waits_reversed (suc k) =
     let next : k + 1 ≡ suc k = omega arith in

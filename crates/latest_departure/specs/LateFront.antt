@@ -1,7 +1,9 @@
 -- The latest departures: what itineraries that leave later achieve, and their Pareto front (source: own, after SEA 2020).
-use Rattle.std.specs.Prelude.{ℕ, ◌≤◌, ◌<◌, List, map, All}
+use Rattle.std.specs.Prelude.{◌≡◌, ◌⊎◌, ℕ, ◌≤◌, ◌<◌, ⊤, List, [], ◌∷◌, map, All}
 use Rattle.route_base.specs.Setting.{Setting}
-use Rattle.route_base.specs.Legs.{Achieves, HasNoNeighbouringWaits}
+use Rattle.route_base.specs.FirstItinerary.{IsStepBefore}
+use Rattle.route_base.specs.Itinerary.{Step, Walks}
+use Rattle.route_base.specs.Legs.{Achieves, HasNoNeighbouringWaits, start_of, end_of, steps_of}
 use Rattle.route_base.specs.Front.{IsAchieved}
 use Rattle.route_base.specs.declared.types.Pair.{Pair}
 use Rattle.route_base.specs.declared.types.Request.{Request}
@@ -48,7 +50,21 @@ pub record AchievesLate (s : Setting) (r : Request) (route : LateRoute) : Type 0
   pub achieves : Achieves s (request_from r route.departure) route.legs (pair_at arrival route.cost)
   pub apart : HasNoNeighbouringWaits route.legs
 
--- the pairs are the late front, each with legs of its own
+-- of two lists of steps the first list comes before the second: at the first difference its step does, or the second list has ended
+abbrev pub GoesOnBefore : List Step → List Step → Type 0
+GoesOnBefore [] ys = ⊥
+GoesOnBefore (x ∷ xs) [] = ⊤
+GoesOnBefore (x ∷ xs) (y ∷ ys) = IsStepBefore x y ⊎ ((x ≡ y) × GoesOnBefore xs ys)
+
+-- of all lawful itineraries that leave then and have this cost, whenever they arrive, these legs are the first, compared from the
+-- beginning
+abbrev pub IsFirstLate : Setting → Request → LateRoute → Type 0
+IsFirstLate s r route = (steps : List Step) (arrival : ℕ)
+    → Walks s r.until steps (start_of (request_from r route.departure)) (end_of (request_from r route.departure) (pair_at arrival route.cost))
+    → (steps ≡ steps_of route.legs) ⊎ GoesOnBefore (steps_of route.legs) steps
+
+-- the pairs are the late front, each with legs of its own, which are the first of the pair
 pub record AreRightLate (s : Setting) (r : Request) (routes : List LateRoute) : Type 0 where
   pub front : IsLateFront s r (map late_pair_of routes)
   pub legs : All (AchievesLate s r) routes
+  pub first : All (IsFirstLate s r) routes

@@ -1,5 +1,5 @@
-// Settings of which one stands for the other have the same latest departures.
-ghost use Rattle.std.specs.Prelude.{◌↔◌, List};
+// Settings of which one stands for the other have the same latest departures, and a request has one right list of them.
+ghost use Rattle.std.specs.Prelude.{◌≡◌, ◌↔◌, List};
 ghost use Rattle.latest_departure.specs.Words.{AreRightLate};
 ghost use Rattle.latest_departure.specs.declared.routes.LateRoute.{LateRoute};
 ghost use Rattle.route_base.specs.Matching.{StandsFor, IsInWindow};
@@ -13,4 +13,12 @@ pub fn late_routes_agree()
     ensures { (s z : Setting) (window : Run) (r : Request) → StandsFor s z window
         → IsInWindow r window
         → (routes : List LateRoute) → AreRightLate s r routes ↔ AreRightLate z r routes }
+{}
+
+/// The law that a request has at most one right list of late routes: two of them are one, pair by pair and leg by leg. The call does
+/// nothing.
+pub fn one_late_answer()
+    ensures { (s : Setting) (r : Request) (xs ys : List LateRoute) → AreRightLate s r xs
+        → AreRightLate s r ys
+        → xs ≡ ys }
 {}
