@@ -8,7 +8,8 @@ use Rattle.route_base.specs.FirstItinerary.{ComesBefore}
 use Rattle.route_base.specs.Net.{Net, setting_of, at_number, road_of}
 use Rattle.route_base.proofs.Logic.{map_some}
 use Rattle.route_base.proofs.Numbered.{number_within}
-use Rattle.latest_departure.specs.LateFront.{GoesOnBefore}
+use Rattle.latest_departure.specs.Inside.Mirror.{GoesOnBefore}
+use Rattle.latest_departure.specs.LateFront.{IsListedBefore}
 use Rattle.latest_departure.proofs.TurnedLegs.{waits_reversed}
 
 -- waits and a drive before other steps, in the other order
@@ -17,6 +18,35 @@ behind_others k a xs =
     reverse-append (replicate k wait) (drive a ∷ xs) ∙ ap (λ (w : List Step). reverse (drive a ∷ xs) ++ w) (waits_reversed k)
     ∙ ap (λ (w : List Step). w ++ replicate k wait) (reverse-append (drive a ∷ []) xs)
     ∙ append_assoc (reverse xs) (drive a ∷ []) (replicate k wait)
+
+-- what is a beginning comes before the whole, or is it
+pub beginning : (ys ws : List Step) → (ys ++ ws ≡ ys) ⊎ IsListedBefore ys (ys ++ ws)
+beginning [] [] = inl refl
+beginning [] (w ∷ ws) = inr tt
+beginning (y ∷ ys) ws = ⊎_elim
+    (λ (same : ys ++ ws ≡ ys). inl (ap (λ (l : List Step). y ∷ l) same))
+    (λ (before : IsListedBefore ys (ys ++ ws)). inr (inr (refl, before)))
+    (beginning ys ws)
+
+-- another list is the beginning of these steps, of which some are left
+pub record IsBeginning (ys zs : List Step) : Type 0 where
+  pub step : Step
+  pub left : List Step
+  pub is : ys ≡ zs ++ step ∷ left
+
+-- a list that comes behind steps that go on is their beginning, or comes behind their beginning, or has a beginning of that
+pub behind_beginning : (ys ws zs : List Step) → GoesOnBefore (ys ++ ws) zs → ((zs ≡ ys) ⊎ IsListedBefore ys zs) ⊎ IsBeginning ys zs
+behind_beginning [] ws [] before = inl (inl refl)
+behind_beginning [] ws (z ∷ zs) before = inl (inr tt)
+behind_beginning (y ∷ ys) ws [] before = inr (record { step = y; left = ys; is = refl })
+behind_beginning (y ∷ ys) ws (z ∷ zs) (inl less) = inl (inr (inl less))
+behind_beginning (y ∷ ys) ws (z ∷ zs) (inr more) = ⊎_elim
+    (λ (fine : (zs ≡ ys) ⊎ IsListedBefore ys zs). inl (⊎_elim
+    (λ (same : zs ≡ ys). inl (λ i. sym more.0 i ∷ same i))
+    (λ (before : IsListedBefore ys zs). inr (inr (more.0, before)))
+    fine))
+    (λ (part : IsBeginning ys zs). inr (record { step = part.step; left = part.left; is = λ i. more.0 i ∷ part.is i }))
+    (behind_beginning ys ws zs more.1)
 
 module _ (net : Net) (until : ℕ) where
   within : (a : ℕ) (road : Road) → (setting_of net).road a ≡ Some road → a ≤ length net.arcs

@@ -6,5 +6,7 @@ pub mod LateFronts
 pub mod MirroredNet
 pub mod MirroredRuns
 pub mod OneLate
+pub mod OwnLegs
+pub mod OwnWalks
 pub mod TurnedLegs
 pub mod TurnedWalks

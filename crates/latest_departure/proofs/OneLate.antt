@@ -10,14 +10,15 @@ use Rattle.route_base.proofs.Lists.{same_tail}
 use Rattle.route_base.proofs.OneAnswer.{same_legs}
 use Rattle.route_base.proofs.StepOrder.{never_both_steps, not_before_itself}
 use Rattle.front_transport.proofs.OneFront.{one_front}
-use Rattle.latest_departure.specs.LateFront.{AchievesLate, AreRightLate, DepartsAfter, GoesOnBefore, IsFirstLate, IsLateAchieved, IsLateNoWorse}
+use Rattle.latest_departure.specs.LateFront.{AchievesLate, AreRightLate, DepartsAfter, IsListedBefore, IsFirstLate, IsLateAchieved, IsLateNoWorse}
 use Rattle.latest_departure.specs.LateFront.{LatePair, late_pair_of, pair_at, request_from}
 use Rattle.latest_departure.specs.declared.routes.LateRoute.{LateRoute}
 
 -- of two lists at most one comes before the other
-never_both : (xs ys : List Step) → GoesOnBefore xs ys → GoesOnBefore ys xs → ⊥
-never_both [] ys h k = h
-never_both (x ∷ xs) [] h k = k
+never_both : (xs ys : List Step) → IsListedBefore xs ys → IsListedBefore ys xs → ⊥
+never_both [] [] h k = h
+never_both [] (y ∷ ys) h k = k
+never_both (x ∷ xs) [] h k = h
 never_both (x ∷ xs) (y ∷ ys) (inl h) (inl k) = never_both_steps x y h k
 never_both (x ∷ xs) (y ∷ ys) (inl h) (inr k) = not_before_itself x (subst (λ w. IsStepBefore x w) k.0 h)
 never_both (x ∷ xs) (y ∷ ys) (inr h) (inl k) = not_before_itself y (subst (λ w. IsStepBefore y w) h.0 k)
@@ -35,9 +36,9 @@ module _ (s : Setting) (r : Request) where
       (end_of (request_from r p.departure) (pair_at right_x.0.arrival p.cost))) pair right_x.0.achieves.walk in
       let steps : steps_of x.legs ≡ steps_of y.legs = ⊎_elim
       (λ (same : steps_of y.legs ≡ steps_of x.legs). sym same)
-      (λ (before : GoesOnBefore (steps_of x.legs) (steps_of y.legs)). ⊎_elim
+      (λ (before : IsListedBefore (steps_of x.legs) (steps_of y.legs)). ⊎_elim
       (λ (same : steps_of x.legs ≡ steps_of y.legs). same)
-      (λ (after : GoesOnBefore (steps_of y.legs) (steps_of x.legs)). absurd (never_both (steps_of x.legs) (steps_of y.legs) before after))
+      (λ (after : IsListedBefore (steps_of y.legs) (steps_of x.legs)). absurd (never_both (steps_of x.legs) (steps_of y.legs) before after))
       (right_y.1 (steps_of x.legs) right_x.0.arrival x_for_y))
       (right_x.1 (steps_of y.legs) right_y.0.arrival y_for_x) in
       let legs = same_legs x.legs y.legs right_x.0.achieves.no_empty_wait right_y.0.achieves.no_empty_wait right_x.0.apart right_y.0.apart steps in

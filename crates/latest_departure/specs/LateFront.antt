@@ -50,18 +50,18 @@ pub record AchievesLate (s : Setting) (r : Request) (route : LateRoute) : Type 0
   pub achieves : Achieves s (request_from r route.departure) route.legs (pair_at arrival route.cost)
   pub apart : HasNoNeighbouringWaits route.legs
 
--- of two lists of steps the first list comes before the second: at the first difference its step does, or the second list has ended
-abbrev pub GoesOnBefore : List Step → List Step → Type 0
-GoesOnBefore [] ys = ⊥
-GoesOnBefore (x ∷ xs) [] = ⊤
-GoesOnBefore (x ∷ xs) (y ∷ ys) = IsStepBefore x y ⊎ ((x ≡ y) × GoesOnBefore xs ys)
+-- of two lists of steps the first list comes before the second, as in a dictionary: at the first difference its step does, or it has ended
+abbrev pub IsListedBefore : List Step → List Step → Type 0
+IsListedBefore xs [] = ⊥
+IsListedBefore [] (y ∷ ys) = ⊤
+IsListedBefore (x ∷ xs) (y ∷ ys) = IsStepBefore x y ⊎ ((x ≡ y) × IsListedBefore xs ys)
 
 -- of all lawful itineraries that leave then and have this cost, whenever they arrive, these legs are the first, compared from the
 -- beginning
 abbrev pub IsFirstLate : Setting → Request → LateRoute → Type 0
 IsFirstLate s r route = (steps : List Step) (arrival : ℕ)
     → Walks s r.until steps (start_of (request_from r route.departure)) (end_of (request_from r route.departure) (pair_at arrival route.cost))
-    → (steps ≡ steps_of route.legs) ⊎ GoesOnBefore (steps_of route.legs) steps
+    → (steps ≡ steps_of route.legs) ⊎ IsListedBefore (steps_of route.legs) steps
 
 -- the pairs are the late front, each with legs of its own, which are the first of the pair
 pub record AreRightLate (s : Setting) (r : Request) (routes : List LateRoute) : Type 0 where

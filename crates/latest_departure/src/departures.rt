@@ -36,5 +36,5 @@ pub fn latest<E: FrontSearch>(
         until: sum - request.depart,
     };
     let routes = engine.front(alloc, &mirrored, turned)?;
-    late_routes(alloc, routes.as_slice(), sum)
+    late_routes(alloc, net, request.goal, routes.as_slice(), sum)
 }

@@ -8,11 +8,13 @@
 //!
 //! `mirror` builds a net that is mirrored in time: minute t becomes a fixed sum less t, each arc is turned round, and a further
 //! node, at which waiting is free, leads to the goal by an arc of one minute, the gate. An itinerary from that node to the origin is
-//! a late one, read from its end. So an engine's front of the mirrored net is the late front (`departures`), and `routes` turns the
-//! legs round.
+//! a late one, read from its end. So an engine's front of the mirrored net is the late front (`departures`). `routes` turns the legs
+//! round, and leaves out those that lead from the goal back to it at no cost.
 //!
-//! `specs/Inside/Mirror` is no law: it says what the mirrored net is. In `proofs/`, `MirroredRuns` and `MirroredNet` are about the net,
-//! `TurnedWalks` and `Gate` about walks over it, and `LateFronts` puts them together, by `front_transport`; `AgreeingLate` has the law.
+//! `specs/Inside/Mirror` is no law: it says what the mirrored net is, and which legs are left out. In `proofs/`, `MirroredRuns` and
+//! `MirroredNet` are about the net, `TurnedWalks` and `Gate` about walks over it, `OwnLegs` and `OwnWalks` about the legs that are
+//! left out, `FirstLate` about the order, and `LateFronts` puts them together, by `front_transport`; `AgreeingLate` and `OneLate` have
+//! the laws.
 #![tactic(auto)]
 
 mod departures;

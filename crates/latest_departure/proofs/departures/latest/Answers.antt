@@ -35,7 +35,7 @@ unfolding request_of
 returns g c =
     IfOk-weaker c.late_routes.result _ _
     (λ out is. subst (AreRightLate (setting_of c.args.net.now) c.args.request)
-    (sym (is ∙ ap (map (late_of (c.args.request.until + 1))) c.as_slice.ensures))
+    (sym (is ∙ ap (map (late_of c.args.net.now c.args.request.goal (c.args.request.until + 1))) c.as_slice.ensures))
     (right_late c.args.net.now c.node_count.ensures.good c.args.request c.requires.good c.requires.in_time
     c.in_ok-mirrored.mirrored c.in_ok-mirrored.ensures c.in_ok-routes.routes
     (subst (λ (n : ℕ). IsRight (setting_of c.in_ok-mirrored.mirrored) (request_of n c.args.request) c.in_ok-routes.routes) c.node_count.ensures.value
