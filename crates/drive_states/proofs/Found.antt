@@ -19,7 +19,7 @@ use Rattle.route_base.specs.declared.types.Leg.TheVariants.{Drive, Wait}
 use Rattle.route_base.proofs.Numbered.{number_within, no_number, at_number-next, at_number-all}
 use Rattle.route_base.proofs.Logic.{map_some}
 use Rattle.front_transport.proofs.Places.{at_left, at_either}
-use Rattle.front_transport.proofs.Mapped.{mapped}
+use Rattle.route_base.proofs.Mapped.{mapped}
 use Rattle.front_transport.specs.declared.limits.TheConstants.{MOST_STATES}
 use Rattle.drive_states.specs.StateSize.{IsState, first, by_drive, by_break, IsDeparture, Departure, HasTooManyStates}
 use Rattle.drive_states.specs.Inside.StateSearch.{Grows, IsLegBefore, ComesBefore, HasWay, IsSoundWay, IsExploring, Reaches, TakesLeg, OverflowsAt, IsStart}

@@ -1,6 +1,5 @@
 pub mod Growing
 pub mod ListPlaces
-pub mod Mapped
 pub mod NetParts
 pub mod OneFront
 pub mod PairOrder

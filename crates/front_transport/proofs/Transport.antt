@@ -4,7 +4,7 @@ use Rattle.std.specs.Prelude.{◌≢◌, Contains, AllPairs}
 use Rattle.std.proofs.lemmas.List.{get_or-map, length-map, get_or_default}
 use Rattle.front_transport.specs.ParetoFronts.{IsParetoFront}
 use Rattle.front_transport.specs.Inside.Carrying.{IsPartialOrder, Carries}
-use Rattle.front_transport.proofs.Mapped.{mapped, unmapped, some_item}
+use Rattle.route_base.proofs.Mapped.{mapped, unmapped, some_item}
 
 module _ {A B : Type 0} (NoWorse Before : A → A → Type 0) (CanBe : A → Type 0) (NoWorse' Before' : B → B → Type 0) (CanBe' : B → Type 0) (f : A → B)
     (order : IsPartialOrder NoWorse) (order' : IsPartialOrder NoWorse') (carries : Carries NoWorse Before CanBe NoWorse' Before' CanBe' f) where

@@ -19,6 +19,7 @@ use Rattle.route_base.specs.declared.types.Pair.{Pair}
 use Rattle.route_base.specs.declared.types.Request.{Request}
 use Rattle.route_base.specs.declared.types.Route.{Route}
 use Rattle.route_base.proofs.LegLists.{steps_of-append}
+use Rattle.route_base.proofs.SomeAnswer.{some_routes}
 use Rattle.route_base.proofs.Walking.{walk_in_time, walk_grows, walk_parts, walks_same}
 use Rattle.route_base.proofs.Waiting.{same_position}
 use Rattle.front_transport.specs.CheapArcs.{HasCheapArcs}
@@ -37,7 +38,7 @@ use Rattle.latest_departure.proofs.FirstLate.{IsBeginning, beginning, behind_beg
 use Rattle.latest_departure.proofs.OwnLegs.{at_goal}
 use Rattle.latest_departure.proofs.OwnWalks.{IsCut, apart_part, cut, longest, no_empty_part}
 use Rattle.latest_departure.proofs.Gate.{beyond, at_place, through, entered, IsBehind}
-use Rattle.latest_departure.proofs.MirroredNet.{z, z_is, there, back, head_inner, cheap_mirrored}
+use Rattle.latest_departure.proofs.MirroredNet.{z, z_is, there, back, head_inner, cheap_mirrored, takes_mirrored, numbers_mirrored}
 use Rattle.latest_departure.proofs.TurnedWalks.{mirror_at, turned_walk}
 
 late_pair : ℕ → ℕ → LatePair
@@ -384,6 +385,17 @@ module _ (net : Net) (good : IsGoodNet net) (r : Request) (asked : IsGoodRequest
   in_time_there routes right k d within =
       let route : Route = get_or routes k d in
       (turned_all (steps_of route.legs) route.pair (is_entered (steps_of route.legs) route.pair (right.legs k d within).0.walk)).late
+
+  -- there are right late routes
+  pub some_late : HasCheapArcs net → r.until - r.depart < LONGEST_HORIZON → (routes : List LateRoute) × AreRightLate (setting_of net) r routes
+  unfolding zs
+  some_late cheap short =
+      let made : Net = z net good r.goal.0 (r.until + 1) in
+      let all = some_routes zs (mirrored_request net r) (takes_mirrored net good r.goal.0 (r.until + 1)) (length made.arcs)
+      (numbers_mirrored net good r.goal.0 (r.until + 1))
+      (fits zs (mirrored_request net r) (cheap_mirrored net good r.goal.0 (r.until + 1) cheap) (omega arith) (omega (arith, short, in_order)))
+      (omega arith) in
+      (map (late_of net r.goal (r.until + 1)) all.0, right_there all.0 all.1)
 
   module _ (made : Net) (is : made ≡ mirrored net r.goal.0 (r.until + 1)) where
     z_setting : zs ≡ setting_of made

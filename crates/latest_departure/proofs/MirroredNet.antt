@@ -14,9 +14,10 @@ use Rattle.route_base.specs.declared.limits.TheConstants.{DEAREST_MINUTE, MOST_N
 use Rattle.route_base.specs.declared.types.Park.{Park}
 use Rattle.route_base.specs.declared.types.TimedArc.{TimedArc}
 use Rattle.route_base.specs.declared.types.Run.{Run}
-use Rattle.route_base.proofs.Numbered.{at_number-all, at_number-map}
+use Rattle.route_base.proofs.Numbered.{at_number-all, at_number-map, number_within}
 use Rattle.route_base.proofs.Parks.{good_park, rated_park, weight_small}
-use Rattle.route_base.proofs.Arcs.{good_arc}
+use Rattle.route_base.proofs.SomeWalk.{IsNumberedUpTo}
+use Rattle.route_base.proofs.Arcs.{TakesTime, good_arc}
 use Rattle.latest_departure.specs.Inside.Mirror.{mirrored_runs, turned, gate, free_park, mirrored}
 use Rattle.front_transport.specs.CheapArcs.{HasCheapArcs}
 use Rattle.route_base.proofs.Costs.{IsCheap}
@@ -266,6 +267,25 @@ module _ (net : Net) (good : IsGoodNet net) (goal sum : ℕ) where
   pub free_open : (t : ℕ) → (setting_of z).wait_shut (net.nodes + 1) t ≡ false
   unfolding z
   free_open t = ap (λ (o : Option Park). any_has (shut_by z o) t) park_free ∙ ap (λ (w : List Run). any_has w t) (list_last (mirrored_runs sum) net.closed)
+
+  -- each road of the mirrored net takes time
+  pub takes_mirrored : TakesTime (setting_of z)
+  unfolding last
+  takes_mirrored a road is =
+      let found = map_some (at_number z.arcs a) road_of road is in
+      ⊎_elim
+      (λ (old : (arc : TimedArc) × (at_number net.arcs a ≡ Some arc) × (turned arc ≡ found.0)).
+      (let fine : IsGoodArc net old.0 = good_arc net good a old.0 old.1 in
+      omega (arith, fine.minutes.0, ap (λ (w : TimedArc). w.minutes) old.2, ap (λ (w : Road). w.minutes) found.2)))
+      (λ (new : (a ≡ length net.arcs + 1) × (last ≡ found.0)).
+      omega (arith, ap (λ (w : TimedArc). w.minutes) new.1, ap (λ (w : Road). w.minutes) found.2))
+      (turned_from a found.0 found.1)
+
+  -- and is one of its arcs
+  pub numbers_mirrored : IsNumberedUpTo (setting_of z) (length z.arcs)
+  numbers_mirrored a road is =
+      let found = map_some (at_number z.arcs a) road_of road is in
+      number_within z.arcs a found.0 found.1
 
   -- no minute of the mirrored net costs more
   pub cheap_mirrored : HasCheapArcs net → IsCheap (setting_of z)

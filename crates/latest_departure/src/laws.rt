@@ -1,7 +1,9 @@
 // Settings of which one stands for the other have the same latest departures, and a request has one right list of them.
-ghost use Rattle.std.specs.Prelude.{◌≡◌, ◌↔◌, List};
-ghost use Rattle.latest_departure.specs.Words.{AreRightLate};
+ghost use Rattle.std.specs.Prelude.{◌≡◌, ◌↔◌, ◌-◌, ◌≤◌, ◌<◌, List};
+ghost use Rattle.latest_departure.specs.Words.{AreRightLate, HasCheapArcs, IsGoodRequest, setting_of};
 ghost use Rattle.latest_departure.specs.declared.routes.LateRoute.{LateRoute};
+ghost use Rattle.route_base.specs.Net.{IsGoodNet, Net};
+ghost use Rattle.route_base.specs.declared.limits.TheConstants.{LONGEST_HORIZON};
 ghost use Rattle.route_base.specs.Matching.{StandsFor, IsInWindow};
 ghost use Rattle.route_base.specs.Setting.{Setting};
 ghost use Rattle.route_base.specs.declared.types.Request.{Request};
@@ -21,4 +23,11 @@ pub fn one_late_answer()
     ensures { (s : Setting) (r : Request) (xs ys : List LateRoute) → AreRightLate s r xs
         → AreRightLate s r ys
         → xs ≡ ys }
+{}
+
+/// The law that a request for latest departures over a well-formed net has a right list. The call does nothing.
+pub fn some_late_answer()
+    ensures { (net : Net) (r : Request) → IsGoodNet net → IsGoodRequest net r → r.depart ≤ r.until
+        → r.until - r.depart < LONGEST_HORIZON → HasCheapArcs net
+        → (routes : List LateRoute) × AreRightLate (setting_of net) r routes }
 {}

@@ -24,6 +24,6 @@ mod routes;
 mod text;
 
 pub use departures::latest;
-pub use laws::{late_routes_agree, one_late_answer};
+pub use laws::{late_routes_agree, one_late_answer, some_late_answer};
 pub use routes::{LateRoute, LateRoutes};
 pub use text::late_text;

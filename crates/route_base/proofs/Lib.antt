@@ -17,12 +17,15 @@ pub mod LegLists
 pub mod ListParts
 pub mod Lists
 pub mod Logic
+pub mod Mapped
 pub mod Numbered
 pub mod OneAnswer
 pub mod OrderedLists
 pub mod Parks
 pub mod ShortNumbers
 pub mod SoFar
+pub mod SomeAnswer
+pub mod SomeWalk
 pub mod StepOrder
 pub mod Waiting
 pub mod Walking

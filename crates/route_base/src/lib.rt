@@ -13,9 +13,10 @@
 //! Workers say through `Gate` that they begin a piece of work; no law speaks of it.
 //!
 //! It is met here by `replay`, `read_all`, `is_free`, the readers of forms and the objects in memory; the law of a search is a
-//! clause of the trait `FrontSearch`, and a request has at most one right answer: that is the law `one_answer`. `Replay`
-//! says where a replay fails. `Relaxing` and `StepsBack` are no law: they are the invariants that all searches share, and `proofs/`
-//! has their common lemmas (`Walking`, `Waiting`, `Covering`, `Fronts`, `LegLists`, `GoingBack`).
+//! clause of the trait `FrontSearch`. A request has at most one right answer, by the law `one_answer`; over a well-formed net whose
+//! costs fit it has one, by the law `some_answer`. `Replay` says where a replay fails. `Relaxing` and `StepsBack` are no law: they
+//! are the invariants that all searches share, and `proofs/` has their common lemmas (`Walking`, `Waiting`, `Covering`, `Fronts`,
+//! `LegLists`, `GoingBack`).
 #![tactic(auto)]
 
 mod answers;
@@ -41,7 +42,7 @@ mod threads;
 mod types;
 mod whole_file;
 
-pub use answers::one_answer;
+pub use answers::{one_answer, some_answer};
 pub use bounds::Bounds;
 pub use digits::{read_number, read_plain_number};
 pub use faults::{BadInput, Cause, FileKind, OutOfMemory, RequestFault, TableFault};

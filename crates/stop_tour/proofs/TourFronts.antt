@@ -1,29 +1,36 @@
 -- The front of the layered net is the tour front, and its routes are right tours.
-use Rattle.std.proofs.Common.{◌≡◌, ⊎_elim, inl, inr, ℕ, suc, ◌≤◌, List, [], ◌∷◌, length, map, refl, sym, ◌∙◌, ap, subst, arith, All}
+use Rattle.std.proofs.Common.{◌≡◌, ⊎_elim, inl, inr, ℕ, suc, ◌+◌, ◌-◌, ◌*◌, ◌≤◌, Some, List, [], ◌∷◌, length, map, refl, sym, ◌∙◌, ap, subst, arith, All}
 use Rattle.std.specs.Prelude.{reverse}
 use Rattle.std.proofs.lemmas.List.{map-id}
 use Rattle.std.proofs.lemmas.List.Elements.{All-map}
-use Rattle.route_base.specs.Setting.{Setting}
+use Rattle.route_base.specs.Setting.{Setting, Road}
 use Rattle.route_base.specs.Itinerary.{Position, Step, Walks}
 use Rattle.route_base.specs.FirstItinerary.{ComesBefore, IsFirst}
-use Rattle.route_base.specs.Legs.{start_of, end_of, steps_of, Achieves, HasNoNeighbouringWaits}
+use Rattle.route_base.specs.Legs.{CostsFit, start_of, end_of, steps_of, Achieves, HasNoNeighbouringWaits}
 use Rattle.route_base.specs.Front.{IsFront, IsAchieved, IsNoWorse, IsRight, pairs_of}
-use Rattle.route_base.specs.Net.{Net, setting_of, IsGoodNet, IsGoodRequest}
+use Rattle.route_base.specs.Net.{Net, at_number, road_of, setting_of, IsGoodArc, IsGoodNet, IsGoodRequest}
 use Rattle.route_base.specs.declared.types.Pair.{Pair}
 use Rattle.route_base.specs.declared.types.Request.{Request}
 use Rattle.route_base.specs.declared.types.Route.{Route}
+use Rattle.route_base.specs.declared.types.TimedArc.{TimedArc}
+use Rattle.route_base.proofs.Arcs.{TakesTime, good_arc}
 use Rattle.route_base.proofs.BackwardWalks.{leads_back}
+use Rattle.route_base.proofs.Logic.{map_some}
+use Rattle.route_base.proofs.Numbered.{at_number-all, number_within}
+use Rattle.route_base.proofs.SomeAnswer.{some_routes}
+use Rattle.route_base.proofs.SomeWalk.{IsNumberedUpTo}
 use Rattle.route_base.proofs.Waiting.{same_position}
 use Rattle.front_transport.specs.ParetoFronts.{ArrivesBefore}
 use Rattle.front_transport.proofs.PairOrder.{no_worse_order}
 use Rattle.front_transport.proofs.Transport.{carried}
-use Rattle.stop_tour.specs.Inside.Layers.{tour_net, tour_request}
+use Rattle.stop_tour.specs.Inside.Layers.{service, tour_net, tour_request}
 use Rattle.stop_tour.specs.Inside.Unlayering.{step_over, leg_over, route_over}
 use Rattle.stop_tour.specs.Tours.{IsGoodStop, TourPosition, TourStep, TourWalks, tour_start, tour_end, IsTourAchieved, IsTourFront}
 use Rattle.stop_tour.specs.Tours.{AchievesTour, AreRightTours, IsFirstTour, tour_steps_of}
 use Rattle.stop_tour.specs.declared.stops.Stop.{Stop}
-use Rattle.stop_tour.proofs.LayerPlaces.{one_place}
-use Rattle.stop_tour.proofs.Layered.{s, z, IsInTour, tour_walk, placed_walk, tour_in_time}
+use Rattle.stop_tour.specs.declared.stops.TourRoute.{TourRoute}
+use Rattle.stop_tour.proofs.LayerPlaces.{IsInLayer, one_place}
+use Rattle.stop_tour.proofs.Layered.{s, z, arc_kinds, IsInTour, tour_walk, placed_walk, tour_in_time}
 use Rattle.stop_tour.proofs.FirstOverLayers.{map_reversed, comes_before, order_kept}
 use Rattle.stop_tour.proofs.Unlayered.{steps_over, no_empty_over, apart_over}
 
@@ -146,3 +153,32 @@ module _ (net : Net) (good : IsGoodNet net) (stops : List Stop) (each_stop : All
     first = All-map (IsFirstTour (setting_of net) r stops) (route_over (length net.arcs) (suc (length stops))) routes
         (λ k d within. first_tour _ (right.legs k d within).0 (right.first k d within));
   }
+
+  -- each road over layers takes time
+  takes_layers : TakesTime zt
+  unfolding zt z
+  takes_layers x road is =
+      let found = map_some (at_number (tour_net net stops r.until).arcs x) road_of road is in
+      ⊎_elim
+      (λ (layer : IsInLayer net.nodes (length net.closed) (length stops) net.arcs (suc (length stops)) x found.0).
+      (let fine : IsGoodArc net layer.base = good_arc net good layer.a layer.base layer.is in
+      omega (arith, fine.minutes.0, ap (λ (w : TimedArc). w.minutes) layer.same, ap (λ (w : Road). w.minutes) found.2)))
+      (λ (one : (i : ℕ) × (stop : Stop) × (at_number stops i ≡ Some stop)
+      × (service net.nodes (suc (length stops) * length net.closed) (0 + (i - 1)) stop ≡ found.0) × (x ≡ suc (length stops) * length net.arcs + i)).
+      (let fine : IsGoodStop net one.1 = at_number-all (IsGoodStop net) stops one.0 one.1 each_stop one.2 in
+      omega (arith, fine.service.0, ap (λ (w : TimedArc). w.minutes) one.3, ap (λ (w : Road). w.minutes) found.2)))
+      (arc_kinds net good stops each_stop r.until x found.0 found.1)
+
+  numbers_layers : IsNumberedUpTo zt (length (tour_net net stops r.until).arcs)
+  unfolding zt
+  numbers_layers x road is =
+      let found = map_some (at_number (tour_net net stops r.until).arcs x) road_of road is in
+      number_within (tour_net net stops r.until).arcs x found.0 found.1
+
+  -- there are right tours
+  pub some_tours : CostsFit (setting_of (tour_net net stops r.until)) (tour_request net stops r) → r.depart ≤ r.until
+      → (routes : List TourRoute) × AreRightTours (setting_of net) r stops routes
+  unfolding zt
+  some_tours fit in_order =
+      let all = some_routes zt (tour_request net stops r) takes_layers (length (tour_net net stops r.until).arcs) numbers_layers fit in_order in
+      (map (route_over (length net.arcs) (suc (length stops))) all.0, right_tours all.0 all.1)

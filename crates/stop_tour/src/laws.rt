@@ -1,13 +1,17 @@
 // Laws of the definitions that need no call.
 ghost use Rattle.std.specs.List.{AllZip};
-ghost use Rattle.std.specs.Prelude.{◌≡◌, ◌↔◌, ℕ, List, [], Some, None};
+ghost use Rattle.std.specs.Prelude.{◌≡◌, ◌↔◌, ◌-◌, ◌≤◌, ℕ, All, List, [], Some, None};
 ghost use Rattle.route_base.specs.Front.{IsFront};
 ghost use Rattle.route_base.specs.Matching.{StandsFor, IsInWindow};
 ghost use Rattle.route_base.specs.Setting.{Setting};
 ghost use Rattle.route_base.specs.declared.types.Pair.{Pair};
 ghost use Rattle.route_base.specs.declared.types.Request.{Request};
 ghost use Rattle.route_base.specs.declared.types.Run.{Run};
-ghost use Rattle.stop_tour.specs.Words.{AreRightTours, IsTourFront, tour_size_in};
+ghost use Rattle.front_transport.specs.declared.limits.TheConstants.{MOST_STATES};
+ghost use Rattle.route_base.specs.Net.{IsGoodNet, Net};
+ghost use Rattle.route_base.specs.declared.limits.TheConstants.{LONGEST_HORIZON};
+ghost use Rattle.stop_tour.specs.Words.{AreRightTours, IsTourFront, tour_size_in, tour_size_of};
+ghost use Rattle.stop_tour.specs.Words.{HasCheapArcs, IsGoodRequest, IsGoodStop, setting_of};
 ghost use Rattle.stop_tour.specs.Words.{first_table_fault, records_of, rows_of};
 ghost use Rattle.stop_tour.specs.Words.{stop_of, stops_in, stops_schema};
 ghost use Rattle.stop_tour.specs.declared.stops.Stop.{Stop};
@@ -29,6 +33,14 @@ pub fn one_tour_answer()
     ensures { (s : Setting) (r : Request) (stops : List Stop) (xs ys : List TourRoute)
         → AreRightTours s r stops xs → AreRightTours s r stops ys
         → xs ≡ ys }
+{}
+
+/// The law that a request for tours over a well-formed net whose layers fit has a right list. The call does nothing.
+pub fn some_tour_answer()
+    ensures { (net : Net) (r : Request) (stops : List Stop) → IsGoodNet net → IsGoodRequest net r
+        → r.depart ≤ r.until → r.until - r.depart ≤ LONGEST_HORIZON → All (IsGoodStop net) stops
+        → HasCheapArcs net → tour_size_of net stops ≤ MOST_STATES
+        → (routes : List TourRoute) × AreRightTours (setting_of net) r stops routes }
 {}
 
 /// The law that tours without stops have the Pareto front of the trip. The call does nothing.

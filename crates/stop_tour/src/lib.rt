@@ -29,7 +29,9 @@ mod stops;
 mod text;
 mod tours;
 
-pub use laws::{each_row_has_its_stop, no_stops_is_the_trip, one_tour_answer, tours_agree};
+pub use laws::{
+    each_row_has_its_stop, no_stops_is_the_trip, one_tour_answer, some_tour_answer, tours_agree,
+};
 pub use limits::MOST_STOPS;
 pub use stop_table::read_stops;
 pub use stops::{Stop, Stops, TourFault, TourLeg, TourLegs, TourRoute, TourRoutes};
