@@ -8,6 +8,7 @@ pub mod ClosureWrites
 pub mod FirstFaults
 pub mod FileFaults
 pub mod HeldLists
+mod JobOfRow
 mod JobRows
 pub mod NetLists
 pub mod ParkNodes
