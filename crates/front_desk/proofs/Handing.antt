@@ -1,6 +1,7 @@
 -- A plan that is ready is handed over.
 use Rattle.std.proofs.Common.{◌≡◌, inl, inr, ℕ, Some, None, Option, List, Result, Ok, Err, refl, ap, sym, subst, ◌∙◌, arith}
 use Rattle.std.specs.Result.{IsErrAnd}
+use Rattle.std.proofs.lemmas.Option.{same_Some}
 use Rattle.route_base.specs.Contents.{Contents, Holds, LeavesOpen}
 use Rattle.route_base.specs.Counts.{HasRisen}
 use Rattle.route_base.specs.FolderState.{FolderState, CountsRise, KeepsFiles, FailedToWrite}
@@ -213,4 +214,7 @@ plan_sound p = record {
   short = short_plan p p.certificate;
   unread = λ nothing old new left. nothing;
   one = λ _ held after other x y. one_plan _ p (Some held) after other x y;
+  one_fault = λ held fault other first second. same_Some fault other (sym first ∙ second);
+  one_rejection = λ held x y first second. absurd first;
+  never_rejects = λ held after x y answers rejects. rejects;
 }

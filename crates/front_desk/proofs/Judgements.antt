@@ -29,6 +29,7 @@ use Rattle.front_desk.specs.declared.outcome.Report.{Report}
 use Rattle.front_desk.specs.Inside.Sound.{IsSound}
 use Rattle.front_desk.specs.Check.{AcceptsCertificate}
 use Rattle.front_desk.proofs.OneText.{one_check}
+use Rattle.front_desk.proofs.OneVerdict.{never_rejected, one_rejection}
 use Rattle.front_desk.proofs.Sound.{reads_sound}
 
 module _ (s : Setting) (request : Request) (bytes : List ℕ) (report : Report) where
@@ -119,4 +120,7 @@ check_sound c =
       short = judging.short;
       unread = judging.unread;
       one = λ _ held after other x y. one_check _ _ _ x y;
+      one_fault = judging.one_fault;
+      one_rejection = λ held x y. one_rejection _ _ _ x y;
+      never_rejects = λ held after x y. never_rejected _ _ _ x y;
     }

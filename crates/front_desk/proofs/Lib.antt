@@ -12,7 +12,9 @@ pub mod Judgements
 pub mod Leaving
 pub mod Meanings
 pub mod NamedVehicles
+pub mod OneOutcome
 pub mod OneText
+pub mod OneVerdict
 pub mod ReadyPlans
 pub mod RefusalTexts
 pub mod ReportedBans

@@ -15,6 +15,11 @@ use Rattle.route_base.specs.declared.types.Route.{Route}
 use Rattle.route_base.specs.declared.types.Run.{Run}
 use Rattle.route_base.proofs.OneAnswer.{one_answer, one_front}
 use Rattle.minute_sets.proofs.OneList.{one_list}
+use Rattle.latest_departure.specs.LateText.{late_text_of}
+use Rattle.latest_departure.proofs.OneLate.{one_late_answer}
+use Rattle.stop_tour.specs.TourText.{tour_text_of}
+use Rattle.stop_tour.specs.declared.stops.Stop.{Stop}
+use Rattle.stop_tour.proofs.OneTour.{one_tour_answer}
 use Rattle.vehicle_classes.specs.VehicleModel.{VehicleModel}
 use Rattle.network_tables.specs.NetworkModel.{NetworkModel}
 use Rattle.network_tables.specs.RoadSetting.{road_setting}
@@ -39,7 +44,9 @@ use Rattle.front_desk.specs.Batch.{IsBatchText, IsTextAt, IsTripText, trip_of_jo
 use Rattle.front_desk.specs.Check.{IsAccepted}
 use Rattle.front_desk.specs.Explain.{IsBetterFor, IsExplainText, IsFirstBetter}
 use Rattle.front_desk.specs.Gen.{IsSummary, drawn_trip, stated_network}
+use Rattle.front_desk.specs.Latest.{IsLateText}
 use Rattle.front_desk.specs.Plan.{IsPlanned, trip_setting}
+use Rattle.front_desk.specs.Tour.{IsTourText}
 use Rattle.front_desk.specs.Trips.{Trip, request_of, failed_check}
 use Rattle.certificate_check.proofs.Lawful.{achieved_once}
 use Rattle.front_desk.proofs.ExactExplanations.{unlawful_exactly}
@@ -63,7 +70,7 @@ one_bans network b x y first second =
     let same = one_list first.runs second.runs first.right.clean second.right.clean (λ t. first.right.minutes t ∙ sym (second.right.minutes t)) in
     first.is_text ∙ ap (λ (runs : List Run). bans_text_of runs network.passed_over) same ∙ sym second.is_text
 
-one_trip : (network : NetworkModel) (trip : Trip) (fault : Option RequestFault) (x y : List ℕ) → IsTripText network trip fault x
+pub one_trip : (network : NetworkModel) (trip : Trip) (fault : Option RequestFault) (x y : List ℕ) → IsTripText network trip fault x
     → IsTripText network trip fault y → x ≡ y
 one_trip network trip None x y first second =
     let s = trip_setting network trip in
@@ -100,6 +107,15 @@ one_summary g x y first second =
     let same = one_answer (trip_setting (stated_network g) (drawn_trip g)) (request_of (drawn_trip g)) first.routes second.routes first.right second.right in
     first.is_text ∙ ap (λ (routes : List Route). summary_text_of (stated_network g).graph.nodes (length (stated_network g).graph.arcs) routes) same
     ∙ sym second.is_text
+
+pub one_late : (s : Setting) (request : Request) (x y : List ℕ) → IsLateText s request x → IsLateText s request y → x ≡ y
+one_late s request x y first second =
+    first.is_text ∙ ap late_text_of (one_late_answer s request first.routes second.routes first.right second.right) ∙ sym second.is_text
+
+pub one_tour : (s : Setting) (request : Request) (stops : List Stop) (x y : List ℕ) → IsTourText s request stops x → IsTourText s request stops y
+    → x ≡ y
+one_tour s request stops x y first second =
+    first.is_text ∙ ap tour_text_of (one_tour_answer s request stops first.routes second.routes first.right second.right) ∙ sym second.is_text
 
 module _ (network : NetworkModel) (vehicle : VehicleModel) (r : Request) (legs : List Leg) (x y : List ℕ) where
   abbrev s : Setting

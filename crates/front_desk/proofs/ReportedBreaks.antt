@@ -1,5 +1,6 @@
 -- The report of a trip with driver breaks is that of its command.
 use Rattle.std.proofs.Common.{◌≡◌, inr, ⊎_elim, false, None, Some, Ok, refl, ap, sym, subst, ◌∙◌}
+use Rattle.std.proofs.lemmas.Option.{same_Some}
 use Rattle.route_base.specs.FolderState.{FolderState, KeepsFiles}
 use Rattle.route_base.specs.declared.faults.RequestFault.TheVariants.{TooManyStates}
 use Rattle.network_tables.specs.NetworkModel.{NetworkModel}
@@ -56,8 +57,30 @@ never_both b held fault failed passes = ⊎_elim
     (λ (too_many : ExceedsStates b held fault). passes.few too_many.many)
     failed
 
+-- just one check is the first that fails
+one_fault : (b : Breaks) (held : Contents) (fault other : RequestFault) → FailsBreaks b held fault → FailsBreaks b held other → fault ≡ other
+one_fault b held fault other first second = ⊎_elim
+    (λ (one : breaks_check b held ≡ Some fault). ⊎_elim
+    (λ (two : breaks_check b held ≡ Some other). same_Some fault other (sym one ∙ two))
+    (λ (two : ExceedsStates b held other). absurd (never_some (breaks_check b held) one two.passed))
+    second)
+    (λ (one : ExceedsStates b held fault). ⊎_elim
+    (λ (two : breaks_check b held ≡ Some other). absurd (never_some (breaks_check b held) two one.passed))
+    (λ (two : ExceedsStates b held other). one.is_fault ∙ sym two.is_fault)
+    second)
+    first
+
 -- the meaning of the command is sound
 pub breaks_sound : (b : Breaks) → IsSound (breaks_meaning b)
 breaks_sound b =
     let reading = reads_sound (breaks_fault b) (breaks_check b) (IsBreaksReport b) in
-    record { never_both = never_both b; stays = reading.stays; short = reading.short; unread = reading.unread; one = reading.one }
+    record {
+      never_both = never_both b;
+      stays = reading.stays;
+      short = reading.short;
+      unread = reading.unread;
+      one = reading.one;
+      one_fault = one_fault b;
+      one_rejection = reading.one_rejection;
+      never_rejects = reading.never_rejects;
+    }

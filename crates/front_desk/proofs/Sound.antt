@@ -1,5 +1,6 @@
 -- Meanings that are made from their parts are sound.
-use Rattle.std.proofs.Common.{◌≡◌, ℕ, Some, None, Option, List, refl, arith}
+use Rattle.std.proofs.Common.{◌≡◌, ℕ, Some, None, Option, List, refl, sym, ◌∙◌, arith}
+use Rattle.std.proofs.lemmas.Option.{same_Some}
 use Rattle.route_base.specs.Contents.{Contents}
 use Rattle.route_base.specs.FolderState.{FolderState, KeepsFiles}
 use Rattle.route_base.specs.declared.faults.BadInput.{BadInput}
@@ -22,6 +23,9 @@ reads_sound fault check answers = record {
   short = same_state;
   unread = λ nothing old new left. nothing;
   one = λ several held after other x y first second. absurd several;
+  one_fault = λ held fault other first second. same_Some fault other (sym first ∙ second);
+  one_rejection = λ held x y first second. absurd first;
+  never_rejects = λ held after x y answers rejects. rejects;
 }
 
 module _ (m : Meaning) (sound : IsSound m) where
@@ -34,6 +38,9 @@ module _ (m : Meaning) (sound : IsSound m) where
     short = sound.short;
     unread = sound.unread;
     one = λ _. one;
+    one_fault = sound.one_fault;
+    one_rejection = sound.one_rejection;
+    never_rejects = sound.never_rejects;
   }
 
   -- the same command, which has no request
@@ -44,4 +51,7 @@ module _ (m : Meaning) (sound : IsSound m) where
     short = sound.short;
     unread = sound.unread;
     one = sound.one;
+    one_fault = λ held fault other first second. absurd first;
+    one_rejection = sound.one_rejection;
+    never_rejects = sound.never_rejects;
   }

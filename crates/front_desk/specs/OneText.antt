@@ -8,7 +8,7 @@ use Rattle.front_words.specs.declared.commands.Invocation.{Invocation as Command
 use Rattle.front_desk.specs.Commands.{meaning_of}
 use Rattle.front_desk.specs.Plan.{HoldsCertificate}
 
--- the command prints no other text over the same files; `latest`, `tour` and `breaks` may print any itinerary of a pair
+-- the command prints no other text over the same files; `breaks` may print any itinerary of a pair
 abbrev pub TellsOneText : Command → Type 0
 TellsOneText command = (meaning_of command).one_text
 

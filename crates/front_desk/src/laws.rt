@@ -1,9 +1,10 @@
 // The numbers of the limits, and the laws of certificates, of explanations and of texts.
 ghost use Rattle.std.specs.Prelude.{◌≡◌, ◌↔◌, ℕ, List, Option, Some, None, true};
-ghost use Rattle.front_desk.specs.Batch.{IsBatchReport};
+ghost use Rattle.front_desk.specs.Batch.{IsBatchReport, IsJobText};
 ghost use Rattle.front_desk.specs.Check.{HasGoodCertificate, check_of_plan};
 ghost use Rattle.front_desk.specs.Explain.{IsExplainText};
 ghost use Rattle.front_desk.specs.OneText.{Answers, TellsOneText, routes_certified};
+ghost use Rattle.front_desk.specs.Run.{IsDue, IsRefused};
 ghost use Rattle.front_words.specs.declared.commands.Batch.{Batch};
 ghost use Rattle.front_words.specs.declared.commands.Invocation.{Invocation as Command};
 ghost use Rattle.front_words.specs.declared.commands.Plan.{Plan};
@@ -11,9 +12,12 @@ ghost use Rattle.front_desk.specs.Plan.{IsCertified};
 ghost use Rattle.front_words.specs.Forms.{is_certificate_name};
 ghost use Rattle.network_tables.specs.NetworkModel.{NetworkModel};
 ghost use Rattle.network_tables.specs.RoadSetting.{road_setting};
+ghost use Rattle.network_tables.specs.declared.jobs.Job.{Job};
 ghost use Rattle.route_base.specs.Contents.{Contents};
+ghost use Rattle.route_base.specs.FolderState.{FolderState};
 ghost use Rattle.route_base.specs.Front.{IsUndominated};
 ghost use Rattle.route_base.specs.Legs.{Achieves};
+ghost use Rattle.route_base.specs.declared.status.Status.{Status};
 ghost use Rattle.route_base.specs.declared.types.Leg.{Leg};
 ghost use Rattle.route_base.specs.declared.types.Pair.{Pair};
 ghost use Rattle.route_base.specs.declared.types.Request.{Request};
@@ -100,13 +104,21 @@ pub fn explanations_are_exact()
         → text ≡ explanation_text (Unlawful leg minute why) None }
 {}
 
-/// The law of one text: over the same files, `plan`, `check`, `bans`, `batch`, `gen` and `explain` print no other text where they are done;
+/// The law of one text: over the same files, all commands but `breaks` print no other text where they are done; words have no other
+/// status, unless reading, writing or memory fails, and no other line of a refusal or a rejection; a job of a batch has no other text;
 /// batches of the same table of jobs print one text, whatever the number of workers; and the certificates that plans of the same words
 /// write have the same routes. So another run, and another version that meets `run`, print the same, byte for byte. The call does nothing.
 pub fn one_text()
     ensures command { (command : Command) (held : Contents) (after other : Option Contents)
         → (x y : List ℕ) → TellsOneText command
         → Answers command held after x → Answers command held other y → x ≡ y }
+    ensures refusals { (words : List (List ℕ)) (held : Contents)
+        → (old new before after : FolderState) (status other : Status) (x y : List ℕ)
+        → old.contents ≡ Some held → before.contents ≡ Some held
+        → IsDue words old new status x → IsDue words before after other y
+        → (status ≡ other) × (IsRefused status → x ≡ y) }
+    ensures job { (network : NetworkModel) (job : Job) (x y : List ℕ)
+        → IsJobText network job x → IsJobText network job y → x ≡ y }
     ensures workers { (batch other : Batch) (held : Contents) (x y : List ℕ)
         → batch.dir ≡ other.dir → batch.jobs ≡ other.jobs
         → IsBatchReport batch held x → IsBatchReport other held y → x ≡ y }

@@ -23,3 +23,9 @@ pub record IsSound (m : Meaning) : Type 0 where
   -- a command that is said to have one text has one
   pub one : m.one_text → (held : Contents) (after other : Option Contents) (x y : List ℕ) → m.answers held after x → m.answers held other y
       → x ≡ y
+  -- just one check is the first that a request fails
+  pub one_fault : (held : Contents) (fault other : RequestFault) → m.fails held fault → m.fails held other → fault ≡ other
+  -- a file is rejected by one text
+  pub one_rejection : (held : Contents) (x y : List ℕ) → m.rejects held x → m.rejects held y → x ≡ y
+  -- a file that is rejected has no answer
+  pub never_rejects : (held : Contents) (after : Option Contents) (x y : List ℕ) → m.answers held after x → m.rejects held y → ⊥
