@@ -26,7 +26,7 @@ small_weight net good v w is =
 
 module _ (net : NetworkModel) (vehicle : VehicleModel) (good : IsGoodNetwork net) (graph : IsGoodGraph net.graph) where
   -- the minutes of a road, and what it costs beside them
-  road_minutes : (a : ℕ) (road : Road) → (road_setting net vehicle).road a ≡ Some road
+  pub road_minutes : (a : ℕ) (road : Road) → (road_setting net vehicle).road a ≡ Some road
       → (1 ≤ road.minutes) × (road.minutes ≤ 10080) × (road.cost ≤ 1000 * road.minutes + 100000)
   road_minutes a road is =
       let found = map_some (at_number net.graph.arcs a) (road_over (toll_at net a)) road is in

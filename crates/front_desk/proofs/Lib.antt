@@ -25,4 +25,5 @@ pub mod ReportedTours
 pub mod Rows
 pub mod Running
 pub mod Sharing
+pub mod SomeRoutes
 pub mod Sound

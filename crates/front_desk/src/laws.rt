@@ -1,26 +1,29 @@
-// The numbers of the limits, and the laws of certificates, of explanations and of texts.
+// The numbers of the limits, and the laws of certificates, of explanations, of texts and of routes.
 ghost use Rattle.std.specs.Prelude.{◌≡◌, ◌↔◌, ℕ, List, Option, Some, None, true};
 ghost use Rattle.front_desk.specs.Batch.{IsBatchReport, IsJobText};
 ghost use Rattle.front_desk.specs.Check.{HasGoodCertificate, check_of_plan};
 ghost use Rattle.front_desk.specs.Explain.{IsExplainText};
 ghost use Rattle.front_desk.specs.OneText.{Answers, TellsOneText, routes_certified};
 ghost use Rattle.front_desk.specs.Run.{IsDue, IsRefused};
+ghost use Rattle.front_desk.specs.Trips.{IsGoodTrip, Trip, request_of};
 ghost use Rattle.front_words.specs.declared.commands.Batch.{Batch};
 ghost use Rattle.front_words.specs.declared.commands.Invocation.{Invocation as Command};
 ghost use Rattle.front_words.specs.declared.commands.Plan.{Plan};
-ghost use Rattle.front_desk.specs.Plan.{IsCertified};
+ghost use Rattle.front_desk.specs.Plan.{IsCertified, trip_setting};
 ghost use Rattle.front_words.specs.Forms.{is_certificate_name};
-ghost use Rattle.network_tables.specs.NetworkModel.{NetworkModel};
+ghost use Rattle.dimacs_reader.specs.GraphModel.{IsGoodGraph};
+ghost use Rattle.network_tables.specs.NetworkModel.{IsGoodNetwork, NetworkModel};
 ghost use Rattle.network_tables.specs.RoadSetting.{road_setting};
 ghost use Rattle.network_tables.specs.declared.jobs.Job.{Job};
 ghost use Rattle.route_base.specs.Contents.{Contents};
 ghost use Rattle.route_base.specs.FolderState.{FolderState};
-ghost use Rattle.route_base.specs.Front.{IsUndominated};
+ghost use Rattle.route_base.specs.Front.{IsRight, IsUndominated};
 ghost use Rattle.route_base.specs.Legs.{Achieves};
 ghost use Rattle.route_base.specs.declared.status.Status.{Status};
 ghost use Rattle.route_base.specs.declared.types.Leg.{Leg};
 ghost use Rattle.route_base.specs.declared.types.Pair.{Pair};
 ghost use Rattle.route_base.specs.declared.types.Request.{Request};
+ghost use Rattle.route_base.specs.declared.types.Route.{Route};
 ghost use Rattle.trip_explain.specs.ExplanationText.{explanation_text};
 ghost use Rattle.trip_explain.specs.Explanations.{IsUnlawfulAt};
 ghost use Rattle.trip_explain.specs.declared.explanation.Explanation.TheVariants.{Lawful, Unlawful};
@@ -126,4 +129,12 @@ pub fn one_text()
         → (after other : Option Contents)
         → (one : IsCertified plan name held after) → (two : IsCertified plan name held other)
         → routes_certified one.certified ≡ routes_certified two.certified }
+{}
+
+/// The law that a trip between nodes of a sound network, over a time of at most 60 days, has a right answer, whatever its vehicle: so
+/// no request that passes all checks is without one. The call does nothing.
+pub fn some_routes()
+    ensures { (network : NetworkModel) (trip : Trip) → IsGoodNetwork network
+        → IsGoodGraph network.graph → IsGoodTrip network.graph.nodes trip
+        → (routes : List Route) × IsRight (trip_setting network trip) (request_of trip) routes }
 {}

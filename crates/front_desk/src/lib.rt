@@ -38,4 +38,6 @@ mod tour;
 
 pub use desk::{run, run_gated};
 pub use latest::LONGEST_LATE_HORIZON;
-pub use laws::{explanations_are_exact, limits_are_these, one_text, written_certificates_are_good};
+pub use laws::{
+    explanations_are_exact, limits_are_these, one_text, some_routes, written_certificates_are_good,
+};
