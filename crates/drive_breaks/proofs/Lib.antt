@@ -10,3 +10,4 @@ pub mod Since
 pub mod SoundBreaks
 pub mod StateBounds
 pub mod Unpacked
+pub mod RestedOrders

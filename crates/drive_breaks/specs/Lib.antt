@@ -1,3 +1,4 @@
 pub mod Inside
 pub mod Rested
+pub mod RestedOrder
 pub mod Words

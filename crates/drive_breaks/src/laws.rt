@@ -1,10 +1,13 @@
-// Settings that agree within a window have the same trips that keep a rule, and each drive has one stretch.
-ghost use Rattle.std.specs.Prelude.{◌≡◌, ◌↔◌, ◌≤◌, ℕ, List, Option};
+// Settings that agree within a window have the same trips that keep a rule, each drive has one stretch, and the itineraries of a pair
+// are ordered.
+ghost use Rattle.std.specs.Prelude.{◌≡◌, ◌⊎◌, ◌↔◌, ◌≤◌, ℕ, List, Option, reverse};
 ghost use Rattle.drive_breaks.specs.Rested.{IsStretch};
+ghost use Rattle.drive_breaks.specs.RestedOrder.{ComesRestedBefore};
 ghost use Rattle.drive_breaks.specs.Words.{AreRightRested, HasTooManyStates};
 ghost use Rattle.drive_states.specs.declared.rule.BreakRule.{BreakRule};
 ghost use Rattle.route_base.specs.Matching.{StandsFor, IsInWindow};
-ghost use Rattle.route_base.specs.Itinerary.{Step};
+ghost use Rattle.route_base.specs.Itinerary.{Position, Step, Walks};
+ghost use Rattle.route_base.specs.Net.{IsGoodNet, Net, setting_of};
 ghost use Rattle.route_base.specs.Setting.{Road, Setting};
 ghost use Rattle.route_base.specs.declared.types.Request.{Request};
 ghost use Rattle.route_base.specs.declared.types.Route.{Route};
@@ -34,4 +37,16 @@ pub fn one_stretch()
         → (x : ℕ) × IsStretch roads rest back x }
     ensures one { (roads : ℕ → Option Road) (rest : ℕ) (back : List Step) (x y : ℕ)
         → IsStretch roads rest back x → IsStretch roads rest back y → x ≡ y }
+{}
+
+/// The law that the itineraries of a pair are ordered: over a well-formed net two walks from one position to another are the same, or
+/// just one of them comes before the other. The call does nothing.
+pub fn itineraries_are_ordered()
+    ensures total { (net : Net) (until rest : ℕ) (xs ys : List Step) (p q : Position)
+        → IsGoodNet net → 1 ≤ rest
+        → Walks (setting_of net) until xs p q → Walks (setting_of net) until ys p q
+        → (xs ≡ ys) ⊎ (ComesRestedBefore (setting_of net).road rest (reverse xs) (reverse ys)
+        ⊎ ComesRestedBefore (setting_of net).road rest (reverse ys) (reverse xs)) }
+    ensures one { (roads : ℕ → Option Road) (rest : ℕ) (xs ys : List Step)
+        → ComesRestedBefore roads rest xs ys → ComesRestedBefore roads rest ys xs → ⊥ }
 {}

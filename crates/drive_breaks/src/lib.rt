@@ -5,7 +5,8 @@
 //! a clause of `plan_breaks` and, for engines that take bounds, of `plan_breaks_with`: the pairs are the Pareto front of all lawful
 //! itineraries that keep the rule, and each pair has the legs of one. `specs/StateSize` of `drive_states` says what the states of a
 //! trip are, and when there are too many. Both are the same over settings that agree (`rested_trips_agree`). The rule is about the
-//! stretch since the last break, and there is always exactly one (`one_stretch`).
+//! stretch since the last break, and there is always exactly one (`one_stretch`). `specs/RestedOrder` orders the itineraries of a
+//! pair: of two just one comes before the other (`itineraries_are_ordered`). No clause says yet that a pair has the legs of the first.
 //!
 //! A state is a node and the minutes driven since the last break; `drive_states` finds all states and the ways between them, or
 //! that there are too many. `states_as_net` makes a net in which each state is a node, and each drive and each break an arc; one
@@ -20,7 +21,7 @@
 //! same by `proofs/LastBreak`. `StateNet` says what the net over states is, `StateBounds` what the bounds of its nodes are, and
 //! `Unpacking` what its steps, legs and routes are in the net below. In `proofs/`, `StateBounds` shows that the bounds hold along
 //! each arc. `SoundBreaks` reads a walk over states as one of that net, `FoundBreaks` goes the other way, and `BreakFronts` puts
-//! them together, by `front_transport`.
+//! them together, by `front_transport`; `RestedOrders` is about the order.
 #![tactic(auto)]
 
 mod bounds_check;
@@ -32,5 +33,5 @@ mod state_bounds;
 mod states_as_net;
 
 pub use drive_states::{BreakFault, BreakRule};
-pub use laws::{one_stretch, rested_trips_agree};
+pub use laws::{itineraries_are_ordered, one_stretch, rested_trips_agree};
 pub use rested_trips::{plan_breaks, plan_breaks_with};
