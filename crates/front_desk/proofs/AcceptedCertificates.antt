@@ -16,7 +16,7 @@ use Rattle.network_folder.proofs.ReadFiles.{readable_more}
 use Rattle.certificate.specs.Writable.{IsCertificateText}
 use Rattle.certificate_check.specs.Verdicts.{IsGood}
 use Rattle.front_desk.specs.Check.{HasGoodCertificate}
-use Rattle.front_words.specs.declared.commands.Plan.{Plan}
+use Rattle.front_words.specs.declared.plan.Plan.{Plan}
 use Rattle.front_desk.specs.Plan.{IsCertified, trip_setting}
 use Rattle.front_desk.specs.Trips.{failed_check, request_of}
 

@@ -17,8 +17,8 @@ use Rattle.plan_report.specs.Reports.{report_text}
 use Rattle.plan_report.specs.declared.outcomes.Refusal.TheVariants.{Request}
 use Rattle.trip_batch.specs.Right.{AreRightByJob}
 use Rattle.front_desk.specs.Batch.{batch_fault, jobs_held, trip_of_job, IsTripText, IsJobText, IsTextAt, IsBatchText}
-use Rattle.front_words.specs.declared.commands.Batch.{Batch}
-use Rattle.front_words.specs.declared.commands.Plan.{Plan}
+use Rattle.front_words.specs.declared.batch.Batch.{Batch}
+use Rattle.front_words.specs.declared.plan.Plan.{Plan}
 use Rattle.front_desk.specs.Batch.{batch_meaning}
 use Rattle.network_folder.specs.Files.{IfTold}
 use Rattle.front_desk.specs.Inside.Ending.{Ends}

@@ -13,7 +13,7 @@ use Rattle.route_base.specs.declared.faults.RequestFault.TheVariants.{OriginRang
 use Rattle.network_tables.specs.NetworkModel.{NetworkModel}
 use Rattle.net_generator.specs.Sizes.{IsDrawable}
 use Rattle.drawn_network.specs.DrawnNetwork.{network_drawn}
-use Rattle.front_words.specs.declared.commands.Gen.{Gen}
+use Rattle.front_words.specs.declared.generate.Gen.{Gen}
 use Rattle.network_folder.specs.Writing.{FileToWrite, HoldsEach}
 use Rattle.front_desk.specs.Gen.{IsSummary, LeavesGen, drawn_trip, gen_meaning, files_written, stated_network}
 use Rattle.front_desk.specs.Inside.Ending.{Ends, halt_of_write}

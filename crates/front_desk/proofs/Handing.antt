@@ -14,7 +14,7 @@ use Rattle.route_base.specs.declared.status.Status.{Status}
 use Rattle.route_base.specs.declared.status.Status.TheVariants.{Done}
 use Rattle.network_tables.specs.NetworkModel.{NetworkModel}
 use Rattle.plan_report.specs.declared.outcomes.Refusal.TheVariants.{Usage, Input, Request}
-use Rattle.front_words.specs.declared.commands.Plan.{Plan}
+use Rattle.front_words.specs.declared.plan.Plan.{Plan}
 use Rattle.network_folder.specs.Files.{IfTold, path_of}
 use Rattle.front_desk.proofs.Ending.{kept_rises, reports, status_done}
 use Rattle.front_desk.specs.Inside.Ending.{Ends, StopsCommand, halt_of_write, status_of_halt}

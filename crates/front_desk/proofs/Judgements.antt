@@ -16,7 +16,7 @@ use Rattle.plan_report.specs.Check.{check_text_of}
 use Rattle.plan_report.specs.declared.outcomes.Verdict3.TheVariants.{Rejected as Rejected3}
 use Rattle.front_desk.specs.Check.{no_certificate, condition_fails, check_check, check_fault, check_setting, certificate_held}
 use Rattle.front_desk.specs.Check.{FailsWith, IsAccepted, IsRejected}
-use Rattle.front_words.specs.declared.commands.Check.{Check}
+use Rattle.front_words.specs.declared.check.Check.{Check}
 use Rattle.front_desk.specs.Check.{check_meaning}
 use Rattle.network_folder.specs.Files.{IfTold}
 use Rattle.front_desk.specs.Inside.Ending.{Ends, ReportsOn}

@@ -36,9 +36,9 @@ use Rattle.plan_report.specs.Check.{check_text_of}
 use Rattle.plan_report.specs.Reports.{report_text}
 use Rattle.plan_report.specs.Summary.{summary_text_of}
 use Rattle.plan_report.specs.declared.outcomes.Verdict3.TheVariants.{Accepted}
-use Rattle.front_words.specs.declared.commands.Bans.{Bans}
-use Rattle.front_words.specs.declared.commands.Gen.{Gen}
-use Rattle.front_words.specs.declared.commands.Plan.{Plan}
+use Rattle.front_words.specs.declared.bans.Bans.{Bans}
+use Rattle.front_words.specs.declared.generate.Gen.{Gen}
+use Rattle.front_words.specs.declared.plan.Plan.{Plan}
 use Rattle.front_desk.specs.Bans.{IsBansText}
 use Rattle.front_desk.specs.Batch.{IsBatchText, IsTextAt, IsTripText, trip_of_job}
 use Rattle.front_desk.specs.Check.{IsAccepted}

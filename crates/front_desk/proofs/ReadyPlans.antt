@@ -9,7 +9,7 @@ use Rattle.certificate.specs.declared.Certificate.{Certificate}
 use Rattle.certificate_check.specs.Verdicts.{IsGood}
 use Rattle.plan_certificate.specs.Tight.{IsTight}
 use Rattle.plan_report.specs.Reports.{report_text}
-use Rattle.front_words.specs.declared.commands.Plan.{Plan}
+use Rattle.front_words.specs.declared.plan.Plan.{Plan}
 use Rattle.front_words.specs.Commands.{IsTimed}
 use Rattle.front_desk.specs.Inside.Planning.{IsFileFor, IsPlannable, IsReady, IsTripNet}
 use Rattle.front_desk.specs.Trips.{IsGoodTrip, Trip, request_of}

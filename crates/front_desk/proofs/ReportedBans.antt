@@ -5,7 +5,7 @@ use Rattle.network_tables.specs.NetworkModel.{NetworkModel}
 use Rattle.network_folder.specs.Files.{IfTold}
 use Rattle.network_folder.specs.ReadingOrder.{network_held}
 use Rattle.front_desk.specs.Bans.{IsBansText, bans_fault, failed_bans_check}
-use Rattle.front_words.specs.declared.commands.Bans.{Bans}
+use Rattle.front_words.specs.declared.bans.Bans.{Bans}
 use Rattle.front_desk.specs.Bans.{bans_meaning}
 use Rattle.front_desk.specs.Inside.Ending.{Ends}
 use Rattle.front_desk.specs.declared.outcome.Report.{Report}

@@ -4,7 +4,7 @@ use Rattle.std.proofs.lemmas.Option.{same_Some}
 use Rattle.route_base.specs.FolderState.{FolderState, KeepsFiles}
 use Rattle.route_base.specs.declared.faults.RequestFault.TheVariants.{TooManyStates}
 use Rattle.network_tables.specs.NetworkModel.{NetworkModel}
-use Rattle.front_words.specs.declared.commands.Breaks.{Breaks}
+use Rattle.front_words.specs.declared.breaks.Breaks.{Breaks}
 use Rattle.front_desk.specs.Breaks.{breaks_meaning}
 use Rattle.network_folder.specs.Files.{IfTold}
 use Rattle.network_folder.specs.ReadingOrder.{network_held}

@@ -6,7 +6,7 @@ use Rattle.route_base.specs.declared.types.Leg.{Leg}
 use Rattle.network_tables.specs.NetworkModel.{NetworkModel}
 use Rattle.trip_explain.specs.Explanations.{IsRoadRequest}
 use Rattle.front_words.specs.Commands.{IsTimed}
-use Rattle.front_words.specs.declared.commands.Explain.{Explain}
+use Rattle.front_words.specs.declared.explain.Explain.{Explain}
 use Rattle.front_desk.specs.Explain.{explain_meaning}
 use Rattle.network_folder.specs.Files.{IfTold}
 use Rattle.network_folder.specs.ReadingOrder.{network_held}

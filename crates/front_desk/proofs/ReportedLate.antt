@@ -7,7 +7,7 @@ use Rattle.network_tables.specs.NetworkModel.{NetworkModel}
 use Rattle.network_folder.specs.Files.{IfTold}
 use Rattle.network_folder.specs.ReadingOrder.{network_held}
 use Rattle.plan_report.specs.declared.outcomes.Refusal.TheVariants.{Usage, Input, Request}
-use Rattle.front_words.specs.declared.commands.Latest.{Latest}
+use Rattle.front_words.specs.declared.latest.Latest.{Latest}
 use Rattle.front_desk.specs.Latest.{latest_meaning}
 use Rattle.front_desk.specs.Inside.Ending.{Ends}
 use Rattle.front_desk.specs.Inside.Late.{IsLateRequest}

@@ -6,7 +6,7 @@ use Rattle.route_base.specs.declared.faults.RequestFault.{RequestFault}
 use Rattle.route_base.specs.declared.faults.RequestFault.TheVariants.{TooManyStates}
 use Rattle.network_tables.specs.NetworkModel.{NetworkModel}
 use Rattle.stop_tour.specs.declared.stops.Stop.{Stop}
-use Rattle.front_words.specs.declared.commands.Tour.{Tour}
+use Rattle.front_words.specs.declared.tour.Tour.{Tour}
 use Rattle.front_desk.specs.Tour.{tour_meaning}
 use Rattle.network_folder.specs.Files.{IfTold}
 use Rattle.network_folder.specs.ReadingOrder.{network_held}

@@ -17,7 +17,7 @@ use Rattle.certificate_check.proofs.Failing.{good_never_fails}
 use Rattle.plan_report.specs.declared.outcomes.Refusal.{Refusal}
 use Rattle.plan_report.specs.declared.outcomes.Refusal.TheVariants as refusal
 use Rattle.front_desk.specs.Check.{no_certificate, condition_fails, FailsWith, HasGoodCertificate, IsGoodText, RejectsCertificate}
-use Rattle.front_words.specs.declared.commands.Check.{Check}
+use Rattle.front_words.specs.declared.check.Check.{Check}
 use Rattle.front_words.specs.declared.commands.Invocation.{Invocation as Command}
 use Rattle.front_words.specs.declared.commands.Invocation.TheVariants.{Check as to_check}
 use Rattle.front_words.specs.Commands.{command_of}

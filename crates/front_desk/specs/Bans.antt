@@ -9,7 +9,7 @@ use Rattle.route_base.specs.declared.types.Run.{Run}
 use Rattle.network_tables.specs.Access.{is_closed}
 use Rattle.network_tables.specs.NetworkModel.{NetworkModel}
 use Rattle.plan_report.specs.Bans.{bans_text_of}
-use Rattle.front_words.specs.declared.commands.Bans.{Bans}
+use Rattle.front_words.specs.declared.bans.Bans.{Bans}
 use Rattle.network_folder.specs.ReadingOrder.{first_folder_fault, network_held}
 use Rattle.front_desk.specs.Meaning.{Meaning, reads, with_one_text}
 use Rattle.front_desk.specs.Trips.{is_vehicle, is_node, failed_time, vehicle_named}

@@ -18,7 +18,7 @@ use Rattle.plan_report.specs.Batch.{batch_text_of}
 use Rattle.plan_report.specs.Refusals.{refusal_text_of}
 use Rattle.plan_report.specs.Reports.{report_text}
 use Rattle.plan_report.specs.declared.outcomes.Refusal.TheVariants.{Request as RequestRefusal}
-use Rattle.front_words.specs.declared.commands.Batch.{Batch}
+use Rattle.front_words.specs.declared.batch.Batch.{Batch}
 use Rattle.network_folder.specs.Files.{bytes_at}
 use Rattle.front_desk.specs.Plan.{trip_setting}
 use Rattle.network_folder.specs.ReadingOrder.{jobs_file, first_fault_with, network_held}

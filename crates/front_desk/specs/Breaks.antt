@@ -10,7 +10,7 @@ use Rattle.drive_breaks.specs.Rested.{AreRightRested}
 use Rattle.drive_states.specs.StateSize.{HasTooManyStates}
 use Rattle.drive_states.specs.declared.rule.BreakRule.{BreakRule}
 use Rattle.plan_report.specs.Plain.{plain_text_of}
-use Rattle.front_words.specs.declared.commands.Breaks.{Breaks}
+use Rattle.front_words.specs.declared.breaks.Breaks.{Breaks}
 use Rattle.network_folder.specs.ReadingOrder.{first_folder_fault, network_held}
 use Rattle.front_desk.specs.Meaning.{Meaning, reads}
 use Rattle.front_desk.specs.Plan.{trip_setting}

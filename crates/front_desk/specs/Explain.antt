@@ -20,7 +20,7 @@ use Rattle.trip_explain.specs.Explanations.{IsExplained}
 use Rattle.trip_explain.specs.ItineraryFile.{bad_line_of, legs_of}
 use Rattle.trip_explain.specs.declared.explanation.Explanation.{Explanation}
 use Rattle.trip_explain.specs.declared.explanation.Explanation.TheVariants.{Lawful, Unlawful}
-use Rattle.front_words.specs.declared.commands.Explain.{Explain}
+use Rattle.front_words.specs.declared.explain.Explain.{Explain}
 use Rattle.network_folder.specs.Files.{bytes_at}
 use Rattle.network_folder.specs.ReadingOrder.{itinerary_file, first_fault_with, network_held}
 use Rattle.front_desk.specs.Meaning.{Meaning, reads, with_one_text}

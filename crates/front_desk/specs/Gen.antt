@@ -14,7 +14,7 @@ use Rattle.network_tables.specs.NetworkModel.{NetworkModel}
 use Rattle.net_generator.specs.Generated.{graph_file, closures_file, parking_file, ratings_file}
 use Rattle.drawn_network.specs.DrawnFiles.{drawn_files}
 use Rattle.plan_report.specs.Summary.{summary_text_of}
-use Rattle.front_words.specs.declared.commands.Gen.{Gen}
+use Rattle.front_words.specs.declared.generate.Gen.{Gen}
 use Rattle.network_folder.specs.Writing.{FileToWrite, HoldsEach, HoldsFirst, SpoilsNext}
 use Rattle.front_desk.specs.Meaning.{Meaning}
 use Rattle.front_desk.specs.Plan.{trip_setting}

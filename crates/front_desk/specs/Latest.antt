@@ -8,7 +8,7 @@ use Rattle.route_base.specs.declared.types.Request.{Request}
 use Rattle.latest_departure.specs.LateFront.{AreRightLate}
 use Rattle.latest_departure.specs.LateText.{late_text_of}
 use Rattle.latest_departure.specs.declared.routes.LateRoute.{LateRoute}
-use Rattle.front_words.specs.declared.commands.Latest.{Latest}
+use Rattle.front_words.specs.declared.latest.Latest.{Latest}
 use Rattle.network_folder.specs.ReadingOrder.{first_folder_fault, network_held}
 use Rattle.front_desk.specs.Meaning.{Meaning, reads, with_one_text}
 use Rattle.front_desk.specs.Plan.{trip_setting}

@@ -19,7 +19,7 @@ use Rattle.certificate.specs.declared.Certificate.{Certificate}
 use Rattle.certificate_check.specs.Verdicts.{IsGood}
 use Rattle.plan_certificate.specs.Tight.{IsTight}
 use Rattle.plan_report.specs.Reports.{report_text}
-use Rattle.front_words.specs.declared.commands.Plan.{Plan}
+use Rattle.front_words.specs.declared.plan.Plan.{Plan}
 use Rattle.network_folder.specs.Files.{IfTold, path_of}
 use Rattle.network_folder.specs.ReadingOrder.{first_folder_fault, network_held}
 use Rattle.front_desk.specs.Meaning.{Meaning, reads, with_one_text}

@@ -12,7 +12,7 @@ use Rattle.plan_report.specs.Refusals.{refusal_text_of}
 use Rattle.plan_report.specs.declared.outcomes.Refusal.{Refusal}
 use Rattle.plan_report.specs.declared.outcomes.Refusal.TheVariants.{Usage as UsageRefusal, Input, Request}
 use Rattle.front_desk.specs.Check.{HasGoodCertificate}
-use Rattle.front_words.specs.declared.commands.Check.{Check}
+use Rattle.front_words.specs.declared.check.Check.{Check}
 use Rattle.front_words.specs.declared.commands.Invocation.{Invocation as Command}
 use Rattle.front_words.specs.declared.commands.Invocation.TheVariants.{Check as to_check}
 use Rattle.front_words.specs.Commands.{command_of}

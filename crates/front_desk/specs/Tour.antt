@@ -17,7 +17,7 @@ use Rattle.stop_tour.specs.TourText.{tour_text_of}
 use Rattle.stop_tour.specs.Tours.{AreRightTours, tour_size_in}
 use Rattle.stop_tour.specs.declared.stops.Stop.{Stop}
 use Rattle.stop_tour.specs.declared.stops.TourRoute.{TourRoute}
-use Rattle.front_words.specs.declared.commands.Tour.{Tour}
+use Rattle.front_words.specs.declared.tour.Tour.{Tour}
 use Rattle.front_words.specs.declared.commands.Trip.{Trip}
 use Rattle.network_folder.specs.Files.{bytes_at}
 use Rattle.network_folder.specs.ReadingOrder.{stops_file, first_fault_with, network_held}

@@ -3,7 +3,7 @@ ghost use Rattle.std.specs.Prelude.{◌↔◌, List, ℕ, IfOk, OnOk, IfErr};
 ghost use Rattle.front_desk.specs.Words.{HasGoodRule, IsBreaksText, HasManyStates, breaks_meaning};
 ghost use Rattle.front_desk.specs.Words.{trip_setting, request_of, IsTimed, IsPlannable, IsTripNet, StopsAtSize, Ends};
 ghost use Rattle.front_transport.specs.CheapArcs.{HasCheapArcs};
-ghost use Rattle.front_words.specs.declared.commands.Breaks.{Breaks as BreaksModel};
+ghost use Rattle.front_words.specs.declared.breaks.Breaks.{Breaks as BreaksModel};
 ghost use Rattle.network_tables.specs.NetworkModel.{NetworkModel};
 ghost use Rattle.route_base.specs.Net.{Net, setting_of};
 

@@ -3,7 +3,7 @@ ghost use Rattle.std.specs.Prelude.{IfOk, OnOk, IfErr};
 ghost use Rattle.front_desk.specs.Words.{trip_setting, plan_meaning, IsTimed};
 ghost use Rattle.front_desk.specs.Words.{request_of, IsPlannable, IsReady};
 ghost use Rattle.front_desk.specs.Words.{Ends, HandsOver, IsWritten, IsUnwritten};
-ghost use Rattle.front_words.specs.declared.commands.Plan.{Plan as PlanModel};
+ghost use Rattle.front_words.specs.declared.plan.Plan.{Plan as PlanModel};
 ghost use Rattle.front_desk.specs.Words.{IsTripNet};
 ghost use Rattle.front_desk.specs.declared.plan.Planned.{Planned as PlannedModel};
 ghost use Rattle.network_tables.specs.NetworkModel.{NetworkModel};

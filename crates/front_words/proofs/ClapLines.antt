@@ -4,10 +4,14 @@ use Rattle.std.specs.Prelude.{IfSome}
 use Rattle.clap.specs.Walk.{Held, Text, nothing_held}
 use Rattle.clap.specs.Simple.{App, built}
 use Rattle.clap.proofs.OnLiterals.{clap_on_literals}
-use Rattle.front_words.specs.ClapCommands.{Passes, app_with, bans_places, batch_app, batch_choices, batch_places, breaks_app, breaks_choices, check_places}
-use Rattle.front_words.specs.ClapCommands.{gen_places, option_line, options_line, plan_app, plan_choices, plan_places, written_out}
+use Rattle.front_words.specs.Bans.{bans_places}
+use Rattle.front_words.specs.Batch.{batch_choices, batch_places}
+use Rattle.front_words.specs.Breaks.{breaks_choices}
+use Rattle.front_words.specs.ClapCommands.{Passes, app_with, check_places, option_line, options_line, plan_places, written_out}
 use Rattle.front_words.specs.Commands.{Command, batch_usage, breaks_usage, plan_usage}
+use Rattle.front_words.specs.Gen.{gen_places}
 use Rattle.front_words.specs.Inside.{ArePlain, ArePlainIf, TakesRow, choices_in, ids_in, usage_in}
+use Rattle.front_words.specs.Plan.{plan_choices}
 use Rattle.front_words.specs.Usages.{OptionUsage, Usage, option_names}
 use Rattle.front_words.specs.declared.table.CommandName.{CommandName}
 use Rattle.front_words.specs.declared.table.CommandName.TheVariants as row
@@ -67,7 +71,7 @@ walks_workers workers words w =
 
 -- `batch DIR JOBS [--workers N]`
 pub batch_passes : (workers : Option Text) (words : List Text) → length words ≡ 2 → ArePlain words → IsPlainIf workers
-    → Passes batch_app (codes "batch" ∷ options_line (codes "--workers" ∷ []) (workers ∷ []) words) batch_places words batch_choices (workers ∷ [])
+    → Passes (app_with (codes "batch") batch_places batch_choices) (codes "batch" ∷ options_line (codes "--workers" ∷ []) (workers ∷ []) words) batch_places words batch_choices (workers ∷ [])
 unfolding app_with
 batch_passes None (a ∷ b ∷ []) n plain w =
     passes_line batch_written _ _ _ _ _ _ _ (record { simple = refl; named = refl; alone = refl }) (walks_workers None _ w)
@@ -105,7 +109,7 @@ walks_choices form name words p q =
 
 -- `plan DIR VEHICLE FROM TO DEPART UNTIL [--form F] [--certificate NAME]`
 pub plan_passes : (form name : Option Text) (words : List Text) → length words ≡ 6 → ArePlain words → IsPlainIf form → IsPlainIf name
-    → Passes plan_app (codes "plan" ∷ options_line (codes "--form" ∷ codes "--certificate" ∷ []) (form ∷ name ∷ []) words) plan_places words
+    → Passes (app_with (codes "plan") plan_places plan_choices) (codes "plan" ∷ options_line (codes "--form" ∷ codes "--certificate" ∷ []) (form ∷ name ∷ []) words) plan_places words
     plan_choices (form ∷ name ∷ [])
 unfolding app_with
 plan_passes None None (a ∷ b ∷ c ∷ d ∷ e ∷ f ∷ []) n plain p q =
@@ -150,7 +154,7 @@ walks_rule drive rest words p q =
 
 -- `breaks DIR VEHICLE FROM TO DEPART UNTIL [--drive B] [--rest L]`
 pub breaks_passes : (drive rest : Option Text) (words : List Text) → length words ≡ 6 → ArePlain words → IsPlainIf drive → IsPlainIf rest
-    → Passes breaks_app (codes "breaks" ∷ options_line (codes "--drive" ∷ codes "--rest" ∷ []) (drive ∷ rest ∷ []) words) plan_places words
+    → Passes (app_with (codes "breaks") plan_places breaks_choices) (codes "breaks" ∷ options_line (codes "--drive" ∷ codes "--rest" ∷ []) (drive ∷ rest ∷ []) words) plan_places words
     breaks_choices (drive ∷ rest ∷ [])
 unfolding app_with
 breaks_passes None None (a ∷ b ∷ c ∷ d ∷ e ∷ f ∷ []) n plain p q =
@@ -186,7 +190,7 @@ plan_row : TakesRow plan_usage plan_places plan_choices
 plan_row = record { counted = refl; passes = at }
   where
     at : (words : List Text) (values : List (Option Text)) → length words ≡ 6 → length values ≡ 2 → ArePlain words → ArePlainIf values
-        → Passes plan_app (codes "plan" ∷ options_line (codes "--form" ∷ codes "--certificate" ∷ []) values words) plan_places words plan_choices values
+        → Passes (app_with (codes "plan") plan_places plan_choices) (codes "plan" ∷ options_line (codes "--form" ∷ codes "--certificate" ∷ []) values words) plan_places words plan_choices values
     at words (form ∷ name ∷ []) n m plain p = plan_passes form name words n plain p.0 p.1.0
     at words values n m plain p = absurd (omega (arith, m))
 
@@ -194,7 +198,7 @@ batch_row : TakesRow batch_usage batch_places batch_choices
 batch_row = record { counted = refl; passes = at }
   where
     at : (words : List Text) (values : List (Option Text)) → length words ≡ 2 → length values ≡ 1 → ArePlain words → ArePlainIf values
-        → Passes batch_app (codes "batch" ∷ options_line (codes "--workers" ∷ []) values words) batch_places words batch_choices values
+        → Passes (app_with (codes "batch") batch_places batch_choices) (codes "batch" ∷ options_line (codes "--workers" ∷ []) values words) batch_places words batch_choices values
     at words (workers ∷ []) n m plain p = batch_passes workers words n plain p.0
     at words values n m plain p = absurd (omega (arith, m))
 
@@ -202,7 +206,7 @@ breaks_row : TakesRow breaks_usage plan_places breaks_choices
 breaks_row = record { counted = refl; passes = at }
   where
     at : (words : List Text) (values : List (Option Text)) → length words ≡ 6 → length values ≡ 2 → ArePlain words → ArePlainIf values
-        → Passes breaks_app (codes "breaks" ∷ options_line (codes "--drive" ∷ codes "--rest" ∷ []) values words) plan_places words breaks_choices values
+        → Passes (app_with (codes "breaks") plan_places breaks_choices) (codes "breaks" ∷ options_line (codes "--drive" ∷ codes "--rest" ∷ []) values words) plan_places words breaks_choices values
     at words (drive ∷ rest ∷ []) n m plain p = breaks_passes drive rest words n plain p.0 p.1.0
     at words values n m plain p = absurd (omega (arith, m))
 

@@ -40,45 +40,9 @@ trip_places = codes "vehicle" ∷ codes "from" ∷ codes "to" ∷ codes "depart"
 abbrev pub plan_places : List (List ℕ)
 plan_places = codes "dir" ∷ trip_places
 
--- the options of `plan`
-abbrev pub plan_choices : List (List ℕ)
-plan_choices = codes "form" ∷ codes "certificate" ∷ []
-
--- `plan DIR VEHICLE FROM TO DEPART UNTIL [--form F] [--certificate NAME]`
-abbrev pub plan_app : App
-plan_app = app_with (codes "plan") plan_places plan_choices
-
 -- the positional words of `check`, `tour` and `explain`
 abbrev pub check_places : List (List ℕ)
 check_places = codes "dir" ∷ (trip_places ++ codes "name" ∷ [])
-
--- the positional words of `bans`
-abbrev pub bans_places : List (List ℕ)
-bans_places = codes "dir" ∷ codes "vehicle" ∷ codes "arc" ∷ codes "depart" ∷ codes "until" ∷ []
-
--- the positional words of `batch`
-abbrev pub batch_places : List (List ℕ)
-batch_places = codes "dir" ∷ codes "jobs" ∷ []
-
--- the options of `batch`
-abbrev pub batch_choices : List (List ℕ)
-batch_choices = codes "workers" ∷ []
-
--- `batch DIR JOBS [--workers N]`
-abbrev pub batch_app : App
-batch_app = app_with (codes "batch") batch_places batch_choices
-
--- the positional words of `gen`
-abbrev pub gen_places : List (List ℕ)
-gen_places = codes "dir" ∷ codes "number" ∷ codes "rows" ∷ codes "columns" ∷ []
-
--- the options of `breaks`
-abbrev pub breaks_choices : List (List ℕ)
-breaks_choices = codes "drive" ∷ codes "rest" ∷ []
-
--- `breaks DIR VEHICLE FROM TO DEPART UNTIL [--drive B] [--rest L]`
-abbrev pub breaks_app : App
-breaks_app = app_with (codes "breaks") plan_places breaks_choices
 
 -- `clap` refuses the words for want of memory alone
 unfoldable pub IsTaken : App → List (List ℕ) → Type 0

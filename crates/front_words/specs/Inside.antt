@@ -2,10 +2,14 @@
 use Rattle.std.specs.Prelude.{ℕ, ◌≡◌, ◌≤◌, ⊤, false, Option, Some, None, List, [], ◌∷◌, ◌++◌, length, map, option_map, IfSome, Result, Ok, Err}
 use Rattle.std.specs.Borrow.{Bor}
 use Rattle.clap.specs.Words.{Rule}
-use Rattle.front_words.specs.ClapCommands.{Passes, app_with, choice, options_line, place, bans_places, batch_choices, batch_places}
-use Rattle.front_words.specs.ClapCommands.{breaks_choices, check_places, gen_places, plan_choices, plan_places}
+use Rattle.front_words.specs.Bans.{bans_places}
+use Rattle.front_words.specs.Batch.{batch_choices, batch_places}
+use Rattle.front_words.specs.Breaks.{breaks_choices}
+use Rattle.front_words.specs.ClapCommands.{Passes, app_with, check_places, choice, options_line, place, plan_places}
 use Rattle.front_words.specs.Commands.{Command, Gen, Trip, bans_usage, batch_usage, breaks_usage, check_usage, explain_usage}
 use Rattle.front_words.specs.Commands.{gen_usage, latest_usage, plan_usage, tour_usage}
+use Rattle.front_words.specs.Gen.{gen_places}
+use Rattle.front_words.specs.Plan.{plan_choices}
 use Rattle.front_words.specs.Forms.{Value, of_text, of_number}
 use Rattle.front_words.specs.Splitting.{Given, Split, is_dashed, split_of, Piece, plain, named, assigned, stray}
 use Rattle.front_words.specs.Usages.{Usage, option_names}

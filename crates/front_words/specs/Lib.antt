@@ -3,5 +3,15 @@ pub mod Forms
 pub mod Inside
 pub mod Splitting
 pub mod Usages
+pub mod Trips
+pub mod Plan
+pub mod Check
+pub mod Bans
+pub mod Batch
+pub mod Gen
+pub mod Latest
+pub mod Tour
+pub mod Breaks
+pub mod Explain
 pub mod Commands
 pub mod Words

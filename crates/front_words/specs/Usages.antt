@@ -1,7 +1,9 @@
 -- A command as a row of a table: its name, its positional words, its options, and what their values make (source: own).
 use Rattle.std.specs.Prelude.{ℕ, Option, Some, None, List, [], ◌∷◌, bytes_eq, map, option_and_then, option_map}
 use Rattle.std.specs.Prelude.{if◌then◌else◌}
-use Rattle.front_words.specs.Forms.{Value, WordForm, value_of_word}
+use Rattle.route_base.specs.declared.types.Form.{Form}
+use Rattle.route_base.specs.declared.types.Form.TheVariants.{Plain}
+use Rattle.front_words.specs.Forms.{Value, WordForm, of_number, of_report, of_text, value_of_word}
 use Rattle.front_words.specs.Splitting.{Given, Split, only_value, split_of, values_for}
 
 -- an option, and the form of its value
@@ -15,6 +17,25 @@ pub record Usage (A : Type 0) : Type 0 where
   pub places : List WordForm
   pub options : List OptionUsage
   pub make : List Value → List (Option Value) → Option A
+
+-- a command without options: its name, the forms of its words, and what their values make
+abbrev pub without_options : {A : Type 0} → List ℕ → List WordForm → (List Value → List (Option Value) → Option A) → Usage A
+without_options name places make = record { name = name; places = places; options = []; make = make }
+
+-- the form of a report: `plain` where none is given
+abbrev pub report_in : Option Value → Form
+report_in (Some (of_report form)) = form
+report_in value = Plain
+
+-- the name that is given, or none
+abbrev pub name_in : Option Value → Option (List ℕ)
+name_in (Some (of_text name)) = Some name
+name_in value = None
+
+-- the number that is given, or the usual one
+abbrev pub number_in : ℕ → Option Value → ℕ
+number_in usual (Some (of_number n)) = n
+number_in usual value = usual
 
 -- the values of positional words, each in its form; nothing where there are more or fewer words than forms
 abbrev pub places_read : List WordForm → List (List ℕ) → Option (List Value)

@@ -1,8 +1,17 @@
 // The commands, with the values of all their words side by side.
 ghost use Rattle.std.specs.Prelude.{◌≡◌};
-ghost use Rattle.front_words.specs.Commands.{command_in, to_breaks, to_check, to_explain, to_latest, to_plan, to_tour};
+ghost use Rattle.front_words.specs.Commands.{command_in};
 
-use crate::{Bans, Batch, Breaks, Check, Explain, Gen, Invocation, Latest, Plan, Tour, Trip};
+use crate::Invocation;
+use crate::bans::bans_of;
+use crate::batch::batch_of;
+use crate::breaks::breaks_of;
+use crate::check::check_of;
+use crate::explain::explain_of;
+use crate::generate::gen_of;
+use crate::latest::latest_of;
+use crate::plan::plan_of;
+use crate::tour::tour_of;
 use route_base::{Form, Minute, Text};
 
 /// A command, with the values of its words. Nodes and arcs are numbered from 1; minutes are Unix minutes.
@@ -103,196 +112,12 @@ pub fn side_by_side(invocation: Invocation) -> Command
     match invocation {
         Invocation::Plan(plan) => plan_of(plan),
         Invocation::Check(check) => check_of(check),
-        Invocation::Bans(bans) => {
-            let Bans {
-                dir,
-                vehicle,
-                arc,
-                depart,
-                until,
-            } = bans;
-            Command::Bans {
-                dir,
-                vehicle,
-                arc,
-                depart,
-                until,
-            }
-        }
-        Invocation::Batch(batch) => {
-            let Batch { dir, jobs, workers } = batch;
-            Command::Batch { dir, jobs, workers }
-        }
-        Invocation::Gen(network) => {
-            let Gen {
-                dir,
-                number,
-                rows,
-                columns,
-            } = network;
-            Command::Gen {
-                dir,
-                number,
-                rows,
-                columns,
-            }
-        }
+        Invocation::Bans(bans) => bans_of(bans),
+        Invocation::Batch(batch) => batch_of(batch),
+        Invocation::Gen(network) => gen_of(network),
         Invocation::Latest(latest) => latest_of(latest),
         Invocation::Tour(tour) => tour_of(tour),
         Invocation::Breaks(breaks) => breaks_of(breaks),
         Invocation::Explain(explain) => explain_of(explain),
-    }
-}
-
-// The words of a plan.
-fn plan_of(plan: Plan) -> Command
-    ensures { command_in result ≡ to_plan plan }
-{
-    let Plan {
-        dir,
-        trip,
-        form,
-        certificate,
-    } = plan;
-    let Trip {
-        vehicle,
-        origin,
-        goal,
-        depart,
-        until,
-    } = trip;
-    Command::Plan {
-        dir,
-        vehicle,
-        from: origin,
-        to: goal,
-        depart,
-        until,
-        form,
-        certificate,
-    }
-}
-
-// The words of a check.
-fn check_of(check: Check) -> Command
-    ensures { command_in result ≡ to_check check }
-{
-    let Check { dir, trip, name } = check;
-    let Trip {
-        vehicle,
-        origin,
-        goal,
-        depart,
-        until,
-    } = trip;
-    Command::Check {
-        dir,
-        vehicle,
-        from: origin,
-        to: goal,
-        depart,
-        until,
-        name,
-    }
-}
-
-// The words of a latest departure.
-fn latest_of(latest: Latest) -> Command
-    ensures { command_in result ≡ to_latest latest }
-{
-    let Latest { dir, trip } = latest;
-    let Trip {
-        vehicle,
-        origin,
-        goal,
-        depart,
-        until,
-    } = trip;
-    Command::Latest {
-        dir,
-        vehicle,
-        from: origin,
-        to: goal,
-        depart,
-        until,
-    }
-}
-
-// The words of a tour.
-fn tour_of(tour: Tour) -> Command
-    ensures { command_in result ≡ to_tour tour }
-{
-    let Tour { dir, trip, stops } = tour;
-    let Trip {
-        vehicle,
-        origin,
-        goal,
-        depart,
-        until,
-    } = trip;
-    Command::Tour {
-        dir,
-        vehicle,
-        from: origin,
-        to: goal,
-        depart,
-        until,
-        stops,
-    }
-}
-
-// The words of a plan with breaks.
-fn breaks_of(breaks: Breaks) -> Command
-    ensures { command_in result ≡ to_breaks breaks }
-{
-    let Breaks {
-        dir,
-        trip,
-        drive,
-        rest,
-    } = breaks;
-    let Trip {
-        vehicle,
-        origin,
-        goal,
-        depart,
-        until,
-    } = trip;
-    Command::Breaks {
-        dir,
-        vehicle,
-        from: origin,
-        to: goal,
-        depart,
-        until,
-        drive,
-        rest,
-    }
-}
-
-// The words of an explanation.
-fn explain_of(explain: Explain) -> Command
-    ensures { command_in result ≡ to_explain explain }
-{
-    let Explain {
-        dir,
-        trip,
-        itinerary,
-    } = explain;
-    let Trip {
-        vehicle,
-        origin,
-        goal,
-        depart,
-        until,
-    } = trip;
-    Command::Explain {
-        dir,
-        vehicle,
-        from: origin,
-        to: goal,
-        depart,
-        until,
-        itinerary,
     }
 }

@@ -1,10 +1,9 @@
 // The values of the words that `clap` found, each in its form.
 ghost use Rattle.std.specs.Prelude.{IfOk, option_map};
 ghost use Rattle.front_words.specs.ClapCommands.{text_at, value_at};
-ghost use Rattle.front_words.specs.Commands.{name_in, number_in, report_in};
 ghost use Rattle.front_words.specs.Forms.{certificate, count, file, folder, instant, number, of_number, of_text, report, text_if, vehicle};
 ghost use Rattle.front_words.specs.Inside.{IsAnswer, IsAnswerWith, IsUpTo};
-ghost use Rattle.front_words.specs.Usages.{value_if};
+ghost use Rattle.front_words.specs.Usages.{name_in, number_in, report_in, value_if};
 ghost use Rattle.front_words.specs.declared.limits.TheConstants.{MOST_WORKERS, USUAL_WORKERS};
 ghost use Rattle.route_base.specs.Time.{IsInstant};
 

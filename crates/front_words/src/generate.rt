@@ -1,15 +1,26 @@
-// The words of `gen DIR NUMBER ROWS COLUMNS`.
+// `gen DIR NUMBER ROWS COLUMNS`
 ghost use Rattle.std.specs.Prelude.{◌≡◌, ◌*◌, [], IfOk, nat_le};
-ghost use Rattle.front_words.specs.ClapCommands.{gen_places, made_at, values_at};
-ghost use Rattle.front_words.specs.Commands.{AsksSupported, gen_usage};
+ghost use Rattle.front_words.specs.Gen.{gen_places};
+ghost use Rattle.front_words.specs.ClapCommands.{made_at, values_at};
+ghost use Rattle.front_words.specs.Commands.{AsksSupported, command_in, gen_usage, to_gen};
 ghost use Rattle.front_words.specs.Inside.{IsAnswer, IsAnswerWith, AreCounted, gen_values};
 ghost use Rattle.net_generator.specs.declared.limits.TheConstants.{MOST_GENERATED_NODES};
 
 use crate::found::{count_at, folder_at, small_count_at};
-use crate::{Gen, Invocation, WordsFault};
+use crate::{Command, Invocation, WordsFault};
 use clap::ArgMatches;
 use net_generator::{LAST_NUMBER, MOST_GENERATED_NODES, MOST_LINES};
+use route_base::Text;
 use std::alloc::Global;
+
+/// Draws a network of these rows and columns from a number, and writes its files into the folder `dir`.
+#[derive(Drop)]
+pub struct Gen {
+    pub dir: Text,
+    pub number: u64,
+    pub rows: u32,
+    pub columns: u32,
+}
 
 // The network that the words say, whose nodes may be too many.
 fn counts_found(alloc: Global, matches: &ArgMatches) -> Result<Gen, WordsFault>
@@ -43,5 +54,23 @@ pub fn gen_found(alloc: Global, matches: &ArgMatches) -> Result<Invocation, Word
         Ok(Invocation::Gen(network))
     } else {
         Err(WordsFault::NotACommand)
+    }
+}
+
+// The same command, its words side by side.
+pub fn gen_of(network: Gen) -> Command
+    ensures { command_in result ≡ to_gen network }
+{
+    let Gen {
+        dir,
+        number,
+        rows,
+        columns,
+    } = network;
+    Command::Gen {
+        dir,
+        number,
+        rows,
+        columns,
     }
 }

@@ -18,23 +18,37 @@
 //! `proofs/ClapLines` has the line of each command (`takes_row`).
 #![tactic(auto)]
 
+mod bans;
+mod batch;
+mod breaks;
+mod check;
 mod clap_words;
 mod commands;
+mod explain;
 mod flat;
 mod forms;
 mod found;
 mod generate;
+mod latest;
 mod limits;
 mod options;
+mod plan;
 mod reading;
 mod splitting;
 mod table;
+mod tour;
 mod trip_words;
-mod values;
 
-pub use commands::{
-    Bans, Batch, Breaks, Check, Explain, Gen, Invocation, Latest, Plan, Tour, Trip, WordsFault,
-};
+pub use bans::Bans;
+pub use batch::Batch;
+pub use breaks::Breaks;
+pub use check::Check;
+pub use commands::{Invocation, Trip, WordsFault};
+pub use explain::Explain;
 pub use flat::Command;
+pub use generate::Gen;
+pub use latest::Latest;
 pub use limits::{MOST_WORKERS, USUAL_DRIVE, USUAL_REST, USUAL_WORKERS};
+pub use plan::Plan;
 pub use reading::{read_invocation, read_words};
+pub use tour::Tour;

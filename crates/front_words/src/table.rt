@@ -5,15 +5,19 @@ ghost use Rattle.front_words.specs.Commands.{AsksSupported, usages};
 ghost use Rattle.front_words.specs.Inside.{IsAnswer, IsAnswerWith, IsPlainSplit, choices_in, given_in, ids_in, split_of_words, usage_in};
 ghost use Rattle.front_words.specs.Usages.{made_of, option_names, usage_named};
 
+use crate::bans::{BANS_PLACES, bans_found};
+use crate::batch::batch_found;
+use crate::breaks::{BREAKS_CHOICES, BREAKS_OPTIONS, breaks_found};
+use crate::check::check_found;
 use crate::clap_words::{line_of, matches_for, push_option};
+use crate::explain::explain_found;
 use crate::generate::gen_found;
+use crate::latest::latest_found;
 use crate::options::value_of_option;
+use crate::plan::{PLAN_CHOICES, PLAN_OPTIONS, plan_found};
 use crate::splitting::Given;
+use crate::tour::tour_found;
 use crate::trip_words::{NAMED_TRIP_PLACES, TRIP_PLACES};
-use crate::values::{
-    bans_found, batch_found, breaks_found, check_found, explain_found, latest_found, plan_found,
-    tour_found,
-};
 use crate::{Invocation, WordsFault};
 use clap::ArgMatches;
 use std::alloc::Global;
@@ -92,29 +96,14 @@ impl CommandName {
             ≡ option_names (usage_in self).options }
     {
         match self {
-            CommandName::Plan => row_of(
-                "plan",
-                TRIP_PLACES,
-                &["form", "certificate"],
-                &["--form", "--certificate"],
-            ),
+            CommandName::Plan => row_of("plan", TRIP_PLACES, PLAN_CHOICES, PLAN_OPTIONS),
             CommandName::Check => row_of("check", NAMED_TRIP_PLACES, &[], &[]),
-            CommandName::Bans => row_of(
-                "bans",
-                &["dir", "vehicle", "arc", "depart", "until"],
-                &[],
-                &[],
-            ),
+            CommandName::Bans => row_of("bans", BANS_PLACES, &[], &[]),
             CommandName::Batch => row_of("batch", &["dir", "jobs"], &["workers"], &["--workers"]),
             CommandName::Gen => row_of("gen", &["dir", "number", "rows", "columns"], &[], &[]),
             CommandName::Latest => row_of("latest", TRIP_PLACES, &[], &[]),
             CommandName::Tour => row_of("tour", NAMED_TRIP_PLACES, &[], &[]),
-            CommandName::Breaks => row_of(
-                "breaks",
-                TRIP_PLACES,
-                &["drive", "rest"],
-                &["--drive", "--rest"],
-            ),
+            CommandName::Breaks => row_of("breaks", TRIP_PLACES, BREAKS_CHOICES, BREAKS_OPTIONS),
             CommandName::Explain => row_of("explain", NAMED_TRIP_PLACES, &[], &[]),
         }
     }

@@ -1,7 +1,7 @@
 // The words of a trip, `VEHICLE FROM TO DEPART UNTIL` behind the folder's, in all commands that have them.
 ghost use Rattle.std.specs.Prelude.{IfOk};
 ghost use Rattle.front_words.specs.ClapCommands.{trip_places, values_at};
-ghost use Rattle.front_words.specs.Commands.{IsTimed, trip_forms};
+ghost use Rattle.front_words.specs.Trips.{IsTimed, trip_forms};
 ghost use Rattle.front_words.specs.Inside.{IsAnswerWith, trip_values};
 
 use crate::found::{instant_at, number_at, vehicle_at};

@@ -20,7 +20,7 @@ use Rattle.network_tables.specs.NetworkModel.{IsGoodNetwork, NetworkModel}
 use Rattle.plan_certificate.specs.CheapRoads.{HasCheapRoads}
 use Rattle.plan_report.specs.Reports.{report_text}
 use Rattle.plan_report.specs.declared.outcomes.Refusal.TheVariants.{Usage, Input, Request as RequestRefusal}
-use Rattle.front_words.specs.declared.commands.Plan.{Plan}
+use Rattle.front_words.specs.declared.plan.Plan.{Plan}
 use Rattle.network_folder.specs.Files.{path_of}
 use Rattle.network_folder.specs.Writing.{FailsToPut}
 use Rattle.front_desk.specs.Plan.{IsCertificateOf, trip_setting}

@@ -1,0 +1,60 @@
+// `bans DIR VEHICLE ARC DEPART UNTIL`
+ghost use Rattle.std.specs.Prelude.{◌≡◌, [], IfOk};
+ghost use Rattle.front_words.specs.Bans.{bans_places};
+ghost use Rattle.front_words.specs.ClapCommands.{made_at};
+ghost use Rattle.front_words.specs.Commands.{AsksSupported, command_in, bans_usage, to_bans};
+ghost use Rattle.front_words.specs.Inside.{IsAnswer};
+
+use crate::found::{folder_at, instant_at, number_at, vehicle_at};
+use crate::{Command, Invocation, WordsFault};
+use clap::ArgMatches;
+use route_base::{Minute, Text};
+use std::alloc::Global;
+
+/// Prints the minutes from `depart` up to, but not including, `until` at which an arc is closed to a vehicle, over the files of the folder
+/// `dir`. Arcs are numbered from 1, and minutes are Unix minutes.
+#[derive(Drop)]
+pub struct Bans {
+    pub dir: Text,
+    pub vehicle: Text,
+    pub arc: u32,
+    pub depart: Minute,
+    pub until: Minute,
+}
+
+// The positional words, by the names that `clap` has for them.
+pub const BANS_PLACES: &[&str] = &["dir", "vehicle", "arc", "depart", "until"];
+
+// The command that the matches say.
+pub fn bans_found(alloc: Global, matches: &ArgMatches) -> Result<Invocation, WordsFault>
+    ensures made { IsAnswer (made_at matches.now bans_usage bans_places []) result }
+    ensures supported { IfOk result AsksSupported }
+{
+    Ok(Invocation::Bans(Bans {
+        dir: folder_at(alloc, matches, "dir")?,
+        vehicle: vehicle_at(alloc, matches, "vehicle")?,
+        arc: number_at(matches, "arc")?,
+        depart: instant_at(matches, "depart")?,
+        until: instant_at(matches, "until")?,
+    }))
+}
+
+// The same command, its words side by side.
+pub fn bans_of(bans: Bans) -> Command
+    ensures { command_in result ≡ to_bans bans }
+{
+    let Bans {
+        dir,
+        vehicle,
+        arc,
+        depart,
+        until,
+    } = bans;
+    Command::Bans {
+        dir,
+        vehicle,
+        arc,
+        depart,
+        until,
+    }
+}

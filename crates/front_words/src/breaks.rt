@@ -1,0 +1,66 @@
+// `breaks DIR VEHICLE FROM TO DEPART UNTIL [--drive B] [--rest L]`
+ghost use Rattle.std.specs.Prelude.{◌≡◌, IfOk};
+ghost use Rattle.front_words.specs.Breaks.{breaks_choices};
+ghost use Rattle.front_words.specs.ClapCommands.{made_at, plan_places};
+ghost use Rattle.front_words.specs.Commands.{AsksSupported, command_in, breaks_usage, to_breaks};
+ghost use Rattle.front_words.specs.Inside.{IsAnswer};
+
+use crate::found::{count_or_usual, folder_at};
+use crate::limits::{USUAL_DRIVE, USUAL_REST};
+use crate::trip_words::trip_found;
+use crate::{Command, Invocation, Trip, WordsFault};
+use clap::ArgMatches;
+use route_base::Text;
+use route_base::limits::DAY_MINUTES;
+use std::alloc::Global;
+
+/// Plans a trip over the files of the folder `dir` under a break rule: at most `drive` minutes of driving since the last unbroken wait of
+/// `rest` minutes.
+#[derive(Drop)]
+pub struct Breaks {
+    pub dir: Text,
+    pub trip: Trip,
+    pub drive: u64,
+    pub rest: u64,
+}
+
+// The values of the options, by the names that `clap` has for them, and the options as words.
+pub const BREAKS_CHOICES: &[&str] = &["drive", "rest"];
+
+pub const BREAKS_OPTIONS: &[&str] = &["--drive", "--rest"];
+
+// The command that the matches say.
+pub fn breaks_found(alloc: Global, matches: &ArgMatches) -> Result<Invocation, WordsFault>
+    ensures made { IsAnswer
+        (made_at matches.now breaks_usage plan_places breaks_choices) result }
+    ensures supported { IfOk result AsksSupported }
+{
+    Ok(Invocation::Breaks(Breaks {
+        dir: folder_at(alloc, matches, "dir")?,
+        trip: trip_found(alloc, matches)?,
+        drive: count_or_usual(matches, "drive", DAY_MINUTES, USUAL_DRIVE)?,
+        rest: count_or_usual(matches, "rest", DAY_MINUTES, USUAL_REST)?,
+    }))
+}
+
+// The same command, its words side by side.
+pub fn breaks_of(breaks: Breaks) -> Command
+    ensures { command_in result ≡ to_breaks breaks }
+{
+    let Breaks {
+        dir,
+        trip,
+        drive,
+        rest,
+    } = breaks;
+    Command::Breaks {
+        dir,
+        vehicle: trip.vehicle,
+        from: trip.origin,
+        to: trip.goal,
+        depart: trip.depart,
+        until: trip.until,
+        drive,
+        rest,
+    }
+}

@@ -1,0 +1,64 @@
+// `plan DIR VEHICLE FROM TO DEPART UNTIL [--form F] [--certificate NAME]`
+ghost use Rattle.std.specs.Prelude.{◌≡◌, IfOk};
+ghost use Rattle.front_words.specs.Plan.{plan_choices};
+ghost use Rattle.front_words.specs.ClapCommands.{made_at, plan_places};
+ghost use Rattle.front_words.specs.Commands.{AsksSupported, command_in, plan_usage, to_plan};
+ghost use Rattle.front_words.specs.Inside.{IsAnswer};
+
+use crate::found::{certificate_if, folder_at, report_or_plain};
+use crate::trip_words::trip_found;
+use crate::{Command, Invocation, Trip, WordsFault};
+use clap::ArgMatches;
+use route_base::{Form, Text};
+use std::alloc::Global;
+
+/// Plans a trip over the files of the folder `dir`, reports it in a form, and writes a certificate into the folder where a name is given
+/// for it.
+#[derive(Drop)]
+pub struct Plan {
+    pub dir: Text,
+    pub trip: Trip,
+    pub form: Form,
+    pub certificate: Option<Text>,
+}
+
+// The values of the options, by the names that `clap` has for them, and the options as words.
+pub const PLAN_CHOICES: &[&str] = &["form", "certificate"];
+
+pub const PLAN_OPTIONS: &[&str] = &["--form", "--certificate"];
+
+// The command that the matches say.
+pub fn plan_found(alloc: Global, matches: &ArgMatches) -> Result<Invocation, WordsFault>
+    ensures made { IsAnswer
+        (made_at matches.now plan_usage plan_places plan_choices) result }
+    ensures supported { IfOk result AsksSupported }
+{
+    Ok(Invocation::Plan(Plan {
+        dir: folder_at(alloc, matches, "dir")?,
+        trip: trip_found(alloc, matches)?,
+        form: report_or_plain(matches, "form")?,
+        certificate: certificate_if(alloc, matches, "certificate")?,
+    }))
+}
+
+// The same command, its words side by side.
+pub fn plan_of(plan: Plan) -> Command
+    ensures { command_in result ≡ to_plan plan }
+{
+    let Plan {
+        dir,
+        trip,
+        form,
+        certificate,
+    } = plan;
+    Command::Plan {
+        dir,
+        vehicle: trip.vehicle,
+        from: trip.origin,
+        to: trip.goal,
+        depart: trip.depart,
+        until: trip.until,
+        form,
+        certificate,
+    }
+}
