@@ -6,8 +6,8 @@ use Rattle.front_words.specs.Bans.{bans_places}
 use Rattle.front_words.specs.Batch.{batch_choices, batch_places}
 use Rattle.front_words.specs.Breaks.{breaks_choices}
 use Rattle.front_words.specs.ClapCommands.{Passes, app_with, check_places, choice, options_line, place, plan_places}
-use Rattle.front_words.specs.Commands.{Command, Gen, Trip, bans_usage, batch_usage, breaks_usage, check_usage, explain_usage}
-use Rattle.front_words.specs.Commands.{gen_usage, latest_usage, plan_usage, tour_usage}
+use Rattle.front_words.specs.Commands as law
+use Rattle.front_words.specs.Commands.{Command, Gen, Trip}
 use Rattle.front_words.specs.Gen.{gen_places}
 use Rattle.front_words.specs.Plan.{plan_choices}
 use Rattle.front_words.specs.Forms.{Value, of_text, of_number}
@@ -70,15 +70,15 @@ row_with usage ids choices = record { usage = usage; ids = ids; choices = choice
 
 -- the row of a command: one line a command
 abbrev pub row_in : CommandName → ClapRow
-row_in row.Plan = row_with plan_usage plan_places plan_choices
-row_in row.Check = row_with check_usage check_places []
-row_in row.Bans = row_with bans_usage bans_places []
-row_in row.Batch = row_with batch_usage batch_places batch_choices
-row_in row.Gen = row_with gen_usage gen_places []
-row_in row.Latest = row_with latest_usage plan_places []
-row_in row.Tour = row_with tour_usage check_places []
-row_in row.Breaks = row_with breaks_usage plan_places breaks_choices
-row_in row.Explain = row_with explain_usage check_places []
+row_in row.Plan = row_with law.plan_usage plan_places plan_choices
+row_in row.Check = row_with law.check_usage check_places []
+row_in row.Bans = row_with law.bans_usage bans_places []
+row_in row.Batch = row_with law.batch_usage batch_places batch_choices
+row_in row.Gen = row_with law.gen_usage gen_places []
+row_in row.Latest = row_with law.latest_usage plan_places []
+row_in row.Tour = row_with law.tour_usage check_places []
+row_in row.Breaks = row_with law.breaks_usage plan_places breaks_choices
+row_in row.Explain = row_with law.explain_usage check_places []
 
 abbrev pub usage_in : CommandName → Usage Command
 usage_in command = (row_in command).usage

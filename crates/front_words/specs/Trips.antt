@@ -13,7 +13,13 @@ trip_forms = vehicle ∷ number ∷ number ∷ instant ∷ instant ∷ []
 abbrev pub trip_to : List ℕ → ℕ → ℕ → ℕ → ℕ → Trip
 trip_to lorry from to start end = record { vehicle = lorry; origin = from; goal = to; depart = start; until = end }
 
--- what the values of the words of a trip, and of a name behind them, make
+-- what the values of the words of a trip make
+abbrev pub trip_of : (List ℕ → Trip → Command) → List Value → List (Option Value) → Option Command
+trip_of make (of_text dir ∷ of_text lorry ∷ of_number from ∷ of_number to ∷ of_number start ∷ of_number end ∷ []) [] =
+    Some (make dir (trip_to lorry from to start end))
+trip_of make places options = None
+
+-- the same with a name behind them
 abbrev pub named_trip_of : (List ℕ → Trip → List ℕ → Command) → List Value → List (Option Value) → Option Command
 named_trip_of make (of_text dir ∷ of_text lorry ∷ of_number from ∷ of_number to ∷ of_number start ∷ of_number end ∷ of_text name ∷ []) [] =
     Some (make dir (trip_to lorry from to start end) name)

@@ -25,7 +25,6 @@ pub struct Bans {
 // The positional words, by the names that `clap` has for them.
 pub const BANS_PLACES: &[&str] = &["dir", "vehicle", "arc", "depart", "until"];
 
-// The command that the matches say.
 pub fn bans_found(alloc: Global, matches: &ArgMatches) -> Result<Invocation, WordsFault>
     ensures made { IsAnswer (made_at matches.now bans_usage bans_places []) result }
     ensures supported { IfOk result AsksSupported }
@@ -39,22 +38,14 @@ pub fn bans_found(alloc: Global, matches: &ArgMatches) -> Result<Invocation, Wor
     }))
 }
 
-// The same command, its words side by side.
-pub fn bans_of(bans: Bans) -> Command
+pub fn flat_bans(bans: Bans) -> Command
     ensures { command_in result ≡ to_bans bans }
 {
-    let Bans {
-        dir,
-        vehicle,
-        arc,
-        depart,
-        until,
-    } = bans;
     Command::Bans {
-        dir,
-        vehicle,
-        arc,
-        depart,
-        until,
+        dir: bans.dir,
+        vehicle: bans.vehicle,
+        arc: bans.arc,
+        depart: bans.depart,
+        until: bans.until,
     }
 }

@@ -19,7 +19,6 @@ pub struct Batch {
     pub workers: u32,
 }
 
-// The command that the matches say.
 pub fn batch_found(alloc: Global, matches: &ArgMatches) -> Result<Invocation, WordsFault>
     ensures made { IsAnswer
         (made_at matches.now batch_usage batch_places batch_choices) result }
@@ -32,10 +31,12 @@ pub fn batch_found(alloc: Global, matches: &ArgMatches) -> Result<Invocation, Wo
     }))
 }
 
-// The same command, its words side by side.
-pub fn batch_of(batch: Batch) -> Command
+pub fn flat_batch(batch: Batch) -> Command
     ensures { command_in result ≡ to_batch batch }
 {
-    let Batch { dir, jobs, workers } = batch;
-    Command::Batch { dir, jobs, workers }
+    Command::Batch {
+        dir: batch.dir,
+        jobs: batch.jobs,
+        workers: batch.workers,
+    }
 }

@@ -29,7 +29,6 @@ pub const BREAKS_CHOICES: &[&str] = &["drive", "rest"];
 
 pub const BREAKS_OPTIONS: &[&str] = &["--drive", "--rest"];
 
-// The command that the matches say.
 pub fn breaks_found(alloc: Global, matches: &ArgMatches) -> Result<Invocation, WordsFault>
     ensures made { IsAnswer
         (made_at matches.now breaks_usage plan_places breaks_choices) result }
@@ -43,8 +42,7 @@ pub fn breaks_found(alloc: Global, matches: &ArgMatches) -> Result<Invocation, W
     }))
 }
 
-// The same command, its words side by side.
-pub fn breaks_of(breaks: Breaks) -> Command
+pub fn flat_breaks(breaks: Breaks) -> Command
     ensures { command_in result ≡ to_breaks breaks }
 {
     let Breaks {

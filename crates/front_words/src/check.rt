@@ -19,7 +19,6 @@ pub struct Check {
     pub name: Text,
 }
 
-// The command that the matches say.
 pub fn check_found(alloc: Global, matches: &ArgMatches) -> Result<Invocation, WordsFault>
     ensures made { IsAnswer (made_at matches.now check_usage check_places []) result }
     ensures supported { IfOk result AsksSupported }
@@ -31,8 +30,7 @@ pub fn check_found(alloc: Global, matches: &ArgMatches) -> Result<Invocation, Wo
     }))
 }
 
-// The same command, its words side by side.
-pub fn check_of(check: Check) -> Command
+pub fn flat_check(check: Check) -> Command
     ensures { command_in result ≡ to_check check }
 {
     let Check { dir, trip, name } = check;

@@ -19,7 +19,6 @@ pub struct Explain {
     pub itinerary: Text,
 }
 
-// The command that the matches say.
 pub fn explain_found(alloc: Global, matches: &ArgMatches) -> Result<Invocation, WordsFault>
     ensures made { IsAnswer (made_at matches.now explain_usage check_places []) result }
     ensures supported { IfOk result AsksSupported }
@@ -31,8 +30,7 @@ pub fn explain_found(alloc: Global, matches: &ArgMatches) -> Result<Invocation, 
     }))
 }
 
-// The same command, its words side by side.
-pub fn explain_of(explain: Explain) -> Command
+pub fn flat_explain(explain: Explain) -> Command
     ensures { command_in result ≡ to_explain explain }
 {
     let Explain {

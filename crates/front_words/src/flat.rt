@@ -3,15 +3,15 @@ ghost use Rattle.std.specs.Prelude.{◌≡◌};
 ghost use Rattle.front_words.specs.Commands.{command_in};
 
 use crate::Invocation;
-use crate::bans::bans_of;
-use crate::batch::batch_of;
-use crate::breaks::breaks_of;
-use crate::check::check_of;
-use crate::explain::explain_of;
-use crate::generate::gen_of;
-use crate::latest::latest_of;
-use crate::plan::plan_of;
-use crate::tour::tour_of;
+use crate::bans::flat_bans;
+use crate::batch::flat_batch;
+use crate::breaks::flat_breaks;
+use crate::check::flat_check;
+use crate::explain::flat_explain;
+use crate::generate::flat_gen;
+use crate::latest::flat_latest;
+use crate::plan::flat_plan;
+use crate::tour::flat_tour;
 use route_base::{Form, Minute, Text};
 
 /// A command, with the values of its words. Nodes and arcs are numbered from 1; minutes are Unix minutes.
@@ -110,14 +110,14 @@ pub fn side_by_side(invocation: Invocation) -> Command
     ensures { command_in result ≡ invocation }
 {
     match invocation {
-        Invocation::Plan(plan) => plan_of(plan),
-        Invocation::Check(check) => check_of(check),
-        Invocation::Bans(bans) => bans_of(bans),
-        Invocation::Batch(batch) => batch_of(batch),
-        Invocation::Gen(network) => gen_of(network),
-        Invocation::Latest(latest) => latest_of(latest),
-        Invocation::Tour(tour) => tour_of(tour),
-        Invocation::Breaks(breaks) => breaks_of(breaks),
-        Invocation::Explain(explain) => explain_of(explain),
+        Invocation::Plan(plan) => flat_plan(plan),
+        Invocation::Check(check) => flat_check(check),
+        Invocation::Bans(bans) => flat_bans(bans),
+        Invocation::Batch(batch) => flat_batch(batch),
+        Invocation::Gen(network) => flat_gen(network),
+        Invocation::Latest(latest) => flat_latest(latest),
+        Invocation::Tour(tour) => flat_tour(tour),
+        Invocation::Breaks(breaks) => flat_breaks(breaks),
+        Invocation::Explain(explain) => flat_explain(explain),
     }
 }

@@ -1,8 +1,8 @@
 // `gen DIR NUMBER ROWS COLUMNS`
 ghost use Rattle.std.specs.Prelude.{◌≡◌, ◌*◌, [], IfOk, nat_le};
-ghost use Rattle.front_words.specs.Gen.{gen_places};
 ghost use Rattle.front_words.specs.ClapCommands.{made_at, values_at};
 ghost use Rattle.front_words.specs.Commands.{AsksSupported, command_in, gen_usage, to_gen};
+ghost use Rattle.front_words.specs.Gen.{gen_places};
 ghost use Rattle.front_words.specs.Inside.{IsAnswer, IsAnswerWith, AreCounted, gen_values};
 ghost use Rattle.net_generator.specs.declared.limits.TheConstants.{MOST_GENERATED_NODES};
 
@@ -57,20 +57,13 @@ pub fn gen_found(alloc: Global, matches: &ArgMatches) -> Result<Invocation, Word
     }
 }
 
-// The same command, its words side by side.
-pub fn gen_of(network: Gen) -> Command
+pub fn flat_gen(network: Gen) -> Command
     ensures { command_in result ≡ to_gen network }
 {
-    let Gen {
-        dir,
-        number,
-        rows,
-        columns,
-    } = network;
     Command::Gen {
-        dir,
-        number,
-        rows,
-        columns,
+        dir: network.dir,
+        number: network.number,
+        rows: network.rows,
+        columns: network.columns,
     }
 }

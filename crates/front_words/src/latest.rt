@@ -18,7 +18,6 @@ pub struct Latest {
     pub trip: Trip,
 }
 
-// The command that the matches say.
 pub fn latest_found(alloc: Global, matches: &ArgMatches) -> Result<Invocation, WordsFault>
     ensures made { IsAnswer (made_at matches.now latest_usage plan_places []) result }
     ensures supported { IfOk result AsksSupported }
@@ -29,8 +28,7 @@ pub fn latest_found(alloc: Global, matches: &ArgMatches) -> Result<Invocation, W
     }))
 }
 
-// The same command, its words side by side.
-pub fn latest_of(latest: Latest) -> Command
+pub fn flat_latest(latest: Latest) -> Command
     ensures { command_in result ≡ to_latest latest }
 {
     let Latest { dir, trip } = latest;

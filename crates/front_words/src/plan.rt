@@ -1,9 +1,9 @@
 // `plan DIR VEHICLE FROM TO DEPART UNTIL [--form F] [--certificate NAME]`
 ghost use Rattle.std.specs.Prelude.{◌≡◌, IfOk};
-ghost use Rattle.front_words.specs.Plan.{plan_choices};
 ghost use Rattle.front_words.specs.ClapCommands.{made_at, plan_places};
 ghost use Rattle.front_words.specs.Commands.{AsksSupported, command_in, plan_usage, to_plan};
 ghost use Rattle.front_words.specs.Inside.{IsAnswer};
+ghost use Rattle.front_words.specs.Plan.{plan_choices};
 
 use crate::found::{certificate_if, folder_at, report_or_plain};
 use crate::trip_words::trip_found;
@@ -27,7 +27,6 @@ pub const PLAN_CHOICES: &[&str] = &["form", "certificate"];
 
 pub const PLAN_OPTIONS: &[&str] = &["--form", "--certificate"];
 
-// The command that the matches say.
 pub fn plan_found(alloc: Global, matches: &ArgMatches) -> Result<Invocation, WordsFault>
     ensures made { IsAnswer
         (made_at matches.now plan_usage plan_places plan_choices) result }
@@ -41,8 +40,7 @@ pub fn plan_found(alloc: Global, matches: &ArgMatches) -> Result<Invocation, Wor
     }))
 }
 
-// The same command, its words side by side.
-pub fn plan_of(plan: Plan) -> Command
+pub fn flat_plan(plan: Plan) -> Command
     ensures { command_in result ≡ to_plan plan }
 {
     let Plan {

@@ -19,7 +19,6 @@ pub struct Tour {
     pub stops: Text,
 }
 
-// The command that the matches say.
 pub fn tour_found(alloc: Global, matches: &ArgMatches) -> Result<Invocation, WordsFault>
     ensures made { IsAnswer (made_at matches.now tour_usage check_places []) result }
     ensures supported { IfOk result AsksSupported }
@@ -31,8 +30,7 @@ pub fn tour_found(alloc: Global, matches: &ArgMatches) -> Result<Invocation, Wor
     }))
 }
 
-// The same command, its words side by side.
-pub fn tour_of(tour: Tour) -> Command
+pub fn flat_tour(tour: Tour) -> Command
     ensures { command_in result ≡ to_tour tour }
 {
     let Tour { dir, trip, stops } = tour;
