@@ -8,7 +8,6 @@ use std::marker::Model;
 
 /// The arcs of a network in groups: the arcs of a group are closed at the same minutes, to every vehicle. Each group has a first
 /// arc, which stands for all of them.
-#[derive(Drop)]
 pub struct ArcGroups {
     groups: Vec<u32>,
     firsts: Vec<ArcId>,
@@ -20,6 +19,16 @@ impl Model for ArcGroups {
     ghost Value = { GroupsModel };
 
     ghost view = { λ g. record { groups = g.groups.items; firsts = g.firsts.items } };
+}
+
+// By hand, so that the drops of its parts are proved here alone.
+impl Drop for ArcGroups {
+    fn drop(self) {
+        let ArcGroups {
+            groups: _,
+            firsts: _,
+        } = self;
+    }
 }
 
 impl ArcGroups {

@@ -16,7 +16,6 @@ use vehicle_classes::Key;
 
 // Groups so far, and for each area the group of its arcs that have nothing of their own, if there is one yet. The groups of the other
 // arcs are found by the digests of their first arcs.
-#[derive(Drop)]
 struct Grouping {
     all: ArcGroups,
     shared: Vec<Option<u32>>,
@@ -29,6 +28,17 @@ impl Model for Grouping {
     ghost Value = { GroupingModel };
 
     ghost view = { λ g. record { all = g.all; shared = g.shared.items } };
+}
+
+// By hand, so that the drops of its parts are proved here alone.
+impl Drop for Grouping {
+    fn drop(self) {
+        let Grouping {
+            all: _,
+            shared: _,
+            by_digest: _,
+        } = self;
+    }
 }
 
 // Whether the arc has a rule of its own for the key.
@@ -204,7 +214,12 @@ impl Grouping {
     fn into_groups(self) -> ArcGroups
         ensures { result ≡ self.all }
     {
-        self.all
+        let Grouping {
+            all,
+            shared: _,
+            by_digest: _,
+        } = self;
+        all
     }
 }
 

@@ -46,7 +46,6 @@ pub struct Clause {
 }
 
 /// A conditional value, which contracts see as the list of its clauses. It is made by `parse` alone, and has one clause at least.
-#[derive(Drop)]
 pub struct Conditional {
     clauses: Listing<Clause>,
 }
@@ -61,6 +60,13 @@ impl Model for Conditional {
     ghost view = { λ a. a.clauses };
 
     ghost invariant = { λ a. AreParsedClauses a.clauses };
+}
+
+// By hand, so that the drops of its parts are proved here alone.
+impl Drop for Conditional {
+    fn drop(self) {
+        let Conditional { clauses: _ } = self;
+    }
 }
 
 impl Conditional {

@@ -15,7 +15,6 @@ use std::alloc::Global;
 use std::marker::Model;
 
 /// A cost in thousandths for some minutes, which contracts see as its pieces: they rise and do not overlap.
-#[derive(Drop)]
 pub struct CostFn {
     held: Vec<Piece>,
 }
@@ -26,6 +25,13 @@ impl Model for CostFn {
     ghost view = { λ s. s.held.items };
 
     ghost invariant = { λ s. ArePieces s.held.items };
+}
+
+// By hand, so that the drops of its parts are proved here alone.
+impl Drop for CostFn {
+    fn drop(self) {
+        let CostFn { held: _ } = self;
+    }
 }
 
 impl CostFn {
@@ -109,6 +115,7 @@ impl CostFn {
         ensures items { result.items ≡ self }
         ensures pieces { ArePieces result.items }
     {
-        self.held
+        let CostFn { held } = self;
+        held
     }
 }

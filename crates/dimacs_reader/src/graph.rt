@@ -15,7 +15,6 @@ pub struct GraphArc {
 }
 
 /// A road graph: nodes from 1 to their number, and arcs in the order of their file. Parallel arcs and loops are allowed.
-#[derive(Drop)]
 pub struct Graph {
     nodes: u32,
     arcs: Vec<GraphArc>,
@@ -29,6 +28,13 @@ impl Model for Graph {
     ghost view = { λ g. graph_with g.nodes g.arcs.items };
 
     ghost invariant = { λ g. IsGoodGraph (graph_with g.nodes g.arcs.items) };
+}
+
+// By hand, so that the drops of its parts are proved here alone.
+impl Drop for Graph {
+    fn drop(self) {
+        let Graph { nodes: _, arcs: _ } = self;
+    }
 }
 
 impl Graph {

@@ -5,8 +5,9 @@ ghost use Rattle.drawn_network.specs.DrawnFiles.{drawn_files};
 
 use net_generator::{Generated, generate};
 use network_tables::Files;
-use route_base::OutOfMemory;
+use route_base::{FileBytes, OutOfMemory};
 use std::alloc::Global;
+use std::mem;
 
 /// The drawn files, beside tables that are empty. Linear in the nodes.
 pub fn draw_files(alloc: Global, number: u64, rows: u32, columns: u32) -> Result<Files, OutOfMemory>
@@ -23,16 +24,16 @@ pub fn draw_files(alloc: Global, number: u64, rows: u32, columns: u32) -> Result
 }
 
 /// The four drawn files among these. In constant time.
-pub fn drawn_among(files: Files) -> Generated
+pub fn drawn_among(alloc: Global, mut files: Files) -> Generated
     ensures graph { result.graph ≡ files.graph }
     ensures closures { result.closures ≡ files.closures }
     ensures parking { result.parking ≡ files.parking }
     ensures ratings { result.ratings ≡ files.ratings }
 {
     Generated {
-        graph: files.graph,
-        closures: files.closures,
-        parking: files.parking,
-        ratings: files.ratings,
+        graph: mem::replace(&mut files.graph, FileBytes::new(alloc)),
+        closures: mem::replace(&mut files.closures, FileBytes::new(alloc)),
+        parking: mem::replace(&mut files.parking, FileBytes::new(alloc)),
+        ratings: mem::replace(&mut files.ratings, FileBytes::new(alloc)),
     }
 }

@@ -56,7 +56,7 @@ pub fn draw_network(
     let files = draw_files(alloc, number, rows, columns)?;
     let network = read_good(alloc, &files)?;
     Ok(DrawnNetwork {
-        files: drawn_among(files),
+        files: drawn_among(alloc, files),
         network,
     })
 }

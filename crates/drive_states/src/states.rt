@@ -11,7 +11,6 @@ use std::marker::Model;
 
 /// States, numbered from 1 in the order in which they were found. Their numbers are by node and minutes, so that they are looked up
 /// without a search.
-#[derive(Drop)]
 pub struct States {
     held: Vec<State>,
     numbers: NumberRows,
@@ -27,6 +26,16 @@ impl Model for States {
     ghost view = { λ a. a.held.items };
 
     ghost invariant = { λ a. AreNumbered a.numbers a.held.items };
+}
+
+// By hand, so that the drops of its parts are proved here alone.
+impl Drop for States {
+    fn drop(self) {
+        let States {
+            held: _,
+            numbers: _,
+        } = self;
+    }
 }
 
 impl States {

@@ -17,12 +17,23 @@ use std::alloc::Global;
 use vehicle_classes::Vehicle;
 
 /// The net of the vehicle of a name over a window of minutes, with what the searches over it share.
-#[derive(Drop)]
 pub struct SharedNet {
     vehicle: Vec<u8>,
     window: Run,
     net: TimedNet,
     arcs: SearchArcs,
+}
+
+// By hand, so that the drops of its parts are proved here alone.
+impl Drop for SharedNet {
+    fn drop(self) {
+        let SharedNet {
+            vehicle: _,
+            window: _,
+            net: _,
+            arcs: _,
+        } = self;
+    }
 }
 
 /// Whether the net is that of the trip's vehicle, over a window that has the trip's minutes.

@@ -13,11 +13,21 @@ use route_base::{OutOfMemory, Request, Routes, TimedNet};
 use std::alloc::Global;
 
 /// The arcs of a net by node, and whether it is known that every arc costs `COST_OF_MINUTE` for each of its minutes.
-#[derive(Drop)]
 pub struct SearchArcs {
     pub incoming: NodeArcs,
     pub outgoing: NodeArcs,
     pub proportional: bool,
+}
+
+// By hand, so that the drops of its parts are proved here alone.
+impl Drop for SearchArcs {
+    fn drop(self) {
+        let SearchArcs {
+            incoming: _,
+            outgoing: _,
+            proportional: _,
+        } = self;
+    }
 }
 
 /// What searches over the net share. Linear in nodes and arcs, in time and memory. The only error is out of memory.

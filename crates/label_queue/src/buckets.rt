@@ -11,7 +11,6 @@ use std::marker::Model;
 
 /// At most one key for each node from 1 to n, where n is fixed, and all keys are from the floor, which rises, to the floor + span - 1
 /// (the queue of Dial 1969); contracts see the list of the n keys, the floor and the span.
-#[derive(Drop)]
 pub struct BucketQueue {
     ring: Ring,
     keys: NodeKeys,
@@ -33,6 +32,17 @@ impl Model for BucketQueue {
     } };
 
     ghost invariant = { λ a. IsBucketed a.ring a.keys a.count };
+}
+
+// By hand, so that the drops of its parts are proved here alone.
+impl Drop for BucketQueue {
+    fn drop(self) {
+        let BucketQueue {
+            ring: _,
+            keys: _,
+            count: _,
+        } = self;
+    }
 }
 
 impl BucketQueue {

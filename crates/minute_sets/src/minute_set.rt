@@ -14,7 +14,6 @@ use std::alloc::Global;
 use std::marker::Model;
 
 /// A set of minutes, which contracts see as its runs: they rise, do not touch, and none is empty.
-#[derive(Drop)]
 pub struct MinuteSet {
     held: Vec<Run>,
 }
@@ -25,6 +24,13 @@ impl Model for MinuteSet {
     ghost view = { λ s. s.held.items };
 
     ghost invariant = { λ s. AreRuns s.held.items };
+}
+
+// By hand, so that the drops of its parts are proved here alone.
+impl Drop for MinuteSet {
+    fn drop(self) {
+        let MinuteSet { held: _ } = self;
+    }
 }
 
 impl MinuteSet {
@@ -54,7 +60,7 @@ impl MinuteSet {
     pub fn cleared(self) -> MinuteSet
         ensures { result ≡ [] }
     {
-        let mut held = self.held;
+        let MinuteSet { mut held } = self;
         held.clear();
         MinuteSet { held }
     }
@@ -93,7 +99,7 @@ impl MinuteSet {
         ensures runs { AreRuns self.new }
         ensures kept { OnErr result (self.new ≡ self.old) }
     {
-        let mut before = spare.held;
+        let MinuteSet { held: mut before } = spare;
         split_before(&mut self.held, end, &mut before)?;
         Ok(MinuteSet { held: before })
     }
@@ -184,6 +190,7 @@ impl MinuteSet {
         ensures items { result.items ≡ self }
         ensures runs { AreRuns result.items }
     {
-        self.held
+        let MinuteSet { held } = self;
+        held
     }
 }

@@ -11,7 +11,6 @@ use std::alloc::Global;
 use table_reader::{Table, read_table};
 
 /// The bytes of a network's files. One that isn't there is empty.
-#[derive(Drop)]
 pub struct Files {
     pub graph: FileBytes,
     pub zones: FileBytes,
@@ -24,6 +23,25 @@ pub struct Files {
     pub parking: FileBytes,
     pub holidays: FileBytes,
     pub tolls: FileBytes,
+}
+
+// By hand, so that the drops of its parts are proved here alone.
+impl Drop for Files {
+    fn drop(self) {
+        let Files {
+            graph: _,
+            zones: _,
+            areas: _,
+            roads: _,
+            vehicles: _,
+            rules: _,
+            closures: _,
+            ratings: _,
+            parking: _,
+            holidays: _,
+            tolls: _,
+        } = self;
+    }
 }
 
 impl Files {

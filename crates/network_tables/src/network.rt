@@ -50,7 +50,7 @@ impl Model for Network {
     ghost invariant = { λ n. HoldsNetwork n.parts };
 }
 
-// One function for all that give a network back: the drops of its parts are proved here alone.
+// By hand, so that the drops of its parts are proved here alone.
 impl Drop for Network {
     fn drop(self) {
         let Network { parts: _ } = self;

@@ -24,7 +24,6 @@ pub struct TimetablePlace {
 
 /// The nodes where one may wait, each with the place of its timetable: the area whose clocks and holidays count, and the hours in
 /// which waiting is open, or none where it always is. Nodes with the same text of hours in one area share a timetable.
-#[derive(Drop)]
 pub struct Parks {
     rated: IndexMap<u32, RatedNode>,
     timetables: Vec<TimetablePlace>,
@@ -46,6 +45,17 @@ impl Model for Parks {
       rated = p.rated.entries;
       timetables = map (timetable_with p.hours.items) p.timetables.items;
     }) };
+}
+
+// By hand, so that the drops of its parts are proved here alone.
+impl Drop for Parks {
+    fn drop(self) {
+        let Parks {
+            rated: _,
+            timetables: _,
+            hours: _,
+        } = self;
+    }
 }
 
 impl Parks {

@@ -25,7 +25,6 @@ use value::RuleValue;
 use vehicle_classes::Key;
 
 /// Rules by their places, whether some are an arc's own, and the number of rows that were passed over.
-#[derive(Drop)]
 pub struct Rules {
     values: IndexMap<RulePlace, RuleValue>,
     of_arcs: bool,
@@ -42,6 +41,17 @@ impl Model for Rules {
     ghost view = { λ r. record { rules = r.values.entries; passed_over = r.passed_over } };
 
     ghost invariant = { λ r. r.of_arcs ≡ has_arc_rules r.values.entries };
+}
+
+// By hand, so that the drops of its parts are proved here alone.
+impl Drop for Rules {
+    fn drop(self) {
+        let Rules {
+            values: _,
+            of_arcs: _,
+            passed_over: _,
+        } = self;
+    }
 }
 
 impl Rules {

@@ -14,7 +14,6 @@ use std::marker::Model;
 use table_reader::{RowFault, Table, two_fields};
 
 /// The tolls of arcs, which contracts see as a list of pairs of an arc's number and its toll, in the order of the rows.
-#[derive(Drop)]
 pub struct Tolls {
     by_arc: IndexMap<u32, Cost>,
 }
@@ -26,6 +25,13 @@ impl Model for Tolls {
     ghost Value = { List Toll };
 
     ghost view = { λ t. t.by_arc.entries };
+}
+
+// By hand, so that the drops of its parts are proved here alone.
+impl Drop for Tolls {
+    fn drop(self) {
+        let Tolls { by_arc: _ } = self;
+    }
 }
 
 impl Tolls {

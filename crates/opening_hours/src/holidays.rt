@@ -7,7 +7,6 @@ use std::marker::Model;
 
 /// The public holidays and the school holidays of an area, which contracts see as two lists of day numbers (days since
 /// 1970-01-01).
-#[derive(Drop)]
 pub struct Holidays {
     public: Vec<u32>,
     school: Vec<u32>,
@@ -22,6 +21,16 @@ impl Model for Holidays {
     ghost view = { λ a. record { public = a.public.items; school = a.school.items } };
 
     ghost invariant = { λ a. IsStrictlyIncreasing a.public.items × IsStrictlyIncreasing a.school.items };
+}
+
+// By hand, so that the drops of its parts are proved here alone.
+impl Drop for Holidays {
+    fn drop(self) {
+        let Holidays {
+            public: _,
+            school: _,
+        } = self;
+    }
 }
 
 // Whether a day is on a list, by binary search.

@@ -13,7 +13,6 @@ use std::alloc::Global;
 use std::marker::Model;
 
 /// Opening hours, which contracts see as the list of their rules. They are made by `parse` alone, and have one rule at least.
-#[derive(Drop)]
 pub struct Hours {
     rules: Listing<HoursRule>,
 }
@@ -28,6 +27,13 @@ impl Model for Hours {
     ghost view = { λ a. a.rules };
 
     ghost invariant = { λ a. IsParsed a.rules };
+}
+
+// By hand, so that the drops of its parts are proved here alone.
+impl Drop for Hours {
+    fn drop(self) {
+        let Hours { rules: _ } = self;
+    }
 }
 
 impl Hours {

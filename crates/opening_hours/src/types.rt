@@ -56,9 +56,19 @@ pub enum RuleTimes {
 }
 
 /// A rule: no dates mean all, no days mean all, and a rule with a long span has no days beside the span's weekday.
-#[derive(Drop)]
 pub struct HoursRule {
     pub dates: DateSpans,
     pub days: DayItems,
     pub times: RuleTimes,
+}
+
+// By hand, so that the drops of its parts are proved here alone.
+impl Drop for HoursRule {
+    fn drop(self) {
+        let HoursRule {
+            dates: _,
+            days: _,
+            times: _,
+        } = self;
+    }
 }

@@ -22,10 +22,19 @@ const UNCAPPED: Bound = Bound {
 
 /// The least minutes and the least costs that are found up to caps, one place for each node from 1 on; no list of costs where each is
 /// `COST_OF_MINUTE` times the minutes.
-#[derive(Drop)]
 pub struct Sums {
     minutes: Vec<Option<u64>>,
     costs: Option<Vec<Option<u64>>>,
+}
+
+// By hand, so that the drops of its parts are proved here alone.
+impl Drop for Sums {
+    fn drop(self) {
+        let Sums {
+            minutes: _,
+            costs: _,
+        } = self;
+    }
 }
 
 /// For each node the least sum of minutes and, by itself, the least sum of costs over walks of arcs to the goal; `None` exactly

@@ -7,7 +7,6 @@ use route_base::{Bounds, NodeId, Pair};
 use std::marker::Model;
 
 /// The Pareto front of a request, and for each node of the net a function and a bound to the goal that show it.
-#[derive(Drop)]
 pub struct Found {
     pairs: Vec<Pair>,
     functions: Vec<CostFn>,
@@ -20,6 +19,17 @@ impl Model for Found {
     ghost Value = { Finding };
 
     ghost view = { λ f. record { pairs = f.pairs.items; functions = f.functions.items; bounds = f.bounds } };
+}
+
+// By hand, so that the drops of its parts are proved here alone.
+impl Drop for Found {
+    fn drop(self) {
+        let Found {
+            pairs: _,
+            functions: _,
+            bounds: _,
+        } = self;
+    }
 }
 
 impl Found {
@@ -66,7 +76,11 @@ impl Found {
     pub fn into_functions(self) -> Vec<CostFn>
         ensures { result.items ≡ self.functions }
     {
-        let Found { functions, .. } = self;
-        functions
+        let Found {
+            pairs: _,
+            functions: whole,
+            bounds: _,
+        } = self;
+        whole
     }
 }

@@ -7,22 +7,56 @@ ghost use Rattle.label_queue.specs.Keys.{IsSet};
 ghost use Rattle.propagation.specs.Found.{cost_at};
 ghost use Rattle.propagation.specs.Inside.States.{is_pending, IsLowered, IsAwaited};
 
+use crate::found::Found;
 use crate::spares::Spares;
 use cost_functions::CostFn;
 use function_merge::improve_with_spare;
 use label_queue::LabelQueue;
 use minute_sets::MinuteSet;
-use route_base::{Minute, NodeId, OutOfMemory, Pair};
+use route_base::{Bounds, Minute, NodeId, OutOfMemory, Pair};
 use std::alloc::Global;
 
 /// A function and pending minutes for each node, the pairs so far with their borders, and the nodes with pending minutes by key.
-#[derive(Drop)]
 pub struct Progress {
     pub functions: Vec<CostFn>,
     pub pending: Vec<MinuteSet>,
     pub pairs: Vec<Pair>,
     pub borders: Vec<Pair>,
     pub queue: LabelQueue,
+}
+
+// By hand, so that the drops of its parts are proved here alone.
+impl Drop for Progress {
+    fn drop(self) {
+        let Progress {
+            functions: _,
+            pending: _,
+            pairs: _,
+            borders: _,
+            queue: _,
+        } = self;
+    }
+}
+
+impl Progress {
+    // What a search has found, with the bounds that it went by.
+    pub fn into_found(self, bounds: Bounds) -> Found
+        ensures { result ≡ record {
+          pairs = self.pairs.items;
+          functions = self.functions.items;
+          bounds =
+              bounds;
+        } }
+    {
+        let Progress {
+            pending: _,
+            functions,
+            pairs,
+            borders: _,
+            queue: _,
+        } = self;
+        Found::new(pairs, functions, bounds)
+    }
 }
 
 // Takes the lesser of the node's costs and the offered ones, in place, and answers where the offered ones are better.

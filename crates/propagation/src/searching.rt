@@ -92,7 +92,7 @@ pub fn search_with(
         earliest: earliest_arrival(&bounds, request),
     };
     let progress = searched(alloc, task)?;
-    Ok(Found::new(progress.pairs, progress.functions, bounds))
+    Ok(progress.into_found(bounds))
 }
 
 // The progress in which nothing is pending.

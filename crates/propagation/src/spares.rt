@@ -6,12 +6,23 @@ use route_base::OutOfMemory;
 use std::alloc::Global;
 
 /// The functions and sets of minutes that are done with, and memory for the pieces that a merge moves and for the arcs of a turn.
-#[derive(Drop)]
 pub struct Spares {
     functions: Vec<CostFn>,
     sets: Vec<MinuteSet>,
     pub pieces: Vec<Piece>,
     pub ways: Vec<OutgoingArc>,
+}
+
+// By hand, so that the drops of its parts are proved here alone.
+impl Drop for Spares {
+    fn drop(self) {
+        let Spares {
+            functions: _,
+            sets: _,
+            pieces: _,
+            ways: _,
+        } = self;
+    }
 }
 
 impl Spares {

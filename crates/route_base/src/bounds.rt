@@ -8,7 +8,6 @@ use std::alloc::Global;
 use std::marker::Model;
 
 /// The bounds of nodes 1, 2 and so on, which contracts see as a list.
-#[derive(Drop)]
 pub struct Bounds {
     held: Vec<Option<Bound>>,
 }
@@ -20,6 +19,13 @@ impl Model for Bounds {
     ghost Value = { List (Option Bound) };
 
     ghost view = { λ a. a.held.items };
+}
+
+// By hand, so that the drops of its parts are proved here alone.
+impl Drop for Bounds {
+    fn drop(self) {
+        let Bounds { held: _ } = self;
+    }
 }
 
 impl Bounds {

@@ -6,7 +6,6 @@ use std::alloc::Global;
 use std::marker::Model;
 
 /// A list, which contracts see as the list of its items.
-#[derive(Drop)]
 pub struct Listing<T> {
     held: Vec<T>,
 }
@@ -15,6 +14,13 @@ impl<T> Model for Listing<T> {
     ghost Value = { List T };
 
     ghost view = { λ a. a.held.items };
+}
+
+// By hand, so that the drops of its parts are proved here alone.
+impl<T: Drop> Drop for Listing<T> {
+    fn drop(self) {
+        let Listing { held: _ } = self;
+    }
 }
 
 impl<T> Listing<T> {

@@ -10,7 +10,6 @@ use crate::{ArcId, Cost, Minute, NodeId, Park, Run, TimedArc};
 use std::marker::Model;
 
 /// Nodes, arcs with their closed minutes, and the nodes at which waiting is allowed, with the minutes at which it is shut.
-#[derive(Drop)]
 pub struct TimedNet {
     nodes: u32,
     arcs: Vec<TimedArc>,
@@ -26,6 +25,18 @@ impl Model for TimedNet {
     ghost view = { λ a. net_from a.nodes a.arcs.items a.closed.items a.parks.items };
 
     ghost invariant = { λ a. IsGoodNet (net_from a.nodes a.arcs.items a.closed.items a.parks.items) };
+}
+
+// By hand, so that the drops of its parts are proved here alone.
+impl Drop for TimedNet {
+    fn drop(self) {
+        let TimedNet {
+            nodes: _,
+            arcs: _,
+            closed: _,
+            parks: _,
+        } = self;
+    }
 }
 
 impl TimedNet {

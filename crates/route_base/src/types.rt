@@ -40,10 +40,16 @@ pub struct Pair {
 pub type Legs = Listing<Leg>;
 
 /// A pair with legs that have it.
-#[derive(Drop)]
 pub struct Route {
     pub pair: Pair,
     pub legs: Legs,
+}
+
+// By hand, so that the drops of its parts are proved here alone.
+impl Drop for Route {
+    fn drop(self) {
+        let Route { pair: _, legs: _ } = self;
+    }
 }
 
 /// Routes by rising arrival.

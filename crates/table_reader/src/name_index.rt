@@ -10,7 +10,6 @@ use std::alloc::Global;
 use std::marker::Model;
 
 /// Values by name in the order in which they were added, which contracts see as a list of pairs of a name and a value.
-#[derive(Drop)]
 pub struct NameIndex<V> {
     held: IndexMap<Vec<u8>, V>,
 }
@@ -21,6 +20,13 @@ impl<V> Model for NameIndex<V> {
     ghost Value = { List (List ℕ × V) };
 
     ghost view = { λ n. map (λ e. (e.0.items, e.1)) n.held.entries };
+}
+
+// By hand, so that the drops of its parts are proved here alone.
+impl<V: Drop> Drop for NameIndex<V> {
+    fn drop(self) {
+        let NameIndex { held: _ } = self;
+    }
 }
 
 impl<V> NameIndex<V> {
@@ -97,6 +103,7 @@ impl<V: Drop> NameIndex<V> {
     pub fn into_values(self, alloc: Global) -> Result<Vec<V>, OutOfMemory>
         ensures { IfOk result (λ values. values.items ≡ map (λ e. e.1) self) }
     {
-        Ok(self.held.into_values().collect(alloc)?)
+        let NameIndex { held } = self;
+        Ok(held.into_values().collect(alloc)?)
     }
 }

@@ -12,7 +12,6 @@ use std::marker::Model;
 
 /// A time zone: rows in the order of their starts, which contracts see as a list. At any minute the latest row that has started
 /// is in force; before the first start, the first row is.
-#[derive(Drop)]
 pub struct Zone {
     rows: Vec<ZoneRow>,
 }
@@ -27,6 +26,13 @@ impl Model for Zone {
     ghost view = { λ z. z.rows.items };
 
     ghost invariant = { λ z. IsZone z.rows.items };
+}
+
+// By hand, so that the drops of its parts are proved here alone.
+impl Drop for Zone {
+    fn drop(self) {
+        let Zone { rows: _ } = self;
+    }
 }
 
 impl Zone {

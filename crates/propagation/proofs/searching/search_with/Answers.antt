@@ -13,7 +13,7 @@ returns-clause-found c =
     let now = progress_of c.in_ok-progress.progress in
     let facts = c.in_ok-progress.ensures.facts in
     let done = c.in_ok-progress.ensures.done in
-    subst (λ (found : Finding). IsFoundFor c.args.net.now c.args.request found) (sym c.new.ensures) (record {
+    subst (λ (found : Finding). IsFoundFor c.args.net.now c.args.request found) (sym c.into_found.ensures) (record {
       good = c.node_count-nodes.ensures.good;
       nodes = c.in_ok-progress.ensures.nodes;
       bounded = c.requires.bounded;
