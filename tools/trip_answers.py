@@ -263,57 +263,8 @@ def plain_steps(roads, until):
     return steps
 
 
-def plan_costs(roads, request):
-    return least_costs(request.origin, request.depart, plain_steps(roads, request.until))
-
-
-def plan_front(request, costs):
-    return front_of([(minute, at[request.goal]) for minute, at in costs.items() if request.goal in at])
-
-
-def last_step(roads, until, costs, node, minute):
-    """The last step of the first itinerary to a node and minute at the least cost: a wait if one has it, else the drive over the smallest arc."""
-    cost = costs[minute][node]
-    before = costs.get(minute - 1, {}).get(node)
-    if before is not None and roads.may_wait(node, minute - 1, until) and before + roads.weight(node) == cost:
-        return "wait", 1, node, minute - 1
-    for arc, (tail, head, minutes, *_) in enumerate(roads.network.arcs, 1):
-        before = costs.get(minute - minutes, {}).get(tail)
-        if head == node and before is not None and before + roads.cost(arc) == cost and roads.is_open_from(arc, minute - minutes):
-            return "drive", arc, tail, minute - minutes
-    raise AssertionError(f"no step leads to node {node} at {minute}")
-
-
-def first_legs(roads, request, costs, arrival):
-    """The legs of the first itinerary of the pair of the front that arrives then, from the end backwards."""
-    legs, node, minute = [], request.goal, arrival
-    while (node, minute) != (request.origin, request.depart):
-        kind, value, node, minute = last_step(roads, request.until, costs, node, minute)
-        if legs and kind == legs[-1][0] == "wait":
-            value += legs.pop()[1]
-        legs.append((kind, value))
-    return legs[::-1]
-
-
-def late_front(roads, request):
-    """For each departure, by falling ones, the least cost of an itinerary that leaves then, where it is below those before it. The least
-    costs from each node and minute to the goal are found from the last minute backwards."""
-    front, steps, left = [], plain_steps(roads, request.until), {}
-    nodes = range(1, roads.network.nodes + 1)
-    for departure in range(request.until, request.depart - 1, -1):
-        left[departure] = {request.goal: 0}
-        for node in nodes:
-            for after, minutes, price in steps(node, departure):
-                if after in left[departure + minutes]:
-                    cost = left[departure + minutes][after] + price
-                    left[departure][node] = min(cost, left[departure].get(node, cost))
-        cost = left[departure].get(request.origin)
-        if cost is not None and (not front or cost < front[-1][1]):
-            front.append((departure, cost))
-    return front
-
-
-def tour_front(roads, request, stops):
+def tour_costs(roads, request, stops=()):
+    """The least costs of all tours; a state is a node and the number of stops served, and a trip is a tour without stops."""
     plain = plain_steps(roads, request.until)
 
     def steps(state, minute):
@@ -323,9 +274,93 @@ def tour_front(roads, request, stops):
         if served < len(stops) and may_serve(stops[served], node, minute, request.until):
             yield (node, served + 1), stops[served][1], 0
 
-    costs = least_costs((request.origin, 0), request.depart, steps)
+    return least_costs((request.origin, 0), request.depart, steps)
+
+
+def tour_front(request, costs, stops=()):
     end = (request.goal, len(stops))
     return front_of([(minute, at[end]) for minute, at in costs.items() if end in at])
+
+
+def last_step(roads, until, costs, state, minute, stops):
+    """The last step of the first itinerary to a state and minute at the least cost: a wait if one has it, else the drive over the smallest
+    arc, else a service. It is given with the state and the minute before it."""
+    node, served = state
+    cost = costs[minute][state]
+    before = costs.get(minute - 1, {}).get(state)
+    if before is not None and roads.may_wait(node, minute - 1, until) and before + roads.weight(node) == cost:
+        return "wait", 1, state, minute - 1
+    for arc, (tail, head, minutes, *_) in enumerate(roads.network.arcs, 1):
+        before = costs.get(minute - minutes, {}).get((tail, served))
+        if head == node and before is not None and before + roads.cost(arc) == cost and roads.is_open_from(arc, minute - minutes):
+            return "drive", arc, (tail, served), minute - minutes
+    if served:
+        begun = minute - stops[served - 1][1]
+        if costs.get(begun, {}).get((node, served - 1)) == cost and may_serve(stops[served - 1], node, begun, until):
+            return "serve", served, (node, served - 1), begun
+    raise AssertionError(f"no step leads to node {node} at {minute}")
+
+
+def legs_of_steps(steps):
+    """The legs of steps: neighbouring waits are one leg."""
+    legs = []
+    for kind, value in steps:
+        if legs and kind == legs[-1][0] == "wait":
+            value += legs.pop()[1]
+        legs.append((kind, value))
+    return legs
+
+
+def first_legs(roads, request, costs, arrival, stops=()):
+    """The legs of the first itinerary of the pair of the front that arrives then, from the end backwards."""
+    steps, state, minute = [], (request.goal, len(stops)), arrival
+    while (state, minute) != ((request.origin, 0), request.depart):
+        kind, value, state, minute = last_step(roads, request.until, costs, state, minute, stops)
+        steps.append((kind, value))
+    return legs_of_steps(steps[::-1])
+
+
+def late_costs(roads, request):
+    """For each minute from the last one backwards, the least cost from each node to the goal."""
+    steps, left = plain_steps(roads, request.until), {}
+    nodes = range(1, roads.network.nodes + 1)
+    for minute in range(request.until, request.depart - 1, -1):
+        left[minute] = {request.goal: 0}
+        for node in nodes:
+            for after, minutes, price in steps(node, minute):
+                if after in left[minute + minutes]:
+                    cost = left[minute + minutes][after] + price
+                    left[minute][node] = min(cost, left[minute].get(node, cost))
+    return left
+
+
+def late_front(request, left):
+    """For each departure, by falling ones, the least cost of an itinerary that leaves then, where it is below those before it."""
+    front = []
+    for departure, costs in left.items():
+        cost = costs.get(request.origin)
+        if cost is not None and (not front or cost < front[-1][1]):
+            front.append((departure, cost))
+    return front
+
+
+def next_step(roads, until, left, node, minute):
+    """The next step of the first itinerary from a node and minute to the goal at the least cost: a wait if one has it, else the drive over
+    the smallest arc. It is given with the node and the minute behind it."""
+    cost = left[minute][node]
+    if roads.may_wait(node, minute, until) and left[minute + 1].get(node) == cost - roads.weight(node):
+        return "wait", 1, node, minute + 1
+    arc = min(arc for arc in roads.drives(node, minute, until) if left[minute + roads.minutes(arc)].get(roads.head(arc)) == cost - roads.cost(arc))
+    return "drive", arc, roads.head(arc), minute + roads.minutes(arc)
+
+
+def first_late_legs(roads, request, left, departure):
+    """The legs of the first itinerary of the pair of the late front that leaves then, from its beginning: it ends where it first arrives."""
+    steps, node, minute = [], request.origin, departure
+    while node != request.goal:
+        kind, value, node, minute = next_step(roads, request.until, left, node, minute)
+        steps.append((kind, value))
+    return legs_of_steps(steps)
 
 
 def may_serve(stop, node, minute, until):
@@ -505,25 +540,36 @@ def failed_check(network, request):
     return None
 
 
-def plan_due(roads, request, _):
-    costs = plan_costs(roads, request)
+def not_first(legs, first):
+    return None if legs == first else f"the first itinerary has {first}"
+
+
+def front_due(roads, request, stops=()):
+    costs = tour_costs(roads, request, stops)
 
     def wrong_legs(pair, legs):
-        wrong = wrong_route(roads, request, pair, legs)
-        first = first_legs(roads, request, costs, pair[0])
-        return wrong or (None if legs == first else f"the first itinerary has {first}")
+        return wrong_route(roads, request, pair, legs, stops) or not_first(legs, first_legs(roads, request, costs, pair[0], stops))
 
-    return Due(DONE, pairs=plan_front(request, costs), wrong_legs=wrong_legs)
+    return Due(DONE, pairs=tour_front(request, costs, stops), wrong_legs=wrong_legs)
+
+
+def plan_due(roads, request, _):
+    return front_due(roads, request)
 
 
 def late_due(roads, request, _):
-    return Due(DONE, pairs=late_front(roads, request), wrong_legs=lambda pair, legs: wrong_route(roads, request, pair, legs))
+    left = late_costs(roads, request)
+
+    def wrong_legs(pair, legs):
+        return wrong_route(roads, request, pair, legs) or not_first(legs, first_late_legs(roads, request, left, pair[0]))
+
+    return Due(DONE, pairs=late_front(request, left), wrong_legs=wrong_legs)
 
 
 def tour_due(roads, request, stops):
     if (len(stops) + 1) * (roads.network.nodes + len(roads.network.arcs)) > MOST_STATES:
         return refused(BAD_REQUEST, "request", "TooManyStates")
-    return Due(DONE, pairs=tour_front(roads, request, stops), wrong_legs=lambda pair, legs: wrong_route(roads, request, pair, legs, stops))
+    return front_due(roads, request, stops)
 
 
 def breaks_due(roads, request, _):
@@ -539,7 +585,7 @@ def explain_due(roads, request, legs):
         return Due(DONE, f"unlawful {unlawful.args[0]} {unlawful.args[1]} {unlawful.args[2]}\n".encode("ascii"))
     if node != request.goal:
         return Due(DONE, f"unlawful {len(legs) + 1} {minute} goal\n".encode("ascii"))
-    front = plan_front(request, plan_costs(roads, request))
+    front = tour_front(request, tour_costs(roads, request))
     better = next((pair for pair in front if dominates(pair, (minute, cost))), None)
     verdict = f"dominated {better[0]} {cost_text(better[1])}" if better else "undominated"
     return Due(DONE, f"lawful {minute} {cost_text(cost)}\n{verdict}\n".encode("ascii"))
