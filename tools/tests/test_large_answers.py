@@ -32,7 +32,7 @@ def cost(thousandths):
 @beside.needs_program
 class LargeAnswers(beside.FolderTest):
     def run_within(self, megabytes, command, *words):
-        """Returns what the program prints, in a process that has so much address space."""
+        """Returns the text that the program prints, in a process with this many megabytes of address space."""
 
         def limited():
             resource.setrlimit(resource.RLIMIT_AS, (megabytes * MEGABYTE, megabytes * MEGABYTE))
@@ -50,18 +50,22 @@ class LargeAnswers(beside.FolderTest):
         self.assertEqual(len(found), len(lines))
 
     def test_a_front_of_128_pairs(self):
-        """Seven hops, each with a toll road and a free one that takes 1, 2, 4 .. minutes more and saves 1.500 for each of them."""
-        hops, arcs, tolls = 7, [], []
+        """A straight road of 1,000 minutes, and then seven hops, each with a toll road and a free one that takes 1, 2, 4 .. minutes more and
+        saves 1.500 for each of them."""
+        hops, before = 7, 1_000
+        arcs, tolls = [(node, node + 1, 1) for node in range(1, before + 1)], []
         for hop in range(hops):
-            arcs += [(hop + 1, hop + 2, 60), (hop + 1, hop + 2, 60 + 2**hop)]
-            tolls.append((2 * hop + 1, cost(1_500 * 2**hop)))
-        self.write(graph=graph(hops + 1, *arcs), tolls="arc,toll\n" + "".join(f"{arc},{toll}\n" for arc, toll in tolls))
+            node = before + 1 + hop
+            arcs += [(node, node + 1, 60), (node, node + 1, 60 + 2**hop)]
+            tolls.append((before + 2 * hop + 1, cost(1_500 * 2**hop)))
+        self.write(graph=graph(before + hops + 1, *arcs), tolls="arc,toll\n" + "".join(f"{arc},{toll}\n" for arc, toll in tolls))
         lines = [f"pairs {2**hops}"]
         for later in range(2**hops):
-            minutes = 60 * hops + later
+            minutes = before + 60 * hops + later
             lines.append(f"pair {START + minutes} {cost(1_000 * minutes + 1_500 * (2**hops - 1 - later))}")
-            lines += [f"drive {2 * hop + 1 + (later >> hop & 1)}" for hop in range(hops)]
-        self.assert_lines(self.run_within(100, "plan", "any", 1, hops + 1, START, START + LONGEST), lines)
+            lines += [f"drive {arc}" for arc in range(1, before + 1)]
+            lines += [f"drive {before + 2 * hop + 1 + (later >> hop & 1)}" for hop in range(hops)]
+        self.assert_lines(self.run_within(100, "plan", "any", 1, before + hops + 1, START, START + LONGEST), lines)
 
     def test_an_itinerary_of_66_000_legs(self):
         legs = 66_000
