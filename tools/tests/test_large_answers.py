@@ -105,13 +105,13 @@ class LargeAnswers(beside.FolderTest):
         for node in range(1, nodes + 1):
             lines += [f"serve {node // 400}"] if node % 400 == 0 else []
             lines += [f"drive {node}"] if node < nodes else []
-        self.assert_lines(self.run_within(1_500, "tour", "any", 1, nodes, START, START + LONGEST, "stops.csv"), lines)
+        self.assert_lines(self.run_within(600, "tour", "any", 1, nodes, START, START + LONGEST, "stops.csv"), lines)
 
     def test_breaks_over_a_million_states(self):
         """A road of 3,999 minutes with parking at each node asks for 14 breaks of 45 minutes, at 0.500 a minute."""
         nodes, drive, rest = 4_000, 270, 45
         self.write(graph=road(nodes), ratings="rating,weight\nr,0.500\n", parking="node,rating\n" + "".join(f"{node},r\n" for node in range(1, nodes + 1)))
-        printed = self.run_within(2_000, "breaks", "any", 1, nodes, START, START + 10_080).splitlines()
+        printed = self.run_within(600, "breaks", "any", 1, nodes, START, START + 10_080).splitlines()
         minutes, breaks = nodes - 1, (nodes - 2) // drive
         self.assertEqual(printed[:2], ["pairs 1", f"pair {START + minutes + breaks * rest} {cost(1_000 * minutes + 500 * breaks * rest)}"])
         drives = [line for line in printed[2:] if line.startswith("drive")]
