@@ -1,5 +1,5 @@
 -- The lesser of two functions, minute by minute (source: SEA 2020, merging cost profiles).
-use Rattle.std.specs.Prelude.{◌≡◌, ℕ, min, Bool, true, false, nat_lt, Option, Some, None, List}
+use Rattle.std.specs.Prelude.{◌≡◌, ℕ, min, Bool, true, false, nat_lt, if◌then◌else◌, Option, Some, None, List}
 use Rattle.cost_functions.specs.Building.{AreBuilt}
 use Rattle.cost_functions.specs.Pieces.{value_at}
 use Rattle.route_base.specs.Runs.{any_has}
@@ -31,3 +31,7 @@ pub record IsLeast (f g function : List Piece) (improved : List Run) : Type 0 wh
   pub values : (t : ℕ) → value_at function t ≡ least_at f g t
   pub better : (t : ℕ) → any_has improved t ≡ better_at f g t
   pub built : AreBuilt function
+
+-- the value of g at a minute at which it is better than f, and none elsewhere
+abbrev pub better_part_at : List Piece → List Piece → ℕ → Option ℕ
+better_part_at f g t = if better_at f g t then value_at g t else None

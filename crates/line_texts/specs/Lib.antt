@@ -1,3 +1,4 @@
+pub mod Begun
 pub mod Costs
 pub mod Legs
 pub mod Words
