@@ -20,8 +20,9 @@ sys.dont_write_bytecode = True
 if TOOLS not in sys.path:
     sys.path.insert(0, TOOLS)
 
-import folder_reading
 import stand_in
+from lorry_tools import running
+from lorry_tools.program import Program
 
 needs_program = unittest.skipUnless(HAS_PROGRAM, "there is no built program")
 
@@ -40,19 +41,19 @@ def load(name):
 
 def run(tool, *words, stdin="", explains=False):
     """Runs a tool in this process, and returns its status and what it wrote to both outputs. The stand-in is called, and not started."""
-    printed, complained, before = io.StringIO(), io.StringIO(), (sys.argv, sys.stdin, folder_reading.Program.run)
+    printed, complained, before = io.StringIO(), io.StringIO(), (sys.argv, sys.stdin, Program.run)
 
     def asked(program, questions):
         return stand_in.answer([str(it) for it in questions], explains) if program.path == STAND_IN else before[2](program, questions)
 
-    sys.argv, sys.stdin, folder_reading.Program.run = [tool, *(str(it) for it in words)], io.StringIO(stdin), asked
+    sys.argv, sys.stdin, Program.run = [tool, *(str(it) for it in words)], io.StringIO(stdin), asked
     try:
         with contextlib.redirect_stdout(printed), contextlib.redirect_stderr(complained):
-            status = load(tool).main()
+            status = running.guarded(tool, load(tool).main)
     except SystemExit as end:
         status = end.code
     finally:
-        sys.argv, sys.stdin, folder_reading.Program.run = before
+        sys.argv, sys.stdin, Program.run = before
     return status, printed.getvalue(), complained.getvalue()
 
 

@@ -9,7 +9,8 @@ import sys
 
 sys.dont_write_bytecode = True
 sys.path.insert(0, os.path.join(os.path.dirname(os.path.abspath(__file__)), ".."))
-from folder_reading import Folder, instant_text, minute_of, number_of
+from lorry_tools.folder import Folder, number_of
+from lorry_tools.instants import instant_text, minute_of
 
 
 def closures_of(folder, arc):

@@ -26,6 +26,7 @@ BUILT = os.environ.get("LORRY_PLAN_PROGRAM") or os.path.join(TOP, "crates", "lor
 SBIN = "/usr/sbin:/sbin:" + os.environ["PATH"]
 
 sys.dont_write_bytecode = True
+sys.path.insert(0, os.path.dirname(TOOL))
 loader = importlib.machinery.SourceFileLoader("batch_over_machines", TOOL)
 tool = importlib.util.module_from_spec(importlib.util.spec_from_loader("batch_over_machines", loader))
 loader.exec_module(tool)

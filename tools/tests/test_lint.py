@@ -13,10 +13,10 @@ from beside import graph
 
 beside.say_what_is_skipped("test_lint")
 
-import rule_texts
-from folder_reading import Folder, Program, minute_of, moment_of
-
-lint = beside.load("lint")
+from lorry_tools import lint, rule_texts
+from lorry_tools.folder import Folder
+from lorry_tools.instants import minute_of, moment_of
+from lorry_tools.program import Program
 
 # July 2026, in which the 5th is a Sunday.
 WINDOW = ["--window", "2026-07-01T00:00Z", "2026-08-01T00:00Z"]

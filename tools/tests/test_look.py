@@ -15,10 +15,8 @@ from beside import graph
 
 beside.say_what_is_skipped("test_look")
 
-import drawing
-from folder_reading import minute_of
-
-look = beside.load("look")
+from lorry_tools import drawing, drawn_plan, look
+from lorry_tools.instants import minute_of
 
 SVG = "{http://www.w3.org/2000/svg}"
 START = minute_of("2026-07-04T16:00Z")
@@ -127,13 +125,13 @@ class Pages(beside.FolderTest):
 
     def test_which_closed_minutes_are_ahead(self):
         self.plan(PASS_PAIRS)
-        trip = look.Trip("plan.json", PASS_PAIRS)
+        trip = drawn_plan.Trip("plan.json", PASS_PAIRS)
         trip.take_folder([self.folder, *(str(it) for it in TRIP)], PASS_PAIRS)
         trip.closed = {1: [(START + 30, START + 900)], 2: [(START, START + 10), (START + 240, START + 360)], 3: []}
         # The minutes before the first stage's end are those of road 1 alone, and none is left of road 2 before the wait.
         stages = trip.ahead(trip.routes[0])
         self.assertEqual([(low, high) for low, high, _ in stages], [(START, START + 60), (START + 60, START + 420)])
-        self.assertEqual([[run[:2] for run in runs] for _, _, runs in stages], [[], [[START + 240, START + 360]]])
+        self.assertEqual([[run[:2] for run in runs] for _, _, runs in stages], [[], [(START + 240, START + 360)]])
 
     def test_roads_that_are_closed_alike_are_asked_once(self):
         asked = self.path("asked")

@@ -213,7 +213,7 @@ class ByProgram(Causes, beside.FolderTest):
         self.assertEqual(self.lines(1, 3, vehicle="van"), ["pairs 1: the plan is not empty"])
 
     def test_the_rule_that_closes_a_road_for_good_and_not_that_of_the_departure(self):
-        if beside.folder_reading.Program(beside.PROGRAM).run(["explain", ".", "any", 1, 1, 26563680, 26563680, "x"])[1] == "refused usage\n":
+        if beside.Program(beside.PROGRAM).run(["explain", ".", "any", 1, 1, 26563680, 26563680, "x"])[1] == "refused usage\n":
             self.skipTest("the program has no command explain")
         self.write(
             graph=graph(3, (1, 2, 60), (2, 3, 60)), areas="area,zone\nland,UTC\n",

@@ -1,0 +1,193 @@
+"""Places in people's words: a name of nodes.csv, coordinates, or a node's number."""
+from __future__ import annotations
+
+import dataclasses
+import difflib
+import math
+import re
+from typing import Optional
+
+from lorry_tools.clocks import Clock, clock_of, named_clock
+from lorry_tools.files import GRAPH, NODES
+from lorry_tools.folder import Folder, areas_of_arcs, number_of, zones_of_areas
+from lorry_tools.problems import Problem
+
+COORDINATES = re.compile(
+    r"([+-]?\d{1,3}(?:\.\d+)?)[ \t]*[,; \t][ \t]*([+-]?\d{1,3}(?:\.\d+)?)", re.ASCII
+)
+EARTH_RADIUS = 6_371_009  # metres
+MOST_LISTED = 12
+MOST_CLOSE = 5
+
+
+@dataclasses.dataclass(frozen=True)
+class Place:
+    """A node, as the folder knows it. `away` is its distance, in metres, from coordinates that were
+    asked for."""
+
+    node: int
+    name: str
+    town: str = ""
+    lat: Optional[float] = None
+    lon: Optional[float] = None
+    away: Optional[int] = None
+
+    def words(self) -> str:
+        return self.name or f"node {self.node}"
+
+    def listed(self) -> str:
+        """Returns a line that tells it from others of the same name."""
+        town = f", {self.town}" if self.town and self.town != self.name else ""
+        where = "" if self.lat is None else f", at {self.lat:.5f},{self.lon:.5f}"
+        return f"{self.node}: {self.name}{town}{where}"
+
+
+class Places:
+    """The places of a folder."""
+
+    def __init__(self, folder: Folder, zone: Optional[str] = None):
+        self.folder = folder
+        self.nodes = folder.graph().nodes
+        self.known: dict[int, Place] = {}
+        self.named_zone: Optional[Clock] = named_clock(folder, zone) if zone else None
+        self._clocks: dict[int, list[Clock]] = {}
+        self._zones: Optional[dict[int, dict[str, int]]] = None
+        for row in folder.table(NODES):
+            node = number_of(row["node"])
+            if node and node <= self.nodes:
+                lat, lon = position(row["lat"], row["lon"])
+                name = " ".join((row["name"] or row["town"]).split())
+                self.known[node] = Place(node, name, row["town"], lat, lon)
+
+    def at(self, node: int) -> Place:
+        return self.known.get(node, Place(node, ""))
+
+    # Words of a user.
+
+    def read(self, text: str, what: str) -> Place:
+        """Returns the place that a text names; `what` says where the text stands, such as FROM."""
+        word = " ".join(text.split())
+        number = number_of(word)
+        if number is not None:
+            if not 1 <= number <= self.nodes:
+                raise Problem(
+                    f"{what} {text!r}: {GRAPH} has no node {number}: expected is one from 1 to "
+                    f"{self.nodes}"
+                )
+            return self.at(number)
+        if not self.folder.has(NODES):
+            raise Problem(
+                f"{what} {text!r} is no number, and {self.folder.path} has no {NODES}: expected is "
+                f"the number of a node, from 1 to {self.nodes}"
+            )
+        pair = COORDINATES.fullmatch(word)
+        return (
+            self.nearest(float(pair[1]), float(pair[2]), text, what)
+            if pair
+            else (self.named(word, text, what))
+        )
+
+    def named(self, word: str, text: str, what: str) -> Place:
+        alike = [it for it in self.known.values() if it.name.casefold() == word.casefold()]
+        if len(alike) == 1:
+            return alike[0]
+        if alike:
+            lines = [f"  {it.listed()}" for it in alike[:MOST_LISTED]]
+            if len(alike) > MOST_LISTED:
+                lines.append(f"  and {len(alike) - MOST_LISTED} more of {NODES}")
+            raise Problem(
+                f"{what} {text!r} is the name of {len(alike)} nodes: expected is the number of one "
+                "of them, or coordinates\n" + "\n".join(lines)
+            )
+        close = self.close_to(word)
+        others = "; the nearest names are " + ", ".join(close) if close else ""
+        raise Problem(
+            f"{what} {text!r} is no name of {self.folder.file(NODES)}: expected is such a name, "
+            f"coordinates such as 47.2405,9.5275, or the number of a node{others}"
+        )
+
+    def close_to(self, word: str) -> list[str]:
+        """Returns the names that are most like a word, those first of which it is a part."""
+        names = {it.name.casefold(): it.name for it in self.known.values() if it.name}
+        small = word.casefold()
+        found = sorted((it for it in names if small in it), key=lambda it: (len(it), it))
+        parts: dict[str, str] = {}
+        for name in names:
+            for part in [name, *name.split(" / ")]:
+                parts.setdefault(part, name)
+        for part in difflib.get_close_matches(small, list(parts), MOST_CLOSE, 0.6):
+            if parts[part] not in found:
+                found.append(parts[part])
+        return [names[it] for it in found[:MOST_CLOSE]]
+
+    def nearest(self, lat: float, lon: float, text: str, what: str) -> Place:
+        if abs(lat) > 90 or abs(lon) > 180:
+            raise Problem(
+                f"{what} {text!r} is off the globe: expected is the latitude and then the "
+                "longitude in degrees, such as 47.2405,9.5275"
+            )
+        found: Optional[Place] = None
+        least = math.inf
+        for place in self.known.values():
+            if place.lat is not None and place.lon is not None:
+                metres = distance(lat, lon, place.lat, place.lon)
+                if metres < least:
+                    found, least = place, metres
+        if found is None:
+            raise Problem(f"{what} {text!r}: {self.folder.file(NODES)} has no coordinates")
+        return dataclasses.replace(found, away=round(least))
+
+    # Clocks.
+
+    def clocks(self, node: int) -> list[Clock]:
+        """Returns the clocks of a place: that which was named, or else those of the areas of its
+        roads, that of most roads first."""
+        if self.named_zone:
+            return [self.named_zone]
+        if node not in self._clocks:
+            counts = self.zones_of(node)
+            names = sorted(counts, key=lambda it: (-counts[it], it))
+            self._clocks[node] = [clock_of(self.folder, it) for it in names]
+        return self._clocks[node]
+
+    def clock(self, node: int) -> Clock:
+        return self.clocks(node)[0]
+
+    def zones_of(self, node: int) -> dict[str, int]:
+        """Returns how many roads at a node are in areas of each zone."""
+        if self._zones is None:
+            self._zones = {}
+            graph, zones = self.folder.graph(), zones_of_areas(self.folder)
+            areas, first = areas_of_arcs(self.folder)
+            for arc in range(1, len(graph) + 1):
+                zone = zones.get(areas.get(arc, first), "UTC")
+                for end in graph.ends(arc)[:2]:
+                    counts = self._zones.setdefault(end, {})
+                    counts[zone] = counts.get(zone, 0) + 1
+        if node in self._zones:
+            return self._zones[node]
+        areas_zones = zones_of_areas(self.folder)
+        return {next(iter(areas_zones.values())): 1}
+
+
+def position(lat: str, lon: str) -> tuple[Optional[float], Optional[float]]:
+    """Returns coordinates as numbers, or nothing where they aren't on the globe."""
+    try:
+        found = float(lat), float(lon)
+    except ValueError:
+        return None, None
+    if not all(map(math.isfinite, found)) or abs(found[0]) > 90 or abs(found[1]) > 180:
+        return None, None
+    return found
+
+
+def distance(lat: float, lon: float, other_lat: float, other_lon: float) -> float:
+    """Returns the metres between two places on the globe, by the haversine formula."""
+    one, other = math.radians(lat), math.radians(other_lat)
+    up, along = math.radians(other_lat - lat), math.radians(other_lon - lon)
+    part = math.sin(up / 2) ** 2 + math.cos(one) * math.cos(other) * math.sin(along / 2) ** 2
+    return 2 * EARTH_RADIUS * math.asin(min(1.0, math.sqrt(part)))
+
+
+def distance_text(metres: int) -> str:
+    return f"{metres} m" if metres < 1000 else f"{metres / 1000:.1f} km"

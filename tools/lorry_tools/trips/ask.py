@@ -1,0 +1,136 @@
+"""Asks the program about a trip, and makes the answer."""
+from __future__ import annotations
+
+import re
+from typing import Optional
+
+from lorry_tools.answers import Pair
+from lorry_tools.clocks import local_text
+from lorry_tools.folder import Folder
+from lorry_tools.instants import instant_text
+from lorry_tools.places import Places
+from lorry_tools.problems import Problem
+from lorry_tools.program import Program, Trip
+from lorry_tools.rules import Streets
+from lorry_tools.trips.answer import Answer, Judged, options_of, trip_of
+from lorry_tools.trips.reasons import Reasons
+from lorry_tools.trips.request import (
+    BREAK,
+    BREAKS,
+    DRIVE_TO_BREAK,
+    LATEST,
+    PLAN,
+    TOUR,
+    Request,
+    Stop,
+)
+from lorry_tools.trips.shown import NotedProgram
+from lorry_tools.trips.warnings import warnings_of
+from lorry_tools.trips.why import explained
+from lorry_tools.why_empty import Case
+
+STOPS = "stops.csv"
+STOPS_HEADER = "node,service,from,to"
+CERTIFICATE = re.compile(r"[A-Za-z0-9_.][A-Za-z0-9_.-]{0,58}\.cert", re.ASCII)
+
+
+def answer_to(
+    folder: Folder,
+    places: Places,
+    request: Request,
+    program: NotedProgram,
+    certificate: Optional[str] = None,
+    why: Optional[str] = None,
+) -> Answer:
+    """Returns the answer to a request, or why not another way."""
+    check_options(request, certificate, why)
+    answer = Answer(request, folder, places, Streets(folder))
+    if why is not None:
+        answer.why = explained(answer, program, why)
+    else:
+        answer.options = options_of(answer, pairs_of(answer, program, certificate))
+        reasons = Reasons(answer, program)
+        for option in answer.options:
+            reasons.take(option)
+        answer.warnings = warnings_of(answer.options, request.command)
+        if certificate is not None:
+            accepted, number = program.check(trip_of(folder, request), certificate)
+            answer.judged = Judged(certificate, accepted, number)
+        if not answer.options:
+            answer.causes = causes_of(answer, program)
+    answer.commands = program.lines
+    return answer
+
+
+def check_options(request: Request, certificate: Optional[str], why: Optional[str]) -> None:
+    for option, given in (("--certificate", certificate), ("--why", why)):
+        if given is not None and request.command != PLAN:
+            raise Problem(
+                f"{option} is for a plain trip: expected is none of --latest, --stop and --breaks "
+                "beside it"
+            )
+    if certificate is not None and why is not None:
+        raise Problem("--certificate and --why can't be asked for together")
+    if certificate is not None and not CERTIFICATE.fullmatch(certificate):
+        raise Problem(
+            f"--certificate {certificate!r}: expected is a name that ends in .cert, of letters, "
+            "digits, `_`, `-` and `.`; the file is then in the folder"
+        )
+
+
+def pairs_of(answer: Answer, program: NotedProgram, certificate: Optional[str]) -> list[Pair]:
+    request, trip = answer.request, trip_of(answer.folder, answer.request)
+    if request.command == LATEST:
+        return program.latest(trip)
+    if request.command == BREAKS:
+        return program.breaks(trip, DRIVE_TO_BREAK, BREAK)
+    if request.command == TOUR:
+        return tour_of(answer, program, request.stops, trip.goal)
+    return program.plan(trip, certificate)
+
+
+def tour_of(answer: Answer, program: NotedProgram, stops: list[Stop], goal: int) -> list[Pair]:
+    """Returns the pairs of a tour over some stops to a node."""
+    rows = [
+        f"{stop.place.node},{stop.service},{instant_text(stop.start)},{instant_text(stop.end)}"
+        for stop in stops
+    ]
+    name = program.write(STOPS, "\n".join([STOPS_HEADER, *rows, ""]))
+    request = answer.request
+    trip = Trip(
+        program.work(), request.vehicle, request.origin.node, goal, request.depart, request.until
+    )
+    return program.tour(trip, name)
+
+
+# Why there is no option.
+
+
+def causes_of(answer: Answer, program: NotedProgram) -> list[str]:
+    """Returns why a trip has no option, as far as it is found."""
+    request = answer.request
+    if request.command == TOUR:
+        return tour_causes(answer, program)
+    trip = trip_of(answer.folder, request)
+    if request.command == BREAKS and program.plan(trip):
+        return ["with-breaks: there is a trip without breaks, and none that keeps the breaks"]
+    program.note(" ".join(["tools/why_empty", *trip.words()]))
+    return list(Case(Program(program.path), answer.folder, trip).causes())
+
+
+def tour_causes(answer: Answer, program: NotedProgram) -> list[str]:
+    """Finds the first stop that can't be served after those before it, by shorter tours."""
+    request, stops = answer.request, answer.request.stops
+    for number, stop in enumerate(stops, 1):
+        if tour_of(answer, program, stops[:number], stop.place.node):
+            continue
+        clock = answer.places.clock(stop.place.node)
+        where = f"stop {number}, {stop.place.words()},"
+        words = f"stop-out-of-time: {where} can't be served in its window"
+        free = Stop(stop.place, stop.service, request.depart, request.until)
+        later = tour_of(answer, program, [*stops[: number - 1], free], stop.place.node)
+        if not later:
+            return [f"{words}, nor at any other time of the trip, after the stops before it"]
+        served = local_text(clock, later[0].minute - stop.service)
+        return [f"{words}; without a window it is served from {served} on at the earliest"]
+    return ["the-way-back: all stops can be served, but then there is no way to the goal in time"]

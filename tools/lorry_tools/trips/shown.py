@@ -1,0 +1,76 @@
+"""Runs of the program that are noted, so that each can be had again from the program alone."""
+from __future__ import annotations
+
+import os
+import shlex
+import tempfile
+from types import TracebackType
+from typing import Iterable, Optional, Type
+
+from lorry_tools.folder import Folder, link_files
+from lorry_tools.program import Program
+
+WORK = '"$work"'
+
+
+class NotedProgram(Program):
+    """The program, with a line of the shell for each run. Files that a run needs beside those of
+    the folder are in a temporary folder with links to these."""
+
+    def __init__(self, folder: Folder, path: Optional[str] = None):
+        super().__init__(path)
+        self.folder = folder
+        self.lines: list[str] = []
+        self._place: Optional[tempfile.TemporaryDirectory[str]] = None
+        self._is_told = False
+
+    def __enter__(self) -> NotedProgram:
+        return self
+
+    def __exit__(
+        self,
+        kind: Optional[Type[BaseException]],
+        error: Optional[BaseException],
+        trace: Optional[TracebackType],
+    ) -> None:
+        if self._place:
+            self._place.cleanup()
+
+    def work(self) -> str:
+        """Returns the temporary folder, which is made when it is asked for the first time."""
+        if self._place is None:
+            self._place = tempfile.TemporaryDirectory(prefix="lorry_plan-")
+            link_files(self.folder, self._place.name)
+        return self._place.name
+
+    def write(self, name: str, text: str) -> str:
+        """Writes a file into the temporary folder, and returns its name."""
+        if not self._is_told:
+            self._is_told = True
+            source = shlex.quote(self.folder.path)
+            self.lines.append(f'work=$(mktemp -d) && ln -s "$(realpath {source})"/* {WORK}')
+        with open(os.path.join(self.work(), name), "w", encoding="utf-8", newline="") as file:
+            file.write(text)
+        words = " ".join(shlex.quote(it) for it in text.splitlines())
+        self.lines.append(f"printf '%s\\n' {words} > {WORK}/{name}")
+        return name
+
+    def note(self, line: str) -> None:
+        self.lines.append(line)
+
+    def run(self, words: Iterable[object]) -> tuple[int, str]:
+        asked = [str(it) for it in words]
+        place = self._place.name if self._place else None
+        shown = [WORK if it == place else shlex.quote(it) for it in asked]
+        self.lines.append(" ".join([shlex.quote(short_path(self.path)), *shown]))
+        return super().run(asked)
+
+
+def short_path(path: str) -> str:
+    """Returns the shorter of a path and of that from the current folder."""
+    if os.path.sep not in path:
+        return path
+    near = os.path.relpath(path)
+    if near.startswith(os.pardir):
+        return path
+    return near if os.path.sep in near else os.path.join(os.curdir, near)

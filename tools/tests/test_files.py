@@ -1,0 +1,33 @@
+"""Tests that every list of a folder's files is that of lorry_tools.files.
+
+    python3 -m unittest tools/tests/test_files.py"""
+import os
+import re
+import sys
+import unittest
+
+sys.path.insert(0, os.path.dirname(os.path.abspath(__file__)))
+import beside
+
+import small_folder
+from lorry_tools.files import NETWORK, TABLES
+
+
+class Lists(unittest.TestCase):
+    def test_the_manual_page(self):
+        with open(os.path.join(beside.TOOLS, "package.d", "lorry_plan.1"), encoding="utf-8") as file:
+            page = file.read()
+        part = page[page.index(".SH FILES") :].split(".SH ", 2)[1]
+        self.assertEqual(list(dict.fromkeys(re.findall(r"\\fB([a-z]+\.(?:gr|csv))\\fP", part))), list(NETWORK))
+
+    def test_the_small_folder(self):
+        self.assertEqual(list(small_folder.NETWORK), list(NETWORK))
+
+    def test_the_documents(self):
+        with open(os.path.join(beside.TOP, "docs", "FORMATS.md"), encoding="utf-8") as file:
+            rows = re.findall(r"^\| `(\w+\.csv)` \| `([^`]+)`(?:<br>`[^`]*`<br>or `([^`]+)`)?", file.read(), re.M)
+        self.assertEqual([(name, tuple(filter(None, it))) for name, *it in rows], [(it.name, it.headers) for it in TABLES])
+
+
+if __name__ == "__main__":
+    unittest.main()
