@@ -3,6 +3,9 @@ import datetime
 
 INSTALL = "python3-holidays is missing: apt-get install python3-holidays, and run this by the system's own Python, /usr/bin/python3"
 MOST_ROWS = 100_000
+
+# Codes of ISO 3166-1 that older versions, such as that of Debian 12, have under other names.
+OTHER_CODES = {"FR": "FRA", "HN": "HND", "IN": "IND"}
 FIRST_YEAR, LAST_YEAR = 1970, 2199
 
 
@@ -22,6 +25,8 @@ def days(country, subdivision, first, last):
     """The public holidays of a country, or of one of its subdivisions, such as DE and BY, in some years: dates with their names."""
     holidays = library()
     years = list(range(first, last + 1))
+    if not hasattr(holidays, country):
+        country = OTHER_CODES.get(country, country)
     try:
         if hasattr(holidays, "country_holidays"):
             found = holidays.country_holidays(country, subdiv=subdivision or None, years=years)

@@ -167,7 +167,7 @@ class Records(unittest.TestCase):
     def test_files(self):
         """The files of the network are those that docs/FORMATS.md lists."""
         with open(os.path.join(TOP, "docs", "FORMATS.md"), encoding="utf-8") as page:
-            self.assertEqual(["graph.gr", *re.findall(r"^\| `(\w+\.csv)` \|", page.read(), re.M)], tool.NETWORK_FILES)
+            self.assertEqual(["graph.gr", *re.findall(r"^\| `(\w+\.csv)` \|", page.read(), re.M)], list(tool.NETWORK))
 
     def test_limits(self):
         with open(os.path.join(TOP, "docs", "LIMITS.md"), encoding="utf-8") as page:

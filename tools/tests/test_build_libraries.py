@@ -4,9 +4,11 @@
 import collections
 import os
 import shutil
+import signal
 import subprocess
 import sys
 import tempfile
+import time
 import unittest
 
 TOP = os.path.dirname(os.path.dirname(os.path.dirname(os.path.abspath(__file__))))
@@ -119,6 +121,22 @@ class Building(unittest.TestCase):
         self.write("crates/right/src/lib.rt", "// wrong\n")
         status, built, there = self.build(False)
         self.assertEqual((status, built["top"], "top" in there), (1, 0, False))
+
+    def test_nothing_stays_after_a_signal(self):
+        rooms = os.path.join(self.top, "rooms")
+        os.mkdir(rooms)
+        path = os.path.join(self.top, "bin") + os.pathsep + os.environ["PATH"]
+        environment = {**os.environ, "PATH": path, "BUILT": os.path.join(self.top, "built"), "TMPDIR": rooms}
+        words = [sys.executable, os.path.join(self.top, "tools", "build_libraries"), "program"]
+        how = {"env": environment, "stdin": subprocess.DEVNULL, "stdout": subprocess.DEVNULL, "stderr": subprocess.DEVNULL}
+        run = subprocess.Popen(words, start_new_session=True, **how)
+        end = time.monotonic() + 30
+        while not os.listdir(rooms) and time.monotonic() < end:
+            time.sleep(0.02)
+        time.sleep(0.3)
+        os.killpg(run.pid, signal.SIGTERM)
+        self.assertEqual(run.wait(30), 128 + signal.SIGTERM)
+        self.assertEqual(os.listdir(rooms), [])
 
 
 if __name__ == "__main__":

@@ -331,6 +331,11 @@ class Tables(unittest.TestCase):
         self.assertEqual(run(sys.executable, f"{TOOLS}/zones", "Europe/Nowhere", check=False).returncode, 1)
 
     @needs_holidays
+    def test_a_country_under_another_code(self):
+        text = run(HOLIDAYS, f"{TOOLS}/holidays", "--years", "2026", "2026", "fr=FR").stdout
+        self.assertIn("fr,PH,2026-07-14\n", text)
+
+    @needs_holidays
     def test_the_script_of_holidays(self):
         text = run(HOLIDAYS, f"{TOOLS}/holidays", "--years", "2026", "2026", "de=DE-BY", "at=AT").stdout.splitlines()
         self.assertEqual(text[0], "area,kind,date")
