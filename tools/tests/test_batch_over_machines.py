@@ -6,8 +6,6 @@ Most tests run a stand-in for the program, which can be told to fail. Those of c
 crates/lorry_plan/out/lorry_plan. What a machine lacks is skipped, and a line says what to install: a temporary sshd and a temporary Slurm of one
 machine are started here, on ports of their own of 127.0.0.1, and end with the tests."""
 import getpass
-import importlib.machinery
-import importlib.util
 import os
 import random
 import re
@@ -27,9 +25,8 @@ SBIN = "/usr/sbin:/sbin:" + os.environ["PATH"]
 
 sys.dont_write_bytecode = True
 sys.path.insert(0, os.path.dirname(TOOL))
-loader = importlib.machinery.SourceFileLoader("batch_over_machines", TOOL)
-tool = importlib.util.module_from_spec(importlib.util.spec_from_loader("batch_over_machines", loader))
-loader.exec_module(tool)
+from lorry_tools import files
+from lorry_tools.batches import judging, main, table, work
 
 # A program that answers as `batch` does, with a text of its own for each row; `plan` beside its copy tells it to fail.
 STAND_IN = r'''#!PYTHON
@@ -125,7 +122,7 @@ class Records(unittest.TestCase):
     """The records of a table are those that the program's reader finds."""
 
     def test_records(self):
-        for table, records in [
+        for text, records in [
             (b"", []),
             (b"\r\n\n\r", []),
             (b"a,b\nc,d\n", [b"a,b", b"c,d"]),
@@ -143,23 +140,23 @@ class Records(unittest.TestCase):
             (b"\xef\xbb\xbfa\nb", [b"\xef\xbb\xbfa", b"b"]),
             (b'""\n"",""\n', [b'""', b'"",""']),
         ]:
-            with self.subTest(table=table):
-                self.assertEqual(tool.records_of(table), records)
+            with self.subTest(text=text):
+                self.assertEqual(table.records_of(text), records)
 
     def test_records_as_a_machine(self):
         """The same over drawn tables, by a reader that goes byte by byte."""
         draws = random.Random(1)
         for _ in range(20_000):
-            table = bytes(draws.choice(b'a,",\n\r"') for _ in range(draws.randint(0, 12)))
-            records = tool.records_of(table)
-            self.assertEqual([fields_of(record) for record in records], machine(table), table)
+            text = bytes(draws.choice(b'a,",\n\r"') for _ in range(draws.randint(0, 12)))
+            records = table.records_of(text)
+            self.assertEqual([fields_of(record) for record in records], machine(text), text)
             # Records that are written on lines of their own are read as they were.
-            self.assertEqual(machine(b"".join(record + b"\n" for record in records)), machine(table), table)
+            self.assertEqual(machine(b"".join(record + b"\n" for record in records)), machine(text), text)
 
     def test_cut(self):
         for count in range(1, 60):
             for most in range(1, 60):
-                cut = tool.cut_of(count, most)
+                cut = table.cut_of(count, most)
                 self.assertEqual([row for first, behind in cut for row in range(first, behind)], list(range(count)))
                 sizes = [behind - first for first, behind in cut]
                 self.assertTrue(max(sizes) <= most and max(sizes) - min(sizes) <= 1 and len(cut) == -(-count // most))
@@ -167,14 +164,14 @@ class Records(unittest.TestCase):
     def test_files(self):
         """The files of the network are those that docs/FORMATS.md lists."""
         with open(os.path.join(TOP, "docs", "FORMATS.md"), encoding="utf-8") as page:
-            self.assertEqual(["graph.gr", *re.findall(r"^\| `(\w+\.csv)` \|", page.read(), re.M)], list(tool.NETWORK))
+            self.assertEqual(["graph.gr", *re.findall(r"^\| `(\w+\.csv)` \|", page.read(), re.M)], list(files.NETWORK))
 
     def test_limits(self):
         with open(os.path.join(TOP, "docs", "LIMITS.md"), encoding="utf-8") as page:
             page = page.read()
-        self.assertIn(f"| a table of jobs | {tool.MOST_JOBS:,} |", page)
-        self.assertIn(f"| a file of the folder, a table of jobs or stops | {tool.LONGEST_FILE:,} bytes |", page)
-        self.assertIn(f"| workers of a batch | 1 to {tool.MOST_WORKERS} |", page)
+        self.assertIn(f"| a table of jobs | {judging.MOST_JOBS:,} |", page)
+        self.assertIn(f"| a file of the folder, a table of jobs or stops | {main.LONGEST_FILE:,} bytes |", page)
+        self.assertIn(f"| workers of a batch | 1 to {work.MOST_WORKERS} |", page)
 
 
 def machine(table):
@@ -321,6 +318,32 @@ class OverParallel(Runs):
             file.write("truck,1,2,3,4\ntruck,x,2,3,4\n")
         many = self.call("--long-table")
         self.assertEqual((many.returncode, many.stdout), (3, b"refused input jobs 10004 BadField\n"))
+
+    def test_bad_rows_are_skipped_and_listed(self):
+        self.write("net/jobs.csv", "vehicle,from,to,depart,until\ntruck,1,7,1,2\none\ntruck,2,3,1,2\ntruck,x,3,1,2\ntruck,4,3,1,2\n")
+        many = self.call("--rows", "1", "--skip-bad")
+        texts = [f"job {job}\npairs 1\npair {pair} 1.000\ndrive truck\n" for job, pair in ((1, 8), (3, 5), (5, 7))]
+        self.assertEqual((many.returncode, many.stdout.decode()), (1, "".join(texts)), many.stderr.decode())
+        said = many.stderr.decode().splitlines()
+        self.assertEqual(
+            said,
+            [
+                "batch_over_machines: jobs.csv row 3: FieldCount: one",
+                "batch_over_machines: jobs.csv row 5, column from: BadField: truck,x,3,1,2",
+                "batch_over_machines: 3 trips: 3 planned, 0 empty, 0 refused, 2 rows skipped",
+            ],
+        )
+        self.assertEqual(self.call().returncode, 3)
+
+    def test_all_rows_are_bad(self):
+        self.write("net/jobs.csv", "vehicle,from,to,depart,until\none\ntwo\n")
+        many = self.call("--skip-bad")
+        self.assertEqual((many.returncode, many.stdout), (1, b""))
+        self.assertIn("0 trips: 0 planned, 0 empty, 0 refused, 2 rows skipped", many.stderr.decode())
+
+    def test_the_last_line_counts_trips(self):
+        self.write_jobs(7)
+        self.assertEqual(self.call("--rows", "2").stderr.decode(), "batch_over_machines: 7 trips: 7 planned, 0 empty, 0 refused\n")
 
     def test_parts_that_fail(self):
         """A part that fails, that loses a job or whose text is cut short is run again; nothing is lost or doubled."""
@@ -526,6 +549,22 @@ MaxStartups 100
         many = self.call("--sshlogin", self.login("dead"))
         self.assertEqual((many.returncode, many.stdout), (75, b""))
         self.assertIn("no machine can be reached", many.stderr.decode())
+
+    def test_a_machine_that_is_lost(self):
+        """The run goes on with the others, and says which one was lost."""
+        self.write_jobs(60)
+        words = self.words("--rows", "1", "--send", "--sshlogin", self.login("node1"), "--sshlogin", ":")
+        run = subprocess.Popen(words, cwd=self.folder, env=self.environment, stdout=subprocess.PIPE, stderr=subprocess.PIPE)
+        until = time.monotonic() + 120
+        while len(self.runs()) < 3 and time.monotonic() < until:
+            time.sleep(0.05)
+        told = subprocess.run(["ps", "--ppid", str(self.server.pid), "-o", "pid="], stdout=subprocess.PIPE).stdout
+        self.server.kill()
+        for child in told.split():
+            os.kill(int(child), signal.SIGKILL)
+        printed, said = run.communicate(timeout=300)
+        self.assertEqual((run.returncode, printed), (0, self.one_batch().stdout), said.decode())
+        self.assertRegex(said.decode(), r"node1 was lost: .*; : took its parts")
 
     def test_other_files_on_a_machine(self):
         """A machine that sees other files under the same path gives no part."""

@@ -29,9 +29,10 @@ class Step:
 
 @dataclasses.dataclass
 class WaitReason:
-    """What a wait is for. KIND is `rule` or `closure` for a road ahead that is closed at MINUTE,
-    `parking` where a later place to wait isn't open yet, `window` for that of a stop, `break` for
-    a driver's break, `price` where waiting here costs less than later on, or `unknown`."""
+    """What a wait is for. KIND is `rule` or `closure` for a road ahead that is closed at MINUTE and
+    that opens at UNTIL where it is the last one to open; `parking` where a later place to wait
+    isn't open yet, `window` for that of a stop, `break` for a driver's break, `price` where waiting
+    here costs less than later on, or `unknown`."""
 
     kind: str
     minute: int
@@ -39,6 +40,7 @@ class WaitReason:
     cause: Optional[Cause] = None
     node: int = 0  # the later place of `parking` and `price`
     stop: int = 0
+    until: Optional[int] = None
 
 
 @dataclasses.dataclass

@@ -78,6 +78,7 @@ class Forms:
             "certificate": judged
             and {"name": judged.name, "accepted": judged.accepted, "number": judged.number},
             "why": answer.why and self.why(answer.why),
+            "picture": answer.picture,
             "commands": answer.commands,
         }
 
@@ -135,6 +136,7 @@ class Forms:
         return {
             "kind": reason.kind,
             "time": self.time(reason.minute, part.tail),
+            "until": None if reason.until is None else self.time(reason.until, part.tail),
             "arc": reason.arc or None,
             "street": self.answer.streets.name(reason.arc) if reason.arc else None,
             "place": self.node(reason.node) if reason.node else None,

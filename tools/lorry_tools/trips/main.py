@@ -21,10 +21,12 @@ import sys
 from lorry_tools.folder import Folder
 from lorry_tools.places import Places
 from lorry_tools.problems import Problem
+from lorry_tools.program import Program
 from lorry_tools.running import write_as_utf8
-from lorry_tools.trips import forms
+from lorry_tools.trips import forms, picture
 from lorry_tools.trips.answer import Answer
 from lorry_tools.trips.ask import answer_to
+from lorry_tools.trips.many import main_of_table
 from lorry_tools.trips.request import Words, read_request
 from lorry_tools.trips.shown import NotedProgram
 from lorry_tools.trips.text import Text
@@ -35,8 +37,8 @@ def read_words() -> argparse.Namespace:
         description=__doc__, formatter_class=argparse.RawDescriptionHelpFormatter
     )
     parser.add_argument("dir", metavar="DIR", help="the folder")
-    parser.add_argument("origin", metavar="FROM", help="where the trip begins")
-    parser.add_argument("goal", metavar="TO", help="where it goes")
+    parser.add_argument("origin", metavar="FROM", nargs="?", help="where the trip begins")
+    parser.add_argument("goal", metavar="TO", nargs="?", help="where it goes")
     add = parser.add_argument
     add("--lorry", metavar="NAME", help="a lorry of vehicles.csv, or any; without it the list")
     add("--leave", metavar="TIME", help="the departure; for --latest the earliest one")
@@ -63,8 +65,21 @@ def read_words() -> argparse.Namespace:
     form.add_argument("--json", action="store_true", help="the answer by trip.schema.json")
     form.add_argument("--csv", action="store_true", help="a row for each part of each option")
     add("--show", action="store_true", help="add the commands of the program that were run")
+    add("--picture", action="store_true", help="draw the options as a page, and open it")
+    add("--out", metavar="FILE", default="trip.html", help="where the page is (trip.html)")
+    add(
+        "--table",
+        metavar="FILE",
+        help="a CSV file of trips, with the columns from, to, lorry, leave, and if wanted by or "
+        "within; the answer is CSV",
+    )
     add("--program", metavar="PATH", help="the program")
-    return parser.parse_args()
+    words = parser.parse_args()
+    if words.table and (words.origin or words.lorry or words.leave):
+        parser.error("--table has the words of its trips")
+    if not words.table and words.goal is None:
+        parser.error("expected are DIR, FROM and TO, or DIR --table FILE")
+    return words
 
 
 def main() -> int:
@@ -72,6 +87,9 @@ def main() -> int:
     write_as_utf8()
     folder = Folder(words.dir)
     places = Places(folder, words.zone)
+    if words.table:
+        with NotedProgram(folder, words.program) as program:
+            return main_of_table(words.table, folder, places, program)
     asked = Words(
         words.origin,
         words.goal,
@@ -84,8 +102,13 @@ def main() -> int:
         words.stop,
     )
     request = read_request(folder, places, asked)
+    if words.picture:
+        picture.check_picture(request.command)
     with NotedProgram(folder, words.program) as program:
         answer = answer_to(folder, places, request, program, words.certificate, words.why)
+        if words.picture and not answer.why:
+            picture.draw(answer, Program(words.program), words.out)
+            answer.picture = words.out
     print_answer(answer, words)
     return 0
 

@@ -5,6 +5,7 @@ these drives a minute sooner than the option has them, and at the start of the w
 road then is what the lorry waits for."""
 from __future__ import annotations
 
+import dataclasses
 from typing import Optional
 
 from lorry_tools.answers import DRIVE, SERVE, WAIT, Unlawful
@@ -40,6 +41,8 @@ class Reasons:
         drives, after = stage_after(option.steps, index)
         last = self.ask(wait, drives, wait.end - 1)
         if last:
+            # A drive that may begin now, and a minute ago might not, is over a road that opens now.
+            last = dataclasses.replace(last, until=last.minute + 1)
             first = self.ask(wait, drives, wait.start) or last
             return [last] if first.cause == last.cause else [first, last]
         if self.answer.request.command == BREAKS and wait.end - wait.start >= BREAK:

@@ -40,6 +40,8 @@ class Text:
                 else f"rejected, by condition {judged.number}"
             )
             lines += ["", f"The certificate {judged.name} was written and judged: {verdict}."]
+        if answer.picture:
+            lines += ["", f"The picture is {answer.picture}."]
         if answer.warnings:
             lines += ["", *(f"Warning: {it}." for it in answer.warnings)]
         return lines
@@ -135,8 +137,10 @@ class Text:
     def reason(self, part: Part, reason: WaitReason) -> str:
         if reason.cause:
             street = self.answer.streets.name(reason.arc)
-            when = self.time(reason.minute, part.tail)
-            return f"for {street}, closed at {when} by {reason.cause.words()}"
+            when = f"at {self.time(reason.minute, part.tail)}"
+            if reason.until is not None:
+                when = f"until {self.time(reason.until, part.tail)}"
+            return f"for {street}, closed {when} by {reason.cause.words()}"
         if reason.kind == "window":
             return f"for the window of stop {reason.stop}"
         if reason.kind == "break":

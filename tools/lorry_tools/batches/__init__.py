@@ -1,0 +1,1 @@
+"""Tables of jobs, planned in parts on many machines."""

@@ -1,0 +1,267 @@
+"""Tests of tools/trip: places, times and stops in people's words, ways by streets, warnings, and whole answers by the program where it is built.
+
+    python3 -m unittest tools/tests/test_trip.py
+
+The folder has a night ban from 22:00 to 05:00 local time, and these roads: Low Road leads from Depot over Inn to Market in 60 and 60 minutes, High
+Road past Inn in 300, Mill Lane from Market to Mill in 30, Back Lane from there to Depot in 90, and Long Road to Far in 240. A lorry may wait in
+Depot for nothing, and at Inn and Mill for 0.500 a minute."""
+import csv
+import datetime
+import io
+import json
+import os
+import re
+import subprocess
+import sys
+import tempfile
+import unittest
+
+sys.path.insert(0, os.path.dirname(os.path.abspath(__file__)))
+import beside
+from beside import graph
+
+beside.say_what_is_skipped("test_trip")
+
+from lorry_tools.clocks import SystemClock, TableClock, minutes_showing, read_time, shown_text
+from lorry_tools.folder import Folder
+from lorry_tools.instants import instant_text, minute_of
+from lorry_tools.places import Places, distance
+from lorry_tools.problems import Problem
+from lorry_tools.rules import Streets, clause_text
+from lorry_tools.trips.answer import Answer, Step
+from lorry_tools.trips.request import Request, Words, read_request, read_span
+from lorry_tools.trips.warnings import longest_drive
+from lorry_tools.trips.why import by_streets
+
+ARCS = [(1, 2, 60), (2, 3, 60), (3, 5, 30), (1, 3, 300), (5, 1, 90), (3, 4, 10), (5, 6, 240), (3, 7, 10)]
+FILES = {
+    "zones": "zone,from,offset\nberlin,2026-01-01T00:00Z,+01:00\nberlin,2026-03-29T01:00Z,+02:00\nberlin,2026-10-25T01:00Z,+01:00\n",
+    "areas": "area,zone\nland,berlin\n",
+    "vehicles": beside.VEHICLES + "truck,hgv,40000,11500,400,255,1650,5,through,\nvan,goods,3500,,,,,2,delivery,\n",
+    "rules": 'scope,key,value\narea:land,hgv:conditional,"no @ (22:00-05:00 AND weight>7.5); no @ (hazmat)"\n',
+    "ratings": "rating,weight\nfree,0\ninn,0.5\n",
+    "parking": "node,rating\n1,free\n2,inn\n5,inn\n",
+    "nodes": "node,lon,lat,name\n1,9.0,47.0,Depot\n2,9.1,47.0,Inn\n3,9.2,47.0,Market\n4,9.3,47.0,Gate\n5,9.2,47.1,Mill\n6,9.9,47.1,Far\n7,9.3,47.1,gate\n",
+    "ways": "arc,name,metres\n1,Low Road,40000\n2,Low Road,41500\n3,Mill Lane,20000\n4,High Road,200000\n5,Back Lane,60000\n6,Gate Lane,5000\n"
+    "7,Long Road,160000\n8,Gate Lane,5000\n",
+}
+
+
+class TripTest(beside.FolderTest):
+    def setUp(self):
+        super().setUp()
+        self.write(graph=graph(7, *ARCS), **FILES)
+
+    def refused(self, said, call, *words):
+        with self.assertRaises(Problem) as caught:
+            call(*words)
+        for part in [said] if isinstance(said, str) else said:
+            self.assertIn(part, str(caught.exception))
+
+
+class InWords(TripTest):
+    def places(self, zone=None):
+        return Places(Folder(self.folder), zone)
+
+    def test_names_in_any_case_numbers_and_coordinates(self):
+        places = self.places()
+        for text, node in (("Depot", 1), ("dEPOT", 1), (" depot ", 1), ("3", 3), ("47.0,9.21", 3), ("47.09 9.19", 5), ("+47.0; 9.0", 1)):
+            self.assertEqual(places.read(text, "FROM").node, node, text)
+        # A hundredth of a degree of longitude at 47 degrees north is 758 metres.
+        self.assertEqual(places.read("47.0,9.21", "FROM").away, 758)
+        self.assertIsNone(places.read("Depot", "FROM").away)
+        self.assertAlmostEqual(distance(47, 9, 48, 9), 111195, delta=1)
+
+    def test_places_that_are_not_there(self):
+        read = self.places().read
+        self.refused(["FROM 'Depott' is no name of", "the nearest names are Depot"], read, "Depott", "FROM")
+        self.refused("'gate' is the name of 2 nodes: expected is the number of one of them, or coordinates\n  4: Gate, at 47.00000,9.30000", read, "gate", "TO")
+        self.refused("graph.gr has no node 8: expected is one from 1 to 7", read, "8", "TO")
+        self.refused("graph.gr has no node 0", read, "0", "TO")
+        self.refused("is off the globe: expected is the latitude and then the longitude", read, "97.0,9.21", "TO")
+        os.remove(self.path("nodes.csv"))
+        read = self.places().read
+        self.assertEqual(read("3", "TO").words(), "node 3")
+        self.refused("has no nodes.csv: expected is the number of a node, from 1 to 7", read, "Depot", "TO")
+
+    def test_times(self):
+        clocks = self.places().clocks(1)
+        for text, instant in (
+            ("2026-07-10 21:45", "2026-07-10T19:45Z"),
+            ("2026-7-10T21:45", "2026-07-10T19:45Z"),
+            ("2026-01-10 21:45", "2026-01-10T20:45Z"),
+            ("2026-07-10 21:45Z", "2026-07-10T21:45Z"),
+            ("2026-07-10T21:45:00 -01:30", "2026-07-10T23:15Z"),
+            ("2026-10-25 02:30+02:00", "2026-10-25T00:30Z"),
+            ("2026-10-25 02:30+01:00", "2026-10-25T01:30Z"),
+        ):
+            self.assertEqual(instant_text(read_time(text, clocks, "--leave")), instant, text)
+
+    def test_times_that_are_not(self):
+        clocks = self.places().clocks(1)
+        for text, said in (
+            ("2026-07-10", "is no time: expected is a date and a time such as 2026-07-10 21:45"),
+            ("tomorrow", "is no time"),
+            ("2026-02-29 08:00", "is no time of the calendar"),
+            ("2026-07-10 24:00", "is no time of the calendar"),
+            ("1970-07-10 21:45", "expected is a year from 1971 to 2199"),
+            ("2200-01-01 00:00", "expected is a year from 1971 to 2199"),
+            ("2199-12-31 23:59-01:00", "expected is a time from 1971 to 2199 in UTC"),
+            ("2026-03-29 02:30", "is skipped by the clock of berlin"),
+            ("2026-10-25 02:30", "is shown twice by the clock of berlin, which is put back then: expected is 2026-10-25 02:30+02:00 or"),
+        ):
+            self.refused(["--leave '" + text, said], read_time, text, clocks, "--leave")
+
+    def test_a_place_between_two_zones_is_asked_back(self):
+        self.write(areas="area,zone\nland,berlin\nisle,lisbon\n", roads="arc,area\n1,isle\n")
+        with open(self.path("zones.csv"), "a", encoding="utf-8") as file:
+            file.write("lisbon,2026-03-29T01:00Z,+01:00\n")
+        places = self.places()
+        self.assertEqual([it.name for it in places.clocks(2)], ["berlin", "lisbon"])
+        self.assertEqual([it.name for it in places.clocks(3)], ["berlin"])
+        self.refused(
+            "the place has roads in the zones berlin and lisbon: expected is 2026-07-10 08:00+02:00 or 2026-07-10 08:00+01:00, or a zone by --zone",
+            read_time, "2026-07-10 08:00", places.clocks(2), "--leave",
+        )  # fmt: skip
+        self.assertEqual(instant_text(read_time("2026-07-10 08:00", self.places("lisbon").clocks(2), "--leave")), "2026-07-10T07:00Z")
+        self.assertEqual([it.name for it in self.places("UTC").clocks(2)], ["UTC"])
+        self.refused("--zone Europe/Nowhere: neither zones.csv nor the zone database", self.places, "Europe/Nowhere")
+
+    def test_clocks_of_this_system_and_of_the_table_agree(self):
+        table = TableClock("berlin", [(minute_of("2026-01-01T00:00Z"), 60), (minute_of("2026-03-29T01:00Z"), 120), (minute_of("2026-10-25T01:00Z"), 60)])
+        try:
+            system = SystemClock("Europe/Berlin")
+        except Problem:
+            self.skipTest("tzdata is missing")
+        for start in ("2026-01-05T00:00Z", "2026-03-28T22:00Z", "2026-07-01T00:00Z", "2026-10-24T22:00Z"):
+            for minute in range(minute_of(start), minute_of(start) + 600, 7):
+                self.assertEqual(table.offset(minute), system.offset(minute))
+                self.assertEqual(shown_text(table, minute), shown_text(system, minute))
+        for text, count in (("2026-03-29 02:30", 0), ("2026-10-25 02:30", 2), ("2026-07-10 08:00", 1)):
+            shown = datetime.datetime.fromisoformat(text)
+            self.assertEqual(len(minutes_showing(table, shown)), count)
+            self.assertEqual(minutes_showing(table, shown), minutes_showing(system, shown))
+
+    def asked(self, *stops, lorry="truck", leave="2026-07-07 06:00", **more):
+        folder = Folder(self.folder)
+        return read_request(folder, Places(folder), Words("Depot", "Depot", lorry, leave, stops=list(stops), **more))
+
+    def test_stops(self):
+        first, second, third = self.asked("Inn, 30 min, 08:00-09:00", "47.1,9.2,1 h 20 min", "3, 2h, 2026-07-08 06:00-7:30").stops
+        self.assertEqual((first.place.node, first.service), (2, 30))
+        self.assertEqual([instant_text(it) for it in (first.start, first.end)], ["2026-07-07T06:00Z", "2026-07-07T07:00Z"])
+        self.assertEqual((second.place.node, second.service), (5, 80))
+        self.assertEqual([instant_text(it) for it in (second.start, second.end)], ["2026-07-07T04:00Z", "2026-07-10T04:00Z"])
+        self.assertEqual((third.place.node, third.service), (3, 120))
+        self.assertEqual([instant_text(it) for it in (third.start, third.end)], ["2026-07-08T04:00Z", "2026-07-08T05:30Z"])
+        for text, minutes in (("20 min", 20), ("2 h", 120), ("1h5min", 65)):
+            self.assertEqual(read_span(text), minutes)
+
+    def test_stops_that_can_not_be_read(self):
+        for text, said in (
+            ("Inn", "expected is a place and the minutes of service"),
+            ("Inn, 20", "expected is a place and the minutes of service"),
+            ("Inn, 20 min, 8-9", "expected is a place and the minutes of service"),
+            ("Innn, 20 min", "is no name of"),
+            ("Inn, 0 min", "a service takes from 1 to 1440 minutes"),
+            ("Inn, 20 min, 09:00-08:00", "the window ends at 08:00, which isn't after 09:00"),
+            ("Inn, 20 min, 04:00-05:00", "is over before the departure; with a date it can be on another day"),
+        ):
+            self.refused(["--stop", said], self.asked, text)
+
+    def test_what_is_missing_or_does_not_go_together(self):
+        with self.assertRaises(Problem) as caught:
+            self.asked(lorry=None)
+        self.assertIn("--lorry is missing: expected is one of\n  any: a lorry of which no size is known\n  truck: hgv, 40 t\n  van: goods, 3.5 t, delivers", str(caught.exception))
+        self.assertEqual(self.asked(lorry="TRUCK").vehicle, "truck")
+        for more, said in (
+            ({"lorry": "crane"}, "--lorry 'crane' is no lorry of"),
+            ({"leave": None}, "--leave is missing"),
+            ({"leave": None, "latest": True}, "--latest needs the last arrival"),
+            ({"by": "2026-07-06 08:00"}, "is before the departure"),
+            ({"by": "2026-07-08 08:00", "within": "2"}, "both say when"),
+            ({"within": "61"}, "is no number of days"),
+            ({"within": "0"}, "is no number of days"),
+            ({"by": "2026-09-07 08:00"}, "the trip may take 62.0833 days: expected are at most 60"),
+            ({"latest": True, "breaks": True, "by": "2026-07-08 08:00"}, "--latest and --breaks can't be asked for together"),
+        ):
+            with self.assertRaises(Problem) as caught:
+                self.asked(**more)
+            self.assertIn(said, str(caught.exception))
+
+
+class Ways(TripTest):
+    def way(self, *streets, goal="Market"):
+        folder = Folder(self.folder)
+        places = Places(folder)
+        request = Request("plan", "truck", places.read("Depot", ""), places.read(goal, ""), 0, 0, [])
+        return [it.number for it in by_streets(Answer(request, folder, places, Streets(folder)), list(streets), "--why")]
+
+    def test_the_quickest_way_over_streets_in_their_order(self):
+        self.assertEqual(self.way("Low Road"), [1, 2])
+        self.assertEqual(self.way("high road"), [4])
+        self.assertEqual(self.way("Low Road", "Mill Lane", goal="Mill"), [1, 2, 3])
+        # Around: Low Road, Mill Lane and Back Lane lead back to the depot.
+        self.assertEqual(self.way("Back Lane", "High Road"), [1, 2, 3, 5, 4])
+        self.assertEqual(self.way("Low Road", "Low Road", "Low Road"), [1, 2, 3, 5, 1, 2])
+
+    def test_ways_that_are_not_there(self):
+        self.refused("no chain of roads leads from Depot over these streets, in this order, to Market", self.way, "Long Road")
+        self.refused("ways.csv has no street 'Lo Road': the nearest names are Low Road", self.way, "Lo Road")
+        os.remove(self.path("ways.csv"))
+        self.refused("has no names of roads (ways.csv): expected is a file with legs", self.way, "Low Road")
+
+    def test_the_text_of_a_clause(self):
+        value = "no @ (Mo 22:00-06:00; PH off); yes @ (weight<=7.5)"
+        self.assertEqual([clause_text(value, it) for it in (1, 2, 3)], ["no @ (Mo 22:00-06:00; PH off)", "yes @ (weight<=7.5)", value])
+
+
+class Driving(unittest.TestCase):
+    def test_the_longest_drive_without_a_break(self):
+        def steps(*legs):
+            return [Step(kind, 1, 0, minutes, 1, 1) for kind, minutes in legs]
+
+        self.assertEqual(longest_drive(steps(("drive", 200), ("wait", 44), ("drive", 100)), 45), 300)
+        self.assertEqual(longest_drive(steps(("drive", 200), ("wait", 45), ("drive", 100)), 45), 200)
+        # A service is work, and no break.
+        self.assertEqual(longest_drive(steps(("drive", 200), ("serve", 90), ("drive", 100)), 45), 300)
+        self.assertEqual(longest_drive([], 45), 0)
+
+
+class Answers(TripTest):
+    """Whole answers, each worked out by hand."""
+
+    def trip(self, *words, status=0):
+        done, printed, complained = beside.run("trip", self.folder, *words, "--program", beside.PROGRAM)
+        self.assertEqual(done, status, complained + printed)
+        return printed if status == 0 else complained
+
+    @beside.needs_program
+    def test_two_options_and_what_they_wait_for(self):
+        self.assertEqual(
+            self.trip("depot", "market", "--lorry", "truck", "--leave", "2026-07-10 20:30"),
+            """Depot (1) to Market (3), truck
+leaves Fri 10 Jul 20:30 2026 and has until Mon 13 Jul 20:30; local time of berlin
+
+option  arrival           cost     km    driving  waiting
+1       Sat 11 Jul 06:00  345.000  81.5  2 h      7 h 30 min
+2       Sat 11 Jul 07:00  120.000  81.5  2 h      8 h 30 min
+
+Option 1
+  Fri 10 Jul 20:30  drive   Low Road, 1 h, 40.0 km, to Inn (2)
+  Fri 10 Jul 21:30  wait    Inn (2), 7 h 30 min, costs 225.000
+                              for Low Road, closed until Sat 11 Jul 05:00 by rules.csv 2, clause 1: no @ (22:00-05:00 AND weight>7.5)
+  Sat 11 Jul 05:00  drive   Low Road, 1 h, 41.5 km, to Market (3)
+  Sat 11 Jul 06:00  arrive  Market (3)
+
+Option 2
+  Fri 10 Jul 20:30  wait    Depot (1), 8 h 30 min, costs 0.000
+                              for Low Road, closed until Sat 11 Jul 05:00 by rules.csv 2, clause 1: no @ (22:00-05:00 AND weight>7.5)
+  Sat 11 Jul 05:00  drive   Low Road, 2 h, 81.5 km, to Market (3)
+  Sat 11 Jul 07:00  arrive  Market (3)
+""",
+        )
+
+
+if __name__ == "__main__":
+    unittest.main()
