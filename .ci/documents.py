@@ -10,12 +10,15 @@ A block whose kind is followed by a path, such as `rust crates/uses/src/plans.rt
 
 The manual page and the completions of tools/package.d have to agree with docs/COMMANDS.md.
 
+The library tools/lorry_tools passes black, flake8 and mypy, where these are installed.
+
 Tests in tools/tests whose packages aren't installed are skipped, and so are those that the gate has no time for; a line says which."""
 import collections
 import concurrent.futures
 import glob
 import os
 import re
+import shutil
 import signal
 import subprocess
 import sys
@@ -119,6 +122,21 @@ def test_tools():
     return failed
 
 
+def lint_tools():
+    """Runs the linters over the library of the tools. Returns how many of them found something."""
+    failed = 0
+    with tempfile.TemporaryDirectory(prefix="lorry_plan-lint-") as cache:
+        for words in (["black", "--check", "--quiet", "lorry_tools"], ["flake8", "lorry_tools"], ["mypy", "--cache-dir", cache]):
+            if not shutil.which(words[0]):
+                print(f"tools: {words[0]} is skipped: apt-get install {words[0]}")
+                continue
+            done = subprocess.run(words, cwd=os.path.join(TOP, "tools"), stdin=subprocess.DEVNULL, stdout=subprocess.PIPE, stderr=subprocess.STDOUT)
+            if done.returncode:
+                failed += 1
+                print(f"tools: {words[0]}: {done.stdout.decode('utf-8', 'replace').strip()[-2000:] or 'it would change a file'}")
+    return failed
+
+
 def main():
     found = manual.differences()
     passed, failed = int(not found), len(found)
@@ -142,6 +160,7 @@ def main():
                     failed += 1
                     print(f"{name}: {command.splitlines()[0]}: {difference}")
     print(f"documents: {passed} passed, {failed} failed")
+    failed += lint_tools()
     failed += test_tools()
     return 1 if failed or not passed else 0
 
