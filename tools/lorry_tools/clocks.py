@@ -108,11 +108,14 @@ def shown_text(clock: Clock, minute: int) -> str:
     return f"{local_of(clock, minute):%Y-%m-%dT%H:%M}{offset_text(clock.offset(minute))}"
 
 
-def local_text(clock: Clock, minute: int, beside: Optional[int] = None) -> str:
+def local_text(
+    clock: Clock, minute: int, beside: Optional[int] = None, with_year: bool = False
+) -> str:
     """Returns a minute as people write it, such as `Fri 10 Jul 21:45`, with the offset from UTC
     where it isn't BESIDE."""
     local, offset = local_of(clock, minute), clock.offset(minute)
-    text = f"{local:%a} {local.day} {local:%b} {local:%H:%M}"
+    year = f" {local.year}" if with_year else ""
+    text = f"{local:%a} {local.day} {local:%b}{year} {local:%H:%M}"
     return text if beside in (None, offset) else f"{text}{offset_text(offset)}"
 
 

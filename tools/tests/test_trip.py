@@ -231,36 +231,301 @@ class Driving(unittest.TestCase):
 class Answers(TripTest):
     """Whole answers, each worked out by hand."""
 
-    def trip(self, *words, status=0):
-        done, printed, complained = beside.run("trip", self.folder, *words, "--program", beside.PROGRAM)
+    maxDiff = None
+    BAN = "rules.csv 2, clause 1: no @ (22:00-05:00 AND weight>7.5)"
+
+    def trip(self, *words, status=0, program=beside.PROGRAM):
+        done, printed, complained = beside.run("trip", self.folder, *words, "--program", program)
         self.assertEqual(done, status, complained + printed)
         return printed if status == 0 else complained
 
+    def json(self, *words):
+        found = json.loads(self.trip(*words, "--json"))
+        with open(os.path.join(beside.TOOLS, "lorry_tools", "trips", "trip.schema.json"), encoding="utf-8") as file:
+            schema = json.load(file)
+        self.assertEqual(list(against_schema(found, schema, schema)), [])
+        return found
+
     @beside.needs_program
     def test_two_options_and_what_they_wait_for(self):
+        """Half an hour in the depot costs nothing, so the lorry comes to Inn as the ban begins, and waits there for 210; or it waits in the depot."""
         self.assertEqual(
             self.trip("depot", "market", "--lorry", "truck", "--leave", "2026-07-10 20:30"),
-            """Depot (1) to Market (3), truck
-leaves Fri 10 Jul 20:30 2026 and has until Mon 13 Jul 20:30; local time of berlin
+            f"""Depot (1) to Market (3), truck
+leaves Fri 10 Jul 2026 20:30 and has until Mon 13 Jul 20:30; local time of berlin
 
 option  arrival           cost     km    driving  waiting
-1       Sat 11 Jul 06:00  345.000  81.5  2 h      7 h 30 min
+1       Sat 11 Jul 06:00  330.000  81.5  2 h      7 h 30 min
 2       Sat 11 Jul 07:00  120.000  81.5  2 h      8 h 30 min
 
 Option 1
-  Fri 10 Jul 20:30  drive   Low Road, 1 h, 40.0 km, to Inn (2)
-  Fri 10 Jul 21:30  wait    Inn (2), 7 h 30 min, costs 225.000
-                              for Low Road, closed until Sat 11 Jul 05:00 by rules.csv 2, clause 1: no @ (22:00-05:00 AND weight>7.5)
+  Fri 10 Jul 20:30  wait    Depot (1), 30 min, costs 0.000
+                              here, where a minute costs 0, and not at Inn (2), where it costs 0.5
+                              for Low Road, closed until Sat 11 Jul 05:00 by {self.BAN}
+  Fri 10 Jul 21:00  drive   Low Road, 1 h, 40.0 km, to Inn (2)
+  Fri 10 Jul 22:00  wait    Inn (2), 7 h, costs 210.000
+                              for Low Road, closed until Sat 11 Jul 05:00 by {self.BAN}
   Sat 11 Jul 05:00  drive   Low Road, 1 h, 41.5 km, to Market (3)
   Sat 11 Jul 06:00  arrive  Market (3)
 
 Option 2
   Fri 10 Jul 20:30  wait    Depot (1), 8 h 30 min, costs 0.000
-                              for Low Road, closed until Sat 11 Jul 05:00 by rules.csv 2, clause 1: no @ (22:00-05:00 AND weight>7.5)
+                              for Low Road, closed until Sat 11 Jul 05:00 by {self.BAN}
   Sat 11 Jul 05:00  drive   Low Road, 2 h, 81.5 km, to Market (3)
   Sat 11 Jul 07:00  arrive  Market (3)
 """,
         )
+
+    @beside.needs_program
+    def test_how_late_to_leave(self):
+        found = self.json("depot", "market", "--lorry", "truck", "--latest", "--by", "2026-07-11 12:00")
+        self.assertEqual(found["command"], "latest")
+        ((depart, arrival, cost),) = [(it["departure"]["local"], it["arrival"]["local"], it["cost_thousandths"]) for it in found["options"]]
+        self.assertEqual((depart, arrival, cost), ("2026-07-11T10:00+02:00", "2026-07-11T12:00+02:00", 120000))
+
+    @beside.needs_program
+    def test_a_tour(self):
+        text = self.trip(
+            "depot", "depot", "--lorry", "truck", "--leave", "2026-07-07 06:00", "--stop", "Inn, 30 min, 08:00-09:00", "--stop", "Mill, 20 min"
+        )
+        self.assertIn("stop 1: Inn (2), 30 min, from Tue 7 Jul 08:00 to Tue 7 Jul 09:00\n", text)
+        self.assertIn("1       Tue 7 Jul 11:50  240.000  161.5  4 h      1 h      50 min\n", text)
+        self.assertIn("  Tue 7 Jul 06:00  wait    Depot (1), 1 h, costs 0.000\n                             for the window of stop 1\n", text)
+        self.assertIn("  Tue 7 Jul 10:00  serve   stop 2, Mill (5), 20 min\n", text)
+        late = self.trip("depot", "depot", "--lorry", "truck", "--leave", "2026-07-07 06:00", "--stop", "Inn, 30 min, 06:30-07:10")
+        self.assertIn(
+            "There is no lawful trip:\n  stop-out-of-time: stop 1, Inn, can't be served in its window; without a window it is served from "
+            "Tue 7 Jul 07:00 on at the earliest\n", late,
+        )  # fmt: skip
+        back = self.trip("depot", "depot", "--lorry", "truck", "--leave", "2026-07-07 06:00", "--within", "0.1", "--stop", "Inn, 30 min")
+        self.assertIn("the-way-back: all stops can be served, but then there is no way to the goal in time", back)
+
+    @beside.needs_program
+    def test_breaks_and_warnings(self):
+        words = ["depot", "far", "--lorry", "truck", "--leave", "2026-07-07 06:00"]
+        self.assertIn(
+            "Warning: option 1: up to 6 h 30 min of driving without a break of 45 minutes; one driver may drive 4 h 30 min "
+            "(Regulation (EC) 561/2006, Article 7): --breaks plans breaks.\n", self.trip(*words),
+        )  # fmt: skip
+        text = self.trip(*words, "--breaks")
+        self.assertNotIn("Warning", text)
+        self.assertIn("1       Tue 7 Jul 13:15  412.500  261.5  6 h 30 min  45 min\n", text)
+        self.assertIn("  Tue 7 Jul 08:30  wait    Mill (5), 45 min, costs 22.500\n                             for a driver's break\n", text)
+        self.assertIn("with-breaks: there is a trip without breaks", self.trip(*words, "--breaks", "--within", "0.3"))
+
+    @beside.needs_program
+    def test_more_than_nine_hours(self):
+        """Three more hours behind Far: 9 h 30 min, with breaks of 45 minutes that are no rests."""
+        self.write(graph=graph(8, *ARCS, (6, 8, 180)), parking=FILES["parking"] + "6,inn\n")
+        text = self.trip("depot", "8", "--lorry", "truck", "--leave", "2026-07-07 06:00", "--breaks")
+        self.assertIn(
+            "Warning: option 1: up to 9 h 30 min of driving without a rest of 11 h; one driver may drive 9 h a day "
+            "(Regulation (EC) 561/2006, Articles 6 and 8): the program plans no daily rests.\n", text,
+        )  # fmt: skip
+
+    @beside.needs_program
+    def test_why_not_this_way(self):
+        words = ["depot", "market", "--lorry", "truck"]
+        for leave, way, said in (
+            (
+                "2026-07-07 06:00", "High Road",
+                "It arrives Tue 7 Jul 11:00 for 300.000: it is lawful, but there is a better option, which arrives Tue 7 Jul 08:00 for 120.000.",
+            ),
+            ("2026-07-07 20:00", "high road", f"It isn't lawful: High Road is closed at Tue 7 Jul 22:00 by {self.BAN}."),
+            ("2026-07-07 06:00", "Low Road", "It arrives Tue 7 Jul 08:00 for 120.000: it is lawful, and no option is better."),
+        ):  # fmt: skip
+            self.assertIn(said, self.trip(*words, "--leave", leave, "--why", way))
+        way = self.path("way.txt")
+        for text, said in (
+            ("drive 1\nwait 30\ndrive 2\n", "It arrives Tue 7 Jul 08:30 for 135.000: it is lawful, but there is a better option"),
+            ("drive 2\n", "It isn't lawful: Low Road from Depot (1), Tue 7 Jul 06:00: no such road begins there."),
+            ("Low Road\n", "and no option is better"),
+        ):
+            with open(way, "w", encoding="utf-8") as file:
+                file.write(text)
+            self.assertIn(said, self.trip(*words, "--leave", "2026-07-07 06:00", "--why", way))
+        found = self.json(*words, "--leave", "2026-07-07 20:00", "--why", "High Road")["why"]
+        self.assertEqual((found["verdict"], found["arc"], found["street"], found["rule"]["row"]), ("unlawful", 4, "High Road", 2))
+        self.assertEqual(found["rule"]["text"], "no @ (22:00-05:00 AND weight>7.5)")
+
+    @beside.needs_program
+    def test_closures_and_parking_hours(self):
+        """Mill Lane is closed until noon, and the parking at Market opens at nine: the lorry waits at Inn for it, and then for the closure."""
+        self.write(closures="arc,from,to\n3,2026-07-07T00:00Z,2026-07-07T10:00Z\n", parking="node,rating,area,hours\n2,inn,,\n3,free,land,09:00-18:00\n")
+        text = self.trip("inn", "mill", "--lorry", "truck", "--leave", "2026-07-07 06:00")
+        self.assertIn("for the parking at Market (3), which isn't open before\n", text)
+        self.assertIn("for Mill Lane, closed until Tue 7 Jul 12:00 by closures.csv 2: closed from 2026-07-07T00:00Z to 2026-07-07T10:00Z\n", text)
+
+    @beside.needs_program
+    def test_why_there_is_none(self):
+        text = self.trip("depot", "market", "--lorry", "truck", "--leave", "2026-07-07 20:30", "--within", "0.1")
+        self.assertIn("There is no lawful trip:\n  horizon-in-ban: the last arrival is in a ban, Low Road (arc 2) from Tue 7 Jul 22:00 until Wed 8 Jul", text)
+        self.assertIn("no-way: no chain of roads in graph.gr leads from Far (node 6) to Depot (node 1)", self.trip("far", "depot", "--lorry", "truck", "--leave", "2026-07-07 06:00"))
+
+    @beside.needs_program
+    def test_certificates(self):
+        words = ["depot", "market", "--lorry", "truck", "--leave", "2026-07-07 06:00", "--certificate"]
+        self.assertIn("The certificate day.cert was written and judged: accepted: it has all options there are, 1.\n", self.trip(*words, "day.cert"))
+        self.assertTrue(os.path.exists(self.path("day.cert")))
+        self.assertEqual(self.json(*words, "day.cert")["certificate"], {"name": "day.cert", "accepted": True, "number": 1})
+        for name in ("day", "../day.cert", "a b.cert"):
+            self.assertIn("expected is a name that ends in .cert", self.trip(*words, name, status=2))
+        self.assertIn("is for a plain trip", self.trip(*words, "day.cert", "--breaks", status=2))
+
+    @beside.needs_program
+    def test_csv(self):
+        rows = list(csv.DictReader(io.StringIO(self.trip("depot", "market", "--lorry", "truck", "--leave", "2026-07-10 20:30", "--csv"))))
+        self.assertEqual([(it["option"], it["kind"], it["minutes"], it["cost"]) for it in rows[:5]], [
+            ("1", "wait", "30", "0.000"), ("1", "drive", "60", ""), ("1", "wait", "420", "210.000"), ("1", "drive", "60", ""), ("1", "arrive", "570", "330.000"),
+        ])  # fmt: skip
+        self.assertEqual(rows[2]["for"], f"Low Road by {self.BAN}")
+        self.assertEqual(rows[4]["end"], "2026-07-11T06:00+02:00")
+
+    @beside.needs_program
+    def test_the_shown_commands_print_the_same_again(self):
+        """Each option's legs are those that the shown commands print, in a shell."""
+        for words in (
+            ["depot", "market", "--lorry", "truck", "--leave", "2026-07-10 20:30"],
+            ["depot", "far", "--lorry", "truck", "--leave", "2026-07-07 06:00", "--breaks"],
+            ["depot", "depot", "--lorry", "truck", "--leave", "2026-07-07 06:00", "--stop", "Inn, 30 min, 08:00-09:00"],
+            ["depot", "market", "--lorry", "truck", "--latest", "--by", "2026-07-11 12:00"],
+        ):
+            found = self.json(*words)
+            first = [it for it in found["commands"] if re.search(r" (plan|breaks|tour|latest) ", it)][0]
+            lines = [it for it in found["commands"] if it.startswith(("work=", "printf")) and "itinerary" not in it]
+            done = subprocess.run(["bash", "-c", "\n".join([*lines, first.replace(" --form json", "")])], stdout=subprocess.PIPE, check=True)
+            self.assertEqual(self.plain(found), done.stdout.decode(), words)
+
+    def plain(self, found):
+        """Returns the options of an answer as the program prints them."""
+        lines = [f"pairs {len(found['options'])}"]
+        for option in found["options"]:
+            late = found["command"] == "latest"
+            minute = minute_of(option["departure" if late else "arrival"]["utc"])
+            cost = option["cost_thousandths"]
+            lines.append(f"{'leave' if late else 'pair'} {minute} {cost // 1000}.{cost % 1000:03}")
+            for part in option["parts"]:
+                lines += [f"drive {arc}" for arc in part["arcs"]]
+                lines += [f"wait {part['minutes']}"] * (part["kind"] == "wait") + [f"serve {part['stop']}"] * (part["kind"] == "serve")
+        return "".join(f"{it}\n" for it in lines)
+
+    @beside.needs_program
+    def test_numbers_are_those_of_the_program(self):
+        """Starts, nodes and costs of each leg are those of `plan --form csv`."""
+        folder = os.path.join(beside.TOP, "examples", "liechtenstein")
+        program = beside.Program(beside.PROGRAM)
+        words = ["artic40", 146, 135, "2026-07-10T19:45Z", "2026-07-13T19:45Z"]
+        legs = list(csv.DictReader(io.StringIO(program.run(["plan", folder, *words, "--form", "csv"])[1])))
+        done, printed, _ = beside.run("trip", folder, "Yard", "Balzers", "--lorry", "artic40", "--leave", "2026-07-10 21:45", "--json", "--program", beside.PROGRAM)
+        self.assertEqual(done, 0)
+        for option in json.loads(printed)["options"]:
+            mine = [it for it in legs if int(it["pair"]) == option["number"]]
+            starts = {it["start"]: it for it in mine}
+            for part in option["parts"]:
+                leg = starts[part["start"]["utc"]]
+                self.assertEqual((leg["kind"], int(leg["node"])), (part["kind"], part["from"]["node"]))
+                if part["kind"] == "wait":
+                    after = mine[int(leg["leg"])]
+                    price = round((float(after["cost"]) - float(leg["cost"])) * 1000)
+                    self.assertEqual((int(leg["minutes"]), price), (part["minutes"], part["cost_thousandths"]))
+            self.assertEqual([int(it["arc"]) for it in mine if it["arc"]], [arc for part in option["parts"] for arc in part["arcs"]])
+            self.assertEqual((mine[-1]["start"], float(mine[-1]["cost"])), (option["arrival"]["utc"], option["cost_thousandths"] / 1000))
+
+    @beside.needs_program
+    def test_a_folder_without_names(self):
+        for name in ("nodes.csv", "ways.csv", "zones.csv", "areas.csv"):
+            os.remove(self.path(name))
+        os.remove(self.path("rules.csv"))
+        text = self.trip("1", "3", "--lorry", "truck", "--leave", "2026-07-07 06:00")
+        self.assertIn("node 1 to node 3, truck\nleaves Tue 7 Jul 2026 06:00 and has until Fri 10 Jul 06:00; local time of UTC\n", text)
+        self.assertIn("option  arrival          cost     driving  waiting\n", text)
+        self.assertIn("  Tue 7 Jul 06:00  drive   road 1, 1 h, to node 2\n  Tue 7 Jul 07:00  drive   road 2, 1 h, to node 3\n", text)
+
+    @beside.needs_program
+    def test_the_picture(self):
+        try:
+            import jinja2  # noqa: F401
+        except ImportError:
+            self.skipTest("python3-jinja2 is missing")
+        out, screens = self.path("page.html"), {it: os.environ.pop(it) for it in ("DISPLAY", "WAYLAND_DISPLAY") if it in os.environ}
+        self.addCleanup(os.environ.update, screens)
+        words = ["depot", "market", "--lorry", "truck", "--leave", "2026-07-10 20:30", "--picture", "--out", out]
+        self.assertIn(f"The picture is {out}.\n", self.trip(*words))
+        with open(out, encoding="utf-8") as file:
+            self.assertIn("2 options from Depot (1) to Market (3)", file.read())
+        self.assertIn("--picture draws a plan", self.trip(*words, "--stop", "Inn, 5 min", status=2))
+
+    @beside.needs_program
+    def test_a_table(self):
+        jobs = self.path("jobs-of-today.csv")
+        with open(jobs, "w", encoding="utf-8") as file:
+            file.write("From,to,lorry,leave,by\ndepot,market,truck,2026-07-07 06:00,\nfar,depot,van,2026-07-07 06:00,\ndepo,market,truck,2026-07-07 06:00,\n")
+            file.write("depot,market,truck,2026-07-07 20:30,2026-07-08 06:00\n")
+        done, printed, complained = beside.run("trip", self.folder, "--table", jobs, "--program", beside.PROGRAM)
+        rows = list(csv.DictReader(io.StringIO(printed)))
+        self.assertEqual([(it["row"], it["option"], it["arrival"], it["cost"]) for it in rows], [
+            ("2", "1", "2026-07-07T08:00+02:00", "120.000"), ("3", "", "", ""), ("4", "", "", ""), ("5", "1", "2026-07-08T06:00+02:00", "330.000"),
+        ])  # fmt: skip
+        self.assertIn("no lawful trip", rows[1]["trouble"])
+        self.assertIn("FROM 'depo' is no name of", rows[2]["trouble"])
+        self.assertEqual((done, complained), (1, "trip: 4 trips: 2 planned, 1 empty, 1 refused\n"))
+        with open(jobs, "w", encoding="utf-8") as file:
+            file.write("from,to,leave\n")
+        self.assertIn("expected are from, to, lorry, leave", beside.run("trip", self.folder, "--table", jobs)[2])
+
+    def test_a_program_that_is_missing_or_old(self):
+        words = ["depot", "market", "--lorry", "truck", "--leave", "2026-07-07 06:00"]
+        self.assertIn("the program can't be run: /nowhere/lorry_plan: No such file", self.trip(*words, program="/nowhere/lorry_plan", status=2))
+        old = self.path("old")
+        for script, status, said in (
+            ("echo refused usage; exit 2", 2, "the program doesn't know these words of `plan`, so it may be older than these tools"),
+            ("exit 5", 5, "ended with status 5: writing failed: the disk may be full, or the folder may not be written into"),
+            ("exit 6", 6, "ended with status 6: out of memory"),
+            ("echo refused input rules.csv 3 NotConditional; exit 3", 3, "the fault is in row 3 of rules.csv"),
+            ("kill -9 $$", -9, "ended by signal 9"),
+        ):
+            with open(old, "w", encoding="utf-8") as file:
+                file.write(f"#!/bin/sh\n{script}\n")
+            os.chmod(old, 0o755)
+            self.assertIn(said, self.trip(*words, program=old, status=status))
+
+    @beside.needs_program
+    @unittest.skipUnless(os.getuid(), "root writes into each folder")
+    def test_a_folder_that_is_read_only(self):
+        os.chmod(self.folder, 0o555)
+        self.addCleanup(os.chmod, self.folder, 0o755)
+        words = ["depot", "market", "--lorry", "truck", "--leave", "2026-07-07 06:00"]
+        self.assertIn("the folder may not be written into", self.trip(*words, "--certificate", "day.cert", status=5))
+        self.assertIn("Option 1", self.trip(*words))
+
+
+def against_schema(value, schema, whole, place="$"):
+    """Yields where a value isn't as a schema says, of the words of JSON Schema that trip.schema.json has."""
+    if "$ref" in schema:
+        yield from against_schema(value, whole["definitions"][schema["$ref"].rsplit("/", 1)[1]], whole, place)
+        return
+    if "anyOf" in schema:
+        if all(list(against_schema(value, it, whole, place)) for it in schema["anyOf"]):
+            yield f"{place}: {value!r} is none of {schema['anyOf']}"
+        return
+    if "enum" in schema and value not in schema["enum"]:
+        yield f"{place}: {value!r}"
+    kinds = {"object": dict, "array": list, "string": str, "integer": int, "number": (int, float), "boolean": bool, "null": type(None)}
+    if "type" in schema and not isinstance(value, kinds[schema["type"]]):
+        yield f"{place}: {value!r} is no {schema['type']}"
+        return
+    if schema.get("type") == "array":
+        for number, it in enumerate(value):
+            yield from against_schema(it, schema["items"], whole, f"{place}[{number}]")
+    if schema.get("type") == "object":
+        for name in schema["required"]:
+            if name not in value:
+                yield f"{place}.{name} is missing"
+        for name, it in value.items():
+            if name not in schema["properties"]:
+                yield f"{place}.{name} isn't in the schema"
+            else:
+                yield from against_schema(it, schema["properties"][name], whole, f"{place}.{name}")
 
 
 if __name__ == "__main__":

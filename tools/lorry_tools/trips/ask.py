@@ -7,7 +7,7 @@ from typing import Optional
 from lorry_tools.answers import Pair
 from lorry_tools.clocks import local_text
 from lorry_tools.folder import Folder
-from lorry_tools.instants import instant_text
+from lorry_tools.instants import instant_text, minute_of
 from lorry_tools.places import Places
 from lorry_tools.problems import Problem
 from lorry_tools.program import Program, Trip
@@ -115,7 +115,32 @@ def causes_of(answer: Answer, program: NotedProgram) -> list[str]:
     if request.command == BREAKS and program.plan(trip):
         return ["with-breaks: there is a trip without breaks, and none that keeps the breaks"]
     program.note(" ".join(["tools/why_empty", *trip.words()]))
-    return list(Case(Program(program.path), answer.folder, trip).causes())
+    lines = Case(Program(program.path), answer.folder, trip).causes()
+    return [in_words(answer, line) for line in lines]
+
+
+def in_words(answer: Answer, line: str) -> str:
+    """Returns a line of why_empty with local times, and with the names of roads and places."""
+    request, places = answer.request, answer.places
+    clock = places.clock(request.origin.node)
+    offset = clock.offset(request.depart)
+
+    def time(found: re.Match[str]) -> str:
+        minute = minute_of(found[0])
+        return found[0] if minute is None else local_text(clock, minute, offset)
+
+    def road(found: re.Match[str]) -> str:
+        name = answer.streets.names.get(int(found[1]))
+        return f"{name} ({found[0]})" if name else found[0]
+
+    def place(found: re.Match[str]) -> str:
+        name = places.at(int(found[1])).name
+        return f"{name} ({found[0]})" if name else found[0]
+
+    line = re.sub(r"\d{4}-\d\d-\d\dT\d\d:\d\dZ", time, line)
+    line = re.sub(r"\barc (\d+)", road, line)
+    line = re.sub(r"\bnode (\d+)", place, line)
+    return line.replace("UNTIL", "the last arrival")
 
 
 def tour_causes(answer: Answer, program: NotedProgram) -> list[str]:

@@ -23,6 +23,7 @@ class NotedProgram(Program):
         self.lines: list[str] = []
         self._place: Optional[tempfile.TemporaryDirectory[str]] = None
         self._is_told = False
+        self._texts: dict[str, str] = {}  # of the files in it
 
     def __enter__(self) -> NotedProgram:
         return self
@@ -49,6 +50,9 @@ class NotedProgram(Program):
             self._is_told = True
             source = shlex.quote(self.folder.path)
             self.lines.append(f'work=$(mktemp -d) && ln -s "$(realpath {source})"/* {WORK}')
+        if self._texts.get(name) == text:
+            return name
+        self._texts[name] = text
         with open(os.path.join(self.work(), name), "w", encoding="utf-8", newline="") as file:
             file.write(text)
         words = " ".join(shlex.quote(it) for it in text.splitlines())

@@ -2,7 +2,8 @@
 from __future__ import annotations
 
 from lorry_tools.answers import DRIVE, SERVE, WAIT
-from lorry_tools.clocks import local_of, local_text
+from lorry_tools.clocks import local_text
+from lorry_tools.folder import weights_of_nodes
 from lorry_tools.instants import cost_text, span_text
 from lorry_tools.places import Place, distance_text
 from lorry_tools.trips.answer import Answer, Option, Part, WaitReason, Why
@@ -35,7 +36,7 @@ class Text:
         if answer.judged:
             judged = answer.judged
             verdict = (
-                f"accepted, its {judged.number} options are all that there are"
+                f"accepted: it has all options there are, {judged.number}"
                 if judged.accepted
                 else f"rejected, by condition {judged.number}"
             )
@@ -66,12 +67,12 @@ class Text:
         request = self.answer.request
         lorry = "any lorry" if request.vehicle == ANY else request.vehicle
         verb = "leaves from {} on" if request.command == LATEST else "leaves {}"
-        leaves = verb.format(self.time(request.depart, request.origin.node))
+        depart = self.clock, request.depart, self.offset
+        leaves = verb.format(local_text(*depart, with_year=True))
         until = self.time(request.until, request.goal.node)
-        year = local_of(self.clock, request.depart).year
         lines = [
             f"{self.asked_place(request.origin)} to {self.asked_place(request.goal)}, {lorry}",
-            f"{leaves} {year} and has until {until}; local time of {self.clock.name}",
+            f"{leaves} and has until {until}; local time of {self.clock.name}",
         ]
         for number, stop in enumerate(request.stops, 1):
             window = (
@@ -131,6 +132,10 @@ class Text:
             return ["wait", f"{self.place(part.tail)}, {span_text(part.minutes)}, {price}"]
         return ["serve", f"stop {part.stop}, {self.place(part.tail)}, {span_text(part.minutes)}"]
 
+    def weight(self, node: int) -> str:
+        """Returns what a minute's wait costs at a node, as ratings.csv has it."""
+        return weights_of_nodes(self.answer.folder).get(node, "nothing known")
+
     def reason_lines(self, part: Part) -> list[str]:
         return [f"  {self.reason(part, it)}" for it in part.reasons]
 
@@ -148,7 +153,11 @@ class Text:
         if reason.kind == "parking":
             return f"for the parking at {self.place(reason.node)}, which isn't open before"
         if reason.kind == "price":
-            return f"here and not at {self.place(reason.node)}, where it would cost more"
+            here, there = self.weight(part.tail), self.weight(reason.node)
+            return (
+                f"here, where a minute costs {here}, and not at {self.place(reason.node)}, where "
+                f"it costs {there}"
+            )
         return "(what it is for was not found)"
 
     def why_lines(self, why: Why) -> list[str]:
