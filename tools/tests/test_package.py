@@ -139,7 +139,7 @@ class Archive(Packages):
         for name in ["tools/package", "README.md", "CHANGES.md", "crates.txt"]:
             os.makedirs(os.path.dirname(os.path.join(top, name)), exist_ok=True)
             shutil.copy(os.path.join(TOP, name), os.path.join(top, name))
-        for name in ["docs", "examples", "tools/package.d"]:
+        for name in ["docs", "examples", "tools/package.d", "tools/lorry_tools"]:
             shutil.copytree(os.path.join(TOP, name), os.path.join(top, name))
         self.write("repository/crates/lorry_plan/src/main.rt", "")
         out = os.path.join(top, "crates", "lorry_plan", "out")

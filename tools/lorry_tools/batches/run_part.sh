@@ -1,4 +1,3 @@
-#!/bin/sh
 # run_part PART ROWS INPUT WORKERS: prints the text of a part, and a last line: end PART STATUS INPUT TEXT
 part=$1 rows=$2 input=$3 workers=$4
 held=$(cat program @FILES@ "net/part-$part.csv" | sha256sum) || exit 66

@@ -44,6 +44,6 @@ def environment() -> jinja2.Environment:
     return made
 
 
-def rendered(name: str, **values: object) -> str:
+def rendered(template: str, /, **values: object) -> str:
     """Returns the text of a template with these values."""
-    return environment().get_template(name).render(**values)
+    return environment().get_template(template).render(**values)
