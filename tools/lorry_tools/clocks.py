@@ -155,7 +155,7 @@ def local_minute(shown: datetime.datetime, clocks: list[Clock], what: str, text:
     if not found:
         raise Problem(
             f"{what} {text!r} is skipped by the clock of {names}, which is put forward then: "
-            f"expected is another time, or one with an offset, such as {text.strip()}Z"
+            "expected is another time, or one with an offset from UTC, such as +01:00, behind it"
         )
     choices = " or ".join(
         f"{shown:%Y-%m-%d %H:%M}{offset_text(minute_at(shown) - it)}" for it in sorted(found)

@@ -6,6 +6,7 @@ The packages of most tests hold a small program of the system in place of the bu
 LORRY_PLAN_PROGRAM, or crates/lorry_plan/out/lorry_plan. A test that installs in a clean root needs one, named by LORRY_PLAN_CLEAN_ROOT:
 `debootstrap --variant=minbase bookworm ROOT` makes it. What a machine lacks is skipped, and a line says what to install."""
 import glob
+import gzip
 import hashlib
 import importlib.machinery
 import importlib.util
@@ -192,6 +193,76 @@ class Debian(Packages):
     @unittest.skipIf(lacks("lintian"), "apt-get install lintian")
     def test_lintian(self):
         (path,) = self.made("--only", "deb", *(["--program", BUILT] if os.access(BUILT, os.X_OK) else []))
+        done = subprocess.run(["lintian", "--fail-on", "error", path], stdout=subprocess.PIPE, stderr=subprocess.DEVNULL)
+        self.assertEqual((done.returncode, re.findall(rb"^[EW]: .*", done.stdout, re.M)), (0, []), done.stdout.decode())
+
+
+@unittest.skipIf(lacks("dpkg-deb"), "apt-get install dpkg")
+class Tools(Packages):
+    """The package of the tools."""
+
+    COMMANDS = ["batch-over-machines", "examples", "from-osm", "holidays", "lint", "look", "trip", "why-empty", "zones"]
+
+    def unpacked(self):
+        (path,) = self.made("--only", "tools")
+        self.assertEqual(os.path.basename(path).rpartition("_")[2], "all.deb")
+        subprocess.run(["dpkg-deb", "-R", path, self.path("root")], check=True)
+        return path
+
+    def test_contents(self):
+        self.unpacked()
+        control = content(self.path("root", "DEBIAN", "control")).decode()
+        for line in ("Package: lorry-plan-tools", "Architecture: all", "Depends: lorry-plan, python3 (>= 3.9), python3-jinja2"):
+            self.assertIn(line + "\n", control)
+        self.assertRegex(control, r"\nSuggests: .*python3-pyosmium.*\n")
+        self.assertEqual(sorted(os.listdir(self.path("root", "usr/bin"))), [f"lorry-plan-{it}" for it in self.COMMANDS])
+        self.assertEqual(sorted(os.listdir(self.path("root", "usr/share/man/man1"))), [f"lorry-plan-{it}.1.gz" for it in self.COMMANDS])
+        self.assertEqual(subprocess.run(["md5sum", "--quiet", "-c", "DEBIAN/md5sums"], cwd=self.path("root")).returncode, 0)
+
+    def test_commands(self):
+        """Each command says how it is called, by its own name."""
+        self.unpacked()
+        for name in self.COMMANDS:
+            command = self.path("root", "usr/bin", f"lorry-plan-{name}")
+            done = subprocess.run([sys.executable, command, "--help"], stdout=subprocess.PIPE, stderr=subprocess.PIPE)
+            self.assertEqual(done.returncode, 0, done.stderr.decode())
+            self.assertIn(f"    lorry-plan-{name} ", done.stdout.decode())
+            self.assertNotRegex(done.stdout.decode(), r"\btools/[a-z]")
+        names = [name for _, _, names in os.walk(self.path("root")) for name in names]
+        self.assertFalse([it for it in names if it.endswith(".pyc")])
+
+    def test_examples(self):
+        self.unpacked()
+        command = [sys.executable, self.path("root", "usr/bin", "lorry-plan-examples")]
+        source = os.path.join(TOP, "examples")
+        # (where the library looks for those of a repository)
+        shutil.copytree(source, self.path("root", "usr", "share", "examples"))
+        done = subprocess.run([*command, self.path("own")], stdout=subprocess.PIPE, stderr=subprocess.PIPE)
+        self.assertEqual(done.returncode, 0, done.stderr.decode())
+        made = self.path("own", "night-closure", "graph.gr")
+        self.assertEqual(content(made), content(os.path.join(source, "night-closure", "graph.gr")))
+        self.assertEqual(os.stat(made).st_mode & 0o777, 0o644)
+        again = subprocess.run([*command, self.path("own")], stdout=subprocess.PIPE, stderr=subprocess.PIPE)
+        self.assertEqual(again.returncode, 2)
+        self.assertIn(b"expected is a folder without the examples", again.stderr)
+
+    @unittest.skipIf(lacks("mandoc"), "apt-get install mandoc")
+    def test_manual_pages(self):
+        self.unpacked()
+        for name in self.COMMANDS:
+            page = gzip.decompress(content(self.path("root", "usr/share/man/man1", f"lorry-plan-{name}.1.gz")))
+            done = subprocess.run(["mandoc", "-Tlint", "-Wwarning"], input=page, stdout=subprocess.PIPE)
+            self.assertEqual(done.stdout, b"", name)
+            shown = subprocess.run(["mandoc", "-Tascii"], input=page, stdout=subprocess.PIPE).stdout
+            self.assertIn(f"lorry-plan-{name}".encode(), re.sub(b".\b", b"", shown))
+
+    def test_same_bytes(self):
+        first = [content(path) for path in self.made("--only", "tools")]
+        self.assertEqual([content(path) for path in self.made("--only", "tools")], first)
+
+    @unittest.skipIf(lacks("lintian"), "apt-get install lintian")
+    def test_lintian(self):
+        path = self.unpacked()
         done = subprocess.run(["lintian", "--fail-on", "error", path], stdout=subprocess.PIPE, stderr=subprocess.DEVNULL)
         self.assertEqual((done.returncode, re.findall(rb"^[EW]: .*", done.stdout, re.M)), (0, []), done.stdout.decode())
 
