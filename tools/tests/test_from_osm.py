@@ -23,8 +23,8 @@ PROGRAM = os.environ.get("LORRY_PLAN_PROGRAM") or os.path.join(TOP, "crates", "l
 sys.path[:0] = [TOOLS, TESTS]
 
 import small_extract
-from real_roads import access, holiday_rows, notation, tags, zone_rows
-from real_roads.access import CLOSED, DESTINATION, NO, OPEN, YES
+from lorry_tools.conversion import access, holiday_rows, notation, tags, zone_rows
+from lorry_tools.conversion.access import CLOSED, DESTINATION, NO, OPEN, YES
 
 
 def python_with(package):
@@ -521,7 +521,7 @@ class Folders(unittest.TestCase):
             self.skipTest("the program isn't built")
         most = [
             "-c",
-            "import sys; sys.argv[0] = sys.argv.pop(1); sys.path[:0] = [sys.argv.pop(1)]; from real_roads import tables; tables.MOST_AREAS = 9\n"
+            "import sys; sys.argv[0] = sys.argv.pop(1); sys.path[:0] = [sys.argv.pop(1)]; from lorry_tools.conversion import tables; tables.MOST_AREAS = 9\n"
             "exec(compile(open(sys.argv[0]).read(), sys.argv[0], 'exec'))",
         ]
         for seed, coarse, few_areas in [(1, "0", False), (2, "90", False), (3, "0", True)]:

@@ -22,13 +22,11 @@ SCRIPTS = {
     "why_empty": "lorry_tools/why_empty.py",
     "lint": "lorry_tools/lint.py",
     "batch_over_machines": "lorry_tools/batches/main.py",
-    "from_osm": "from_osm",
-    "zones": "zones",
-    "holidays": "holidays",
+    "from_osm": "lorry_tools/conversion/main.py",
+    "zones": "lorry_tools/conversion/zones.py",
+    "holidays": "lorry_tools/conversion/holidays_table.py",
     "examples": "lorry_tools/examples.py",
 }
-# The modules beside the library that some of them use.
-BESIDE = ("real_roads",)
 KEPT = (".py", ".json", ".typed", ".html", ".css", ".js", ".svg", ".sh", ".txt", ".md", ".1")
 NOT_PACKED = ("packages",)  # of the library
 
@@ -67,16 +65,15 @@ def tree_of_tools(version: str, date: str) -> tuple[Tree, set[str]]:
 
 def library() -> Tree:
     tree: Tree = {}
-    for top in ("lorry_tools", *BESIDE):
-        for folder, folders, names in os.walk(os.path.join(TOOLS, top)):
-            folders[:] = sorted(set(folders) - {"__pycache__", *NOT_PACKED})
-            for name in sorted(names):
-                if name.endswith(KEPT):
-                    path = os.path.join(folder, name)
-                    content = read_bytes(path)
-                    if name.endswith(".py"):
-                        content = installed_words(content.decode()).encode()
-                    tree[f"usr/{PLACE}/{os.path.relpath(path, TOOLS)}"] = content
+    for folder, folders, names in os.walk(os.path.join(TOOLS, "lorry_tools")):
+        folders[:] = sorted(set(folders) - {"__pycache__", *NOT_PACKED})
+        for name in sorted(names):
+            if name.endswith(KEPT):
+                path = os.path.join(folder, name)
+                content = read_bytes(path)
+                if name.endswith(".py"):
+                    content = installed_words(content.decode()).encode()
+                tree[f"usr/{PLACE}/{os.path.relpath(path, TOOLS)}"] = content
     return tree
 
 

@@ -1,16 +1,29 @@
 """Parking, depots and towns, and the nodes of the network that they are at."""
+from __future__ import annotations
+
 import collections
 import re
+from typing import Callable, Collection, Iterable, Optional
 
-from . import notation, tags as road_tags
-from .notation import Unread
-from .roads import metres
+from lorry_tools.conversion import notation, tags as road_tags
+from lorry_tools.conversion.extract import Extract, Way
+from lorry_tools.conversion.notation import Unread
+from lorry_tools.conversion.report import Report
+from lorry_tools.conversion.roads import Network, metres
+from lorry_tools.conversion.tags import Tags
 
 CELL = 100_000
 # The farthest node that is taken, in metres.
 MOST_TO_PARKING, MOST_TO_DEPOT, MOST_TO_TOWN = 300, 1000, 2000
 # Ratings, the best first, each with an invented price of a minute's wait.
-RATINGS = {"depot": "0.050", "services": "0.100", "lorry_parking": "0.150", "rest_area": "0.250", "fuel": "0.500", "parking": "0.750"}
+RATINGS = {
+    "depot": "0.050",
+    "services": "0.100",
+    "lorry_parking": "0.150",
+    "rest_area": "0.250",
+    "fuel": "0.500",
+    "parking": "0.750",
+}
 # Ratings whose place stays as it is in a coarse network.
 EXACT = ("depot", "services", "lorry_parking", "rest_area")
 LORRY = ("yes", "designated", "permissive", "customers")
@@ -19,15 +32,29 @@ SHUT = ("no", "private", "permit", "residents", "employees", "staff", "permissiv
 LEAST = {"maxheight": 3.8, "maxweight": 12, "maxlength": 12}
 
 
+# The node of a site that has none yet.
+NOWHERE = -1
+
+
 class Site:
-    """A place where a lorry may wait: its rating, name and hours, its coordinates, and nodes of its own."""
+    """A place where a lorry may wait: its rating, name and hours, its coordinates, and nodes of its
+    own."""
 
-    def __init__(self, rating, name, hours, x, y, refs=()):
-        self.rating, self.name, self.hours, self.x, self.y, self.refs = rating, name, hours, x, y, refs
-        self.node = None
+    def __init__(
+        self, rating: str, name: str, hours: str, x: int, y: int, refs: Iterable[int] = ()
+    ) -> None:
+        self.rating, self.name, self.hours, self.x, self.y, self.refs = (
+            rating,
+            name,
+            hours,
+            x,
+            y,
+            refs,
+        )
+        self.node = NOWHERE
 
 
-def rating_of(tags, any_parking):
+def rating_of(tags: Tags, any_parking: bool) -> tuple[Optional[str], str]:
     """The rating of a parking area, or the reason why it isn't taken."""
     lorry = tags.get("hgv", tags.get("truck", tags.get("hgv:parking", "")))
     for_lorries = lorry in LORRY or tags.get("capacity:hgv", "0") not in ("0", "no")
@@ -36,7 +63,12 @@ def rating_of(tags, any_parking):
         return None, "parking that isn't for lorries"
     if access in SHUT or access == "customers" and not for_lorries:
         return None, "parking that isn't public"
-    if tags.get("amenity") in ("truck_stop", "truck_parking") or tags.get("amenity") != "fuel" and for_lorries and "highway" not in tags:
+    if (
+        tags.get("amenity") in ("truck_stop", "truck_parking")
+        or tags.get("amenity") != "fuel"
+        and for_lorries
+        and "highway" not in tags
+    ):
         return "lorry_parking", ""
     if tags.get("highway") == "services":
         return "services", ""
@@ -51,10 +83,22 @@ def rating_of(tags, any_parking):
     return "parking", ""
 
 
-def site_of(tags, number, refs, x, y, any_parking, reading, report):
+def site_of(
+    tags: Tags,
+    number: int,
+    refs: Iterable[int],
+    x: int,
+    y: int,
+    any_parking: bool,
+    reading: road_tags.Reading,
+    report: Report,
+) -> Optional[Site]:
     """The site of a parking area, if lorries may wait there."""
     rating, reason = rating_of(tags, any_parking)
-    what = next((f"{key}={tags[key]}" for key in ("highway", "amenity", "hgv:parking") if key in tags), "parking")
+    what = next(
+        (f"{key}={tags[key]}" for key in ("highway", "amenity", "hgv:parking") if key in tags),
+        "parking",
+    )
     where = f"object {number}" if number > 0 else ""
     if rating is None:
         report.add("left out", reason, what, where)
@@ -64,36 +108,62 @@ def site_of(tags, number, refs, x, y, any_parking, reading, report):
             try:
                 kind = road_tags.LIMITS[key]
                 if float(road_tags.size_of(kind, tags[key], lambda *_: None)) < least:
-                    report.add("left out", "parking for smaller vehicles", f"{key}={tags[key]}", where)
+                    report.add(
+                        "left out", "parking for smaller vehicles", f"{key}={tags[key]}", where
+                    )
                     return None
             except Unread:
                 if tags[key] not in road_tags.LIFTED:
-                    report.add("left out", "parking with a limit that can't be read", f"{key}={tags[key]}", where)
+                    report.add(
+                        "left out",
+                        "parking with a limit that can't be read",
+                        f"{key}={tags[key]}",
+                        where,
+                    )
                     return None
     hours = ""
     if "opening_hours" in tags:
         text = tags["opening_hours"]
         try:
-            hours = notation.hours(text, lambda what, example: report.add("changed", what, example, where), reading.school_holidays, True)
+            hours = notation.hours(
+                text,
+                lambda what, example: report.add("changed", what, example, where),
+                reading.school_holidays,
+                True,
+            )
             hours = "" if re.sub(r"\s", "", hours) in ("24/7", "24/7open") else hours
         except Unread as error:
-            report.add("left out", f"parking whose hours can't be read: {error}", f"opening_hours={text}", where)
+            report.add(
+                "left out",
+                f"parking whose hours can't be read: {error}",
+                f"opening_hours={text}",
+                where,
+            )
             return None
     if "maxstay" in tags and tags["maxstay"] not in ("unlimited", "no", "none", "24/7"):
-        report.add("warning", "parking with a longest stay, which isn't considered", f"maxstay={tags['maxstay']}", where)
+        report.add(
+            "warning",
+            "parking with a longest stay, which isn't considered",
+            f"maxstay={tags['maxstay']}",
+            where,
+        )
     report.add("read", "parking, by rating", rating)
     return Site(rating, tags.get("name", tags.get("ref", "")), hours, x, y, refs)
 
 
-def cells_around(x, y, reach=1):
+def cells_around(x: int, y: int, reach: int = 1) -> list[tuple[int, int]]:
     column, row = x // CELL, y // CELL
-    return [(column + i, row + j) for i in range(-reach, reach + 1) for j in range(-reach, reach + 1)]
+    return [
+        (column + i, row + j) for i in range(-reach, reach + 1) for j in range(-reach, reach + 1)
+    ]
 
 
-def nearest_refs(extract, usable, sites):
+def nearest_refs(
+    extract: Extract, usable: Callable[[Way], bool], sites: Iterable[Site]
+) -> set[int]:
     """The node of a usable way that is nearest to each site, so that the network has it."""
     wanted = {cell for site in sites for cell in cells_around(site.x, site.y)}
-    grid = collections.defaultdict(list)
+    grid: dict[tuple[int, int], list[int]] = collections.defaultdict(list)
     if wanted:
         for way in extract.ways:
             if usable(way):
@@ -101,11 +171,17 @@ def nearest_refs(extract, usable, sites):
                     cell = (extract.xs[at] // CELL, extract.ys[at] // CELL)
                     if cell in wanted:
                         grid[cell].append(at)
-    found = set()
+    found: set[int] = set()
     for site in sites:
         near = [at for cell in cells_around(site.x, site.y) for at in grid[cell]]
         if near:
-            at = min(near, key=lambda at: (metres(site.x, site.y, extract.xs[at], extract.ys[at]), extract.refs[at]))
+            at = min(
+                near,
+                key=lambda at: (
+                    metres(site.x, site.y, extract.xs[at], extract.ys[at]),
+                    extract.refs[at],
+                ),
+            )
             found.add(extract.refs[at])
             own = [at for at in near if extract.refs[at] in site.refs]
             if own:
@@ -116,51 +192,63 @@ def nearest_refs(extract, usable, sites):
 class Nodes:
     """Nodes of the network by their place."""
 
-    def __init__(self, network, nodes):
+    def __init__(self, network: Network, nodes: Iterable[int]) -> None:
         self.network = network
-        self.grid = collections.defaultdict(list)
+        grid: dict[tuple[int, int], list[int]] = collections.defaultdict(list)
+        self.grid = grid
         for node in nodes:
             self.grid[network.xs[node] // CELL, network.ys[node] // CELL].append(node)
 
-    def distance(self, node, x, y):
+    def distance(self, node: int, x: int, y: int) -> float:
         return metres(x, y, self.network.xs[node], self.network.ys[node])
 
-    def nearest(self, x, y, most):
+    def nearest(self, x: int, y: int, most: int) -> Optional[int]:
         """The nearest node within so many metres, or None."""
         reach = 1 + int(most / 350)
         near = [node for cell in cells_around(x, y, reach) for node in self.grid.get(cell, ())]
         near = [node for node in near if self.distance(node, x, y) <= most]
-        return min(near, key=lambda node: (self.distance(node, x, y), node), default=None)
+        return min(near, key=lambda it: (self.distance(it, x, y), it)) if near else None
 
 
-def place_sites(sites, network, nodes, report):
+def place_sites(
+    sites: Iterable[Site], network: Network, nodes: Collection[int], report: Report
+) -> list[Site]:
     """Gives each site its node; those that have none are left out."""
     index = Nodes(network, nodes)
     found = []
     for site in sites:
-        own = [network.number[ref] for ref in site.refs if ref in network.number and network.number[ref] in nodes]
+        own = [
+            network.number[ref]
+            for ref in site.refs
+            if ref in network.number and network.number[ref] in nodes
+        ]
         most = MOST_TO_DEPOT if site.rating == "depot" else MOST_TO_PARKING
-        site.node = own[0] if own else index.nearest(site.x, site.y, most)
-        if site.node is None:
+        node = own[0] if own else index.nearest(site.x, site.y, most)
+        if node is None:
             report.add(
                 "warning" if site.rating == "depot" else "left out",
                 f"places to wait without a road of the network within {most} m",
                 f"{site.rating} {site.name}".strip(),
             )
         else:
+            site.node = node
             found.append(site)
     return found
 
 
-def better(one, other):
-    """Of two sites at one node the one that is kept: the better rating, and no hours before hours."""
+def better(one: Site, other: Site) -> Site:
+    """Of two sites at one node the one that is kept: the better rating, and no hours before
+    hours."""
     order = list(RATINGS)
     return min(one, other, key=lambda site: (order.index(site.rating), site.hours != "", site.name))
 
 
-def name_towns(places, network, nodes):
+def name_towns(
+    places: Iterable[tuple[int, str, int, int]], network: Network, nodes: Iterable[int]
+) -> dict[int, str]:
     """The node that is nearest to each town, with the town's name."""
-    index, found = Nodes(network, nodes), {}
+    index = Nodes(network, nodes)
+    found: dict[int, str] = {}
     for _, name, x, y in sorted(places):
         node = index.nearest(x, y, MOST_TO_TOWN)
         if node is not None:

@@ -1,13 +1,31 @@
 """The tags of a road: whom it lets in, in each direction, and how fast it is.
 
-The keys are those of OpenStreetMap's wiki: access tags of land transport, conditional restrictions, `:forward` and `:backward`, `oneway`, limits such
-as `maxweight`, `hazmat`. Nothing is left out in silence: what is changed, closed because it can't be read, or not considered, is noted."""
-import functools
-import re
+The keys are those of OpenStreetMap's wiki: access tags of land transport, conditional restrictions,
+`:forward` and `:backward`, `oneway`, limits such as `maxweight`, `hazmat`. Nothing is left out in
+silence: what is changed, closed because it can't be read, or not considered, is noted."""
+from __future__ import annotations
 
-from . import access, notation
-from .access import CLASSES, CLOSED, DESTINATION, NO, OPEN, YES
-from .notation import Unread
+import re
+from typing import Callable, Iterable, Iterator, Mapping, Optional, TypeVar
+
+from lorry_tools.conversion import access, notation
+from lorry_tools.conversion.access import (
+    CLASSES,
+    CLOSED,
+    DESTINATION,
+    NO,
+    OPEN,
+    YES,
+    Clauses,
+    Lists,
+)
+from lorry_tools.conversion.notation import Changed, Unread
+
+Tags = dict[str, str]
+# A kind of note, what is said, and an example.
+Said = tuple[str, str, str]
+# What a clause says, its access first.
+Given = TypeVar("Given", bound="tuple[object, ...]")
 
 # The words of lorry_plan itself.
 NATIVE = {
@@ -17,7 +35,9 @@ NATIVE = {
 }
 # Words that mean one of them.
 OTHER_WORDS = {
-    **dict.fromkeys(("official", "public", "allowed", "fee", "toll", "unsuitable", "tolerated"), "yes"),
+    **dict.fromkeys(
+        ("official", "public", "allowed", "fee", "toll", "unsuitable", "tolerated"), "yes"
+    ),
     **dict.fromkeys(
         (
             "residents",
@@ -83,7 +103,12 @@ SIZES = {
 }
 COMPARISON = re.compile(r"([a-z]+)\s*(<=|>=|==|<|>|=)\s*(.+)$")
 # What a vehicle may carry or draw, with the flag that says so.
-FLAG_KEYS = {"hazmat": "hazmat", "hazmat:water": "hazmat_water", "trailer": "trailer", **{f"hazmat:{it}": f"hazmat_{it.lower()}" for it in "ABCDE"}}
+FLAG_KEYS = {
+    "hazmat": "hazmat",
+    "hazmat:water": "hazmat_water",
+    "trailer": "trailer",
+    **{f"hazmat:{it}": f"hazmat_{it.lower()}" for it in "ABCDE"},
+}
 # Words of conditions that say something of a vehicle, its load or the weather.
 FLAGS = {
     "hazmat",
@@ -125,17 +150,37 @@ ONEWAY = {
 }
 # Words in a key that make it worth a line where it isn't read.
 WATCHED = re.compile(
-    r"(^|:)(access|vehicle|motor_vehicle|motorcar|hgv|hgv_articulated|goods|bus|psv|coach|tourist_bus|trailer|hazmat|bdouble|oneway|"
-    r"toll|conditional|tunnel_code|adr_tunnel_code|restriction|traffic_sign)(:|$)|^max|^overtaking:hgv"
+    r"(^|:)(access|vehicle|motor_vehicle|motorcar|hgv|hgv_articulated|goods|bus|psv|coach|"
+    r"tourist_bus|trailer|hazmat|bdouble|oneway|toll|conditional|tunnel_code|adr_tunnel_code|"
+    r"restriction|traffic_sign)(:|$)|^max|^overtaking:hgv"
 )
 # Kilometres an hour for words of maxspeed.
-SPEED_WORDS = {"walk": 7, "living_street": 7, "urban": 50, "rural": 80, "trunk": 80, "motorway": 80, "zone30": 30, "zone:30": 30, "30": 30, "20": 20}
+SPEED_WORDS = {
+    "walk": 7,
+    "living_street": 7,
+    "urban": 50,
+    "rural": 80,
+    "trunk": 80,
+    "motorway": 80,
+    "zone30": 30,
+    "zone:30": 30,
+    "30": 30,
+    "20": 20,
+}
 
-TONNES = {"": 1, "t": 1, "kg": 0.001, "st": 0.90718474, "lb": 0.00045359237, "lbs": 0.00045359237, "cwt": 0.05080235}
+TONNES = {
+    "": 1,
+    "t": 1,
+    "kg": 0.001,
+    "st": 0.90718474,
+    "lb": 0.00045359237,
+    "lbs": 0.00045359237,
+    "cwt": 0.05080235,
+}
 METRES = {"": 1, "m": 1, "cm": 0.01, "ft": 0.3048, "in": 0.0254}
 
 
-def trimmed(number, decimals):
+def trimmed(number: float, decimals: int) -> str:
     """A number rounded down to so many decimals, as text."""
     scaled = int(number * 10**decimals + 1e-6)
     whole, part = divmod(scaled, 10**decimals)
@@ -143,14 +188,22 @@ def trimmed(number, decimals):
     return text.rstrip("0") if part else text
 
 
-def size_of(kind, text, changed):
+def size_of(kind: str, text: str, changed: Changed) -> str:
     """The tonnes, metres or axles of a text, as lorry_plan writes them."""
-    value = text.strip().replace(",", ".").replace("\u2032", "'").replace("\u2033", '"').replace("''", '"')
+    value = (
+        text.strip()
+        .replace(",", ".")
+        .replace("\u2032", "'")
+        .replace("\u2033", '"')
+        .replace("''", '"')
+    )
     if kind == "axles":
         if not re.match(r"\d{1,6}$", value):
             raise Unread("no number of axles")
         return str(int(value))
-    feet = re.match(r"(\d+(?:\.\d+)?)\s*(?:'|ft|feet)\s*-?\s*(?:(\d+(?:\.\d+)?)\s*(?:\"|in|inches)?)?$", value)
+    feet = re.match(
+        r"(\d+(?:\.\d+)?)\s*(?:'|ft|feet)\s*-?\s*(?:(\d+(?:\.\d+)?)\s*(?:\"|in|inches)?)?$", value
+    )
     plain = re.match(r"(\d+(?:\.\d+)?)\s*([a-z]*)$", value)
     is_weight = kind in ("weight", "axleload")
     if feet and not is_weight:
@@ -174,26 +227,38 @@ def size_of(kind, text, changed):
 class Notes:
     """What is said of the tags of one road, each thing once."""
 
-    def __init__(self):
-        self.said = {}
+    def __init__(self) -> None:
+        self.said: dict[Said, bool] = {}
 
-    def add(self, kind, what, example):
+    def add(self, kind: str, what: str, example: str) -> None:
         self.said[kind, what, example] = True
 
 
 class Reading:
     """How tags are read."""
 
-    def __init__(self, unread="close", motorcar=False, school_holidays=False, first_year=0, speeds=None):
-        self.unread, self.motorcar, self.school_holidays, self.first_year = unread, motorcar, school_holidays, first_year
+    def __init__(
+        self,
+        unread: str = "close",
+        motorcar: bool = False,
+        school_holidays: bool = False,
+        first_year: int = 0,
+        speeds: Optional[Mapping[str, int]] = None,
+    ) -> None:
+        self.unread, self.motorcar, self.school_holidays, self.first_year = (
+            unread,
+            motorcar,
+            school_holidays,
+            first_year,
+        )
         self.speeds = speeds or {}
         self.notes = Notes()
-        self.flags = set()
+        self.flags: set[str] = set()
 
-    def changed(self, key):
+    def changed(self, key: str) -> Changed:
         return lambda what, example: self.notes.add("changed", what, f"{key}={example}")
 
-    def refuse(self, cause, example):
+    def refuse(self, cause: str, example: str) -> bool:
         """Notes a text that can't be read, and says whether the road is closed for it."""
         closes = self.unread == "close"
         self.notes.add("closed" if closes else "left out", f"not read: {cause}", example)
@@ -201,37 +266,44 @@ class Reading:
 
     # Words
 
-    def word(self, key, value, is_bus):
+    def word(self, key: str, value: str, is_bus: bool) -> Optional[int]:
         """The access that a plain value gives; None where it says nothing."""
         text = value.strip().lower()
         if text in NATIVE:
             return NATIVE[text]
         if text in OTHER_WORDS:
-            self.notes.add("changed", "a value read as another word", f"{key}={value} as {OTHER_WORDS[text]}")
+            self.notes.add(
+                "changed", "a value read as another word", f"{key}={value} as {OTHER_WORDS[text]}"
+            )
             return NATIVE[OTHER_WORDS[text]]
         if text in SAYS_NOTHING:
             self.notes.add("left out", "a value that says nothing", f"{key}={value}")
             return None
         if text in ("psv", "bus"):
-            self.notes.add("changed", "a value read as another word", f"{key}={value} as no, but for buses")
+            self.notes.add(
+                "changed", "a value read as another word", f"{key}={value} as no, but for buses"
+            )
             return YES if is_bus else NO
         if ";" in text:
-            found = []
-            for one in text.split(";"):
-                try:
-                    found.append(self.word(key, one, is_bus))
-                except Unread:
-                    pass
-            found = [one for one in found if one is not None]
+            found = [it for it in self.words(key, text.split(";"), is_bus) if it is not None]
             if found:
                 self.notes.add("changed", "a list of values read as its widest", f"{key}={value}")
                 return max(found)
         raise Unread("a value that isn't known")
 
+    def words(self, key: str, values: Iterable[str], is_bus: bool) -> Iterator[Optional[int]]:
+        """The accesses of those values that can be read."""
+        for value in values:
+            try:
+                yield self.word(key, value, is_bus)
+            except Unread:
+                pass
+
     # Conditions
 
-    def part(self, text, lifts):
-        """The parts of a condition that a text between two `AND` says; `delivery` stands for a purpose."""
+    def part(self, text: str, lifts: bool) -> list[str]:
+        """The parts of a condition that a text between two `AND` says; `delivery` stands for a
+        purpose."""
         text = text.strip()
         if re.match(r"(destination|delivery)$", text):
             return ["delivery"]
@@ -246,8 +318,12 @@ class Reading:
                 raise Unread("a comparison of something else")
             if name != SIZES[name]:
                 self.notes.add("changed", "another weight read as the weight", text)
-            return [f"{SIZES[name]}{'=' if sign == '==' else sign}{size_of(SIZES[name], number, self.changed(name))}"]
-        changed = lambda what, example: self.notes.add("changed", what, example)
+            size = size_of(SIZES[name], number, self.changed(name))
+            return [f"{SIZES[name]}{'=' if sign == '==' else sign}{size}"]
+
+        def changed(what: str, example: str) -> None:
+            self.notes.add("changed", what, example)
+
         holidays = re.match(r"(PH|SH) ((?:Mo|Tu|We|Th|Fr|Sa|Su).*)$", text)
         if holidays:
             for start, end in re.findall(r"(\d{1,2}:\d\d)\s*-\s*(\d{1,2}:\d\d)", text):
@@ -259,7 +335,7 @@ class Reading:
             return [days, rest]
         return [notation.hours(text, changed, self.school_holidays, lifts)]
 
-    def parts(self, text, lifts):
+    def parts(self, text: str, lifts: bool) -> list[str]:
         text = text.strip()
         if text.startswith("(") and text.endswith(")"):
             text = text[1:-1]
@@ -270,13 +346,16 @@ class Reading:
             found += self.part(one, lifts)
         return found
 
-    def is_past(self, text):
+    def is_past(self, text: str) -> bool:
         text = re.sub(r"[<>=]\s*[\d.]+", "", text)
         years = [int(year) for year in re.findall(r"(?<![\d.:])(?:19|20)\d\d(?![\d.:])", text)]
         return bool(years) and max(years) < self.first_year
 
-    def clauses(self, key, text, value_of):
-        """Yields each clause of a conditional text: its value, and its parts, or none where its condition can't be read."""
+    def clauses(
+        self, key: str, text: str, value_of: Callable[[str], Given]
+    ) -> Iterator[tuple[Optional[Given], Optional[list[str]]]]:
+        """Yields each clause of a conditional text: its value, and its parts, or none where its
+        condition can't be read."""
         for one in notation.outside_parentheses(text, ";"):
             one = one.strip()
             if not one:
@@ -291,7 +370,6 @@ class Reading:
                     raise Unread("a clause without a condition")
                 given = value_of(value.strip())
             except Unread as error:
-                given, condition = None, None
                 if self.refuse(str(error), example):
                     yield None, None
                 continue
@@ -303,8 +381,11 @@ class Reading:
                 if self.refuse(str(error), example):
                     yield given, None
 
-    def with_clause(self, clauses, given, parts):
-        """The list after a clause; parts are None where it may hold at any time, and the value where it can't be read at all."""
+    def with_clause(
+        self, clauses: Clauses, given: Optional[int], parts: Optional[list[str]]
+    ) -> Clauses:
+        """The list after a clause; parts are None where it may hold at any time, and the value
+        where it can't be read at all."""
         if given is None:
             return access.capped(clauses, NO)
         if parts is None:
@@ -312,27 +393,29 @@ class Reading:
         if "delivery" in parts:
             parts = [it for it in parts if it != "delivery"]
             if given == NO:
-                self.notes.add("changed", "a ban of deliveries alone read as one of all", " AND ".join(parts))
+                self.notes.add(
+                    "changed", "a ban of deliveries alone read as one of all", " AND ".join(parts)
+                )
             else:
                 return access.for_deliveries(clauses, parts)
         return access.simplified(clauses + (access.clause(given, parts),))
 
     # Keys
 
-    def value(self, tags, key, way):
+    def value(self, tags: Tags, key: str, way: str) -> tuple[str, Optional[str]]:
         """The plain value of a key in a direction, with the key that has it."""
         for one in (f"{key}:{way}", key):
             if one in tags:
                 return one, tags[one]
         return key, None
 
-    def conditional(self, tags, key, way):
+    def conditional(self, tags: Tags, key: str, way: str) -> tuple[str, Optional[str]]:
         for one in (f"{key}:{way}:conditional", f"{key}:conditional:{way}", f"{key}:conditional"):
             if one in tags:
                 return one, tags[one]
         return key, None
 
-    def by_key(self, clauses, tags, key, way, is_bus):
+    def by_key(self, clauses: Clauses, tags: Tags, key: str, way: str, is_bus: bool) -> Clauses:
         """The list after a key's plain value and its conditional one."""
         name, value = self.value(tags, key, way)
         if value is not None:
@@ -345,23 +428,29 @@ class Reading:
                     clauses = access.capped(clauses, NO)
         name, value = self.conditional(tags, key, way)
         if value is not None:
-            for given, parts in self.clauses(name, value, lambda text: (self.word(name, text, is_bus),)):
-                if given is None or given[0] is not None:
-                    clauses = self.with_clause(clauses, given and given[0], parts)
+            for said, parts in self.clauses(
+                name, value, lambda text: (self.word(name, text, is_bus),)
+            ):
+                if said is None:
+                    clauses = self.with_clause(clauses, None, parts)
+                elif said[0] is not None:
+                    clauses = self.with_clause(clauses, said[0], parts)
         return clauses
 
-    def by_access(self, tags, way, start):
+    def by_access(self, tags: Tags, way: str, start: Clauses) -> list[Clauses]:
         lists = []
         for name in CLASSES:
             clauses, keys = start, list(KEYS_OF[name])
-            if self.motorcar and not any(self.value(tags, key, way)[1] for key in ("vehicle", "motor_vehicle", "hgv")):
+            if self.motorcar and not any(
+                self.value(tags, key, way)[1] for key in ("vehicle", "motor_vehicle", "hgv")
+            ):
                 keys.insert(3, "motorcar")
             for key in keys:
                 clauses = self.by_key(clauses, tags, key, way, name == "bus")
             lists.append(clauses)
         return lists
 
-    def limit(self, tags, base, kind, name, way):
+    def limit(self, tags: Tags, base: str, kind: str, name: str, way: str) -> Clauses:
         """The list of one limit for a class."""
         clauses, number = OPEN, None
         modes = [""] + [f":{key}" for key in KEYS_OF[name][1:]]
@@ -371,43 +460,76 @@ class Reading:
                 try:
                     number = self.least(kind, key, value)
                     clauses = OPEN if number is None else ((YES, ()), (NO, (f"{kind}>{number}",)))
-                    if number is not None and base not in ("maxweight", "maxaxleload", "maxheight", "maxwidth", "maxlength"):
-                        self.notes.add("changed", "a limit read as that of the size which a vehicle has", f"{key}={value} as {kind}>{number}")
+                    if number is not None and base not in (
+                        "maxweight",
+                        "maxaxleload",
+                        "maxheight",
+                        "maxwidth",
+                        "maxlength",
+                    ):
+                        self.notes.add(
+                            "changed",
+                            "a limit read as that of the size which a vehicle has",
+                            f"{key}={value} as {kind}>{number}",
+                        )
                 except Unread as error:
                     if self.refuse(f"a limit with {error}", f"{key}={value}"):
                         clauses = CLOSED
             key, value = self.conditional(tags, base + mode, way)
             if value is not None:
-                for given, parts in self.clauses(key, value, lambda text: self.limited(kind, key, text)):
+                for given, parts in self.clauses(
+                    key, value, lambda text: self.limited(kind, key, text)
+                ):
                     clauses = self.with_limit(clauses, given, parts, kind)
         return clauses
 
-    def least(self, kind, key, value):
+    def least(self, kind: str, key: str, value: str) -> Optional[str]:
         """The least size of a list; None where there is no limit."""
-        found = [size_of(kind, one, self.changed(key)) for one in re.split(r"[;|]", value) if one.strip().lower() not in LIFTED]
+        found = [
+            size_of(kind, one, self.changed(key))
+            for one in re.split(r"[;|]", value)
+            if one.strip().lower() not in LIFTED
+        ]
         return min(found, key=float) if found else None
 
-    def limited(self, kind, key, text):
-        """What a clause of a limit says: an access for those above its number, with the number, if any."""
+    def limited(self, kind: str, key: str, text: str) -> tuple[int, Optional[str]]:
+        """What a clause of a limit says: an access for those above its number, with the number, if
+        any."""
         number = self.least(kind, key, text)
         return (YES, None) if number is None else (NO, number)
 
-    def with_limit(self, clauses, given, parts, kind):
+    def with_limit(
+        self,
+        clauses: Clauses,
+        given: Optional[tuple[int, Optional[str]]],
+        parts: Optional[list[str]],
+        kind: str,
+    ) -> Clauses:
         if given is None:
             return access.capped(clauses, NO)
         allowed, number = given
         if parts is None:
-            return clauses if number is None else access.both(clauses, ((YES, ()), (NO, (f"{kind}>{number}",))))
+            return (
+                clauses
+                if number is None
+                else access.both(clauses, ((YES, ()), (NO, (f"{kind}>{number}",))))
+            )
         if number is None:
             return self.with_clause(clauses, allowed, parts)
         if "delivery" in parts:
             # A number for deliveries alone: both limits then hold, which is stricter.
-            self.notes.add("changed", "a limit of deliveries alone read as one of all", f"{kind}>{number}")
+            self.notes.add(
+                "changed", "a limit of deliveries alone read as one of all", f"{kind}>{number}"
+            )
             rest = [it for it in parts if it != "delivery"]
-            return access.both(clauses, access.simplified(OPEN + (access.clause(NO, rest + [f"{kind}>{number}"]),)))
-        return access.simplified(clauses + (access.clause(YES, parts), access.clause(NO, parts + [f"{kind}>{number}"])))
+            return access.both(
+                clauses, access.simplified(OPEN + (access.clause(NO, rest + [f"{kind}>{number}"]),))
+            )
+        return access.simplified(
+            clauses + (access.clause(YES, parts), access.clause(NO, parts + [f"{kind}>{number}"]))
+        )
 
-    def oneway(self, tags, name, way, implied):
+    def oneway(self, tags: Tags, name: str, way: str, implied: str) -> Clauses:
         """The list that says when this direction may be driven."""
         clauses = CLOSED if implied and implied != way else OPEN
         for mode in [""] + [f":{key}" for key in KEYS_OF[name][1:]]:
@@ -415,39 +537,53 @@ class Reading:
             value = tags.get(key)
             if value in ONEWAY:
                 clauses = CLOSED if ONEWAY[value] and ONEWAY[value] != way else OPEN
-            elif value is not None and self.refuse("a direction that isn't known", f"{key}={value}"):
+            elif value is not None and self.refuse(
+                "a direction that isn't known", f"{key}={value}"
+            ):
                 clauses = CLOSED
             if f"{key}:conditional" in tags:
 
-                def directed(text):
+                def directed(text: str) -> tuple[int]:
                     if text not in ONEWAY:
                         raise Unread("a direction that isn't known")
                     return (NO if ONEWAY[text] and ONEWAY[text] != way else YES,)
 
-                for given, parts in self.clauses(f"{key}:conditional", tags[f"{key}:conditional"], directed):
+                for given, parts in self.clauses(
+                    f"{key}:conditional", tags[f"{key}:conditional"], directed
+                ):
                     clauses = self.with_clause(clauses, given and given[0], parts)
         return clauses
 
-    def lists(self, tags, way, start=OPEN, implied=""):
+    def lists(self, tags: Tags, way: str, start: Clauses = OPEN, implied: str = "") -> Lists:
         """Whom the tags let in, class by class, in a direction."""
         lists = self.by_access(tags, way, start)
         for base, kind in LIMITS.items():
             if any(key.startswith(base) for key in tags):
-                lists = [access.both(own, self.limit(tags, base, kind, name, way)) for own, name in zip(lists, CLASSES)]
+                lists = [
+                    access.both(own, self.limit(tags, base, kind, name, way))
+                    for own, name in zip(lists, CLASSES)
+                ]
         for key, flag in FLAG_KEYS.items():
             if any(one.startswith(key) for one in tags):
                 flagged = access.with_parts(self.by_key(OPEN, tags, key, way, False), (flag,))
                 lists = [access.both(own, flagged) for own in lists]
         code = tags.get("hazmat:adr_tunnel_code", tags.get("hazmat:tunnel_code", ""))
         if code.upper() in tuple("BCDE"):
-            lists = [access.both(own, ((YES, ()), (NO, (f"hazmat_{code.lower()}",)))) for own in lists]
-        lists = [access.both(own, self.oneway(tags, name, way, implied)) for own, name in zip(lists, CLASSES)]
-        self.flags.update(part for own in lists for _, parts in own for part in parts if notation.FLAG.match(part))
+            lists = [
+                access.both(own, ((YES, ()), (NO, (f"hazmat_{code.lower()}",)))) for own in lists
+            ]
+        lists = [
+            access.both(own, self.oneway(tags, name, way, implied))
+            for own, name in zip(lists, CLASSES)
+        ]
+        self.flags.update(
+            part for own in lists for _, parts in own for part in parts if notation.FLAG.match(part)
+        )
         return tuple(lists)
 
     # Keys that aren't read
 
-    def is_read(self, key):
+    def is_read(self, key: str) -> bool:
         plain = key
         for end in (":conditional", ":forward", ":backward"):
             plain = plain.replace(end, "")
@@ -462,22 +598,38 @@ class Reading:
             or plain == "oneway"
             or mode in modes
             and (base in LIMITS or base == "oneway")
-            or plain in ("hazmat:adr_tunnel_code", "hazmat:tunnel_code", "toll", "toll:hgv", "maxstay")
+            or plain
+            in ("hazmat:adr_tunnel_code", "hazmat:tunnel_code", "toll", "toll:hgv", "maxstay")
             or plain in ("maxspeed", "maxspeed:hgv")
             and not key.endswith(":conditional")
         )
 
-    def note_keys(self, tags):
+    def note_keys(self, tags: Tags) -> None:
         """Notes each key that matters: whether it was read, or is left out."""
-        refused = {example.split("=")[0] for kind, _, example in self.notes.said if kind in ("closed", "left out")}
+        refused = {
+            example.split("=")[0]
+            for kind, _, example in self.notes.said
+            if kind in ("closed", "left out")
+        }
         for key, value in tags.items():
             if self.is_read(key) and key not in refused:
                 self.notes.add("read", kind_of(key), f"{key}={value}")
             elif WATCHED.search(key) and not self.is_read(key):
                 if key.startswith("max") and not key.startswith("maxspeed"):
-                    self.notes.add("left out", "a limit under a key that isn't read: look at these roads", f"{key}={value}")
+                    self.notes.add(
+                        "left out",
+                        "a limit under a key that isn't read: look at these roads",
+                        f"{key}={value}",
+                    )
                 elif key == "motorcar":
-                    self.notes.add("left out", "motorcar, which isn't about lorries; older data mean all motors (--motorcar)", f"{key}={value}")
+                    self.notes.add(
+                        "left out",
+                        (
+                            "motorcar, which isn't about lorries; older data mean all motors"
+                            " (--motorcar)"
+                        ),
+                        f"{key}={value}",
+                    )
                 elif key.startswith("maxspeed"):
                     self.notes.add("left out", "a speed that isn't read", f"{key}={value}")
                 else:
@@ -485,7 +637,7 @@ class Reading:
 
     # Speeds
 
-    def speed(self, tags, way):
+    def speed(self, tags: Tags, way: str) -> float:
         """Kilometres an hour: that of the class, or what maxspeed says where that is less."""
         found = self.speeds[tags["highway"]]
         for key in (f"maxspeed:hgv:{way}", "maxspeed:hgv", f"maxspeed:{way}", "maxspeed"):
@@ -502,29 +654,37 @@ class Reading:
         return found
 
 
-def kind_of(key):
+def kind_of(key: str) -> str:
     """What a key that is read is about."""
     if key.endswith(":conditional"):
         return "conditional tags"
     base = key.split(":")[0]
     if base in LIMITS:
         return "limits"
-    return {"oneway": "one-way streets", "maxspeed": "speeds", "toll": "tolls", "hazmat": "dangerous goods"}.get(base, "access tags")
+    return {
+        "oneway": "one-way streets",
+        "maxspeed": "speeds",
+        "toll": "tolls",
+        "hazmat": "dangerous goods",
+    }.get(base, "access tags")
 
 
-def is_relevant(key):
+def is_relevant(key: str) -> bool:
     """Whether the key may change who is let in."""
     return bool(WATCHED.search(key)) or key.startswith("maxspeed")
 
 
-def law_lists(rows):
-    """The lists of a country's law, from rows of keys and values in lorry_plan's own words; raises Unread where one isn't of that form."""
-    tags = {}
+def law_lists(rows: Iterable[tuple[str, str]]) -> Lists:
+    """The lists of a country's law, from rows of keys and values in lorry_plan's own words; raises
+    Unread where one isn't of that form."""
+    tags: Tags = {}
     for key, value in rows:
         base = key[: -len(":conditional")] if key.endswith(":conditional") else key
         if base not in LAW_KEYS:
             raise Unread(f"a key that isn't one of rules: {key}")
-        tags[key] = tags[key] + "; " + value if key in tags and key.endswith(":conditional") else value
+        tags[key] = (
+            tags[key] + "; " + value if key in tags and key.endswith(":conditional") else value
+        )
     strict = Reading("close", school_holidays=True)
     lists = strict.by_access(tags, "forward", OPEN)
     for kind, what, example in strict.notes.said:

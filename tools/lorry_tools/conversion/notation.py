@@ -1,8 +1,17 @@
-"""The notation of hours and of conditional values that lorry_plan reads, by docs/FORMATS.md, and what is put into it.
+"""The notation of hours and of conditional values that lorry_plan reads, by docs/FORMATS.md, and
+what is put into it.
 
-`hours` gives the text of hours that the program reads, or raises `Unread`. Texts that other evaluators of OpenStreetMap's `opening_hours` read, and
-that the program can say in other words, are rewritten; each rewriting is told to `changed`."""
+`hours` gives the text of hours that the program reads, or raises `Unread`. Texts that other
+evaluators of OpenStreetMap's `opening_hours` read, and that the program can say in other words, are
+rewritten; each rewriting is told to `changed`."""
+from __future__ import annotations
+
 import re
+from typing import Callable, Optional, TypeVar
+
+Item = TypeVar("Item")
+# Told what is changed, and an example.
+Changed = Callable[[str, str], None]
 
 MONTHS = ("Jan", "Feb", "Mar", "Apr", "May", "Jun", "Jul", "Aug", "Sep", "Oct", "Nov", "Dec")
 WEEKDAYS = ("Mo", "Tu", "We", "Th", "Fr", "Sa", "Su")
@@ -17,7 +26,7 @@ class Unread(Exception):
     """A text that the program can't read; its message is the cause."""
 
 
-def tokens(text):
+def tokens(text: str) -> list[str]:
     """Cuts a text into the longest tokens; blanks are allowed between them only."""
     if text != text.strip(" \t") or not text:
         raise Unread("empty hours")
@@ -37,25 +46,25 @@ def tokens(text):
 class Reader:
     """Reads the tokens of one rule of hours, from the left."""
 
-    def __init__(self, words):
+    def __init__(self, words: list[str]) -> None:
         self.words, self.at = words, 0
 
-    def peek(self, ahead=0):
+    def peek(self, ahead: int = 0) -> str:
         return self.words[self.at + ahead] if self.at + ahead < len(self.words) else ""
 
-    def take(self, word):
+    def take(self, word: str) -> bool:
         if self.peek() != word:
             return False
         self.at += 1
         return True
 
-    def number(self):
+    def number(self) -> None:
         word = self.peek()
         if not word.isdigit() or not 1 <= int(word) <= 31:
             raise Unread("no day of a month")
         self.at += 1
 
-    def date(self):
+    def date(self) -> None:
         """month, month-month, month number, month number-number, month number-month number"""
         self.at += 1
         if self.peek().isdigit():
@@ -70,7 +79,7 @@ class Reader:
             if self.peek().isdigit():
                 raise Unread("a date without its first day")
 
-    def item(self):
+    def item(self) -> str:
         """weekday, weekday-weekday, weekday[ordinal], PH, SH; gives what it names"""
         word = self.peek()
         self.at += 1
@@ -87,7 +96,7 @@ class Reader:
             self.at += 2
         return word
 
-    def time(self, most):
+    def time(self, most: int) -> None:
         word = self.peek()
         if ":" not in word or len(word) < 4:
             raise Unread("hours in another notation")
@@ -96,7 +105,7 @@ class Reader:
             raise Unread("no time of a day")
         self.at += 1
 
-    def listed(self, starts, one):
+    def listed(self, starts: Callable[[str], bool], one: Callable[[], Item]) -> list[Item]:
         """one, then any number of `,` one"""
         found = [one()]
         while self.peek() == "," and starts(self.peek(1)):
@@ -104,8 +113,9 @@ class Reader:
             found.append(one())
         return found
 
-    def rule(self):
-        """Reads the rule, and says whether holidays of each kind are named, and whether it is `off`."""
+    def rule(self) -> tuple[set[str], bool]:
+        """Reads the rule, and says whether holidays of each kind are named, and whether it is
+        `off`."""
         if self.take("24/7"):
             self.take("open")
             return self.end(set(), False)
@@ -113,7 +123,6 @@ class Reader:
         if dated:
             self.listed(lambda word: word in MONTHS, self.date)
             self.take(":")
-        is_day = lambda word: word in WEEKDAYS or word in HOLIDAYS
         if self.is_long_span():
             self.at += 1
             self.time(23 * 60 + 59)
@@ -132,24 +141,37 @@ class Reader:
             raise Unread("hours in another notation")
         return self.end({day for day in days if day in HOLIDAYS}, False)
 
-    def is_long_span(self):
-        return self.peek() in WEEKDAYS and ":" in self.peek(1) and len(self.peek(1)) > 1 and self.peek(2) == "-" and self.peek(3) in WEEKDAYS
+    def is_long_span(self) -> bool:
+        return (
+            self.peek() in WEEKDAYS
+            and ":" in self.peek(1)
+            and len(self.peek(1)) > 1
+            and self.peek(2) == "-"
+            and self.peek(3) in WEEKDAYS
+        )
 
-    def span(self):
+    def span(self) -> None:
         self.time(23 * 60 + 59)
         if not self.take("-"):
             raise Unread("a point in time, or an open end")
         self.time(48 * 60)
 
-    def end(self, named, is_off):
+    def end(self, named: set[str], is_off: bool) -> tuple[set[str], bool]:
         if self.at < len(self.words):
             raise Unread("hours in another notation")
         return named, is_off
 
 
-def read_hours(text):
-    """Reads hours as the program does: the holidays that are named where something is covered, and where `off`."""
-    rule, covered, off = [], set(), set()
+def is_day(word: str) -> bool:
+    return word in WEEKDAYS or word in HOLIDAYS
+
+
+def read_hours(text: str) -> tuple[set[str], set[str]]:
+    """Reads hours as the program does: the holidays that are named where something is covered, and
+    where `off`."""
+    rule: list[str] = []
+    covered: set[str] = set()
+    off: set[str] = set()
     for word in tokens(text) + [";"]:
         if word != ";":
             rule.append(word)
@@ -162,44 +184,48 @@ def read_hours(text):
     return covered, off
 
 
-def with_ordinals(text):
+def with_ordinals(text: str) -> str:
     """Su[1,3] as Su[1],Su[3]"""
 
-    def each(found):
+    def each(found: re.Match[str]) -> str:
         return ",".join(f"{found[1]}[{one.strip()}]" for one in found[2].split(","))
 
     return re.sub(r"\b(Mo|Tu|We|Th|Fr|Sa|Su)\[(-?\d(?:\s*,\s*-?\d)+)\]", each, text)
 
 
-def with_months(text):
+def with_months(text: str) -> str:
     """Jan 01,06 as Jan 01,Jan 06"""
     month = "|".join(MONTHS)
     while True:
-        text, count = re.subn(rf"\b({month})( \d{{1,2}}), ?(\d{{1,2}})(?![\d:])", r"\1\2,\1 \3", text)
+        text, count = re.subn(
+            rf"\b({month})( \d{{1,2}}), ?(\d{{1,2}})(?![\d:])", r"\1\2,\1 \3", text
+        )
         if not count:
             return text
 
 
-def weekdays_of(rule):
+def weekdays_of(rule: str) -> Optional[set[int]]:
     """The weekdays of a rule that begins with some, as a set; None where it is of another form."""
-    days = re.match(r"((?:Mo|Tu|We|Th|Fr|Sa|Su)(?:-(?:Mo|Tu|We|Th|Fr|Sa|Su))?(?:,(?:Mo|Tu|We|Th|Fr|Sa|Su)(?:-(?:Mo|Tu|We|Th|Fr|Sa|Su))?)*) ", rule)
+    day = "(?:Mo|Tu|We|Th|Fr|Sa|Su)"
+    days = re.match(rf"({day}(?:-{day})?(?:,{day}(?:-{day})?)*) ", rule)
     if not days:
         return None
-    found = set()
+    found: set[int] = set()
     for item in days.group(1).split(","):
         first, last = (WEEKDAYS.index(day) for day in (item.split("-") * 2)[:2])
         found.update((first + k) % 7 for k in range((last - first) % 7 + 1))
     return found
 
 
-def with_semicolons(text):
-    """`Tu 10:00-12:00, We 10:00-12:00` with a `;`: an additional rule is the same as another one where no weekday repeats."""
+def with_semicolons(text: str) -> str:
+    """`Tu 10:00-12:00, We 10:00-12:00` with a `;`: an additional rule is the same as another one
+    where no weekday repeats."""
     if ";" in text:
         return text
     rules = re.split(r"(?<=\d\d), ?(?=(?:Mo|Tu|We|Th|Fr|Sa|Su)\b)", text)
     if len(rules) < 2:
         return text
-    seen = set()
+    seen: set[int] = set()
     for rule in rules:
         days = weekdays_of(rule)
         if days is None or seen & days:
@@ -208,9 +234,10 @@ def with_semicolons(text):
     return "; ".join(rules)
 
 
-def hours(text, changed, school_holidays=False, lifts=False):
-    """Gives hours that the program reads. Without a table of school holidays, hours that need one are refused; `lifts` says that the hours let
-    vehicles in, so that a missing holiday would let them in wrongly."""
+def hours(text: str, changed: Changed, school_holidays: bool = False, lifts: bool = False) -> str:
+    """Gives hours that the program reads. Without a table of school holidays, hours that need one
+    are refused; `lifts` says that the hours let vehicles in, so that a missing holiday would let
+    them in wrongly."""
     text = re.sub(r"[\u2013\u2014]", "-", text.replace("\u00a0", " ")).strip(" \t;")
     try:
         covered, off = read_hours(text)
@@ -228,7 +255,7 @@ def hours(text, changed, school_holidays=False, lifts=False):
     return re.sub(r"[ \t]+", " ", text)
 
 
-def outside_parentheses(text, mark):
+def outside_parentheses(text: str, mark: str) -> list[str]:
     """Cuts a text at each mark that is outside parentheses."""
     parts, depth, start = [], 0, 0
     for at, letter in enumerate(text):

@@ -1,14 +1,24 @@
-"""What an OpenStreetMap extract says that roads need: ways with their nodes, barriers, parking, places, borders.
+"""What an OpenStreetMap extract says that roads need: ways with their nodes, barriers, parking,
+places, borders.
 
 The extract is read twice by pyosmium: for its relations, and for its nodes and ways."""
+from __future__ import annotations
+
 import array
 import collections
 import re
 import sys
+from typing import Any, Callable, Mapping, Optional
 
 import osmium
 
-from . import tags as road_tags
+from lorry_tools.conversion import tags as road_tags
+from lorry_tools.conversion.borders import Line
+from lorry_tools.conversion.tags import Tags
+
+TagPairs = tuple[tuple[str, str], ...]
+# Tags, the number of the object, its nodes, and its place.
+Parking = tuple[Tags, int, list[int], int, int]
 
 # Coordinates are whole numbers of 1e-7 degrees, as in OpenStreetMap's database; this one is none.
 NO_PLACE = 2147483647
@@ -78,7 +88,7 @@ PARKING_TAGS = (
 LET_IN = {"yes", "designated", "permissive", "destination", "delivery", "official"}
 
 
-def is_parking(tags):
+def is_parking(tags: Tags) -> bool:
     return (
         tags.get("amenity") in ("parking", "truck_stop", "fuel", "truck_parking")
         or tags.get("highway") in ("rest_area", "services")
@@ -86,7 +96,7 @@ def is_parking(tags):
     )
 
 
-def country_of(tags):
+def country_of(tags: Tags) -> Optional[str]:
     """The country whose border a relation or a closed way is, in small letters."""
     for key in ("ISO3166-1:alpha2", "ISO3166-1", "country_code_iso3166_1_alpha_2"):
         if re.match(r"[A-Za-z]{2}$", tags.get(key, "")):
@@ -94,48 +104,51 @@ def country_of(tags):
     return None
 
 
-def subdivision_of(tags):
+def subdivision_of(tags: Tags) -> Optional[str]:
     code = tags.get("ISO3166-2", "")
     return code.lower() if re.match(r"[A-Za-z]{2}-[A-Za-z0-9]{1,3}$", code) else None
 
 
 class Way:
-    """A drivable way: its number in OpenStreetMap, class, name, tags, and the place of its nodes in the arrays of the extract."""
+    """A drivable way: its number in OpenStreetMap, class, name, tags, and the place of its nodes in
+    the arrays of the extract."""
 
     __slots__ = ("number", "tags", "name", "first", "last")
 
-    def __init__(self, number, tags, name, first, last):
+    def __init__(self, number: int, tags: TagPairs, name: str, first: int, last: int) -> None:
         self.number, self.tags, self.name, self.first, self.last = number, tags, name, first, last
 
 
 class Extract:
-    def __init__(self):
-        self.counts = collections.Counter()
-        self.classes = collections.Counter()
-        self.other_keys = collections.Counter()
-        self.ways = []
+    """What was read."""
+
+    def __init__(self) -> None:
+        self.counts: collections.Counter[str] = collections.Counter()
+        self.classes: collections.Counter[str] = collections.Counter()
+        self.other_keys: collections.Counter[str] = collections.Counter()
+        self.ways: list[Way] = []
         self.refs, self.xs, self.ys = array.array("q"), array.array("i"), array.array("i")
         # Relevant tags are kept once for all ways that have the same.
-        self.tags = {}
-        self.barriers = {}
-        self.parking = []
-        self.places = []
-        # Borders: code, name and the ways of each; the ways with their coordinates.
-        self.borders = []
-        self.border_ways = {}
-        self.turns = collections.Counter()
-        self.turn_examples = {}
-        self.ferries = []
-        self.toll_points = collections.Counter()
+        self.tags: dict[TagPairs, TagPairs] = {}
+        self.barriers: dict[int, Tags] = {}
+        self.parking: list[Parking] = []
+        self.places: list[tuple[int, str, int, int]] = []
+        # Borders: the code and the ways of each; the ways with their coordinates.
+        self.borders: list[tuple[str, list[int]]] = []
+        self.border_ways: dict[int, Optional[Line]] = {}
+        self.turns: collections.Counter[str] = collections.Counter()
+        self.turn_examples: dict[str, int] = {}
+        self.ferries: list[str] = []
+        self.toll_points: collections.Counter[str] = collections.Counter()
 
 
 class Relations(osmium.SimpleHandler):
-    def __init__(self, found, wants_borders):
+    def __init__(self, found: Extract, wants_borders: bool) -> None:
         super().__init__()
         self.found, self.wants_borders = found, wants_borders
-        self.parking = []
+        self.parking: list[tuple[Tags, set[int]]] = []
 
-    def relation(self, relation):
+    def relation(self, relation: Any) -> None:
         self.found.counts["relations"] += 1
         tags = {tag.k: tag.v for tag in relation.tags}
         kind = tags.get("type", "")
@@ -143,28 +156,47 @@ class Relations(osmium.SimpleHandler):
             what = next((tags[key] for key in tags if key.startswith("restriction")), "")
             self.found.turns[what] += 1
             self.found.turn_examples.setdefault(what, relation.id)
-        elif self.wants_borders and tags.get("boundary") == "administrative" and kind in ("boundary", "multipolygon"):
+        elif (
+            self.wants_borders
+            and tags.get("boundary") == "administrative"
+            and kind in ("boundary", "multipolygon")
+        ):
             country = country_of(tags) if tags.get("admin_level", "2") == "2" else None
             code = country or subdivision_of(tags)
-            members = [it.ref for it in relation.members if it.type == "w" and it.role in ("outer", "inner", "", "exclave", "enclave")]
+            members = [
+                it.ref
+                for it in relation.members
+                if it.type == "w" and it.role in ("outer", "inner", "", "exclave", "enclave")
+            ]
             if code:
                 self.found.borders.append((code, members))
                 self.found.border_ways.update((ref, None) for ref in members)
             elif tags.get("admin_level") == "2":
                 self.found.counts["borders of countries without a code"] += 1
         elif kind == "multipolygon" and is_parking(tags):
-            self.parking.append(({key: tags[key] for key in PARKING_TAGS if key in tags}, {it.ref for it in relation.members if it.type == "w"}))
+            self.parking.append(
+                (
+                    {key: tags[key] for key in PARKING_TAGS if key in tags},
+                    {it.ref for it in relation.members if it.type == "w"},
+                )
+            )
 
 
 class NodesAndWays(osmium.SimpleHandler):
-    def __init__(self, found, parts_of_parking, choice, progress):
+    def __init__(
+        self,
+        found: Extract,
+        parts_of_parking: Mapping[int, int],
+        choice: Choice,
+        progress: Callable[[str], None],
+    ) -> None:
         super().__init__()
         self.found, self.choice, self.progress = found, choice, progress
         self.parts_of_parking = parts_of_parking
-        self.parts = {}
+        self.parts: dict[int, list[tuple[int, int, int]]] = {}
         self.nodes = self.all_ways = 0
 
-    def node(self, node):
+    def node(self, node: Any) -> None:
         self.nodes += 1
         if self.nodes % 1_000_000 == 0:
             self.progress(f"{self.nodes:,} nodes read")
@@ -176,15 +208,25 @@ class NodesAndWays(osmium.SimpleHandler):
         if not location.valid():
             return
         if "barrier" in tags or any(key in tags for key in road_tags.LIMITS) or "hazmat" in tags:
-            found.barriers[node.id] = {key: tags[key] for key in tags if key == "barrier" or road_tags.is_relevant(key)}
+            found.barriers[node.id] = {
+                key: tags[key] for key in tags if key == "barrier" or road_tags.is_relevant(key)
+            }
         if tags.get("barrier") == "toll_booth" or tags.get("highway") == "toll_gantry":
             found.toll_points[tags.get("barrier") or tags["highway"]] += 1
         if is_parking(tags):
-            found.parking.append(({key: tags[key] for key in PARKING_TAGS if key in tags}, node.id, [node.id], location.x, location.y))
+            found.parking.append(
+                (
+                    {key: tags[key] for key in PARKING_TAGS if key in tags},
+                    node.id,
+                    [node.id],
+                    location.x,
+                    location.y,
+                )
+            )
         if tags.get("place") in PLACES and "name" in tags:
             found.places.append((PLACES.index(tags["place"]), tags["name"], location.x, location.y))
 
-    def way(self, way):
+    def way(self, way: Any) -> None:
         found = self.found
         self.all_ways += 1
         if self.all_ways % 200_000 == 0:
@@ -193,24 +235,38 @@ class NodesAndWays(osmium.SimpleHandler):
             found.border_ways[way.id] = [(it.x, it.y) for it in way.nodes if it.x != NO_PLACE]
         number = self.parts_of_parking.get(way.id)
         if number is not None:
-            self.parts.setdefault(number, []).extend((it.ref, it.x, it.y) for it in way.nodes if it.x != NO_PLACE)
+            self.parts.setdefault(number, []).extend(
+                (it.ref, it.x, it.y) for it in way.nodes if it.x != NO_PLACE
+            )
         highway = way.tags.get("highway")
-        if highway is None and "amenity" not in way.tags and "route" not in way.tags and "hgv:parking" not in way.tags and "boundary" not in way.tags:
+        if (
+            highway is None
+            and "amenity" not in way.tags
+            and "route" not in way.tags
+            and "hgv:parking" not in way.tags
+            and "boundary" not in way.tags
+        ):
             return
         tags = {tag.k: tag.v for tag in way.tags}
         if is_parking(tags):
             nodes = [(it.ref, it.x, it.y) for it in way.nodes if it.x != NO_PLACE]
             if nodes:
                 found.parking.append(parking_of(tags, way.id, nodes))
-        if tags.get("boundary") == "administrative" and country_of(tags) and len(way.nodes) > 3 and way.nodes[0].ref == way.nodes[-1].ref:
+        country = country_of(tags)
+        if (
+            tags.get("boundary") == "administrative"
+            and country
+            and len(way.nodes) > 3
+            and way.nodes[0].ref == way.nodes[-1].ref
+        ):
             found.border_ways[way.id] = [(it.x, it.y) for it in way.nodes if it.x != NO_PLACE]
-            found.borders.append((country_of(tags), [way.id]))
+            found.borders.append((country, [way.id]))
         if tags.get("route") in ("ferry", "shuttle_train"):
             found.ferries.append(f"{tags['route']} {tags.get('name', '')} (way {way.id})")
         if highway:
             self.road(way, highway, tags)
 
-    def road(self, way, highway, tags):
+    def road(self, way: Any, highway: str, tags: Tags) -> None:
         found = self.found
         reason = self.choice.leaves_out(highway, tags)
         if reason:
@@ -231,32 +287,38 @@ class NodesAndWays(osmium.SimpleHandler):
             del found.refs[first:], found.xs[first:], found.ys[first:]
             found.counts["drivable ways of less than two nodes"] += 1
             return
-        kept = []
+        pairs = []
         for key in tags:
             if key in ("highway", "junction") or road_tags.is_relevant(key):
-                kept.append((key, tags[key]))
+                pairs.append((key, tags[key]))
             else:
                 found.other_keys[key] += 1
-        kept = tuple(sorted(kept))
+        kept = tuple(sorted(pairs))
         kept = found.tags.setdefault(kept, kept)
         name = sys.intern(" ".join(tags[key] for key in ("ref", "name") if key in tags))
         found.counts["drivable ways"] += 1
         found.ways.append(Way(way.id, kept, name, first, len(found.refs)))
 
 
-def parking_of(tags, number, nodes):
+def parking_of(tags: Tags, number: int, nodes: list[tuple[int, int, int]]) -> Parking:
     """A parking area with its nodes and its middle."""
     middle = [sum(it[at] for it in nodes) // len(nodes) for at in (1, 2)]
-    return {key: tags[key] for key in PARKING_TAGS if key in tags}, number, [it[0] for it in nodes], middle[0], middle[1]
+    return (
+        {key: tags[key] for key in PARKING_TAGS if key in tags},
+        number,
+        [it[0] for it in nodes],
+        middle[0],
+        middle[1],
+    )
 
 
 class Choice:
     """Which classes of roads are taken."""
 
-    def __init__(self, speeds, tracks):
+    def __init__(self, speeds: Mapping[str, int], tracks: bool) -> None:
         self.speeds, self.tracks = speeds, tracks
 
-    def leaves_out(self, highway, tags):
+    def leaves_out(self, highway: str, tags: Tags) -> Optional[str]:
         """Why a road isn't taken; None where it is."""
         if highway not in self.speeds:
             return f"highway={highway}"
@@ -273,7 +335,9 @@ class Choice:
         return None
 
 
-def read(path, choice, wants_borders, progress):
+def read(
+    path: str, choice: Choice, wants_borders: bool, progress: Callable[[str], None]
+) -> Extract:
     """Reads an extract; raises RuntimeError where pyosmium can't."""
     found = Extract()
     relations = Relations(found, wants_borders)
@@ -289,7 +353,7 @@ def read(path, choice, wants_borders, progress):
     return found
 
 
-def read_borders(path):
+def read_borders(path: str) -> tuple[list[tuple[str, list[int]]], dict[int, Optional[Line]]]:
     """Reads only the borders of another file."""
     found = Extract()
     reader = osmium.io.Reader(path, osmium.osm.osm_entity_bits.RELATION)

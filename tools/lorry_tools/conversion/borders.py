@@ -1,17 +1,25 @@
 """Which country a place is in, by the borders of an extract.
 
-A border whose ways close is a polygon. In an extract that is cut, those of its neighbours are open: a place outside all closed borders belongs to the
-open one whose nearest way borders on nothing else that is open. Coordinates are whole numbers of 1e-7 degrees."""
+A border whose ways close is a polygon. In an extract that is cut, those of its neighbours are open:
+a place outside all closed borders belongs to the open one whose nearest way borders on nothing else
+that is open. Coordinates are whole numbers of 1e-7 degrees."""
+from __future__ import annotations
+
 import collections
 import math
+from typing import Iterable, Mapping, Optional
 
-# Places are looked up by cells of a hundredth of a degree; a cell without a border's way lies in one country.
+Line = list[tuple[int, int]]
+Cell = tuple[int, int]
+
+# Places are looked up by cells of a hundredth of a degree; a cell without a border's way lies in
+# one country.
 CELL = 100_000
 # How many cells away a border is looked for.
 MOST_RINGS = 200
 
 
-def cells_of_ring(column, row, ring):
+def cells_of_ring(column: int, row: int, ring: int) -> list[Cell]:
     if not ring:
         return [(column, row)]
     found = [(column + i, row + j) for i in range(-ring, ring + 1) for j in (-ring, ring)]
@@ -21,12 +29,14 @@ def cells_of_ring(column, row, ring):
 class Border:
     """The rings of one country: edges by the rows of cells that they cross."""
 
-    def __init__(self, code, lines):
+    def __init__(self, code: str, lines: Iterable[Line]) -> None:
         self.code = code
-        ends = collections.Counter()
-        self.edges = collections.defaultdict(list)
-        self.cells = set()
-        xs, ys = [], []
+        ends: collections.Counter[tuple[int, int]] = collections.Counter()
+        edges: dict[int, list[tuple[int, int, int, int]]] = collections.defaultdict(list)
+        self.edges = edges
+        self.cells: set[Cell] = set()
+        xs: list[int] = []
+        ys: list[int] = []
         for line in lines:
             if len(line) < 2:
                 continue
@@ -43,10 +53,10 @@ class Border:
         self.closed = bool(xs) and all(count % 2 == 0 for count in ends.values())
         self.box = (min(xs), min(ys), max(xs), max(ys)) if xs else (0, 0, -1, -1)
 
-    def area(self):
+    def area(self) -> int:
         return (self.box[2] - self.box[0]) * (self.box[3] - self.box[1])
 
-    def contains(self, x, y):
+    def contains(self, x: int, y: int) -> bool:
         if not (self.box[0] <= x <= self.box[2] and self.box[1] <= y <= self.box[3]):
             return False
         inside = False
@@ -57,15 +67,25 @@ class Border:
 
 
 class Borders:
-    def __init__(self, borders, ways, subdivisions):
-        """Borders are pairs of a code and the numbers of ways; ways have their coordinates, or None where the extract hasn't them."""
-        members = collections.defaultdict(list)
+    def __init__(
+        self,
+        borders: Iterable[tuple[str, list[int]]],
+        ways: Mapping[int, Optional[Line]],
+        subdivisions: bool,
+    ) -> None:
+        """Borders are pairs of a code and the numbers of ways; ways have their coordinates, or None
+        where the extract hasn't them."""
+        members: dict[str, list[int]] = collections.defaultdict(list)
         for code, numbers in borders:
             if subdivisions or "-" not in code:
                 members[code] += [number for number in numbers if number not in members[code]]
-        self.closed, self.cells, opened, complete = [], set(), {}, set()
+        self.closed: list[Border] = []
+        self.cells: set[Cell] = set()
+        opened: dict[str, set[int]] = {}
+        complete: set[int] = set()
         for code, numbers in sorted(members.items()):
-            border = Border(code, [ways[number] for number in numbers if ways.get(number)])
+            lines = [ways.get(number) for number in numbers]
+            border = Border(code, [line for line in lines if line])
             if not border.edges:
                 continue
             self.cells |= border.cells
@@ -74,36 +94,41 @@ class Borders:
                 complete.update(numbers)
             elif "-" not in code:
                 opened[code] = set(numbers)
-        # A place may be within a country and within its subdivision: the smaller one is looked at first.
+        # A place may be within a country and within its subdivision: the smaller one is looked at
+        # first.
         self.closed.sort(key=lambda border: (("-" not in border.code), border.area()))
         # The places of open borders, by cells.
-        self.sides = collections.defaultdict(list)
+        sides: dict[Cell, list[tuple[int, int, str]]] = collections.defaultdict(list)
+        self.sides = sides
         for number, line in ways.items():
             codes = [code for code, numbers in opened.items() if number in numbers]
             if line and len(codes) == 1:
                 for x, y in line:
                     self.sides[x // CELL, y // CELL].append((x, y, codes[0]))
         self.opened = sorted(opened)
-        self.known = {}
-        self.near = collections.Counter()
+        self.known: dict[Cell, tuple[Optional[str], bool]] = {}
+        self.near: collections.Counter[Optional[str]] = collections.Counter()
 
-    def codes(self):
+    def codes(self) -> list[str]:
         return sorted({border.code for border in self.closed} | set(self.opened))
 
-    def find(self, x, y):
-        """The code of a place, and whether a closed border says so; no code where no border is near."""
+    def find(self, x: int, y: int) -> tuple[Optional[str], bool]:
+        """The code of a place, and whether a closed border says so; no code where no border is
+        near."""
         for border in self.closed:
             if border.contains(x, y):
                 return border.code, True
         return self.nearest(x, y), False
 
-    def nearest(self, x, y):
-        """The code of the open border that is nearest to a place; cells are looked at ring by ring."""
+    def nearest(self, x: int, y: int) -> Optional[str]:
+        """The code of the open border that is nearest to a place; cells are looked at ring by
+        ring."""
         if not self.sides:
             return None
         wide = math.cos(math.radians(y / 1e7))
         column, row = x // CELL, y // CELL
-        best, code = None, None
+        best: Optional[float] = None
+        code: Optional[str] = None
         for ring in range(MOST_RINGS):
             if best is not None and (ring - 1) * CELL * min(wide, 1) > best:
                 break
@@ -114,15 +139,15 @@ class Borders:
                         best, code = distance, other_code
         return code
 
-    def country(self, x, y):
+    def country(self, x: int, y: int) -> Optional[str]:
         """The code of a place, or None. A place that no closed border has is counted."""
         cell = (x // CELL, y // CELL)
         if cell in self.cells:
             found = self.find(x, y)
         else:
-            found = self.known.get(cell)
-            if found is None:
-                found = self.known[cell] = self.find(x, y)
+            if cell not in self.known:
+                self.known[cell] = self.find(x, y)
+            found = self.known[cell]
         if not found[1]:
             self.near[found[0]] += 1
         return found[0]
