@@ -43,8 +43,14 @@ FLAG = re.compile(r"[a-z][a-z_]*", re.ASCII)
 NO_FLAGS = ("off", "closed", "open", "and")
 
 
+OTHERWISE = "hours in another notation"
+
+
 class NotRead(Exception):
-    """A text is outside the notation."""
+    """A text is outside the notation; its message is the cause."""
+
+    def __init__(self, cause: str = OTHERWISE):
+        super().__init__(cause)
 
 
 # Hours.
@@ -94,8 +100,8 @@ class HoursReader:
     def __init__(self, text: str):
         self.tokens: list[str] = []
         place = 0
-        if text != text.strip(" \t"):
-            raise NotRead
+        if text != text.strip(" \t") or not text:
+            raise NotRead("empty hours")
         while place < len(text):
             token = TOKEN.match(text, place)
             if not token:
@@ -161,7 +167,7 @@ class HoursReader:
         elif self.at > begin:
             self.takes("open")
         if self.at == begin:
-            raise NotRead
+            raise NotRead(OTHERWISE if self.peek() not in ("", ";") else "an empty rule of hours")
         return rule
 
     def is_long_span(self) -> bool:
@@ -175,7 +181,7 @@ class HoursReader:
                 self.take()
                 last = MONTHS.index(self.take(*MONTHS)) + 1
                 if is_number(self.peek()):
-                    raise NotRead
+                    raise NotRead("a date without its first day")
                 return (month, 1), (last, 31)
             return (month, 1), (month, 31)
         first = (month, self.day())
@@ -187,7 +193,7 @@ class HoursReader:
 
     def day(self) -> int:
         if not is_number(self.peek()) or not 1 <= int(self.peek()) <= 31:
-            raise NotRead
+            raise NotRead("no day of a month")
         return int(self.take())
 
     def item(self, rule: HoursRule) -> None:
@@ -199,9 +205,8 @@ class HoursReader:
         if self.takes("["):
             sign = -1 if self.takes("-") else 1
             number = self.take()
-            if number not in ("1", "2", "3", "4", "5"):
-                raise NotRead
-            self.take("]")
+            if number not in ("1", "2", "3", "4", "5") or not self.takes("]"):
+                raise NotRead("no ordinal of a weekday")
             rule.ordinals.append((first, sign * int(number)))
             return
         last = WEEKDAYS.index(self.take(*WEEKDAYS)) if self.takes("-") else first
@@ -209,7 +214,8 @@ class HoursReader:
 
     def span(self) -> tuple[int, int]:
         start = self.time(1439)
-        self.take("-")
+        if not self.takes("-"):
+            raise NotRead("a point in time, or an open end")
         end = self.time(2880)
         return start, end if end > start else end + 1440
 
@@ -218,7 +224,7 @@ class HoursReader:
             raise NotRead
         hours, minutes = (int(it) for it in self.take().split(":"))
         if minutes > 59 or hours * 60 + minutes > most:
-            raise NotRead
+            raise NotRead("no time of a day")
         return hours * 60 + minutes
 
 

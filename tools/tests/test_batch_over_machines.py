@@ -255,6 +255,10 @@ class Runs(unittest.TestCase):
         self.assertFalse([name for name in os.listdir(self.folder) if name.endswith(".work")])
         return many
 
+    def said(self, done):
+        """The lines on the standard error, without those that say how far it is."""
+        return [it for it in done.stderr.decode().splitlines() if not re.search(r": \d+ of \d+ parts$", it)]
+
     def runs(self):
         """The parts that were run, in the order of their numbers."""
         if not os.path.exists(self.path("runs")):
@@ -324,9 +328,8 @@ class OverParallel(Runs):
         many = self.call("--rows", "1", "--skip-bad")
         texts = [f"job {job}\npairs 1\npair {pair} 1.000\ndrive truck\n" for job, pair in ((1, 8), (3, 5), (5, 7))]
         self.assertEqual((many.returncode, many.stdout.decode()), (1, "".join(texts)), many.stderr.decode())
-        said = many.stderr.decode().splitlines()
         self.assertEqual(
-            said,
+            self.said(many),
             [
                 "batch_over_machines: jobs.csv row 3: FieldCount: one",
                 "batch_over_machines: jobs.csv row 5, column from: BadField: truck,x,3,1,2",
@@ -343,7 +346,7 @@ class OverParallel(Runs):
 
     def test_the_last_line_counts_trips(self):
         self.write_jobs(7)
-        self.assertEqual(self.call("--rows", "2").stderr.decode(), "batch_over_machines: 7 trips: 7 planned, 0 empty, 0 refused\n")
+        self.assertEqual(self.said(self.call("--rows", "2")), ["batch_over_machines: 7 trips: 7 planned, 0 empty, 0 refused"])
 
     def test_parts_that_fail(self):
         """A part that fails, that loses a job or whose text is cut short is run again; nothing is lost or doubled."""
@@ -738,6 +741,26 @@ class Real(OverParallel):
         os.remove(self.path("net/graph.gr"))
         self.expect_same()
 
+    def test_bad_rows_are_skipped_and_listed(self):
+        head, row = "vehicle,from,to,depart,until\n", "any,1,2,26563680,26564080\n"
+        self.write("net/jobs.csv", head + row * 2 + "any,1,2,2020-13-01T00:00Z,26564080\n" + row + "any,1\n" + row)
+        many = self.call("--rows", "2", "--skip-bad")
+        self.assertEqual(many.returncode, 1, many.stderr.decode())
+        self.write("net/good.csv", head + row * 4)
+        one = self.one_batch("good.csv").stdout.replace(b"job 4\n", b"job 6\n").replace(b"job 3\n", b"job 4\n")
+        self.assertEqual(many.stdout, one)
+        self.assertEqual(self.said(many)[:2], [
+            "batch_over_machines: jobs.csv row 4, column depart: BadField: any,1,2,2020-13-01T00:00Z,26564080",
+            "batch_over_machines: jobs.csv row 6: FieldCount: any,1",
+        ])  # fmt: skip
+
+    def test_the_last_line_counts_trips(self):
+        done = self.expect_same("--rows", "7")
+        jobs, empty, refused = (len(re.findall(it, done.stdout, re.M)) for it in (rb"^job ", rb"^pairs 0$", rb"^refused"))
+        line = f"batch_over_machines: {jobs} trips: {jobs - empty - refused} planned, {empty} empty, {refused} refused"
+        self.assertEqual(self.said(done)[-1], line)
+
+    test_all_rows_are_bad = None
     test_long_table = test_parts_that_fail = test_parts_that_go_on_failing = test_texts_that_were_changed = None
     test_other_files = test_interrupted = test_two_calls_at_once = test_timeout = test_out_and_keep = test_words = None
 

@@ -7,16 +7,14 @@ rewritten; each rewriting is told to `changed`."""
 from __future__ import annotations
 
 import re
-from typing import Callable, Optional, TypeVar
+from typing import Callable, Optional
 
-Item = TypeVar("Item")
+from lorry_tools import rule_texts
+from lorry_tools.rule_texts import MONTHS, WEEKDAYS
+
 # Told what is changed, and an example.
 Changed = Callable[[str, str], None]
 
-MONTHS = ("Jan", "Feb", "Mar", "Apr", "May", "Jun", "Jul", "Aug", "Sep", "Oct", "Nov", "Dec")
-WEEKDAYS = ("Mo", "Tu", "We", "Th", "Fr", "Sa", "Su")
-HOLIDAYS = ("PH", "SH")
-TOKEN = re.compile(r"24/7|[A-Za-z]+|\d{1,2}:\d\d|\d{1,2}|[-,;:\[\]]")
 FLAG = re.compile(r"[a-z][a-z_]*$")
 # The longest value of a rule, and hours of parking, in bytes.
 LONGEST_VALUE = 65_536
@@ -26,161 +24,15 @@ class Unread(Exception):
     """A text that the program can't read; its message is the cause."""
 
 
-def tokens(text: str) -> list[str]:
-    """Cuts a text into the longest tokens; blanks are allowed between them only."""
-    if text != text.strip(" \t") or not text:
-        raise Unread("empty hours")
-    found, at = [], 0
-    while at < len(text):
-        if text[at] in " \t":
-            at += 1
-            continue
-        token = TOKEN.match(text, at)
-        if not token:
-            raise Unread("hours in another notation")
-        found.append(token.group())
-        at = token.end()
-    return found
-
-
-class Reader:
-    """Reads the tokens of one rule of hours, from the left."""
-
-    def __init__(self, words: list[str]) -> None:
-        self.words, self.at = words, 0
-
-    def peek(self, ahead: int = 0) -> str:
-        return self.words[self.at + ahead] if self.at + ahead < len(self.words) else ""
-
-    def take(self, word: str) -> bool:
-        if self.peek() != word:
-            return False
-        self.at += 1
-        return True
-
-    def number(self) -> None:
-        word = self.peek()
-        if not word.isdigit() or not 1 <= int(word) <= 31:
-            raise Unread("no day of a month")
-        self.at += 1
-
-    def date(self) -> None:
-        """month, month-month, month number, month number-number, month number-month number"""
-        self.at += 1
-        if self.peek().isdigit():
-            self.number()
-            if self.peek() == "-" and (self.peek(1).isdigit() or self.peek(1) in MONTHS):
-                self.at += 1
-                if self.peek() in MONTHS:
-                    self.at += 1
-                self.number()
-        elif self.peek() == "-" and self.peek(1) in MONTHS:
-            self.at += 2
-            if self.peek().isdigit():
-                raise Unread("a date without its first day")
-
-    def item(self) -> str:
-        """weekday, weekday-weekday, weekday[ordinal], PH, SH; gives what it names"""
-        word = self.peek()
-        self.at += 1
-        if word in HOLIDAYS:
-            return word
-        if self.take("["):
-            self.take("-")
-            if not re.match(r"[1-5]$", self.peek()):
-                raise Unread("no ordinal of a weekday")
-            self.at += 1
-            if not self.take("]"):
-                raise Unread("no ordinal of a weekday")
-        elif self.peek() == "-" and self.peek(1) in WEEKDAYS:
-            self.at += 2
-        return word
-
-    def time(self, most: int) -> None:
-        word = self.peek()
-        if ":" not in word or len(word) < 4:
-            raise Unread("hours in another notation")
-        hour, minute = map(int, word.split(":"))
-        if minute > 59 or hour * 60 + minute > most:
-            raise Unread("no time of a day")
-        self.at += 1
-
-    def listed(self, starts: Callable[[str], bool], one: Callable[[], Item]) -> list[Item]:
-        """one, then any number of `,` one"""
-        found = [one()]
-        while self.peek() == "," and starts(self.peek(1)):
-            self.at += 1
-            found.append(one())
-        return found
-
-    def rule(self) -> tuple[set[str], bool]:
-        """Reads the rule, and says whether holidays of each kind are named, and whether it is
-        `off`."""
-        if self.take("24/7"):
-            self.take("open")
-            return self.end(set(), False)
-        dated = self.peek() in MONTHS
-        if dated:
-            self.listed(lambda word: word in MONTHS, self.date)
-            self.take(":")
-        if self.is_long_span():
-            self.at += 1
-            self.time(23 * 60 + 59)
-            self.at += 2
-            self.time(24 * 60)
-            self.take("open")
-            return self.end(set(), False)
-        days = self.listed(is_day, self.item) if is_day(self.peek()) else []
-        if self.take("off") or self.take("closed"):
-            return self.end({day for day in days if day in HOLIDAYS}, True)
-        spans = ":" in self.peek() and len(self.peek()) > 1
-        if spans:
-            self.listed(lambda word: ":" in word, self.span)
-        self.take("open")
-        if not (dated or days or spans):
-            raise Unread("hours in another notation")
-        return self.end({day for day in days if day in HOLIDAYS}, False)
-
-    def is_long_span(self) -> bool:
-        return (
-            self.peek() in WEEKDAYS
-            and ":" in self.peek(1)
-            and len(self.peek(1)) > 1
-            and self.peek(2) == "-"
-            and self.peek(3) in WEEKDAYS
-        )
-
-    def span(self) -> None:
-        self.time(23 * 60 + 59)
-        if not self.take("-"):
-            raise Unread("a point in time, or an open end")
-        self.time(48 * 60)
-
-    def end(self, named: set[str], is_off: bool) -> tuple[set[str], bool]:
-        if self.at < len(self.words):
-            raise Unread("hours in another notation")
-        return named, is_off
-
-
-def is_day(word: str) -> bool:
-    return word in WEEKDAYS or word in HOLIDAYS
-
-
 def read_hours(text: str) -> tuple[set[str], set[str]]:
     """Reads hours as the program does: the holidays that are named where something is covered, and
     where `off`."""
-    rule: list[str] = []
-    covered: set[str] = set()
-    off: set[str] = set()
-    for word in tokens(text) + [";"]:
-        if word != ";":
-            rule.append(word)
-            continue
-        if not rule:
-            raise Unread("an empty rule of hours")
-        named, is_off = Reader(rule).rule()
-        (off if is_off else covered).update(named)
-        rule = []
+    try:
+        rules = rule_texts.read_hours(text)
+    except rule_texts.NotRead as error:
+        raise Unread(str(error)) from None
+    covered: set[str] = set().union(*(it.holidays for it in rules if it.spans))
+    off: set[str] = set().union(*(it.holidays for it in rules if not it.spans))
     return covered, off
 
 
