@@ -12,7 +12,8 @@ The manual page and the completions of tools/package.d have to agree with docs/C
 
 The library tools/lorry_tools passes black, flake8 and mypy, where these are installed.
 
-Tests in tools/tests whose packages aren't installed are skipped, and so are those that the gate has no time for; a line says which."""
+Tests in tools/tests run in their short form, in which those that need minutes try less. Those whose packages aren't installed are skipped, and a line
+says which."""
 import collections
 import concurrent.futures
 import glob
@@ -39,7 +40,7 @@ STATUS = re.compile(r"^\[status (\d+)\]\n", re.M)
 PASSED = re.compile(r"(?:^|\.\.\. )ok$", re.M)
 FAILED = re.compile(r"(?:^|\.\.\. )(?:FAIL|ERROR)$", re.M)
 SKIPPED = re.compile(r"\.\.\. skipped ['\"](.*)['\"]$", re.M)
-LONGEST_TESTS = 60  # (seconds: the gate takes no longer for them)
+LONGEST_TESTS = 300  # (seconds: the gate takes no longer for a file of them)
 
 
 def documents():
@@ -81,7 +82,7 @@ def differs_from_file(path, shown):
 def output_of_tests(path, folder):
     """Runs a file of tests with a folder for temporary files. Returns what it printed, and its status, or None where it took too long."""
     words = [sys.executable, "-m", "unittest", "-v", os.path.relpath(path, TOP)]
-    environment = {**os.environ, "PYTHONDONTWRITEBYTECODE": "1", "TMPDIR": folder}
+    environment = {**os.environ, "PYTHONDONTWRITEBYTECODE": "1", "TMPDIR": folder, "LORRY_PLAN_TESTS": "short"}
     with tempfile.TemporaryFile("w+", errors="replace") as log:
         how = {"stdin": subprocess.DEVNULL, "stdout": log, "stderr": subprocess.STDOUT, "start_new_session": True}
         run = subprocess.Popen(words, cwd=TOP, env=environment, **how)

@@ -15,10 +15,8 @@ sys.path.insert(0, os.path.dirname(os.path.abspath(__file__)))
 import beside
 from beside import graph
 
-import random_folder
-import trip_answers
-import trip_network
-from trip_answers import Due
+from lorry_tools.second import random_folder, trip_answers, trip_network
+from lorry_tools.second.trip_answers import Due
 
 # A Saturday; the folder's area is in UTC.
 START, END = "2020-07-04T00:00Z", "2020-07-04T06:40Z"
