@@ -23,6 +23,9 @@ TOOL = os.path.join(TOP, "tools", "batch_over_machines")
 BUILT = os.environ.get("LORRY_PLAN_PROGRAM") or os.path.join(TOP, "crates", "lorry_plan", "out", "lorry_plan")
 SBIN = "/usr/sbin:/sbin:" + os.environ["PATH"]
 
+# The gate runs a short form.
+long_test = unittest.skipIf(os.environ.get("LORRY_PLAN_TESTS") == "short", "it takes long: its file runs it by itself")
+
 sys.dont_write_bytecode = True
 sys.path.insert(0, os.path.dirname(TOOL))
 from lorry_tools import files
@@ -358,6 +361,7 @@ class OverParallel(Runs):
         one = self.one_batch()
         self.assertEqual((many.returncode, many.stdout), (0, one.stdout), many.stderr.decode())
 
+    @long_test
     def test_parts_that_go_on_failing(self):
         self.write_jobs(20)
         self.write("fail-00003", "1000")
@@ -374,6 +378,7 @@ class OverParallel(Runs):
         self.assertEqual((many.returncode, many.stdout), (0, self.one_batch().stdout), many.stderr.decode())
         self.assertIn("goes on: 3 of 4 parts were done before", many.stderr.decode())
 
+    @long_test
     def test_texts_that_were_changed(self):
         """A text that isn't as its part wrote it isn't taken."""
         self.write_jobs(20)
@@ -395,6 +400,7 @@ class OverParallel(Runs):
         self.assertEqual(self.runs(), ["00001", "00002", "00003"])
         self.assertEqual((many.returncode, many.stdout), (0, self.one_batch().stdout), many.stderr.decode())
 
+    @long_test
     def test_other_files(self):
         """Parts of other files, of another table or program are never put together."""
         self.write_jobs(20)
@@ -412,6 +418,7 @@ class OverParallel(Runs):
                     self.write(it, held)
                 shutil.rmtree(self.path("jobs.csv.work"))
 
+    @long_test
     def test_interrupted(self):
         for sign in (signal.SIGTERM, signal.SIGINT, signal.SIGKILL):
             with self.subTest(sign=sign):
@@ -432,6 +439,7 @@ class OverParallel(Runs):
                 self.assertEqual(self.runs(), ["00003"])
                 self.assertEqual((many.returncode, many.stdout), (0, self.one_batch().stdout), many.stderr.decode())
 
+    @long_test
     def test_two_calls_at_once(self):
         self.write_jobs(10)
         self.write("wait-00001", "1")
@@ -444,6 +452,7 @@ class OverParallel(Runs):
             self.assertIn("another call is at work", many.stderr.decode())
             run.send_signal(signal.SIGTERM)
 
+    @long_test
     def test_timeout(self):
         self.write_jobs(10)
         self.write("wait-00001", "1")
@@ -528,6 +537,7 @@ MaxStartups 100
     def sent(self):
         return [name for name in os.listdir("/tmp") if name.startswith("lorry_plan-")]
 
+    @long_test
     def test_shared_folder(self):
         self.write_jobs(20)
         self.expect_same("--rows", "5", "--sshlogin", self.login("node1"), "--sshlogin", self.login("node2"))
@@ -541,6 +551,7 @@ MaxStartups 100
         self.assertEqual(self.runs(), [f"{part:05}" for part in range(1, 11)])
         self.assertEqual(self.sent(), before)
 
+    @long_test
     def test_failures(self):
         """A machine that can't be reached is left out, and a part that fails is run again."""
         self.write_jobs(20)
@@ -553,6 +564,7 @@ MaxStartups 100
         self.assertEqual((many.returncode, many.stdout), (75, b""))
         self.assertIn("no machine can be reached", many.stderr.decode())
 
+    @long_test
     def test_a_machine_that_is_lost(self):
         """The run goes on with the others, and says which one was lost."""
         self.write_jobs(60)
@@ -569,6 +581,7 @@ MaxStartups 100
         self.assertEqual((run.returncode, printed), (0, self.one_batch().stdout), said.decode())
         self.assertRegex(said.decode(), r"node1 was lost: .*; : took its parts")
 
+    @long_test
     def test_other_files_on_a_machine(self):
         """A machine that sees other files under the same path gives no part."""
         self.write_jobs(10)
@@ -656,6 +669,7 @@ class OverSlurm(Runs):
         self.expect_same("--rows", "5", "--slurm", "--workers", "1", "--slurm-option=--partition=test")
         self.assertEqual(self.runs(), ["00001", "00002", "00003", "00004", "00005"])
 
+    @long_test
     def test_failures(self):
         self.write_jobs(10)
         self.write("fail-00002", "1")
@@ -663,6 +677,7 @@ class OverSlurm(Runs):
         self.assertEqual((many.returncode, many.stdout), (0, self.one_batch().stdout), many.stderr.decode())
         self.assertIn("1 parts failed, and are run again", many.stderr.decode())
 
+    @long_test
     def test_interrupted(self):
         """An interrupt takes the array away, and the same words go on."""
         self.write_jobs(10)
@@ -707,6 +722,7 @@ class Real(OverParallel):
         self.assertIn(b"refused request UnknownVehicle", many.stdout)
         self.assertIn(b"wait ", many.stdout)
 
+    @long_test
     def test_odd_tables(self):
         head = "vehicle,from,to,depart,until"
         for table in [
@@ -721,6 +737,7 @@ class Real(OverParallel):
                 self.write("net/jobs.csv", table)
                 self.expect_same("--rows", "1", "--jobs", "2")
 
+    @long_test
     def test_refusals(self):
         head, row = "vehicle,from,to,depart,until\n", "any,1,2,26563680,26564080\n"
         for table in [
@@ -767,6 +784,7 @@ class Real(OverParallel):
 
 @unittest.skipUnless(os.access(BUILT, os.X_OK), "there is no built program: ./lorry_plan builds it")
 class RealOverSsh(OverSsh):
+    @long_test
     def test_send(self):
         take_network(self)
         self.expect_same("--rows", "7", "--sshlogin", self.login("node1"), "--sshlogin", self.login("node2"), "--send")
@@ -776,6 +794,7 @@ class RealOverSsh(OverSsh):
 
 @unittest.skipUnless(os.access(BUILT, os.X_OK), "there is no built program: ./lorry_plan builds it")
 class RealOverSlurm(OverSlurm):
+    @long_test
     def test_array(self):
         take_network(self)
         self.expect_same("--rows", "7", "--slurm")
