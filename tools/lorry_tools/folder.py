@@ -43,6 +43,8 @@ class Folder:
         self.path = path
         self._tables: dict[str, list[Row]] = {}
         self._graph: Optional[Graph] = None
+        self._areas: Optional[tuple[dict[Optional[int], str], str]] = None
+        self._weights: Optional[dict[int, str]] = None
 
     def file(self, name: str) -> str:
         return os.path.join(self.path, name)
@@ -76,17 +78,32 @@ class Folder:
             self._graph = read_graph(self.file(GRAPH))
         return self._graph
 
+    def areas_of_arcs(self) -> tuple[dict[Optional[int], str], str]:
+        """Returns the area of each arc that has a row, and the first area, in which all others
+        are."""
+        if self._areas is None:
+            areas = self.table("areas.csv")
+            first = areas[0]["area"] if areas else DEFAULT_AREA
+            rows = self.table("roads.csv")
+            self._areas = {number_of(row["arc"]): row["area"] for row in rows}, first
+        return self._areas
+
+    def weights_of_nodes(self) -> dict[int, str]:
+        """Returns, for each node at which a lorry may wait, what a minute costs there, as
+        ratings.csv writes it."""
+        if self._weights is None:
+            weights = {row["rating"]: row["weight"] for row in self.table("ratings.csv")}
+            self._weights = {}
+            for row in self.table("parking.csv"):
+                node = number_of(row["node"])
+                if node is not None and row["rating"] in weights:
+                    self._weights[node] = weights[row["rating"]]
+        return self._weights
+
 
 def number_of(text: str) -> Optional[int]:
     """Returns the number of an arc or a node, as tables write it, or None."""
     return int(text) if re.fullmatch(r"\d{1,10}", text, re.ASCII) else None
-
-
-def areas_of_arcs(folder: Folder) -> tuple[dict[Optional[int], str], str]:
-    """Returns the area of each arc that has a row, and the first area, in which all others are."""
-    areas = folder.table("areas.csv")
-    first = areas[0]["area"] if areas else DEFAULT_AREA
-    return {number_of(row["arc"]): row["area"] for row in folder.table("roads.csv")}, first
 
 
 def zones_of_areas(folder: Folder) -> dict[str, str]:
@@ -95,25 +112,13 @@ def zones_of_areas(folder: Folder) -> dict[str, str]:
     return {row["area"]: row["zone"] for row in rows} if rows else {DEFAULT_AREA: UTC}
 
 
-def weights_of_nodes(folder: Folder) -> dict[int, str]:
-    """Returns, for each node at which a lorry may wait, what a minute costs there, as
-    ratings.csv writes it."""
-    weights = {row["rating"]: row["weight"] for row in folder.table("ratings.csv")}
-    found = {}
-    for row in folder.table("parking.csv"):
-        node = number_of(row["node"])
-        if node is not None and row["rating"] in weights:
-            found[node] = weights[row["rating"]]
-    return found
-
-
 def closure_groups(folder: Folder) -> Callable[[int], Hashable]:
     """Returns a function from an arc to a key, so that arcs of one key are closed to each vehicle
     in the same minutes.
 
     An arc is closed by its own rules, by those of its area and by its own closures. So all arcs of
     an area that have neither rules nor closures of their own are alike."""
-    areas, first = areas_of_arcs(folder)
+    areas, first = folder.areas_of_arcs()
     own = {number_of(row["arc"]) for row in folder.table("closures.csv")}
     for row in folder.table("rules.csv"):
         if row["scope"].startswith("arc:"):

@@ -37,7 +37,7 @@ from typing import Optional, Sequence
 
 from lorry_tools import rule_texts
 from lorry_tools.files import JOBS, NETWORK, NODES, STOPS, TABLES, WAYS
-from lorry_tools.folder import Folder, Row, areas_of_arcs, number_of
+from lorry_tools.folder import Folder, Row, number_of
 from lorry_tools.instants import minute_of, moment_of
 from lorry_tools.problems import Unreadable
 from lorry_tools.rule_texts import ALL, DELIVERING, VALUES, NotRead, Window
@@ -277,7 +277,7 @@ class Lint:
     def look_at_lifted_bans(self) -> None:
         """Compares, for each road with rules of its own, the minutes at which they let vehicles in
         with those of its area alone."""
-        areas, first = areas_of_arcs(self.folder)
+        areas, first = self.folder.areas_of_arcs()
         of_area: dict[Optional[str], list[Rule]] = {}
         of_arc: dict[int, list[Rule]] = {}
         alike: dict[object, dict[int, tuple[list[str], int]]] = {}
@@ -425,7 +425,7 @@ class Lint:
 
     def hours_by_area(self) -> dict[Optional[str], list[Place]]:
         """Returns, for each area, the files and rows that have hours in its time."""
-        areas, first = areas_of_arcs(self.folder)
+        areas, first = self.folder.areas_of_arcs()
         first = self.areas[0] if not self.folder.table("areas.csv") else first
         found: dict[Optional[str], list[Place]] = {}
         for rule in self.rules:
@@ -491,7 +491,7 @@ class Lint:
             self.say("old-zone", "zones.csv", rows[0].number, text)
 
     def look_at_holidays(self) -> None:
-        areas, first = areas_of_arcs(self.folder)
+        areas, first = self.folder.areas_of_arcs()
         known: set[tuple[Optional[str], str, int]] = set()
         said: set[tuple[Optional[str], str]] = set()
         for row in self.folder.table("holidays.csv"):

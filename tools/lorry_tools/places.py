@@ -9,7 +9,7 @@ from typing import Optional
 
 from lorry_tools.clocks import Clock, clock_of, named_clock
 from lorry_tools.files import GRAPH, NODES
-from lorry_tools.folder import Folder, areas_of_arcs, number_of, zones_of_areas
+from lorry_tools.folder import Folder, number_of, zones_of_areas
 from lorry_tools.problems import Problem
 
 COORDINATES = re.compile(
@@ -158,7 +158,7 @@ class Places:
         if self._zones is None:
             self._zones = {}
             graph, zones = self.folder.graph(), zones_of_areas(self.folder)
-            areas, first = areas_of_arcs(self.folder)
+            areas, first = self.folder.areas_of_arcs()
             for arc in range(1, len(graph) + 1):
                 zone = zones.get(areas.get(arc, first), "UTC")
                 for end in graph.ends(arc)[:2]:

@@ -7,7 +7,7 @@ from typing import Optional
 from lorry_tools import rule_texts
 from lorry_tools.answers import Reason
 from lorry_tools.files import WAYS
-from lorry_tools.folder import Folder, Row, areas_of_arcs, number_of
+from lorry_tools.folder import Folder, Row, number_of
 
 
 @dataclasses.dataclass(frozen=True)
@@ -60,7 +60,7 @@ def rule_cause(folder: Folder, arc: int, reason: Reason) -> Cause:
 
 def rule_row(folder: Folder, arc: int, scope: str, key: str) -> Optional[Row]:
     """Returns the row of a rule of an arc or of its area."""
-    areas, first = areas_of_arcs(folder)
+    areas, first = folder.areas_of_arcs()
     area = areas.get(arc, first)
     for row in folder.table("rules.csv"):
         on_arc = row["scope"].startswith("arc:") and number_of(row["scope"][4:]) == arc

@@ -34,7 +34,7 @@ from lorry_tools.files import GRAPH, NETWORK
 from lorry_tools.folder import Folder, Row, closure_groups, link_files, number_of
 from lorry_tools.instants import LAST_INSTANT, LONGEST_HORIZON, instant_text, minute_of, span_text
 from lorry_tools.problems import Problem
-from lorry_tools.program import Program, Refused, Trip
+from lorry_tools.program import Program, Refused, Trip, meaning_of
 from lorry_tools.rules import cause_of
 from lorry_tools.running import Progress
 
@@ -512,7 +512,7 @@ def main() -> int:
     asked = [words.dir, words.vehicle, words.origin, words.goal, words.depart, words.until]
     status, printed = program.run(["plan", *asked])
     if status:
-        print(printed.strip() or f"the program ended with status {status}")
+        print(printed.strip() or meaning_of("plan", "", status))
         return status
     pairs = int(printed.split()[1])
     if pairs:

@@ -24,6 +24,8 @@ import stand_in
 from lorry_tools import running
 from lorry_tools.program import Program
 
+HAS_JINJA = importlib.util.find_spec("jinja2") is not None
+needs_jinja = unittest.skipUnless(HAS_JINJA, "python3-jinja2 is missing")
 needs_program = unittest.skipUnless(HAS_PROGRAM, "there is no built program")
 
 VEHICLES = "name,class,weight_kg,axleload_kg,height_cm,width_cm,length_cm,axles,purpose,flags\n"

@@ -54,6 +54,7 @@ class Elements(html.parser.HTMLParser):
             self.wrong.append(tag)
 
 
+@beside.needs_jinja
 class Pages(beside.FolderTest):
     def setUp(self):
         super().setUp()

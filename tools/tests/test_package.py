@@ -56,6 +56,7 @@ def content(path):
         return file.read()
 
 
+@unittest.skipUnless(importlib.util.find_spec("jinja2"), "python3-jinja2 is missing")
 class Packages(unittest.TestCase):
     """Packages made in a temporary folder."""
 

@@ -28,6 +28,7 @@ from lorry_tools.instants import instant_text, minute_of
 from lorry_tools.places import Places, distance
 from lorry_tools.problems import Problem
 from lorry_tools.rules import Streets, clause_text
+from lorry_tools.second import trip_answers, trip_network
 from lorry_tools.trips.answer import Answer, Step
 from lorry_tools.trips.request import Request, Words, read_request, read_span
 from lorry_tools.trips.warnings import longest_drive
@@ -408,6 +409,27 @@ Option 2
                 lines += [f"drive {arc}" for arc in part["arcs"]]
                 lines += [f"wait {part['minutes']}"] * (part["kind"] == "wait") + [f"serve {part['stop']}"] * (part["kind"] == "serve")
         return "".join(f"{it}\n" for it in lines)
+
+    @beside.needs_program
+    def test_the_second_implementation_drives_each_option(self):
+        """It follows the legs step by step, and comes to the same arrival and cost."""
+        network = trip_network.Network(self.folder).read()
+        roads = trip_answers.Roads(network, network.vehicles["truck"])
+        for words, command in (
+            (["depot", "market", "--leave", "2026-07-10 20:30"], "plan"),
+            (["depot", "far", "--leave", "2026-07-07 06:00", "--breaks"], "breaks"),
+            (["market", "depot", "--leave", "2026-07-07 20:30"], "plan"),
+        ):
+            found = self.json(*words, "--lorry", "truck")
+            ends = [str(found[it]["node"]) for it in ("from", "to")]
+            times = [found[it]["utc"] for it in ("departure", "until")]
+            request = trip_answers.request_of([command, self.folder, "truck", *ends, *times])
+            for option in found["options"]:
+                legs = []
+                for part in option["parts"]:
+                    legs += [("drive", arc) for arc in part["arcs"]] or [("wait", part["minutes"])]
+                node, minute, cost, _ = trip_answers.follow(roads, request, legs, request.depart)
+                self.assertEqual((node, instant_text(minute), cost), (request.goal, option["arrival"]["utc"], option["cost_thousandths"]))
 
     @beside.needs_program
     def test_numbers_are_those_of_the_program(self):

@@ -7,7 +7,7 @@ import dataclasses
 from typing import Optional
 
 from lorry_tools.answers import DRIVE, SERVE, WAIT, Leg, Pair
-from lorry_tools.folder import Folder, weights_of_nodes
+from lorry_tools.folder import Folder
 from lorry_tools.instants import cost_of
 from lorry_tools.places import Places
 from lorry_tools.program import Trip
@@ -167,7 +167,7 @@ def steps_of(answer: Answer, legs: list[Leg], depart: int) -> list[Step]:
 
 def parts_of(answer: Answer, steps: list[Step]) -> list[Part]:
     """Joins neighbouring drives over one street, and prices waits."""
-    weights, streets = weights_of_nodes(answer.folder), answer.streets
+    weights, streets = answer.folder.weights_of_nodes(), answer.streets
     parts: list[Part] = []
     for step in steps:
         if step.kind == DRIVE:

@@ -56,7 +56,8 @@ class NotedProgram(Program):
         with open(os.path.join(self.work(), name), "w", encoding="utf-8", newline="") as file:
             file.write(text)
         words = " ".join(shlex.quote(it) for it in text.splitlines())
-        self.lines.append(f"printf '%s\\n' {words} > {WORK}/{name}")
+        printed = f"printf '%s\\n' {words}" if text else ":"
+        self.lines.append(f"{printed} > {WORK}/{name}")
         return name
 
     def note(self, line: str) -> None:

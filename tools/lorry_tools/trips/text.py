@@ -3,7 +3,6 @@ from __future__ import annotations
 
 from lorry_tools.answers import DRIVE, SERVE, WAIT
 from lorry_tools.clocks import local_text
-from lorry_tools.folder import weights_of_nodes
 from lorry_tools.instants import cost_text, span_text
 from lorry_tools.places import Place, distance_text
 from lorry_tools.trips.answer import Answer, Option, Part, WaitReason, Why
@@ -134,7 +133,7 @@ class Text:
 
     def weight(self, node: int) -> str:
         """Returns what a minute's wait costs at a node, as ratings.csv has it."""
-        return weights_of_nodes(self.answer.folder).get(node, "nothing known")
+        return self.answer.folder.weights_of_nodes().get(node, "nothing known")
 
     def reason_lines(self, part: Part) -> list[str]:
         return [f"  {self.reason(part, it)}" for it in part.reasons]
