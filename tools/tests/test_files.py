@@ -9,8 +9,8 @@ import unittest
 sys.path.insert(0, os.path.dirname(os.path.abspath(__file__)))
 import beside
 
-import small_folder
 from lorry_tools.files import NETWORK, TABLES
+from lorry_tools.trials import small_folder
 
 
 class Lists(unittest.TestCase):

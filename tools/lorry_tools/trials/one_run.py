@@ -1,17 +1,23 @@
-"""Runs a program once: its status, what it printed, and what it took; and whether its end is one that docs/COMMANDS.md knows.
+"""Runs a program once: its status, what it printed, and what it took; and whether its end is one
+that docs/COMMANDS.md knows.
 
 tools/hostile and tools/fuzz_one use it."""
+from __future__ import annotations
+
 import dataclasses
 import os
 import re
 import select
 import signal
 import tempfile
+from typing import IO, Collection, Optional, Union
 
-TOP = os.path.dirname(os.path.dirname(os.path.abspath(__file__)))
+from lorry_tools.running import TOP
+
 PROGRAM = os.path.join(TOP, "crates", "lorry_plan", "out", "lorry_plan")
 
-# A run that takes longer hangs. A run that waits for a processor may be slow, so the bound of a second is one of processor seconds.
+# A run that takes longer hangs. A run that waits for a processor may be slow, so the bound of a
+# second is one of processor seconds.
 PATIENCE = 10
 
 # The most that a run over a small folder may take, whatever its bytes are.
@@ -22,18 +28,29 @@ DONE, REJECTED, USAGE, BAD_INPUT, READ_FAULT, WRITE_FAULT, NO_MEMORY, BAD_REQUES
 
 INSTANT = rb"\d{4}-\d\d-\d\dT\d\d:\d\dZ"
 PAIR = rb"\d+ \d+\.\d{3}"
-REASON = rb"(?:tail|late|unrated|shut|goal|closure \d+|rule (?:area|arc) [a-z_]+ (?:plain|conditional) \d+)"
+REASON = (
+    rb"(?:tail|late|unrated|shut|goal|closure \d+|rule (?:area|arc) [a-z_]+ (?:plain|conditional)"
+    rb" \d+)"
+)
 PLAIN = rb"pairs \d+\n(?:pair \d+ \d+\.\d{3}\n(?:drive \d+\n|wait \d+\n)*)*"
 REQUEST_REFUSED = rb"refused request [A-Za-z]+\n"
 
 # What is printed with a status, by the command's name where it matters.
-TEXTS = {
+TEXTS: dict[int, Union[bytes, dict[str, bytes]]] = {
     DONE: {
         "plan": PLAIN,
         "check": rb"accepted \d+\n",
         "bans": rb"bans \d+\n(?:closed " + INSTANT + b" " + INSTANT + rb"\n)*passed \d+\n",
         "batch": rb"(?:job \d+\n(?:" + PLAIN + b"|" + REQUEST_REFUSED + b"))*",
-        "explain": rb"lawful " + PAIR + rb"\n(?:undominated|dominated " + PAIR + rb")\n|unlawful \d+ \d+ " + REASON + rb"\n",
+        "explain": (
+            rb"lawful "
+            + PAIR
+            + rb"\n(?:undominated|dominated "
+            + PAIR
+            + rb")\n|unlawful \d+ \d+ "
+            + REASON
+            + rb"\n"
+        ),
         "gen": rb"generated \d+ \d+\npairs \d+\n(?:first \d+ \d+\.\d{3}\nlast \d+ \d+\.\d{3}\n)?",
         "latest": rb"pairs \d+\n(?:leave " + PAIR + rb"\n(?:drive \d+\n|wait \d+\n)*)*",
         "tour": rb"pairs \d+\n(?:pair " + PAIR + rb"\n(?:drive \d+\n|wait \d+\n|serve \d+\n)*)*",
@@ -61,18 +78,28 @@ class Run:
 class Runner:
     """Starts a program again and again, one process at a time."""
 
-    def __init__(self, program):
+    def __init__(self, program: str) -> None:
         self.program = os.path.abspath(program)
         self.output = tempfile.TemporaryFile()
         self.errors = tempfile.TemporaryFile()
         self.nothing = os.open(os.devnull, os.O_RDONLY)
 
-    def run(self, words, environment=None, output=None):
-        """Runs the program on these words; `output` is a descriptor in place of a file, or -1 for none at all."""
+    def run(
+        self,
+        words: list[str],
+        environment: Optional[dict[str, str]] = None,
+        output: Optional[int] = None,
+    ) -> Run:
+        """Runs the program on these words; `output` is a descriptor in place of a file, or -1 for
+        none at all."""
         for file in (self.output, self.errors):
             file.seek(0)
             file.truncate()
-        child = self.start(words, {**os.environ, **(environment or {})}, self.output.fileno() if output is None else output)
+        child = self.start(
+            words,
+            {**os.environ, **(environment or {})},
+            self.output.fileno() if output is None else output,
+        )
         hung = is_hanging(child)
         if hung:
             os.kill(child, signal.SIGKILL)
@@ -86,13 +113,20 @@ class Runner:
             peak=usage.ru_maxrss / 1024,
         )
 
-    def start(self, words, environment, output):
-        actions = [(os.POSIX_SPAWN_DUP2, self.nothing, 0), (os.POSIX_SPAWN_DUP2, self.errors.fileno(), 2)]
-        actions.append((os.POSIX_SPAWN_CLOSE, 1) if output < 0 else (os.POSIX_SPAWN_DUP2, output, 1))
-        return os.posix_spawn(self.program, [self.program] + words, environment, file_actions=actions)
+    def start(self, words: list[str], environment: dict[str, str], output: int) -> int:
+        actions: list[tuple[int, ...]] = [
+            (os.POSIX_SPAWN_DUP2, self.nothing, 0),
+            (os.POSIX_SPAWN_DUP2, self.errors.fileno(), 2),
+        ]
+        actions.append(
+            (os.POSIX_SPAWN_CLOSE, 1) if output < 0 else (os.POSIX_SPAWN_DUP2, output, 1)
+        )
+        return os.posix_spawn(
+            self.program, [self.program] + words, environment, file_actions=actions
+        )
 
 
-def is_hanging(child):
+def is_hanging(child: int) -> bool:
     """Waits for the child's end, and answers whether it didn't come in time."""
     process = os.pidfd_open(child)
     try:
@@ -103,20 +137,21 @@ def is_hanging(child):
         os.close(process)
 
 
-def bytes_of(file):
+def bytes_of(file: IO[bytes]) -> bytes:
     file.seek(0)
     return file.read()
 
 
-def is_text_of(command, status, printed):
-    """Whether the bytes may be a command's text with a status. A report in another form than plain lines isn't looked into."""
+def is_text_of(command: str, status: int, printed: bytes) -> bool:
+    """Whether the bytes may be a command's text with a status. A report in another form than plain
+    lines isn't looked into."""
     text = TEXTS.get(status)
     if isinstance(text, dict):
         text = text.get(command)
     return text is None or re.fullmatch(text, printed) is not None
 
 
-def wrong_end(run):
+def wrong_end(run: Run) -> Optional[str]:
     """How a run ended that no run may end with; None where it ended with a status."""
     if run.hung:
         return f"it hung for {PATIENCE} seconds"
@@ -129,7 +164,7 @@ def wrong_end(run):
     return None
 
 
-def wrong_answer(command, run, lawful):
+def wrong_answer(command: str, run: Run, lawful: Collection[int]) -> Optional[str]:
     """Why a run over hostile files, in which no call failed, isn't lawful; None where it is."""
     wrong = wrong_end(run)
     if wrong:
