@@ -40,7 +40,7 @@ STATUS = re.compile(r"^\[status (\d+)\]\n", re.M)
 PASSED = re.compile(r"(?:^|\.\.\. )ok$", re.M)
 FAILED = re.compile(r"(?:^|\.\.\. )(?:FAIL|ERROR)$", re.M)
 SKIPPED = re.compile(r"\.\.\. skipped ['\"](.*)['\"]$", re.M)
-LONGEST_TESTS = 300  # (seconds: the gate takes no longer for a file of them)
+LONGEST_TESTS = 900  # (seconds: the gate takes no longer for a file of them)
 
 
 def documents():

@@ -1,0 +1,1 @@
+"""Measures of proofs, and what is planted into or twice in them."""
