@@ -9,6 +9,7 @@ import unittest
 sys.path.insert(0, os.path.dirname(os.path.abspath(__file__)))
 import beside
 
+import lorry_tools
 from lorry_tools.files import NETWORK, TABLES
 from lorry_tools.trials import small_folder
 
@@ -19,6 +20,18 @@ class Lists(unittest.TestCase):
             page = file.read()
         part = page[page.index(".SH FILES") :].split(".SH ", 2)[1]
         self.assertEqual(list(dict.fromkeys(re.findall(r"\\fB([a-z]+\.(?:gr|csv))\\fP", part))), list(NETWORK))
+
+    def test_the_version(self):
+        with open(os.path.join(beside.TOP, "CHANGES.md"), encoding="utf-8") as file:
+            self.assertEqual(re.search(r"^## (\S+) \(", file.read(), re.M)[1], lorry_tools.__version__)
+
+    def test_the_parts_of_the_library(self):
+        """pyproject.toml names each package in it."""
+        with open(os.path.join(beside.TOOLS, "pyproject.toml"), encoding="utf-8") as file:
+            named = re.findall(r'^    "(lorry_tools[\w.]*)",$', file.read(), re.M)
+        library = os.path.join(beside.TOOLS, "lorry_tools")
+        found = [folder for folder, _, names in os.walk(library) if "__init__.py" in names]
+        self.assertEqual(sorted(named), sorted(os.path.relpath(it, beside.TOOLS).replace(os.sep, ".") for it in found))
 
     def test_the_small_folder(self):
         self.assertEqual(list(small_folder.NETWORK), list(NETWORK))
