@@ -8,4 +8,4 @@ returns c =
     on_ok_weaker c.push_text-2.result
     (line_pushed c.args.out.now.items c.push_text.new.out.items c.push_numbers.new.out.items c.push_text-2.new.out.items c.args.word.now c.args.numbers.now
     (search rules) (search rules))
-    c.push_text-2.ensures
+    c.push_text-2.ensures.text
