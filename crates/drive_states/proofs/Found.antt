@@ -98,7 +98,7 @@ not_itself (Drive a) before = omega (arith, before)
 not_itself (Wait k) before = before
 
 -- each leg that leaves the state is over one of its arcs, or a break
-leaves_by : (net : Net) (star : Star) (rule : BreakRule) (from : State) (leg : Leg) (to : State)
+pub leaves_by : (net : Net) (star : Star) (rule : BreakRule) (from : State) (leg : Leg) (to : State)
     → AreArcs (EndsAt net Tail from.node.0) (arcs_of star from.node.0)
     → IsDeparture (setting_of net) rule from leg to → Contains (drives_over (arcs_of star from.node.0) ++ Wait rule.rest ∷ []) leg
 leaves_by net star rule from (Drive a) to are departs =

@@ -1,5 +1,10 @@
 pub mod AgreeingStates
+pub mod BitWords
 pub mod Counting
 pub mod Found
+pub mod Marked
 pub mod RowPlaces
 pub mod SameStates
+pub mod StateLists
+pub mod StateSums
+pub mod Sums

@@ -165,3 +165,15 @@ module _ {A : Type 0} (f : A → List ℕ) where
       subst (λ (x : List (List ℕ)). IsNumberSet (map f rows) x v k n)
       (ap (λ (x : List ℕ). set (map f rows) v x) (ap (λ (x : List ℕ). set x k n) (sym was) ∙ sym made) ∙ sym (map-set f rows v row))
       (number_set (map f rows) v k n has)
+
+  -- a row is replaced
+  pub row_here : (rows : List A) (v : ℕ) (row old : A) → v < length rows → get_or rows v old ≡ old → (P : List ℕ → List ℕ → Type 0) (was : List ℕ)
+      → get_or (map f rows) v [] ≡ was → P (f old) (f row) → P was (get_or (map f (set rows v row)) v [])
+  row_here rows v row old within is P was same holds =
+      subst (λ (w : List ℕ). P was w)
+      (sym (ap (λ (x : List (List ℕ)). get_or x v []) (map-set f rows v row)
+      ∙ get_or-set_same (map f rows) v (f row) [] (omega (arith, within, length-map rows f))))
+      (subst (λ (w : List ℕ). P w (f row)) (sym (ap f is) ∙ sym (get_or-map f rows v old [] within) ∙ same) holds)
+
+  pub row_there : (rows : List A) (v u : ℕ) (row : A) → (u ≡ v → ⊥) → get_or (map f (set rows v row)) u [] ≡ get_or (map f rows) u []
+  row_there rows v u row other = ap (λ (x : List (List ℕ)). get_or x u []) (map-set f rows v row) ∙ get_or-set_other (map f rows) v u (f row) [] other

@@ -1,0 +1,344 @@
+-- What the marking of states keeps.
+use Rattle.std.proofs.Common.{◌≡◌, ◌≢◌, ◌⊎◌, inl, inr, ⊎_elim, ℕ, zero, suc, ◌+◌, ◌-◌, ◌*◌, ◌/◌, ◌%◌, ◌^◌, ◌≤◌, ◌<◌, Some, None, List, [], ◌∷◌, ◌++◌, length, get_or}
+use Rattle.std.proofs.Common.{take, refl, sym, ◌∙◌, ap, subst, arith}
+use Rattle.std.specs.Prelude.{Contains}
+use Rattle.std.specs.Int.{bit_at}
+use Rattle.std.specs.Option.{option_map}
+use Rattle.std.proofs.lemmas.Bool.{cases_eq, cases_lt}
+use Rattle.std.proofs.lemmas.List.Elements.{Contains-append_left, Contains-push_cases}
+use Rattle.std.proofs.lemmas.Map.Made.{Contains-tail}
+use Rattle.std.proofs.lemmas.Nat.Bits.{bit_at-zero, bit_at-pow_other}
+use Rattle.std.proofs.lemmas.Option.{same_Some}
+use Rattle.route_base.specs.Setting.{Setting, Road}
+use Rattle.route_base.specs.Net.{Net, IsGoodNet, IsGoodArc, at_number, road_of, setting_of}
+use Rattle.route_base.specs.declared.types.ArcId.{ArcId}
+use Rattle.route_base.specs.declared.types.TimedArc.{TimedArc}
+use Rattle.route_base.specs.declared.types.Leg.{Leg}
+use Rattle.route_base.specs.declared.types.Leg.TheVariants.{Drive, Wait}
+use Rattle.route_base.specs.declared.limits.TheConstants.{DAY_MINUTES, MOST_NET_NODES}
+use Rattle.route_base.proofs.Numbered.{at_number-all}
+use Rattle.route_base.proofs.Logic.{map_some}
+use Rattle.node_arcs.specs.Stars.{EndsAt, AreArcs, AreOutgoing, Star, arcs_of}
+use Rattle.node_arcs.specs.declared.links.End.TheVariants.{Tail}
+use Rattle.drive_states.specs.StateSize.{IsState, first, by_drive, by_break, IsDeparture}
+use Rattle.drive_states.specs.Inside.BitRows.{HasMinute, TakesLater, bit_of, row_of, sum_below}
+use Rattle.drive_states.specs.Inside.StateMarks.{HasState, states_in, IsMarked, AreMarks, IsLegMarked, IsSettled, AreQueued, IsVisiting, IsPaid, TakesMarks, IsVisited}
+use Rattle.drive_states.specs.Inside.StateSearch.{drives_over}
+use Rattle.drive_states.specs.declared.marks.Marks.{Marks}
+use Rattle.drive_states.specs.declared.rule.BreakRule.{BreakRule}
+use Rattle.drive_states.specs.declared.rule.State.{State}
+use Rattle.drive_states.proofs.BitWords.{bit-lt, bits_few}
+use Rattle.drive_states.proofs.Found.{leaves_by}
+use Rattle.drive_states.proofs.Sums.{sum_small, sum_changed, some_value, no_more}
+
+-- an empty row has no minutes
+pub no_bit : (r : ℕ) → bit_of [] r ≡ 0
+unfolding bit_of
+no_bit r = bit_at-zero (r % 64)
+
+-- the row of one minute, 0
+pub zero_start : HasMinute (1 ∷ []) 0
+unfolding bit_of
+zero_start = refl
+
+pub one_start : (q : ℕ) → HasMinute (1 ∷ []) q → q ≡ 0
+unfolding bit_of
+one_start q has = ⊎_elim
+    (λ (low : q < 64).
+    (let place : q / 64 ≡ 0 = omega (arith, low) in
+    let whole : q % 64 ≡ q = omega (arith, low) in
+    let bit : bit_at 1 q ≡ 1 = sym (ap (λ (m : ℕ). bit_at (get_or (1 ∷ []) m 0) (q % 64)) place ∙ ap (λ (m : ℕ). bit_at 1 m) whole) ∙ has in
+    ⊎_elim
+    (λ (none : q ≡ 0). none)
+    (λ (some : q ≡ 0 → ⊥). absurd (omega (arith, bit, bit_at-pow_other 0 q some)))
+    (cases_eq q 0)))
+    (λ (high : 64 ≤ q).
+    (let place : q / 64 ≡ suc (q / 64 - 1) = omega (arith, high) in
+    let bit : bit_at 0 (q % 64) ≡ 1 = sym (ap (λ (m : ℕ). bit_at (get_or (1 ∷ []) m 0) (q % 64)) place) ∙ has in
+    absurd (omega (arith, bit, bit_at-zero (q % 64)))))
+    (cases_lt q 64)
+
+-- each node of a state is one of the net
+pub node_within : (net : Net) (origin limit v r : ℕ) → IsGoodNet net → (1 ≤ origin) × (origin ≤ net.nodes) → IsState (setting_of net) origin limit v r
+    → (1 ≤ v) × (v ≤ net.nodes)
+node_within net origin limit v r good within first = within
+node_within net origin limit v r good within (by_drive a before road is from low) =
+    let found = map_some (at_number net.arcs a) road_of road is in
+    let arc : IsGoodArc net found.0 = at_number-all (IsGoodArc net) net.arcs a found.0 good.each_arc found.1 in
+    subst (λ (w : Road). (1 ≤ w.head) × (w.head ≤ net.nodes)) found.2 arc.head
+node_within net origin limit v r good within (by_break w before weight is from) = node_within net origin limit w before good within from
+
+pub driven_within : (s : Setting) (origin limit v r : ℕ) → IsState s origin limit v r → r ≤ limit
+driven_within s origin limit v r first = omega arith
+driven_within s origin limit v r (by_drive a before road is from low) = low
+driven_within s origin limit v r (by_break w before weight is from) = omega arith
+
+module _ (s : Setting) (origin : ℕ) (rule : BreakRule) where
+  -- few marks
+  pub marks_few : (marks : Marks) → rule.drive ≤ DAY_MINUTES → AreMarks s origin rule marks → marks.count ≤ 1441 * (s.nodes + 1)
+  marks_few marks day facts = omega (
+    arith,
+    facts.count,
+    sum_small (λ v. sum_below (bit_of (row_of marks.rows v)) (rule.drive + 1)) 1441 (s.nodes + 1)
+        (λ v low. omega (arith, day, bits_few (row_of marks.rows v) (rule.drive + 1))),
+  )
+
+  -- some minutes are marked at a node
+  module _ (old new : Marks) (h : ℕ) (from : List ℕ) (by : ℕ) (marked : IsMarked old new h from by rule.drive) where
+    grown : (u r : ℕ) → HasMinute (row_of old.rows u) r → HasMinute (row_of new.rows u) r
+    grown u r has = ⊎_elim
+        (λ (here : u ≡ h). subst (λ (w : ℕ). HasMinute (row_of new.rows w) r) (sym here)
+        (marked.takes.kept r (subst (λ (w : ℕ). HasMinute (row_of old.rows w) r) here has)))
+        (λ (other : u ≡ h → ⊥). subst (λ (w : List ℕ). HasMinute w r) (sym (marked.others u other)) has)
+        (cases_eq u h)
+
+    not_less : (k : ℕ) → k < rule.drive + 1 → bit_of (row_of old.rows h) k ≤ bit_of (row_of new.rows h) k
+    not_less k low = ⊎_elim
+        (λ (has : bit_of (row_of old.rows h) k ≡ 1). omega (arith, has, marked.takes.kept k has))
+        (λ (none : bit_of (row_of old.rows h) k ≡ 1 → ⊥). omega (arith, none, bit-lt (row_of old.rows h) k))
+        (cases_eq (bit_of (row_of old.rows h) k) 1)
+
+    none_fresh : marked.fresh ≡ 0 → (r : ℕ) → HasMinute (row_of new.rows h) r → HasMinute (row_of old.rows h) r
+    none_fresh none r has = ⊎_elim
+        (λ (was : HasMinute (row_of old.rows h) r). was)
+        (λ (later : (q : ℕ) × HasMinute from q × (q + by ≡ r) × (r ≤ rule.drive)).
+        sym (no_more (bit_of (row_of old.rows h)) (bit_of (row_of new.rows h)) (rule.drive + 1) not_less (omega (arith, marked.takes.count, none)) r
+        (omega (arith, later.3))) ∙ has)
+        (marked.takes.only r has)
+
+    pub still_or_queued : (u : ℕ) → Contains new.queue u ⊎ ((r : ℕ) → HasMinute (row_of new.rows u) r → HasMinute (row_of old.rows u) r)
+    still_or_queued u = ⊎_elim
+        (λ (here : u ≡ h). ⊎_elim
+        (λ (none : marked.fresh ≡ 0). inr (λ r has. subst (λ (w : ℕ). HasMinute (row_of old.rows w) r) (sym here)
+        (none_fresh none r (subst (λ (w : ℕ). HasMinute (row_of new.rows w) r) here has))))
+        (λ (some : marked.fresh ≡ 0 → ⊥). inl (subst (λ (w : ℕ). Contains new.queue w) (sym here) (marked.pushed (omega (arith, some)))))
+        (cases_eq marked.fresh 0))
+        (λ (other : u ≡ h → ⊥). inr (λ r has. subst (λ (w : List ℕ). HasMinute w r) (marked.others u other) has))
+        (cases_eq u h)
+
+    settled_still : (u : ℕ) (leg : Leg) → ((r : ℕ) → HasMinute (row_of new.rows u) r → HasMinute (row_of old.rows u) r)
+        → IsLegMarked s rule old.rows u leg → IsLegMarked s rule new.rows u leg
+    settled_still u leg same is = λ a b at has departs. grown b.node.0 b.driven
+        (is a b at (subst (λ (w : ℕ). HasMinute (row_of old.rows w) a.driven) (sym at)
+        (same a.driven (subst (λ (w : ℕ). HasMinute (row_of new.rows w) a.driven) at has))) departs)
+
+    pub facts_still : ((v r : ℕ) → HasMinute (row_of old.rows v) r → IsState s origin rule.drive v r) → HasMinute (row_of new.rows origin) 0
+        → old.count ≡ states_in old.rows rule.drive s.nodes → ((v : ℕ) → Contains old.queue v → (r : ℕ) × HasMinute (row_of old.rows v) r)
+        → ((q : ℕ) → HasMinute from q → q + by ≤ rule.drive → IsState s origin rule.drive h (q + by)) → h ≤ s.nodes → AreMarks s origin rule new
+    facts_still each start count some sound within = record {
+      each = λ v r has. ⊎_elim
+          (λ (here : v ≡ h). subst (λ (w : ℕ). IsState s origin rule.drive w r) (sym here) (⊎_elim
+          (λ (was : HasMinute (row_of old.rows h) r). each h r was)
+          (λ (later : (q : ℕ) × HasMinute from q × (q + by ≡ r) × (r ≤ rule.drive)).
+          subst (λ (w : ℕ). IsState s origin rule.drive h w) later.2 (sound later.0 later.1 (omega (arith, later.2, later.3))))
+          (marked.takes.only r (subst (λ (w : ℕ). HasMinute (row_of new.rows w) r) here has))))
+          (λ (other : v ≡ h → ⊥). each v r (subst (λ (w : List ℕ). HasMinute w r) (marked.others v other) has))
+          (cases_eq v h);
+      first = start;
+      count = omega (
+        arith,
+        marked.count,
+        count,
+        sum_changed (λ v. sum_below (bit_of (row_of old.rows v)) (rule.drive + 1))
+            (λ v. sum_below (bit_of (row_of new.rows v)) (rule.drive + 1)) h marked.fresh (s.nodes + 1) (omega (arith, within)) marked.takes.count
+            (λ k other. ap (λ (w : List ℕ). sum_below (bit_of w) (rule.drive + 1)) (marked.others k other)),
+      );
+      some = λ v one. ⊎_elim
+          (λ (was : Contains old.queue v). (let has = some v was in (has.0, grown v has.0 has.1)))
+          (λ (here : (v ≡ h) × (0 < marked.fresh)).
+          (let found = some_value (bit_of (row_of new.rows h)) (rule.drive + 1) (omega (arith, marked.takes.count, here.1)) in
+          (found.0, subst (λ (w : ℕ). HasMinute (row_of new.rows w) found.0) (sym here.0) (omega (arith, found.2, bit-lt (row_of new.rows h) found.0)))))
+          (marked.only v one);
+    }
+
+    pub stepped : (v : ℕ) (row : List ℕ) (seen : List Leg) (leg : Leg)
+        → ((a b : State) → a.node.0 ≡ v → HasMinute row a.driven → IsDeparture s rule a leg b → HasState new.rows b)
+        → ((q : ℕ) → HasMinute from q → q + by ≤ rule.drive → IsState s origin rule.drive h (q + by)) → h ≤ s.nodes
+        → IsVisiting s origin rule v row seen old → IsVisiting s origin rule v row (seen ++ leg ∷ []) new
+    stepped v row seen leg done sound within visiting = record {
+      facts = facts_still visiting.facts.each (grown origin 0 visiting.facts.first) visiting.facts.count visiting.facts.some sound within;
+      others = λ u not_v. ⊎_elim
+          (λ (queued : Contains new.queue u). inl queued)
+          (λ (same : (r : ℕ) → HasMinute (row_of new.rows u) r → HasMinute (row_of old.rows u) r). ⊎_elim
+          (λ (queued : Contains old.queue u). inl (marked.queued u queued))
+          (λ (settled : IsSettled s rule old.rows u). inr (λ l. settled_still u l same (settled l)))
+          (visiting.others u not_v))
+          (still_or_queued u);
+      here = ⊎_elim
+          (λ (queued : Contains new.queue v). inl queued)
+          (λ (still : (r : ℕ) → HasMinute (row_of new.rows v) r → HasMinute (row_of old.rows v) r). ⊎_elim
+          (λ (queued : Contains old.queue v). inl (marked.queued v queued))
+          (λ (seen_marked : (l : Leg) → Contains seen l → IsLegMarked s rule old.rows v l). ⊎_elim
+          (λ (queued : Contains old.queue v). inl (marked.queued v queued))
+          (λ (same : (r : ℕ) → HasMinute (row_of old.rows v) r → HasMinute row r). inr (λ l one. ⊎_elim
+          (λ (was : Contains seen l). settled_still v l still (seen_marked l was))
+          (λ (is : leg ≡ l). subst (λ (w : Leg). IsLegMarked s rule new.rows v w) is (λ a b at has departs.
+          done a b at (same a.driven (still a.driven (subst (λ (w : ℕ). HasMinute (row_of new.rows w) a.driven) at has))) departs))
+          (Contains-push_cases seen leg l one)))
+          visiting.same)
+          visiting.here)
+          (still_or_queued v);
+      within = λ r has. grown v r (visiting.within r has);
+      same = ⊎_elim
+          (λ (queued : Contains new.queue v). inl queued)
+          (λ (still : (r : ℕ) → HasMinute (row_of new.rows v) r → HasMinute (row_of old.rows v) r). ⊎_elim
+          (λ (queued : Contains old.queue v). inl (marked.queued v queued))
+          (λ (same : (r : ℕ) → HasMinute (row_of old.rows v) r → HasMinute row r). inr (λ r has. same r (still r has)))
+          visiting.same)
+          (still_or_queued v);
+      some = visiting.some;
+    }
+
+    pub pays : IsPaid old new
+    pays = omega (arith, marked.short, marked.count)
+
+    -- the first marks
+    pub first_queued : old.rows ≡ [] → old.queue ≡ [] → old.count ≡ 0 → h ≡ origin → from ≡ 1 ∷ [] → by ≡ 0 → h ≤ s.nodes → AreQueued s origin rule new
+    first_queued rows queue count at start now within =
+        let none : (v r : ℕ) → HasMinute (row_of old.rows v) r → ⊥ = λ v r has.
+        (let bit : bit_of [] r ≡ 1 = subst (λ (w : List (List ℕ)). HasMinute (row_of w v) r) rows has in omega (arith, bit, no_bit r)) in
+        let zeros : states_in old.rows rule.drive s.nodes ≤ 0 * (s.nodes + 1) =
+        sum_small (λ v. sum_below (bit_of (row_of old.rows v)) (rule.drive + 1)) 0 (s.nodes + 1) (λ v low.
+        (let empty : sum_below (bit_of (row_of old.rows v)) (rule.drive + 1) ≤ 0 * (rule.drive + 1) =
+        sum_small (bit_of (row_of old.rows v)) 0 (rule.drive + 1) (λ r below.
+        omega (arith, no_bit r, ap (λ (w : List (List ℕ)). bit_of (row_of w v) r) rows)) in omega (arith, empty))) in
+        record {
+          facts = facts_still (λ v r has. absurd (none v r has))
+              (subst (λ (w : ℕ). HasMinute (row_of new.rows w) 0) at (let low : 0 + by ≤ rule.drive = omega (arith, now) in
+              let same : 0 + by ≡ 0 = omega (arith, now) in
+              subst (λ (w : ℕ). HasMinute (row_of new.rows h) w) same
+              (marked.takes.taken 0 (subst (λ (w : List ℕ). HasMinute w 0) (sym start) zero_start) low)))
+              (omega (arith, count, zeros))
+              (λ v one. absurd (omega (arith, (subst (λ (w : List ℕ). Contains w v) queue one).1)))
+              (λ q has low. (let zero_is = one_start q (subst (λ (w : List ℕ). HasMinute w q) start has) in
+              let same : 0 ≡ q + by = omega (arith, zero_is, now) in
+              subst (λ (w : ℕ). IsState s origin rule.drive h w) same (subst (λ (w : ℕ). IsState s origin rule.drive w 0) (sym at) first)))
+              within;
+          nodes = λ v. ⊎_elim
+              (λ (queued : Contains new.queue v). inl queued)
+              (λ (same : (r : ℕ) → HasMinute (row_of new.rows v) r → HasMinute (row_of old.rows v) r).
+              inr (λ leg a b is has departs. absurd (none v a.driven (same a.driven (subst (λ (w : ℕ). HasMinute (row_of new.rows w) a.driven) is has)))))
+              (still_or_queued v);
+        }
+
+  -- a leg that leads nowhere
+  pub passed : (v : ℕ) (row : List ℕ) (leg : Leg) (marks : Marks) → ((a b : State) → a.node.0 ≡ v → IsDeparture s rule a leg b → ⊥)
+      → TakesMarks s origin rule v row leg marks marks
+  passed v row leg marks none = record {
+    keeps = λ seen visiting. record {
+      facts = visiting.facts;
+      others = visiting.others;
+      here = ⊎_elim
+          (λ (queued : Contains marks.queue v). inl queued)
+          (λ (seen_marked : (l : Leg) → Contains seen l → IsLegMarked s rule marks.rows v l). inr (λ l one. ⊎_elim
+          (λ (was : Contains seen l). seen_marked l was)
+          (λ (is : leg ≡ l). subst (λ (w : Leg). IsLegMarked s rule marks.rows v w) is (λ a b at has departs. absurd (none a b at departs)))
+          (Contains-push_cases seen leg l one)))
+          visiting.here;
+      within = visiting.within;
+      same = visiting.same;
+      some = visiting.some;
+    };
+    paid = omega arith;
+  }
+
+  -- a node leaves the queue
+  pub opened : (rows : List (List ℕ)) (whole queue : List ℕ) (count v : ℕ) → whole ≡ v ∷ queue
+      → AreQueued s origin rule (record { rows = rows; queue = whole; count = count })
+      → IsVisiting s origin rule v (row_of rows v) [] (record { rows = rows; queue = queue; count = count })
+  opened rows whole queue count v is queued = record {
+    facts = record {
+      each = queued.facts.each;
+      first = queued.facts.first;
+      count = queued.facts.count;
+      some = λ u one. queued.facts.some u (subst (λ (w : List ℕ). Contains w u) (sym is) (suc one.0, omega (arith, one.1), one.2));
+    };
+    others = λ u not_v. ⊎_elim
+        (λ (one : Contains whole u). inl (Contains-tail v queue u (λ same. not_v (sym same)) (subst (λ (w : List ℕ). Contains w u) is one)))
+        (λ (settled : IsSettled s rule rows u). inr settled)
+        (queued.nodes u);
+    here = inr (λ leg one. absurd (omega (arith, one.1)));
+    within = λ r has. has;
+    same = inr (λ r has. has);
+    some = queued.facts.some v (subst (λ (w : List ℕ). Contains w v) (sym is) (0, omega arith, refl));
+  }
+
+  -- all legs of the node were taken
+  pub closed : (v : ℕ) (row : List ℕ) (seen : List Leg) (marks : Marks)
+      → ((a : State) (leg : Leg) (b : State) → a.node.0 ≡ v → IsDeparture s rule a leg b → Contains seen leg)
+      → IsVisiting s origin rule v row seen marks → AreQueued s origin rule marks
+  closed v row seen marks all visiting = record {
+    facts = visiting.facts;
+    nodes = λ u. ⊎_elim
+        (λ (here : u ≡ v). ⊎_elim
+        (λ (queued : Contains marks.queue v). inl (subst (λ (w : ℕ). Contains marks.queue w) (sym here) queued))
+        (λ (seen_marked : (l : Leg) → Contains seen l → IsLegMarked s rule marks.rows v l).
+        inr (λ leg a b at has departs. seen_marked leg (all a leg b (at ∙ here) departs) a b (at ∙ here) has departs))
+        visiting.here)
+        (λ (other : u ≡ v → ⊥). visiting.others u other)
+        (cases_eq u v);
+  }
+
+-- an arc is taken
+pub drive_takes : (net : Net) (origin : ℕ) (rule : BreakRule) (v : ℕ) (row : List ℕ) (a : ArcId) (arc : TimedArc) (old new : Marks)
+    → at_number net.arcs a.0 ≡ Some arc → EndsAt net Tail v a.0 → IsGoodArc net arc → IsMarked old new arc.head.0 row arc.minutes rule.drive
+    → TakesMarks (setting_of net) origin rule v row (Drive a) old new
+drive_takes net origin rule v row a arc old new is ends good marked =
+    let s = setting_of net in
+    let road : s.road a.0 ≡ Some (road_of arc) = ap (option_map road_of) is in
+    let tail : arc.tail.0 ≡ v = some_same (sym (ap (option_map (λ (b : TimedArc). b.tail.0)) is) ∙ ends) in
+    record {
+      keeps = λ seen visiting. stepped s origin rule old new arc.head.0 row arc.minutes marked v row seen (Drive a)
+          (λ x y at has departs.
+          (let same : departs.0 ≡ road_of arc = same_Some departs.0 (road_of arc) (sym departs.1 ∙ road) in
+          let node : y.node.0 ≡ arc.head.0 = departs.4 ∙ ap (λ (w : Road). w.head) same in
+          let minutes : departs.0.minutes ≡ arc.minutes = ap (λ (w : Road). w.minutes) same in
+          let driven : y.driven ≡ x.driven + arc.minutes = omega (arith, departs.5, minutes) in
+          subst (λ (w : ℕ). HasMinute (row_of new.rows w) y.driven) (sym node)
+          (subst (λ (w : ℕ). HasMinute (row_of new.rows arc.head.0) w) (sym driven)
+          (marked.takes.taken x.driven has (omega (arith, departs.3, minutes))))))
+          (λ q has low. by_drive a.0 q (road_of arc) road
+          (subst (λ (w : ℕ). IsState s origin rule.drive w q) (sym tail) (visiting.facts.each v q (visiting.within q has))) low)
+          good.head.1 visiting;
+      paid = pays s origin rule old new arc.head.0 row arc.minutes marked;
+    }
+  where
+    some_same : {x y : ℕ} → Some x ≡ Some y → x ≡ y
+    some_same same = cc
+
+-- a break is taken
+pub rest_takes : (net : Net) (origin : ℕ) (rule : BreakRule) (v weight : ℕ) (row : List ℕ) (old new : Marks) → (setting_of net).weight v ≡ Some weight
+    → v ≤ net.nodes → IsMarked old new v (1 ∷ []) 0 rule.drive → TakesMarks (setting_of net) origin rule v row (Wait rule.rest) old new
+rest_takes net origin rule v weight row old new is within marked =
+    let s = setting_of net in
+    record {
+      keeps = λ seen visiting. stepped s origin rule old new v (1 ∷ []) 0 marked v row seen (Wait rule.rest)
+          (λ x y at has departs.
+          subst (λ (w : ℕ). HasMinute (row_of new.rows w) y.driven) (sym (departs.3 ∙ at))
+          (subst (λ (w : ℕ). HasMinute (row_of new.rows v) w) (sym departs.4) (marked.takes.taken 0 zero_start (omega arith))))
+          (λ q has low. (let same : 0 ≡ q + 0 = omega (arith, one_start q has) in
+          subst (λ (w : ℕ). IsState s origin rule.drive v w) same
+          (by_break v visiting.some.0 weight is (visiting.facts.each v visiting.some.0 (visiting.within visiting.some.0 visiting.some.1)))))
+          within visiting;
+      paid = pays s origin rule old new v (1 ∷ []) 0 marked;
+    }
+
+pub rest_passes : (net : Net) (origin : ℕ) (rule : BreakRule) (v : ℕ) (row : List ℕ) (marks : Marks) → (setting_of net).weight v ≡ None
+    → TakesMarks (setting_of net) origin rule v row (Wait rule.rest) marks marks
+rest_passes net origin rule v row marks none = passed (setting_of net) origin rule v row (Wait rule.rest) marks
+    (λ a b at departs. not_both (sym (ap (setting_of net).weight at ∙ none) ∙ departs.1.1))
+  where
+    not_both : {x : ℕ} → None ≡ Some x → ⊥
+    not_both same = absurd (cc)
+
+-- all legs of a node were taken
+pub visited : (net : Net) (star : Star) (origin : ℕ) (rule : BreakRule) (v : ℕ) (row : List ℕ) (old mid new : Marks) → AreOutgoing net star
+    → IsVisiting (setting_of net) origin rule v row (drives_over (arcs_of star v)) mid → IsPaid old mid
+    → TakesMarks (setting_of net) origin rule v row (Wait rule.rest) mid new → IsVisited (setting_of net) origin rule old new
+visited net star origin rule v row old mid new outgoing visiting paid takes = record {
+  queued = closed (setting_of net) origin rule v row (drives_over (arcs_of star v) ++ Wait rule.rest ∷ []) new
+      (λ a leg b at departs. subst (λ (w : ℕ). Contains (drives_over (arcs_of star w) ++ Wait rule.rest ∷ []) leg) at
+      (leaves_by net star rule a leg b (outgoing a.node.0) departs))
+      (takes.keeps (drives_over (arcs_of star v)) visiting);
+  paid = omega (arith, paid, takes.paid);
+}

@@ -1,0 +1,32 @@
+use Rattle.std.proofs.Common.{◌≡◌, ◌+◌, ◌*◌, ◌/◌, ◌<◌, ◌≤◌, ap, sym, subst, min, arith, refl, ℕ, List, set, get_or, bit_or, ◌%◌, ◌^◌}
+use Rattle.drive_states.specs.Inside.BitRows.{bit_of, sum_below}
+use Rattle.drive_states.proofs.BitWords.{AreJoined, joined_few, joined_step, joined_all}
+use Rattle.drive_states.proofs.bits.join_words.Goals as goal
+
+pub loop-i-init : goal.loop-i-init
+loop-i-init c = record {
+  done = λ r low. absurd (omega (arith, low));
+  rest = λ j low. refl;
+  count = omega arith;
+}
+
+pub overflow_add-fresh : goal.overflow_add-fresh
+overflow_add-fresh c =
+    let small = joined_few c.loop-i.row c.args.row.now c.args.from.now c.args.by c.args.most c.loop-i.i c.loop-i.fresh c.loop-i.invariant in
+    omega (arith, small, c.lacking-fresh.ensures.few, c.requires.most)
+
+pub loop-i-preserved : goal.loop-i-preserved
+loop-i-preserved c =
+    joined_step c.loop-i.row c.args.row.now c.args.from.now c.args.by c.args.most c.loop-i.i c.loop-i.fresh c.later_word.result c.min.result
+    c.lacking-fresh.result c.low_bits-later.result c.low_bits-later.ensures (omega (arith, c.loop-i-test.true)) c.min.ensures
+    (omega (arith, c.loop-i-test.true, c.requires.room, c.loop-i.auto.row)) c.later_word.ensures c.loop-i.invariant c.lacking-fresh.ensures.count
+
+pub returns-clause-bits : goal.returns-clause-bits
+returns-clause-bits c =
+    joined_all c.loop-i.row c.args.row.now c.args.from.now c.args.by c.args.most c.loop-i.i c.loop-i.fresh c.loop-i.invariant
+    (omega (arith, c.loop-i-test.false))
+
+pub returns-clause-count : goal.returns-clause-count
+returns-clause-count c =
+    let end : min (c.args.most + 1) (64 * c.loop-i.i) ≡ c.args.most + 1 = omega (arith, c.loop-i-test.false) in
+    omega (arith, c.loop-i.invariant.count, ap (sum_below (bit_of c.loop-i.row)) end, ap (sum_below (bit_of c.args.row.now)) end)

@@ -1,0 +1,110 @@
+// Sets of minutes as words of bits.
+ghost use Rattle.std.specs.Int.{bit_at};
+ghost use Rattle.std.specs.Prelude.{◌≡◌, ◌+◌, ◌-◌, ◌*◌, ◌/◌, ◌%◌, ◌^◌, ◌≤◌, ◌<◌, ℕ, IfOk, OnOk, bit_or, cond, leb, length, max, slice_index_or};
+ghost use Rattle.drive_states.specs.Words.{TakesLater, bit_of, later_bit, sum_below};
+ghost use Rattle.route_base.specs.declared.limits.TheConstants.{DAY_MINUTES};
+
+use route_base::OutOfMemory;
+
+// The word at a place, or 0 behind the end.
+fn word_at(words: &[u64], i: usize) -> u64
+    ensures value { result ≡ slice_index_or words.now i 0 }
+    ensures fits { result < 2 ^ 64 }
+{
+    if i < words.len() { words[i] } else { 0 }
+}
+
+// The lowest bits of a word.
+fn low_bits(word: u64, count: usize) -> u64
+    requires some { 1 ≤ count }
+    requires few { count ≤ 64 }
+    ensures { result ≡ word % 2 ^ count }
+{
+    word & (u64::MAX >> (64 - count as u32))
+}
+
+// The word at a place of a row whose minutes are all later.
+fn later_word(words: &[u64], by: usize, i: usize) -> u64
+    requires { i < 2 ^ 32 }
+    ensures { (k : ℕ) → k < 64 → bit_at result k
+        ≡ cond (leb by (64 * i + k)) (bit_of words.now (64 * i + k - by)) 0 }
+{
+    let whole = by / 64;
+    if i < whole {
+        return 0;
+    }
+    let part = (by % 64) as u32;
+    let low = word_at(words, i - whole) << part;
+    if part == 0 || i == whole {
+        return low;
+    }
+    low | (word_at(words, i - whole - 1) >> (64 - part))
+}
+
+// The number of bits that a word lacks of another.
+fn lacking(word: u64, other: u64) -> u32
+    ensures few { result ≤ 64 }
+    ensures count { (c : ℕ) → c ≤ 64 → other < 2 ^ c
+        → sum_below (λ k. bit_at (bit_or word other) k) c
+        ≡ sum_below (λ k. bit_at word k) c + result }
+{
+    (other & !word).count_ones()
+}
+
+// Takes the minutes of another row, and counts the new ones.
+fn join_words(row: &mut [u64], from: &[u64], by: usize, most: usize) -> u32
+    requires most { most ≤ DAY_MINUTES }
+    requires room { most / 64 < length row.old }
+    ensures bits { (r : ℕ) → bit_of row.new r
+        ≡ max (bit_of row.old r) (later_bit from.now by most r) }
+    ensures count { sum_below (bit_of row.new) (most + 1)
+        ≡ sum_below (bit_of row.old) (most + 1) + result }
+{
+    let mut fresh = 0;
+    for i in 0..most / 64 + 1 {
+        let later = low_bits(later_word(from, by, i), (most + 1 - 64 * i).min(64));
+        fresh += lacking(row[i], later);
+        row[i] |= later;
+    }
+    fresh
+}
+
+// Lengthens a row to a place.
+fn lengthen(row: &mut Vec<u64>, place: usize) -> Result<(), OutOfMemory>
+    requires { place < 2 ^ 32 }
+    ensures same { (k : ℕ) → slice_index_or row.new.items k 0 ≡ slice_index_or row.old.items k 0 }
+    ensures within { OnOk result (place < length row.new.items) }
+{
+    if place < row.len() {
+        return Ok(());
+    }
+    row.resize(place + 1, 0)?;
+    Ok(())
+}
+
+/// Takes the minutes of another row, all later by some minutes, up to the most, and counts the new ones. Linear in the minutes over
+/// the bits of a word.
+pub fn add_later(
+    row: &mut Vec<u64>,
+    from: &[u64],
+    by: usize,
+    most: usize,
+) -> Result<u32, OutOfMemory>
+    requires { most ≤ DAY_MINUTES }
+    ensures { IfOk result (TakesLater row.old.items row.new.items from.now by most) }
+{
+    lengthen(row, most / 64)?;
+    Ok(join_words(row, from, by, most))
+}
+
+/// The number of minutes below one. Linear in the minutes over the bits of a word.
+pub fn count_below(row: &[u64], end: usize) -> u32
+    requires { end ≤ DAY_MINUTES + 1 }
+    ensures { result ≡ sum_below (bit_of row.now) end }
+{
+    let mut count = 0;
+    for i in 0..(end + 63) / 64 {
+        count += low_bits(word_at(row, i), (end - 64 * i).min(64)).count_ones();
+    }
+    count
+}
