@@ -1,15 +1,15 @@
 -- Bits of words, and of rows of words.
-use Rattle.std.proofs.Common.{◌≡◌, ◌≢◌, ◌⊎◌, inl, inr, ⊎_elim, ℕ, zero, suc, ◌+◌, ◌-◌, ◌*◌, ◌/◌, ◌%◌, ◌^◌, ◌≤◌, ◌<◌, Bool, true, false, cond, leb, ◌&&◌}
-use Rattle.std.proofs.Common.{List, [], ◌∷◌, length, get_or, set, max, min, refl, sym, ◌∙◌, ap, subst, arith}
+use Rattle.std.proofs.Common.{◌≡◌, ◌⊎◌, inl, inr, ⊎_elim, ℕ, zero, suc, ◌+◌, ◌-◌, ◌*◌, ◌/◌, ◌%◌, ◌^◌, ◌≤◌, ◌<◌, Bool, true, false, cond, leb, ◌&&◌}
+use Rattle.std.proofs.Common.{List, length, get_or, set, max, min, refl, sym, ◌∙◌, ap, subst, arith}
 use Rattle.std.specs.Prelude.{bit_and, bit_or}
-use Rattle.std.specs.Int.{bit_at, bit_not, w64}
+use Rattle.std.specs.Int.{bit_at, w64}
 use Rattle.std.specs.Int.Count.{ones}
-use Rattle.std.proofs.lemmas.Bool.{cases_eq, cases_lt, le-leb, lt-leb, leb-true, leb-false}
+use Rattle.std.proofs.lemmas.Bool.{cases_eq, cases_lt, le-leb, lt-leb}
 use Rattle.std.proofs.lemmas.List.{get_or-set_same, get_or-set_other}
-use Rattle.std.proofs.lemmas.Nat.{shr_split, shr-shr, shr_below, and_le_l, and_le_r, pow_pos, mod_below, ones-le, and_mask}
+use Rattle.std.proofs.lemmas.Nat.{shr_split, shr-shr, shr_below, and_le_l, pow_pos, mod_below, ones-le, and_mask}
 use Rattle.std.proofs.lemmas.Nat.Bits.{bit_at_lowest, bit_at-suc, bit_at-zero, bit_at_and, bit_at_or, bit_at_not, bit_at-lt, bit_at_above, bit_at_cat_low, bit_at_cat_high}
-use Rattle.std.proofs.lemmas.Nat.Bits.{bit_at-pow_same, bit_at-pow_other, ones_shr}
-use Rattle.drive_states.specs.Inside.BitRows.{sum_below, bit_of, later_bit, HasMinute, TakesLater}
+use Rattle.std.proofs.lemmas.Nat.Bits.{ones_shr}
+use Rattle.drive_states.specs.Inside.BitRows.{sum_below, bit_of, later_bit, TakesLater}
 use Rattle.drive_states.proofs.Sums.{sum_same, sum_split, sum_first, sum_both, sum_small}
 use lib.Count.{ones_step}
 

@@ -1,11 +1,11 @@
 -- What the marking of states keeps.
-use Rattle.std.proofs.Common.{◌≡◌, ◌≢◌, ◌⊎◌, inl, inr, ⊎_elim, ℕ, zero, suc, ◌+◌, ◌-◌, ◌*◌, ◌/◌, ◌%◌, ◌^◌, ◌≤◌, ◌<◌, Some, None, List, [], ◌∷◌, ◌++◌, length, get_or}
-use Rattle.std.proofs.Common.{take, refl, sym, ◌∙◌, ap, subst, arith}
+use Rattle.std.proofs.Common.{◌≡◌, ◌⊎◌, inl, inr, ⊎_elim, ℕ, suc, ◌+◌, ◌-◌, ◌*◌, ◌/◌, ◌%◌, ◌≤◌, ◌<◌, Some, None, List, [], ◌∷◌, ◌++◌, get_or}
+use Rattle.std.proofs.Common.{refl, sym, ◌∙◌, ap, subst, arith}
 use Rattle.std.specs.Prelude.{Contains}
 use Rattle.std.specs.Int.{bit_at}
 use Rattle.std.specs.Option.{option_map}
 use Rattle.std.proofs.lemmas.Bool.{cases_eq, cases_lt}
-use Rattle.std.proofs.lemmas.List.Elements.{Contains-append_left, Contains-push_cases}
+use Rattle.std.proofs.lemmas.List.Elements.{Contains-push_cases}
 use Rattle.std.proofs.lemmas.Map.Made.{Contains-tail}
 use Rattle.std.proofs.lemmas.Nat.Bits.{bit_at-zero, bit_at-pow_other}
 use Rattle.std.proofs.lemmas.Option.{same_Some}
@@ -15,13 +15,13 @@ use Rattle.route_base.specs.declared.types.ArcId.{ArcId}
 use Rattle.route_base.specs.declared.types.TimedArc.{TimedArc}
 use Rattle.route_base.specs.declared.types.Leg.{Leg}
 use Rattle.route_base.specs.declared.types.Leg.TheVariants.{Drive, Wait}
-use Rattle.route_base.specs.declared.limits.TheConstants.{DAY_MINUTES, MOST_NET_NODES}
+use Rattle.route_base.specs.declared.limits.TheConstants.{DAY_MINUTES}
 use Rattle.route_base.proofs.Numbered.{at_number-all}
 use Rattle.route_base.proofs.Logic.{map_some}
-use Rattle.node_arcs.specs.Stars.{EndsAt, AreArcs, AreOutgoing, Star, arcs_of}
+use Rattle.node_arcs.specs.Stars.{EndsAt, AreOutgoing, Star, arcs_of}
 use Rattle.node_arcs.specs.declared.links.End.TheVariants.{Tail}
 use Rattle.drive_states.specs.StateSize.{IsState, first, by_drive, by_break, IsDeparture}
-use Rattle.drive_states.specs.Inside.BitRows.{HasMinute, TakesLater, bit_of, row_of, sum_below}
+use Rattle.drive_states.specs.Inside.BitRows.{HasMinute, bit_of, row_of, sum_below}
 use Rattle.drive_states.specs.Inside.StateMarks.{HasState, states_in, IsMarked, AreMarks, IsLegMarked, IsSettled, AreQueued, IsVisiting, IsPaid, TakesMarks, IsVisited}
 use Rattle.drive_states.specs.Inside.StateSearch.{drives_over}
 use Rattle.drive_states.specs.declared.marks.Marks.{Marks}

@@ -1,8 +1,7 @@
 -- The marked states, and the drives and breaks that leave them, as lists.
-use Rattle.std.proofs.Common.{◌≡◌, ◌≢◌, ◌⊎◌, inl, inr, ⊎_elim, ℕ, zero, suc, ◌+◌, ◌-◌, ◌≤◌, ◌<◌, Option, Some, None, List, [], ◌∷◌, ◌++◌, length, get_or, All, AllPairs}
+use Rattle.std.proofs.Common.{◌≡◌, ◌≢◌, ⊎_elim, ℕ, zero, suc, ◌+◌, ◌-◌, ◌≤◌, ◌<◌, Option, Some, None, List, [], ◌∷◌, ◌++◌, length, get_or, AllPairs}
 use Rattle.std.proofs.Common.{refl, sym, ◌∙◌, ap, subst, arith, length-append}
 use Rattle.std.specs.Prelude.{Contains}
-use Rattle.std.specs.Option.{option_map}
 use Rattle.std.proofs.lemmas.Bool.{cases_eq}
 use Rattle.std.proofs.lemmas.List.{get_or_default}
 use Rattle.std.proofs.lemmas.List.Elements.{Contains-append_left, Contains-append_right, Contains-append_cases, Contains-get_or}
@@ -17,7 +16,7 @@ use Rattle.route_base.proofs.Logic.{map_some}
 use Rattle.route_base.proofs.Numbered.{number_within}
 use Rattle.drive_states.specs.StateSize.{IsState, first, by_drive, by_break, IsDeparture, Departure, HasTooManyStates}
 use Rattle.drive_states.specs.Inside.BitRows.{HasMinute, bit_of, row_of, sum_below}
-use Rattle.drive_states.specs.Inside.StateMarks.{HasState, states_in, drives_by, drives_in, rests_by, rests_in, AreMarks, IsSettled}
+use Rattle.drive_states.specs.Inside.StateMarks.{drives_by, drives_in, rests_by, rests_in, AreMarks, IsSettled}
 use Rattle.drive_states.specs.declared.marks.Marks.{Marks}
 use Rattle.drive_states.specs.declared.rule.BreakRule.{BreakRule}
 use Rattle.drive_states.specs.declared.rule.State.{State}

@@ -1,5 +1,5 @@
 -- The drives and breaks that leave marked states are counted.
-use Rattle.std.proofs.Common.{◌≡◌, ℕ, suc, ◌+◌, ◌-◌, ◌*◌, ◌≤◌, ◌<◌, Option, Some, None, List, length, get_or, true, refl, sym, ◌∙◌, ap, subst, arith}
+use Rattle.std.proofs.Common.{◌≡◌, ℕ, suc, ◌+◌, ◌-◌, ◌*◌, ◌≤◌, ◌<◌, Option, Some, None, List, length, get_or, true, refl, sym, ◌∙◌, ap, arith}
 use Rattle.std.specs.Option.{is_some, option_map}
 use Rattle.route_base.specs.Setting.{Setting, Road}
 use Rattle.route_base.specs.Net.{Net, at_number, road_of, setting_of}

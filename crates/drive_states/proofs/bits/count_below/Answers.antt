@@ -1,4 +1,4 @@
-use Rattle.std.proofs.Common.{◌≡◌, ◌+◌, ◌*◌, ℕ, min, ap, ◌∙◌, arith}
+use Rattle.std.proofs.Common.{◌+◌, ◌*◌, ℕ, min, ap, ◌∙◌, arith}
 use Rattle.std.specs.Int.Count.{ones}
 use Rattle.drive_states.proofs.BitWords.{bits_few, ones_few, counted_on}
 use Rattle.drive_states.proofs.bits.count_below.Goals as goal

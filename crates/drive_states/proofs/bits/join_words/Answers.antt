@@ -1,6 +1,6 @@
-use Rattle.std.proofs.Common.{◌≡◌, ◌+◌, ◌*◌, ◌/◌, ◌<◌, ◌≤◌, ap, sym, subst, min, arith, refl, ℕ, List, set, get_or, bit_or, ◌%◌, ◌^◌}
+use Rattle.std.proofs.Common.{◌≡◌, ◌+◌, ◌*◌, ap, min, arith, refl}
 use Rattle.drive_states.specs.Inside.BitRows.{bit_of, sum_below}
-use Rattle.drive_states.proofs.BitWords.{AreJoined, joined_few, joined_step, joined_all}
+use Rattle.drive_states.proofs.BitWords.{joined_few, joined_step, joined_all}
 use Rattle.drive_states.proofs.bits.join_words.Goals as goal
 
 pub loop-i-init : goal.loop-i-init

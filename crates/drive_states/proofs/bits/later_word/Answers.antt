@@ -1,4 +1,4 @@
-use Rattle.std.proofs.Common.{◌≡◌, ◌%◌, ◌/◌, inl, inr, sym, arith}
+use Rattle.std.proofs.Common.{inl, inr, arith}
 use Rattle.drive_states.proofs.BitWords.{later_one, later_two}
 use Rattle.drive_states.proofs.bits.later_word.Goals as goal
 use Rattle.drive_states.proofs.bits.later_word.Goals.{then-part-eq0-via-then-part-eq0, then-part-eq0-via-else-part-eq0+then-i-whole-2}

@@ -1,4 +1,4 @@
-use Rattle.std.proofs.Common.{◌≡◌, inl, inr, ⊎_elim, arith}
+use Rattle.std.proofs.Common.{inl, inr, ⊎_elim, arith}
 use Rattle.drive_states.proofs.marks.mark.Goals as goal
 
 pub returns-in_ok-push : goal.returns-in_ok-push

@@ -1,4 +1,4 @@
-use Rattle.std.proofs.Common.{◌≡◌, ◌⊎◌, inr, ⊎_elim, ℕ, List, [], ◌∷◌, length, ap, subst, arith}
+use Rattle.std.proofs.Common.{inr, ⊎_elim, ℕ, List, length, ap, subst, arith}
 use Rattle.std.specs.Prelude.{Contains}
 use Rattle.route_base.specs.Net.{setting_of}
 use Rattle.drive_states.specs.Inside.StateMarks.{IsSettled}

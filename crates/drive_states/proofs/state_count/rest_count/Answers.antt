@@ -1,4 +1,4 @@
-use Rattle.std.proofs.Common.{◌≡◌, ℕ, ◌∙◌, arith}
+use Rattle.std.proofs.Common.{◌≡◌, ◌∙◌, arith}
 use Rattle.route_base.specs.Net.{setting_of}
 use Rattle.drive_states.specs.Inside.BitRows.{sum_below}
 use Rattle.drive_states.specs.Inside.StateMarks.{rests_by}

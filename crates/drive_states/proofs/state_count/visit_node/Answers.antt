@@ -1,4 +1,4 @@
-use Rattle.std.proofs.Common.{List, ℕ, subst, sym, ◌∙◌, arith}
+use Rattle.std.proofs.Common.{arith}
 use Rattle.std.proofs.lemmas.Result.{IfOk-weaker}
 use Rattle.route_base.specs.Net.{setting_of}
 use Rattle.drive_states.proofs.Marked.{marks_few, node_within, visited}
