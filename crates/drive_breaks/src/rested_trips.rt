@@ -8,7 +8,7 @@ ghost use Rattle.route_base.specs.declared.limits.TheConstants.{DAY_MINUTES, LON
 use crate::bounds_check::net_bounds;
 use crate::sources::unpacked_routes;
 use crate::states_as_net::{Ground, state_arcs, state_net};
-use drive_states::{BreakFault, BreakRule, Explored, Plan, explore};
+use drive_states::{BreakFault, BreakRule, Explored, Plan, explore, has_too_many_states};
 use node_arcs::NodeArcs;
 use potentials::{BoundedSearch, WithoutBounds};
 use route_base::{
@@ -97,7 +97,8 @@ fn routes_of<E: BoundedSearch>(
     routes_over(alloc, engine, net, request, rule, explored)
 }
 
-// The states of a trip, and the ways between them. The lists of outgoing arcs are given back.
+// The states of a trip, and the ways between them. Whether they are too many is known before any is listed. The lists of outgoing arcs are
+// given back.
 fn explored_from(
     alloc: Global,
     net: &TimedNet,
@@ -124,7 +125,11 @@ fn explored_from(
         origin,
         rule,
     };
-    explore(alloc, plan)
+    match has_too_many_states(alloc, plan) {
+        Ok(false) => explore(alloc, plan),
+        Ok(true) => Err(BreakFault::TooManyStates),
+        Err(_) => Err(BreakFault::OutOfMemory),
+    }
 }
 
 /// The Pareto front of arrival and cost over all lawful itineraries that keep the break rule, by rising arrival, each pair with the
