@@ -9,7 +9,7 @@ ghost use Rattle.dimacs_reader.specs.Lines.{line_of_four, problem_of, arc_of};
 use route_base::{cut, is_blank, read_number};
 
 /// A line of a graph file.
-#[derive(Clone, Copy, Debug, PartialEq, Eq)]
+#[derive(Clone, Copy)]
 pub enum Line {
     /// An empty line or a comment.
     Ignored,

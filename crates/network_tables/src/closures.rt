@@ -15,7 +15,7 @@ use std::marker::Model;
 use table_reader::{RowFault, Table, three_fields};
 
 /// One closure: an arc, and the minutes in which it is closed.
-#[derive(Clone, Copy, Debug, PartialEq, Eq)]
+#[derive(Clone, Copy)]
 pub struct Closure {
     pub arc: ArcId,
     pub run: Run,

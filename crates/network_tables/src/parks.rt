@@ -16,7 +16,7 @@ pub struct RatedNode {
 }
 
 /// A timetable by the places, from 0, of its area and of its hours, if it has any.
-#[derive(Clone, Copy, Debug, PartialEq, Eq, Hash)]
+#[derive(Clone, Copy, PartialEq, Eq, Hash)]
 pub struct TimetablePlace {
     pub area: u32,
     pub hours: Option<usize>,

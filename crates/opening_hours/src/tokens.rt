@@ -2,7 +2,7 @@
 use calendar_days::Weekday;
 
 /// A token of a text of hours.
-#[derive(Clone, Copy, Debug)]
+#[derive(Clone, Copy)]
 pub enum Token {
     Month(u32),
     Day(Weekday),
@@ -24,14 +24,14 @@ pub enum Token {
 }
 
 /// The number of digits that a number is written with.
-#[derive(Clone, Copy, Debug)]
+#[derive(Clone, Copy)]
 pub enum Digits {
     One,
     Two,
 }
 
 /// The parts of a text of hours, by the tokens that they are made of.
-#[derive(Clone, Copy, Debug)]
+#[derive(Clone, Copy)]
 pub enum Part {
     Rule,
     Item,

@@ -10,14 +10,14 @@ use route_base::is_name_field;
 use table_reader::three_fields;
 
 /// The kind of a holiday, in the notation of OpenStreetMap's opening hours: `PH` or `SH`.
-#[derive(Clone, Copy, Debug, PartialEq, Eq)]
+#[derive(Clone, Copy)]
 pub enum HolidayKind {
     Public,
     School,
 }
 
 /// A holiday, its day in days since 1970-01-01.
-#[derive(Clone, Copy, Debug, PartialEq, Eq)]
+#[derive(Clone, Copy)]
 pub struct Holiday {
     pub kind: HolidayKind,
     pub day: u32,

@@ -5,7 +5,7 @@ ghost use Rattle.network_tables.specs.Words.{is_arc};
 use vehicle_classes::Key;
 
 /// The roads for which a rule stands: those of the area at a place from 0, or the arc of a number from 1.
-#[derive(Clone, Copy, Debug, PartialEq, Eq, Hash)]
+#[derive(Clone, Copy, PartialEq, Eq, Hash)]
 pub enum Scope {
     Area(usize),
     Arc(u32),
@@ -24,7 +24,7 @@ impl Scope {
 }
 
 /// The place of a rule: its scope, its key, and whether its value is conditional.
-#[derive(Clone, Copy, Debug, PartialEq, Eq, Hash)]
+#[derive(Clone, Copy, PartialEq, Eq, Hash)]
 pub struct RulePlace {
     pub scope: Scope,
     pub key: Key,
