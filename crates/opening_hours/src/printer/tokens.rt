@@ -24,16 +24,28 @@ trait Written: Copy {
         ensures { OnOk result (out.new ≡ out.old ++ written self) };
 }
 
+// Appends the tokens.
+fn push_all(out: &mut Listing<Token>, tokens: &[Token]) -> Result<(), OutOfMemory>
+    ensures { OnOk result (out.new ≡ out.old ++ tokens.now) }
+{
+    for t in tokens {
+        out.push(*t)?;
+    }
+    Ok(())
+}
+
 impl Written for DateSpan {
     ghost written = { date_tokens };
 
     fn write(self, out: &mut Listing<Token>) -> Result<(), OutOfMemory> {
-        out.push(Token::Month(self.first_month))?;
-        out.push(Token::Number(self.first_day, Digits::Two))?;
-        out.push(Token::Dash)?;
-        out.push(Token::Month(self.last_month))?;
-        out.push(Token::Number(self.last_day, Digits::Two))?;
-        Ok(())
+        let tokens = [
+            Token::Month(self.first_month),
+            Token::Number(self.first_day, Digits::Two),
+            Token::Dash,
+            Token::Month(self.last_month),
+            Token::Number(self.last_day, Digits::Two),
+        ];
+        push_all(out, &tokens)
     }
 }
 
@@ -43,28 +55,33 @@ impl Written for DayItem {
     fn write(self, out: &mut Listing<Token>) -> Result<(), OutOfMemory> {
         match self {
             DayItem::Week(a, b) => {
-                out.push(Token::Day(a))?;
-                if a.index() != b.index() {
-                    out.push(Token::Dash)?;
-                    out.push(Token::Day(b))?;
+                if a.index() == b.index() {
+                    out.push(Token::Day(a))
+                } else {
+                    push_all(out, &[Token::Day(a), Token::Dash, Token::Day(b)])
                 }
-                Ok(())
             }
             DayItem::Public => out.push(Token::Public),
             DayItem::School => out.push(Token::School),
-            DayItem::Nth(a, k) => {
-                out.push(Token::Day(a))?;
-                out.push(Token::LeftBracket)?;
-                out.push(Token::Number(k, Digits::One))?;
-                out.push(Token::RightBracket)
-            }
-            DayItem::NthLast(a, k) => {
-                out.push(Token::Day(a))?;
-                out.push(Token::LeftBracket)?;
-                out.push(Token::Dash)?;
-                out.push(Token::Number(k, Digits::One))?;
-                out.push(Token::RightBracket)
-            }
+            DayItem::Nth(a, k) => push_all(
+                out,
+                &[
+                    Token::Day(a),
+                    Token::LeftBracket,
+                    Token::Number(k, Digits::One),
+                    Token::RightBracket,
+                ],
+            ),
+            DayItem::NthLast(a, k) => push_all(
+                out,
+                &[
+                    Token::Day(a),
+                    Token::LeftBracket,
+                    Token::Dash,
+                    Token::Number(k, Digits::One),
+                    Token::RightBracket,
+                ],
+            ),
         }
     }
 }
@@ -75,10 +92,12 @@ impl Written for TimeSpan {
     fn write(self, out: &mut Listing<Token>) -> Result<(), OutOfMemory> {
         let start = self.start as u64;
         let end = start + self.length as u64;
-        out.push(Token::Time(start / 60, start % 60))?;
-        out.push(Token::Dash)?;
-        out.push(Token::Time(end / 60, end % 60))?;
-        Ok(())
+        let tokens = [
+            Token::Time(start / 60, start % 60),
+            Token::Dash,
+            Token::Time(end / 60, end % 60),
+        ];
+        push_all(out, &tokens)
     }
 }
 
@@ -111,12 +130,14 @@ fn write_long(out: &mut Listing<Token>, long: LongSpan) -> Result<(), OutOfMemor
     let start = long.start as u64;
     let end = start + long.length as u64;
     let minute = end % 1440;
-    out.push(Token::Day(long.weekday))?;
-    out.push(Token::Time(start / 60, start % 60))?;
-    out.push(Token::Dash)?;
-    out.push(Token::Day(weekday_after(end / 1440, long.weekday)))?;
-    out.push(Token::Time(minute / 60, minute % 60))?;
-    Ok(())
+    let tokens = [
+        Token::Day(long.weekday),
+        Token::Time(start / 60, start % 60),
+        Token::Dash,
+        Token::Day(weekday_after(end / 1440, long.weekday)),
+        Token::Time(minute / 60, minute % 60),
+    ];
+    push_all(out, &tokens)
 }
 
 // Appends the tokens of the items, with commas between them.
