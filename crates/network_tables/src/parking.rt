@@ -172,6 +172,16 @@ fn area_place(areas: &Areas, name: &[u8]) -> Option<u32>
     areas.place(name)
 }
 
+// The timetables in their order. Linear in them.
+fn timetable_list(
+    alloc: Global,
+    timetables: IndexSet<TimetablePlace>,
+) -> Result<Vec<TimetablePlace>, OutOfMemory>
+    ensures { IfOk result (λ list. list.items ≡ timetables.keys) }
+{
+    Ok(Vec::from_slice(alloc, timetables.as_slice())?)
+}
+
 /// Parks while the table is being read, with the nodes, the ratings and the areas for which they stand.
 #[derive(Drop)]
 struct ParkingTable<'a> {
@@ -231,9 +241,17 @@ impl<'a> ParkingTable<'a> {
         requires { HaveTimetables (park_lists self) }
         ensures { IfOk result (λ parks. parks ≡ park_lists self.entry) }
     {
-        let timetables = Vec::from_slice(alloc, self.timetables.as_slice())?;
-        let hours = self.hours.into_list(alloc)?;
-        Ok(Parks::new(self.rated, timetables, hours))
+        let ParkingTable {
+            nodes: _,
+            ratings: _,
+            areas: _,
+            hours,
+            timetables,
+            rated,
+        } = self;
+        let timetables = timetable_list(alloc, timetables)?;
+        let hours = hours.into_list(alloc)?;
+        Ok(Parks::new(rated, timetables, hours))
     }
 }
 
