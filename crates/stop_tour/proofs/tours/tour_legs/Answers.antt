@@ -1,0 +1,12 @@
+use Rattle.std.proofs.Common.{arith}
+use Rattle.std.proofs.lemmas.Grind.{common_steps}
+use Rattle.stop_tour.proofs.tours.tour_legs.Goals as goal
+
+pub loop-leg-preserved : goal.loop-leg-preserved
+loop-leg-preserved c = grind (arith, common_steps)
+
+pub returns : goal.returns
+returns c = grind (arith, common_steps)
+
+pub tour_leg-requires-clause-numbered : goal.tour_leg-requires-clause-numbered
+tour_leg-requires-clause-numbered c = c.requires.numbered _ _ c.loop-leg-test.true
