@@ -40,7 +40,7 @@ impl Report {
 }
 
 /// Why a command ends before its text is there: it is refused, reading failed, writing a file failed, or memory ran out.
-#[derive(Clone, Copy)]
+#[derive(Clone, Copy, Debug, PartialEq, Eq)]
 pub enum Halt {
     Refused(Refusal),
     ReadFault,

@@ -13,7 +13,7 @@ returns-clause-values c t = ap (λ (ps : List Piece). value_at ps t) (c.from_pie
 pub returns-clause-reduced : goal.returns-clause-reduced
 returns-clause-reduced c small =
     let same = c.from_pieces.ensures ∙ c.in_ok-extend_from_slice.ensures.items
-        ∙ ap (λ (ps : List Piece). ps ++ c.pieces-2.result.now) c.new-pieces.ensures.items ∙ c.pieces-2.ensures.items
-        ∙ sym c.pieces.ensures.items in
+    ∙ ap (λ (ps : List Piece). ps ++ c.pieces-2.result.now) c.new-pieces.ensures.items ∙ c.pieces-2.ensures.items
+    ∙ sym c.pieces.ensures.items in
     let wrong : false ≡ true = c.if-are_small.ensures.1 (subst AreSmallPieces same small) in
     absurd cc
