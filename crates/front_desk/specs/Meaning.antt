@@ -1,4 +1,4 @@
--- What a command means, whatever its words are (source: own).
+-- The meaning of a command, whatever its words are (source: own).
 use Rattle.std.specs.Prelude.{◌≡◌, ℕ, ⊤, Option, Some, None, List}
 use Rattle.route_base.specs.Contents.{Contents}
 use Rattle.route_base.specs.FolderState.{FolderState, KeepsFiles}

@@ -25,6 +25,7 @@ pub struct Bans {
 // The positional words, by the names that `clap` has for them.
 pub const BANS_PLACES: &[&str] = &["dir", "vehicle", "arc", "depart", "until"];
 
+// The command that the words make which `clap` found.
 pub fn bans_found(alloc: Global, matches: &ArgMatches) -> Result<Invocation, WordsFault>
     ensures made { IsAnswer (made_at matches.now bans_usage bans_places []) result }
     ensures supported { IfOk result AsksSupported }
@@ -38,6 +39,7 @@ pub fn bans_found(alloc: Global, matches: &ArgMatches) -> Result<Invocation, Wor
     }))
 }
 
+// The command with its words side by side.
 pub fn flat_bans(bans: Bans) -> Command
     ensures { command_in result ≡ to_bans bans }
 {

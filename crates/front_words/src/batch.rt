@@ -19,6 +19,7 @@ pub struct Batch {
     pub workers: u32,
 }
 
+// The command that the words make which `clap` found.
 pub fn batch_found(alloc: Global, matches: &ArgMatches) -> Result<Invocation, WordsFault>
     ensures made { IsAnswer
         (made_at matches.now batch_usage batch_places batch_choices) result }
@@ -31,6 +32,7 @@ pub fn batch_found(alloc: Global, matches: &ArgMatches) -> Result<Invocation, Wo
     }))
 }
 
+// The command with its words side by side.
 pub fn flat_batch(batch: Batch) -> Command
     ensures { command_in result ≡ to_batch batch }
 {

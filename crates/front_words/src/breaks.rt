@@ -29,6 +29,7 @@ pub const BREAKS_CHOICES: &[&str] = &["drive", "rest"];
 
 pub const BREAKS_OPTIONS: &[&str] = &["--drive", "--rest"];
 
+// The command that the words make which `clap` found.
 pub fn breaks_found(alloc: Global, matches: &ArgMatches) -> Result<Invocation, WordsFault>
     ensures made { IsAnswer
         (made_at matches.now breaks_usage plan_places breaks_choices) result }
@@ -42,6 +43,7 @@ pub fn breaks_found(alloc: Global, matches: &ArgMatches) -> Result<Invocation, W
     }))
 }
 
+// The command with its words side by side.
 pub fn flat_breaks(breaks: Breaks) -> Command
     ensures { command_in result ≡ to_breaks breaks }
 {

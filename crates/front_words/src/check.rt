@@ -19,6 +19,7 @@ pub struct Check {
     pub name: Text,
 }
 
+// The command that the words make which `clap` found.
 pub fn check_found(alloc: Global, matches: &ArgMatches) -> Result<Invocation, WordsFault>
     ensures made { IsAnswer (made_at matches.now check_usage check_places []) result }
     ensures supported { IfOk result AsksSupported }
@@ -30,6 +31,7 @@ pub fn check_found(alloc: Global, matches: &ArgMatches) -> Result<Invocation, Wo
     }))
 }
 
+// The command with its words side by side.
 pub fn flat_check(check: Check) -> Command
     ensures { command_in result ≡ to_check check }
 {

@@ -19,6 +19,7 @@ pub struct Explain {
     pub itinerary: Text,
 }
 
+// The command that the words make which `clap` found.
 pub fn explain_found(alloc: Global, matches: &ArgMatches) -> Result<Invocation, WordsFault>
     ensures made { IsAnswer (made_at matches.now explain_usage check_places []) result }
     ensures supported { IfOk result AsksSupported }
@@ -30,6 +31,7 @@ pub fn explain_found(alloc: Global, matches: &ArgMatches) -> Result<Invocation, 
     }))
 }
 
+// The command with its words side by side.
 pub fn flat_explain(explain: Explain) -> Command
     ensures { command_in result ≡ to_explain explain }
 {

@@ -57,6 +57,7 @@ pub fn gen_found(alloc: Global, matches: &ArgMatches) -> Result<Invocation, Word
     }
 }
 
+// The command with its words side by side.
 pub fn flat_gen(network: Gen) -> Command
     ensures { command_in result ≡ to_gen network }
 {

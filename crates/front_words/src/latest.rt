@@ -18,6 +18,7 @@ pub struct Latest {
     pub trip: Trip,
 }
 
+// The command that the words make which `clap` found.
 pub fn latest_found(alloc: Global, matches: &ArgMatches) -> Result<Invocation, WordsFault>
     ensures made { IsAnswer (made_at matches.now latest_usage plan_places []) result }
     ensures supported { IfOk result AsksSupported }
@@ -28,6 +29,7 @@ pub fn latest_found(alloc: Global, matches: &ArgMatches) -> Result<Invocation, W
     }))
 }
 
+// The command with its words side by side.
 pub fn flat_latest(latest: Latest) -> Command
     ensures { command_in result ≡ to_latest latest }
 {

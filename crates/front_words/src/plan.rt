@@ -27,6 +27,7 @@ pub const PLAN_CHOICES: &[&str] = &["form", "certificate"];
 
 pub const PLAN_OPTIONS: &[&str] = &["--form", "--certificate"];
 
+// The command that the words make which `clap` found.
 pub fn plan_found(alloc: Global, matches: &ArgMatches) -> Result<Invocation, WordsFault>
     ensures made { IsAnswer
         (made_at matches.now plan_usage plan_places plan_choices) result }
@@ -40,6 +41,7 @@ pub fn plan_found(alloc: Global, matches: &ArgMatches) -> Result<Invocation, Wor
     }))
 }
 
+// The command with its words side by side.
 pub fn flat_plan(plan: Plan) -> Command
     ensures { command_in result ≡ to_plan plan }
 {

@@ -19,6 +19,7 @@ pub struct Tour {
     pub stops: Text,
 }
 
+// The command that the words make which `clap` found.
 pub fn tour_found(alloc: Global, matches: &ArgMatches) -> Result<Invocation, WordsFault>
     ensures made { IsAnswer (made_at matches.now tour_usage check_places []) result }
     ensures supported { IfOk result AsksSupported }
@@ -30,6 +31,7 @@ pub fn tour_found(alloc: Global, matches: &ArgMatches) -> Result<Invocation, Wor
     }))
 }
 
+// The command with its words side by side.
 pub fn flat_tour(tour: Tour) -> Command
     ensures { command_in result ≡ to_tour tour }
 {

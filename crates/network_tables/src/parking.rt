@@ -236,7 +236,7 @@ impl<'a> ParkingTable<'a> {
         Ok(())
     }
 
-    // What a network holds of the table. Linear in it.
+    // The parking that a network holds, by the table. Linear in it.
     fn into_parks(self, alloc: Global) -> Result<Parks, OutOfMemory>
         requires { HaveTimetables (park_lists self) }
         ensures { IfOk result (λ parks. parks ≡ park_lists self.entry) }

@@ -1,4 +1,4 @@
--- What costs fit, and what stays of a part.
+-- Costs that fit, and the costs of a part that stay.
 use Rattle.std.proofs.Common.{ℕ, Option}
 use Rattle.route_base.specs.Legs.{CostsFit}
 use Rattle.propagation.proofs.Keeping.{within_kept}

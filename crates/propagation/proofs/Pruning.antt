@@ -1,4 +1,4 @@
--- What is prunable stays so: later, at a larger cost, over lawful steps, and by better pairs.
+-- Prunable positions stay so: later, at a larger cost, over lawful steps, and by better pairs.
 use Rattle.std.proofs.Common.{◌≡◌, inl, inr, ⊎_elim, ℕ, ◌+◌, ◌≤◌, ◌<◌, Option, Some, None, List, refl, sym, ◌∙◌, ap, subst, arith}
 use Rattle.route_base.specs.Itinerary.{Position, Step, drive, wait, Moves}
 use Rattle.route_base.specs.Relaxing.{HasPair, IsDominatedOrLate, AreBounds}

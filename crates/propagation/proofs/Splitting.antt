@@ -1,4 +1,4 @@
--- What is taken of the pending minutes of a node.
+-- The minutes that are taken from the pending ones of a node.
 use Rattle.std.proofs.Common.{◌≡◌, ◌⊎◌, inl, inr, ⊎_elim, ℕ, ◌-◌, ◌≤◌, ◌<◌, Bool, true, false, ◌&&◌, not, Option, Some, None, List, [], length, get_or, set}
 use Rattle.std.proofs.Common.{refl, sym, ◌∙◌, ap, subst}
 use Rattle.cost_functions.specs.Building.{AreBuilt}

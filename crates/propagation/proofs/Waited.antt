@@ -1,4 +1,4 @@
--- What waiting makes of costs, as the least cost of a wait from any of them.
+-- The costs that waits from given costs lead to, as the least of each minute.
 use Rattle.std.proofs.Common.{◌≡◌, ⊎_elim, ℕ, ◌+◌, ◌-◌, ◌*◌, ◌≤◌, ◌<◌, Bool, true, false, Option, Some, None, List, refl, sym, ◌∙◌, ap, arith}
 use Rattle.std.proofs.lemmas.Bool.{cases_lt}
 use Rattle.route_base.specs.Runs.{any_has}

@@ -39,7 +39,7 @@ impl Drop for Progress {
 }
 
 impl Progress {
-    // What a search has found, with the bounds that it went by.
+    // The findings of the search, with the bounds that it went by.
     pub fn into_found(self, bounds: Bounds) -> Found
         ensures { result ≡ record {
           pairs = self.pairs.items;

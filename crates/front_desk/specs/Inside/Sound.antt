@@ -1,4 +1,4 @@
--- What the proofs need of the meaning of each command (source: own).
+-- Facts of the meaning of each command, which its proofs need (source: own).
 use Rattle.std.specs.Prelude.{◌≡◌, ℕ, Option, List}
 use Rattle.route_base.specs.Contents.{Contents}
 use Rattle.route_base.specs.FolderState.{FolderState}
