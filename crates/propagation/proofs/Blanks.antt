@@ -69,7 +69,26 @@ module _ (k : Task) where
       zero_of : (t x : ℕ) → costs t ≡ Some x → t ≡ k.request.depart → x ≡ 0
       zero_of t x is at = let e : Some x ≡ Some 0 = sym is ∙ (ap costs at ∙ here) in cc
 
+-- nothing is pending at number 0
+none_at_zero : (sets : List (List Run)) (u t : ℕ) → u ≡ 0 → is_pending sets u t ≡ true → ⊥
+none_at_zero sets zero t e is = cc
+none_at_zero sets (suc i) t e is = omega (arith, e)
+
 -- the node that is taken out of the queue is at work
+module _ (sets : List (List Run)) (keys new_keys : List (Option ℕ)) (v key : ℕ) (taken : IsLeastTaken keys new_keys v key) where
+  pub queued_taken : ((u t : ℕ) → is_pending sets u t ≡ true → (u ≡ 0 → ⊥) → (key : ℕ) × (key_at keys u ≡ Some key))
+      → (u t : ℕ) → is_pending sets u t ≡ true → (u ≡ v → ⊥) → (key : ℕ) × (key_at new_keys u ≡ Some key)
+  queued_taken queued u t is other =
+      let q = queued u t is (λ e. none_at_zero sets u t e is) in
+      (q.0, taken.now.others u other ∙ q.1)
+
+  pub waiting_taken : ((u key : ℕ) → key_at keys u ≡ Some key → (t : ℕ) × (is_pending sets u t ≡ true))
+      → (u key : ℕ) → key_at new_keys u ≡ Some key → (t : ℕ) × (is_pending sets u t ≡ true)
+  waiting_taken waiting u at is = ⊎_elim
+      (λ (here : u ≡ v). let bad : None ≡ Some at = sym taken.now.here ∙ (ap (key_at new_keys) (sym here) ∙ is) in cc)
+      (λ (other : u ≡ v → ⊥). waiting u at (sym (taken.now.others u other) ∙ is))
+      (cases_eq u v)
+
 pub shaped_taken : (nodes v key : ℕ) (old new : ProgressHeld) → IsShaped nodes 0 old → new.functions ≡ old.functions → new.pending ≡ old.pending
     → AreBorders new.pairs.items new.borders.items → IsLeastTaken old.queue new.queue v key → IsShaped nodes v new
 shaped_taken nodes v key old new shape functions pending are taken = record {
@@ -77,29 +96,26 @@ shaped_taken nodes v key old new shape functions pending are taken = record {
   built = subst (λ w. All AreBuilt w.items) (sym functions) shape.built;
   pending = ap (λ w. length w.items) pending ∙ shape.pending;
   queue = taken.now.room ∙ shape.queue;
-  queued = λ u t is other.
-      let q = shape.queued u t (sym (ap (λ w. is_pending w.items u t) pending) ∙ is) (λ e. none u t e is) in
-      (q.0, taken.now.others u other ∙ q.1);
-  waiting = λ u at is. ⊎_elim
-      (λ (here : u ≡ v). let bad : None ≡ Some at = sym taken.now.here ∙ (ap (key_at new.queue) (sym here) ∙ is) in cc)
-      (λ (other : u ≡ v → ⊥). let w = shape.waiting u at (sym (taken.now.others u other) ∙ is) in (w.0, ap (λ x. is_pending x.items u w.0) pending ∙ w.1))
-      (cases_eq u v);
+  queued = λ u t is other. queued_taken old.pending.items old.queue new.queue v key taken shape.queued u t
+      (ap (λ w. is_pending w.items u t) (sym pending) ∙ is) other;
+  waiting = λ u at is.
+      let w = waiting_taken old.pending.items old.queue new.queue v key taken shape.waiting u at is in
+      (w.0, ap (λ x. is_pending x.items u w.0) pending ∙ w.1);
   borders = are;
 }
-  where
-    none : (u t : ℕ) → u ≡ 0 → is_pending new.pending.items u t ≡ true → ⊥
-    none zero t e is = cc
-    none (suc i) t e is = omega (arith, e)
 
--- where the queue is empty, no_part is pending
+-- where the queue is empty, nothing is pending
+pub idle_by : (sets : List (List Run)) (keys : List (Option ℕ))
+    → ((u t : ℕ) → is_pending sets u t ≡ true → (u ≡ 0 → ⊥) → (key : ℕ) × (key_at keys u ≡ Some key)) → ((v : ℕ) → key_at keys v ≡ None)
+    → (v t : ℕ) → is_pending sets v t ≡ false
+idle_by sets keys queued empty v t = by (is_pending sets v t) refl
+  where
+    by : (b : Bool) → is_pending sets v t ≡ b → is_pending sets v t ≡ false
+    by false is = is
+    by true is =
+        let q = queued v t is (λ e. none_at_zero sets v t e is) in
+        let bad : None ≡ Some q.0 = sym (empty v) ∙ q.1 in cc
+
 pub idle_at_end : (nodes : ℕ) (progress : ProgressHeld) → IsShaped nodes 0 progress → ((v : ℕ) → key_at progress.queue v ≡ None) → (v t : ℕ)
     → is_pending progress.pending.items v t ≡ false
-idle_at_end nodes progress shape empty v t = by v (is_pending progress.pending.items v t) refl
-  where
-    by : (u : ℕ) (b : Bool) → is_pending progress.pending.items u t ≡ b → is_pending progress.pending.items u t ≡ false
-    by u false is = is
-    by zero true is = refl
-    by (suc i) true is =
-        let apart : suc i ≡ 0 → ⊥ = λ e. omega (arith, e) in
-        let q = shape.queued (suc i) t is apart in
-        let bad : None ≡ Some q.0 = sym (empty (suc i)) ∙ q.1 in cc
+idle_at_end nodes progress shape empty = idle_by progress.pending.items progress.queue shape.queued empty

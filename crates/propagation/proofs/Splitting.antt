@@ -120,7 +120,7 @@ parts_are k v b borders taken next whole part old new bound same pairs are split
 
 -- node v gets a key, and each other node has the one that it had
 module _ (keys new_keys : List (Option ℕ)) where
-  key_put : (v put u : ℕ) → IsSet keys new_keys v (Some put) → ((u ≡ v → ⊥) → (key : ℕ) × (key_at keys u ≡ Some key))
+  pub key_put : (v put u : ℕ) → IsSet keys new_keys v (Some put) → ((u ≡ v → ⊥) → (key : ℕ) × (key_at keys u ≡ Some key))
       → (key : ℕ) × (key_at new_keys u ≡ Some key)
   key_put v put u is_put had = ⊎_elim
       (λ (here : u ≡ v). (put, ap (key_at new_keys) here ∙ is_put.here))
@@ -128,7 +128,7 @@ module _ (keys new_keys : List (Option ℕ)) where
       (cases_eq u v)
 
   -- a node with a key has pending minutes, if node v has some
-  pending_put : (old new : ℕ → ℕ → Bool) (v put u key : ℕ) → IsSet keys new_keys v (Some put) → ((w t : ℕ) → (w ≡ v → ⊥) → new w t ≡ old w t)
+  pub pending_put : (old new : ℕ → ℕ → Bool) (v put u key : ℕ) → IsSet keys new_keys v (Some put) → ((w t : ℕ) → (w ≡ v → ⊥) → new w t ≡ old w t)
       → (t : ℕ) × (new v t ≡ true) → ((w k : ℕ) → key_at keys w ≡ Some k → (t : ℕ) × (old w t ≡ true)) → key_at new_keys u ≡ Some key
       → (t : ℕ) × (new u t ≡ true)
   pending_put old new v put u key is_put others some waiting is = ⊎_elim
@@ -136,39 +136,46 @@ module _ (keys new_keys : List (Option ℕ)) where
       (λ (other : u ≡ v → ⊥). let w = waiting u key (sym (is_put.others u other) ∙ is) in (w.0, others u w.0 other ∙ w.1))
       (cases_eq u v)
 
+-- the queue after a part was taken from what is pending at node v
+module _ (v : ℕ) (taken : ℕ → Bool) (old new : ℕ → ℕ → Bool) (keys new_keys : List (Option ℕ)) where
+  pub queued_again : (next : Option ℕ) → IsSplit v taken next old new → IsRequeued v next keys new_keys
+      → ((u t : ℕ) → old u t ≡ true → (u ≡ v → ⊥) → (key : ℕ) × (key_at keys u ≡ Some key))
+      → (u t : ℕ) → new u t ≡ true → (key : ℕ) × (key_at new_keys u ≡ Some key)
+  queued_again None cut same queued u t is = ⊎_elim
+      (λ (here : u ≡ v). let bad : false ≡ true = sym (cut.none refl t) ∙ subst (λ w. new w t ≡ true) here is in cc)
+      (λ (other : u ≡ v → ⊥). let q = queued u t (sym (cut.others u t other) ∙ is) other in (q.0, ap (λ w. key_at w u) same ∙ q.1))
+      (cases_eq u v)
+  queued_again (Some first) cut put queued u t is =
+      key_put keys new_keys v put.0 u put.1 (λ other. queued u t (sym (cut.others u t other) ∙ is) other)
+
+  pub waiting_again : (next : Option ℕ) → IsSplit v taken next old new → IsRequeued v next keys new_keys → key_at keys v ≡ None
+      → ((u key : ℕ) → key_at keys u ≡ Some key → (t : ℕ) × (old u t ≡ true)) → (u key : ℕ) → key_at new_keys u ≡ Some key → (t : ℕ) × (new u t ≡ true)
+  waiting_again None cut same absent waiting u key is = ⊎_elim
+      (λ (here : u ≡ v). let bad : None ≡ Some key = sym absent ∙ (ap (key_at keys) (sym here) ∙ (ap (λ w. key_at w u) (sym same) ∙ is)) in cc)
+      (λ (other : u ≡ v → ⊥). let w = waiting u key (ap (λ w. key_at w u) (sym same) ∙ is) in (w.0, cut.others u w.0 other ∙ w.1))
+      (cases_eq u v)
+  waiting_again (Some first) cut put absent waiting u key is =
+      pending_put keys new_keys old new v put.0 u key put.1 cut.others (first, cut.left) waiting is
+
+  pub room_again : (next : Option ℕ) → IsRequeued v next keys new_keys → length new_keys ≡ length keys
+  room_again None same = ap (λ (w : List (Option ℕ)). length w) same
+  room_again (Some first) put = put.1.room
+
 pub shaped_again : (nodes v : ℕ) (taken : ℕ → Bool) (next : Option ℕ) (old new : ProgressHeld) → IsShaped nodes v old → key_at old.queue v ≡ None
     → IsSplit v taken next (is_pending old.pending.items) (is_pending new.pending.items) → IsRequeued v next old.queue new.queue
     → new.functions ≡ old.functions → length new.pending.items ≡ length old.pending.items → AreBorders new.pairs.items new.borders.items
     → IsShaped nodes 0 new
-shaped_again nodes v taken next old new shape absent split requeued functions pending are = by next split requeued
-  where
-    by : (o : Option ℕ) → IsSplit v taken o (is_pending old.pending.items) (is_pending new.pending.items) → IsRequeued v o old.queue new.queue
-        → IsShaped nodes 0 new
-    by None cut same = record {
-      functions = ap (λ w. length w.items) functions ∙ shape.functions;
-      built = subst (λ w. All AreBuilt w.items) (sym functions) shape.built;
-      pending = pending ∙ shape.pending;
-      queue = ap (λ (w : List (Option ℕ)). length w) same ∙ shape.queue;
-      queued = λ u t is work. ⊎_elim
-          (λ (here : u ≡ v). let bad : false ≡ true = sym (cut.none refl t) ∙ subst (λ w. is_pending new.pending.items w t ≡ true) here is in cc)
-          (λ (other : u ≡ v → ⊥). let q = shape.queued u t (sym (cut.others u t other) ∙ is) other in (q.0, ap (λ w. key_at w u) same ∙ q.1))
-          (cases_eq u v);
-      waiting = λ u key is. ⊎_elim
-          (λ (here : u ≡ v). let bad : None ≡ Some key = sym absent ∙ (ap (key_at old.queue) (sym here) ∙ (ap (λ w. key_at w u) (sym same) ∙ is)) in cc)
-          (λ (other : u ≡ v → ⊥). let w = shape.waiting u key (ap (λ w. key_at w u) (sym same) ∙ is) in (w.0, cut.others u w.0 other ∙ w.1))
-          (cases_eq u v);
-      borders = are;
-    }
-    by (Some t) cut put = record {
-      functions = ap (λ w. length w.items) functions ∙ shape.functions;
-      built = subst (λ w. All AreBuilt w.items) (sym functions) shape.built;
-      pending = pending ∙ shape.pending;
-      queue = put.1.room ∙ shape.queue;
-      queued = λ u s is work. key_put old.queue new.queue v put.0 u put.1 (λ other. shape.queued u s (sym (cut.others u s other) ∙ is) other);
-      waiting = λ u key is. pending_put old.queue new.queue (is_pending old.pending.items) (is_pending new.pending.items) v put.0 u key put.1 cut.others
-          (t, cut.left) shape.waiting is;
-      borders = are;
-    }
+shaped_again nodes v taken next old new shape absent split requeued functions pending are = record {
+  functions = ap (λ w. length w.items) functions ∙ shape.functions;
+  built = subst (λ w. All AreBuilt w.items) (sym functions) shape.built;
+  pending = pending ∙ shape.pending;
+  queue = room_again v taken (is_pending old.pending.items) (is_pending new.pending.items) old.queue new.queue next requeued ∙ shape.queue;
+  queued = λ u t is work. queued_again v taken (is_pending old.pending.items) (is_pending new.pending.items) old.queue new.queue
+      next split requeued shape.queued u t is;
+  waiting = waiting_again v taken (is_pending old.pending.items) (is_pending new.pending.items) old.queue new.queue
+      next split requeued absent shape.waiting;
+  borders = are;
+}
 
 -- a node with more pending minutes is in the queue
 pub shaped_awaited : (nodes h : ℕ) (more : ℕ → Bool) (old new : ProgressHeld) → IsShaped nodes 0 old → length new.functions.items ≡ length old.functions.items

@@ -1,5 +1,5 @@
 -- The findings of a search: the front, and the bounds and cost functions that show it (source: SEA 2020; the proof that nothing is missing is own).
-use Rattle.std.specs.Prelude.{◌≡◌, ◌⊎◌, ℕ, ◌+◌, ◌≤◌, Option, Some, None, List, length, All, Contains}
+use Rattle.std.specs.Prelude.{◌≡◌, ◌⊎◌, ℕ, ◌+◌, ◌≤◌, Option, Some, List, length, All, Contains}
 use Rattle.route_base.specs.Setting.{Setting}
 use Rattle.route_base.specs.Itinerary.{Position, Step, Moves}
 use Rattle.route_base.specs.Front.{IsFront, RiseAndFall}

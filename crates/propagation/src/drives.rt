@@ -42,7 +42,15 @@ fn place_for(
         return Ok(None);
     }
     let list = way.arc.closed as usize;
-    let place = ready_set(alloc, task, sets, list, closed, way.arc.minutes)?;
+    let place = ready_set(
+        alloc,
+        task.net,
+        task.request.until,
+        sets,
+        list,
+        closed,
+        way.arc.minutes,
+    )?;
     Ok(Some(place))
 }
 
@@ -157,7 +165,7 @@ fn waited(
 {
     let shut = task.net.shut_runs(h);
     let list = park.shut as usize;
-    let place = ready_set(alloc, task, sets, list, shut, 1)?;
+    let place = ready_set(alloc, task.net, task.request.until, sets, list, shut, 1)?;
     let allowed = &sets.lists[list][place].set;
     let with_waits = wait_with_spare(spares.take(alloc), costs, park.weight, allowed, last)?;
     Ok(with_waits)

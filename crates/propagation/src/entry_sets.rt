@@ -4,9 +4,8 @@ ghost use Rattle.route_base.specs.Net.{Net};
 ghost use Rattle.route_base.specs.Runs.{AreRuns};
 ghost use Rattle.propagation.specs.Inside.EntrySets.{AreEntries, IsEntrySet, AreEntrySets, HasEntriesAt};
 
-use crate::task::Task;
 use minute_sets::MinuteSet;
-use route_base::{Minute, OutOfMemory, Run};
+use route_base::{Minute, OutOfMemory, Run, TimedNet};
 use std::alloc::Global;
 
 /// The minutes at which a drive of this length can begin.
@@ -22,7 +21,7 @@ pub struct EntrySets {
     pub lists: Vec<Vec<EntrySet>>,
 }
 
-// No sets.
+/// No sets.
 pub fn no_entry_sets(alloc: Global) -> EntrySets
     ensures { result.lists.items ≡ [] }
 {
@@ -31,28 +30,28 @@ pub fn no_entry_sets(alloc: Global) -> EntrySets
     }
 }
 
-// The place of the set for drives of this length that avoid the list of closed runs at a place of the net; it is made if it isn't
-// there.
+/// The place of the set for drives of this length that end by the last minute and avoid the list of closed runs at a place of the net; it
+/// is made if it isn't there.
 #[inline(always)]
 pub fn ready_set(
     alloc: Global,
-    task: Task<'_>,
+    net: &TimedNet,
+    until: Minute,
     sets: &mut EntrySets,
     list: usize,
     closed: &[Run],
     minutes: u64,
 ) -> Result<usize, OutOfMemory>
     requires some { 1 ≤ minutes }
-    requires own { unwrap_or (slice_get task.net.now.closed list) [] ≡ closed.now }
-    requires entries { AreEntrySets task.net.now task.request.until sets.old }
+    requires own { unwrap_or (slice_get net.now.closed list) [] ≡ closed.now }
+    requires entries { AreEntrySets net.now until sets.old }
     ensures entries { OnOk result
-        (AreEntrySets task.entry.net.now task.entry.request.until sets.new) }
+        (AreEntrySets net.now until sets.new) }
     ensures list { OnOk result (list < length sets.new.lists.items) }
     ensures set { IfOk result
-        (HasEntriesAt closed.now task.entry.request.until minutes sets.new list) }
+        (HasEntriesAt closed.now until minutes sets.new list) }
 {
     make_room(alloc, sets, list)?;
-    let until = task.request.until;
     let place = place_of(alloc, &mut sets.lists[list], closed, until, minutes)?;
     Ok(place)
 }
@@ -111,7 +110,7 @@ fn is_for(list: &[EntrySet], place: usize, minutes: u64) -> bool
     }
 }
 
-// The minutes at which a drive of this length can begin where nothing is closed: those of one run, or none.
+/// The minutes at which a drive of this length can begin where nothing is closed: those of one run, or none.
 #[inline(always)]
 pub fn open_starts(until: Minute, minutes: u64) -> Option<Run>
     requires { 1 ≤ minutes }

@@ -42,5 +42,11 @@ mod turn_order;
 mod turns;
 mod ways;
 
+pub use entry_sets::{EntrySet, EntrySets, no_entry_sets, open_starts, ready_set};
 pub use found::Found;
+pub use pairs::add_pairs;
+pub use parts::{Split, end_of_turn, requeue, split_at};
+pub use progress::{await_at, first_of, lower_at};
 pub use searching::{search, search_over, search_with};
+pub use spares::Spares;
+pub use turn_order::turn_key;

@@ -10,8 +10,8 @@ ghost use Rattle.propagation.specs.Inside.Pairs.{AreBorders, TakesBorders, Takes
 use cost_functions::CostFn;
 use route_base::{Minute, OutOfMemory, Pair};
 
-// Adds the pairs of the costs that are offered to the goal, and takes out those that are worse. Only the first minute of a piece
-// can be one, since the later ones cost no less. The borders follow.
+/// Adds the pairs of the costs that are offered to the goal, and takes out those that are worse. Only the first minute of a piece
+/// can be one, since the later ones cost no less. The borders follow.
 pub fn add_pairs(
     pairs: &mut Vec<Pair>,
     borders: &mut Vec<Pair>,

@@ -23,11 +23,11 @@ use std::mem;
 // A turn takes the pieces that begin within an hour of the first pending minute, since later costs may still fall.
 const SPAN: u64 = 60;
 
-// The part that is taken, and the first minute that is left.
+/// The part that is taken, and the first minute that is left.
 #[derive(Drop)]
 pub struct Split {
-    taken: MinuteSet,
-    next: Option<Minute>,
+    pub taken: MinuteSet,
+    pub next: Option<Minute>,
 }
 
 // Takes a part of what is pending at a node that has left the queue, which is back in it if minutes are left.
@@ -72,12 +72,12 @@ pub fn part_of(
     )?;
     let Split { taken, next } = split;
     spares.put_set(taken)?;
-    requeue(task, &mut progress.queue, v, next, bound);
+    requeue(task.earliest, &mut progress.queue, v, next, bound);
     Ok(part)
 }
 
-// The end of the last piece of what is pending that begins within the span, so that no piece is split.
-fn end_of_turn(pieces: &[Piece], pending: &[Run], first: Minute) -> Minute
+/// The end of the last piece of what is pending that begins within the span of a turn, so that no piece is split.
+pub fn end_of_turn(pieces: &[Piece], pending: &[Run], first: Minute) -> Minute
     requires pieces { ArePieces pieces.now }
     requires first { first ≤ LAST_INSTANT }
     ensures { first < result }
@@ -108,9 +108,9 @@ fn last_piece_by(pieces: &[Piece], minute: Minute) -> Option<Piece>
     pieces[..count].last().copied()
 }
 
-// Takes the minutes before an end from what is pending at a node. Where these are all, the set itself is handed over; else they are
-// copied to a set that is done with.
-fn split_at(
+/// Takes the minutes before an end from what is pending at a node. Where these are all, the set itself is handed over; else they are
+/// copied to a set that is done with.
+pub fn split_at(
     alloc: Global,
     spares: &mut Spares,
     pending: &mut Vec<MinuteSet>,
@@ -145,8 +145,14 @@ fn ends_by(set: &MinuteSet, end: Minute) -> bool {
     }
 }
 
-// Puts the node back, if minutes are left.
-fn requeue(task: Task<'_>, queue: &mut LabelQueue, v: NodeId, next: Option<Minute>, bound: Bound)
+/// Puts the node back, if minutes are left.
+pub fn requeue(
+    earliest: Minute,
+    queue: &mut LabelQueue,
+    v: NodeId,
+    next: Option<Minute>,
+    bound: Bound,
+)
     requires low { 1 ≤ v.0 }
     requires high { v.0 ≤ length queue.old }
     requires absent { key_at queue.old v.0 ≡ None }
@@ -155,5 +161,5 @@ fn requeue(task: Task<'_>, queue: &mut LabelQueue, v: NodeId, next: Option<Minut
     let Some(first) = next else {
         return;
     };
-    queue.put(v, turn_key(task, first, bound));
+    queue.put(v, turn_key(earliest, first, bound));
 }

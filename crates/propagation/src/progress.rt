@@ -59,7 +59,7 @@ impl Progress {
     }
 }
 
-// Takes the lesser of the node's costs and the offered ones, in place, and answers where the offered ones are better.
+/// Takes the lesser of the node's costs and the offered ones, in place, and answers where the offered ones are better.
 #[inline(always)]
 pub fn lower_at(
     alloc: Global,
@@ -88,7 +88,7 @@ pub fn lower_at(
     Ok(improved)
 }
 
-// Adds minutes to those that are pending at a node, which is then in the queue, with no larger key than this.
+/// Adds minutes to those that are pending at a node, which is then in the queue, with no larger key than this.
 #[inline(always)]
 pub fn await_at(
     alloc: Global,
@@ -101,7 +101,7 @@ pub fn await_at(
 ) -> Result<(), OutOfMemory>
     requires low { 1 ≤ h.0 }
     requires high { h.0 ≤ length pending.old.items }
-    requires same { length queue.old ≡ length pending.old.items }
+    requires room { length pending.old.items ≤ length queue.old }
     ensures awaits { OnOk result
         (IsAwaited h.0 (any_has improved) (is_pending pending.old.items)
         (is_pending pending.new.items)) }
@@ -135,7 +135,7 @@ fn add_improved(
     spares.put_set(more)
 }
 
-// The first minute of a set.
+/// The first minute of a set.
 pub fn first_of(set: &MinuteSet) -> Option<Minute>
     ensures some { IfSome result (λ t. any_has set.now t ≡ true) }
     ensures none { IsNone result → (t : ℕ) → any_has set.now t ≡ false }

@@ -9,8 +9,8 @@ use std::alloc::Global;
 pub struct Spares {
     functions: Vec<CostFn>,
     sets: Vec<MinuteSet>,
-    pub pieces: Vec<Piece>,
-    pub ways: Vec<OutgoingArc>,
+    pub(crate) pieces: Vec<Piece>,
+    pub(crate) ways: Vec<OutgoingArc>,
 }
 
 // By hand, so that the drops of its parts are proved here alone.

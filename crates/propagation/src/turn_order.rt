@@ -1,5 +1,4 @@
 // The order in which nodes have their turns. No clause fixes it: another order takes other times and finds the same.
-use crate::task::Task;
 use route_base::{Bound, Bounds, Minute, Request};
 
 // Delays of less than NEAR minutes are told apart by steps of FINE minutes, longer ones by steps of COARSE minutes.
@@ -20,14 +19,12 @@ pub fn earliest_arrival(bounds: &Bounds, request: Request) -> Minute {
     }
 }
 
-/// The key of a node by its first pending minute: the step of its delay, by how many minutes one would be later at the goal than at the
+/// The key of a node by its first pending minute, and the earliest arrival at the goal by the bounds: the step of its delay, by how many minutes one would be later at the goal than at the
 /// earliest, and in a step the minute itself. While nothing delays the trip the search goes straight to the goal. Once it waits, minutes
 /// come in their order, so that a turn finds what leads to its minutes done, and mostly needs no second turn.
 #[inline(always)]
-pub fn turn_key(task: Task<'_>, first: Minute, bound: Bound) -> u64 {
-    let delay = first
-        .saturating_add(bound.minutes)
-        .saturating_sub(task.earliest);
+pub fn turn_key(earliest: Minute, first: Minute, bound: Bound) -> u64 {
+    let delay = first.saturating_add(bound.minutes).saturating_sub(earliest);
     step_of(delay).saturating_mul(1 << 32).saturating_add(first)
 }
 

@@ -215,7 +215,7 @@ pub fn take_at(
     let Some(first) = first_of(&improved) else {
         return spares.put_set(improved);
     };
-    let key = turn_key(task, first, bound);
+    let key = turn_key(task.earliest, first, bound);
     await_at(
         alloc,
         spares,

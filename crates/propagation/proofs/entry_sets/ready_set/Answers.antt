@@ -8,21 +8,21 @@ use Rattle.propagation.proofs.entry_sets.ready_set.Goals as goal
 
 pub place_of-requires-clause-made : goal.place_of-requires-clause-made
 place_of-requires-clause-made c =
-    let net = c.args.task.net.now in
-    let until = c.args.task.request.until in
+    let net = c.args.net.now in
+    let until = c.args.until in
     sets_at net until c.make_room.new.sets c.args.list c.args.closed.now c.index_mut.result.now
     (c.in_ok-make_room.ensures.kept net until c.requires.entries) c.requires.own c.in_ok-make_room.ensures.within c.index_mut.ensures.value
 
 pub returns-clause-entries : goal.returns-clause-entries
 returns-clause-entries c =
-    let net = c.args.task.net.now in
-    let until = c.args.task.request.until in
+    let net = c.args.net.now in
+    let until = c.args.until in
     sets_kept net until c.make_room.new.sets _ c.args.list c.args.closed.now c.place_of.new.list
     (c.in_ok-make_room.ensures.kept net until c.requires.entries) c.requires.own c.in_ok-make_room.ensures.within refl c.in_ok-place.ensures.made
 
 pub returns-clause-set : goal.returns-clause-set
 returns-clause-set c =
-    let until = c.args.task.request.until in
+    let until = c.args.until in
     let own = c.place_of.new.list in
     let place = c.in_ok-place.place in
     record {

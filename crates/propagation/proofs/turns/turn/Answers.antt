@@ -53,11 +53,13 @@ drive_all-requires-clause-facts c = parts_keep (task_of c.args.task) c.args.v.0 
 pub returns-clause-less : goal.returns-clause-less
 returns-clause-less c =
     let k = task_of c.args.task in
-    let less = parts_fall k c.args.task.net.now.nodes c.args.task.request.until (progress_of c.args.progress.now)
-    (progress_of c.part_of.new.progress) c.args.v.0
-    (value_at c.in_ok-part.part) c.in_ok-part.ensures.parts c.requires.high
-    (λ t is. (pending_bound k (progress_of c.args.progress.now) c.args.v.0 t c.requires.facts is).2) in
-    let rest = improves_falls k c.args.task.net.now.nodes c.args.task.request.until (progress_of c.part_of.new.progress)
-    (progress_of c.drive_all.new.progress) c.in_ok-drive_all.ensures.better
+    let old = progress_of c.args.progress.now in
+    let parts = c.in_ok-part.ensures.parts in
+    let better = c.in_ok-drive_all.ensures.better in
+    let less = parts_fall c.args.task.net.now.nodes c.args.task.request.until old (progress_of c.part_of.new.progress)
+    parts.cost parts.less c.args.v.0 parts.some.0 parts.some.1 parts.some.2 c.requires.high
+    (pending_bound k old c.args.v.0 parts.some.0 c.requires.facts parts.some.1).2 in
+    let rest = improves_falls c.args.task.net.now.nodes c.args.task.request.until (progress_of c.part_of.new.progress)
+    (progress_of c.drive_all.new.progress) better.less better.cause
     (small_costs k (progress_of c.drive_all.new.progress) c.requires.asked.fit c.in_ok-drive_all.ensures.facts.sound) in
     omega (arith, less, rest)

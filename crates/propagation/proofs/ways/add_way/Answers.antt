@@ -1,13 +1,8 @@
-use Rattle.std.proofs.Common.{◌≡◌, inl, inr, Option, Some, None, sym, ◌∙◌, ap, subst, arith, rules}
-use Rattle.route_base.specs.Itinerary.{Position}
-use Rattle.route_base.specs.Net.{at_number}
-use Rattle.route_base.specs.declared.types.TimedArc.{TimedArc}
+use Rattle.std.proofs.Common.{inl, inr, sym, ◌∙◌, ap, subst, rules}
 use Rattle.cost_functions.specs.Pieces.{value_at}
-use Rattle.potentials.specs.Sums.{bound_at}
 use Rattle.propagation.specs.Found.{cost_at}
-use Rattle.propagation.specs.Inside.Invariants.{point}
 use Rattle.propagation.specs.Inside.States.{HasArc}
-use Rattle.propagation.proofs.Gathering.{added_in, kept_in, no_way_on}
+use Rattle.propagation.proofs.Gathering.{added_in, kept_in}
 use Rattle.propagation.proofs.Lowering.{value_is}
 use Rattle.propagation.proofs.Rejected.{drive_known}
 use Rattle.propagation.proofs.ways.add_way.Goals as goal

@@ -1,0 +1,6 @@
+-- What labels and the table of states keep, which is no law (source: own).
+pub mod Codes
+pub mod Cuts
+pub mod Labels
+pub mod Services
+pub mod Tables

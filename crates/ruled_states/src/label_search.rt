@@ -1,0 +1,212 @@
+// A search for labels. Nothing is proved of them here: `label_check` tests them.
+ghost use Rattle.std.specs.Prelude.{◌≡◌, ◌≤◌};
+ghost use Rattle.route_base.specs.Net.{road_of};
+ghost use Rattle.ruled_states.specs.Inside.Labels.{counting_of};
+ghost use Rattle.ruled_states.specs.Inside.Services.{service_at};
+
+use crate::labels::Label;
+use crate::radix_queue::{Entry, RadixQueue};
+use crate::rulers::{Ruler, Service};
+use node_arcs::NodeArcs;
+use route_base::{NodeId, OutOfMemory, Park, TimedArc, TimedNet};
+use std::alloc::Global;
+
+/// The quantity of which a search finds the least sums.
+#[derive(Clone, Copy)]
+pub enum Counted {
+    Minutes,
+    Cost,
+}
+
+impl Counted {
+    pub fn of_drive(self, arc: TimedArc) -> u64
+        ensures { result ≡ (counting_of self).of_drive (road_of arc) }
+    {
+        match self {
+            Counted::Minutes => arc.minutes,
+            Counted::Cost => arc.cost,
+        }
+    }
+
+    pub fn of_rest(self, rest: u64, park: Park) -> u64
+        ensures { result ≤ (counting_of self).of_rest rest park.weight }
+    {
+        match self {
+            Counted::Minutes => rest,
+            Counted::Cost => rest.saturating_mul(park.weight),
+        }
+    }
+
+    pub fn of_service(self, service: Service) -> u64
+        ensures { result ≡ (counting_of self).of_service (service_at service) }
+    {
+        match self {
+            Counted::Minutes => service.minutes,
+            Counted::Cost => 0,
+        }
+    }
+}
+
+/// The net, the rules and the goal.
+#[derive(Drop)]
+pub struct Ground<'a, R> {
+    pub net: &'a TimedNet,
+    pub incoming: &'a NodeArcs,
+    pub ruler: &'a R,
+    pub goal: NodeId,
+}
+
+#[derive(Drop)]
+struct Search {
+    kept: Vec<Vec<Label>>,
+    queue: RadixQueue,
+}
+
+// Whether a label with this need is dominated by one of these, whose values are no larger.
+#[inline(always)]
+fn is_dominated<R: Ruler>(ruler: &R, kept: &[Label], need: u64) -> bool {
+    for label in kept.iter().rev() {
+        if ruler.is_no_worse(label.need, need) {
+            return true;
+        }
+    }
+    false
+}
+
+impl Search {
+    fn offer<R: Ruler>(
+        &mut self,
+        ruler: &R,
+        node: NodeId,
+        label: Label,
+    ) -> Result<(), OutOfMemory> {
+        if let Some(kept) = self.kept.get(node.0 as usize) {
+            if is_dominated(ruler, kept.as_slice(), label.need) {
+                return Ok(());
+            }
+        }
+        self.queue.push(Entry {
+            value: label.value,
+            need: label.need,
+            node: node.0,
+        })
+    }
+
+    fn keep<R: Ruler>(
+        &mut self,
+        ruler: &R,
+        node: NodeId,
+        label: Label,
+    ) -> Result<bool, OutOfMemory> {
+        let Some(kept) = self.kept.get_mut(node.0 as usize) else {
+            return Ok(false);
+        };
+        if is_dominated(ruler, kept.as_slice(), label.need) {
+            return Ok(false);
+        }
+        kept.push(label)?;
+        Ok(true)
+    }
+
+    fn drive_back<R: Ruler>(
+        &mut self,
+        ground: &Ground<'_, R>,
+        counted: Counted,
+        arc: TimedArc,
+        label: Label,
+    ) -> Result<(), OutOfMemory> {
+        let Some(need) = ground.ruler.drive(label.need, arc.minutes) else {
+            return Ok(());
+        };
+        let value = label.value.saturating_add(counted.of_drive(arc));
+        self.offer(ground.ruler, arc.tail, Label { value, need })
+    }
+
+    fn rest_before<R: Ruler>(
+        &mut self,
+        ground: &Ground<'_, R>,
+        counted: Counted,
+        node: NodeId,
+        label: Label,
+    ) -> Result<(), OutOfMemory> {
+        let Some(park) = ground.net.park(node) else {
+            return Ok(());
+        };
+        for rest in ground.ruler.rests() {
+            let need = ground.ruler.rest(label.need, *rest);
+            if need != label.need {
+                let value = label.value.saturating_add(counted.of_rest(*rest, park));
+                self.offer(ground.ruler, node, Label { value, need })?;
+            }
+        }
+        Ok(())
+    }
+
+    fn serve_before<R: Ruler>(
+        &mut self,
+        ground: &Ground<'_, R>,
+        counted: Counted,
+        node: NodeId,
+        label: Label,
+    ) -> Result<(), OutOfMemory> {
+        for place in 0..ground.ruler.service_count() {
+            if let Some(service) = ground.ruler.service(place) {
+                if service.node == node {
+                    if let Some(need) = ground.ruler.unserve(label.need, place) {
+                        let value = label.value.saturating_add(counted.of_service(service));
+                        self.offer(ground.ruler, node, Label { value, need })?;
+                    }
+                }
+            }
+        }
+        Ok(())
+    }
+
+    fn go_back<R: Ruler>(
+        &mut self,
+        ground: &Ground<'_, R>,
+        counted: Counted,
+        node: NodeId,
+        label: Label,
+    ) -> Result<(), OutOfMemory> {
+        for a in ground.incoming.of(node) {
+            if let Some(arc) = ground.net.arc(*a) {
+                self.drive_back(ground, counted, arc, label)?;
+            }
+        }
+        self.rest_before(ground, counted, node, label)?;
+        self.serve_before(ground, counted, node, label)
+    }
+}
+
+// The labels of each node that are not dominated, by rising value up to a highest one.
+pub fn found_labels<R: Ruler>(
+    alloc: Global,
+    ground: &Ground<'_, R>,
+    counted: Counted,
+    most: u64,
+) -> Result<Vec<Vec<Label>>, OutOfMemory> {
+    let mut lists = Vec::new(alloc);
+    for _ in 0..ground.net.node_count() as u64 + 1 {
+        lists.push(Vec::new(alloc))?;
+    }
+    let mut search = Search {
+        kept: lists,
+        queue: RadixQueue::new(alloc)?,
+    };
+    let need = ground.ruler.last();
+    search.offer(ground.ruler, ground.goal, Label { value: 0, need })?;
+    for _ in 0..u64::MAX {
+        let Some(Entry { value, need, node }) = search.queue.pop(alloc)? else {
+            return Ok(search.kept);
+        };
+        if value > most {
+            return Ok(search.kept);
+        }
+        let label = Label { value, need };
+        if search.keep(ground.ruler, NodeId(node), label)? {
+            search.go_back(ground, counted, NodeId(node), label)?;
+        }
+    }
+    Ok(search.kept)
+}

@@ -1,0 +1,73 @@
+// Labels of nodes, and the bounds of states by them.
+ghost use Rattle.std.specs.Prelude.{◌≡◌, map};
+ghost use Rattle.function_merge.specs.Least.{least_of};
+ghost use Rattle.ruled_states.specs.Inside.Labels.{fit_value, least_fit, label_bound, labels_at, lists_of};
+
+use crate::rulers::Ruler;
+use route_base::{Bound, NodeId};
+
+/// A way from a node to the goal: what is counted of it, and the state that it needs to be allowed.
+#[derive(Clone, Copy)]
+pub struct Label {
+    pub value: u64,
+    pub need: u64,
+}
+
+/// For each node, from 0 on, the labels of least minutes and of least costs.
+#[derive(Drop)]
+pub struct Labels {
+    pub minutes: Vec<Vec<Label>>,
+    pub costs: Vec<Vec<Label>>,
+}
+
+// The lesser of a value and that of a label, if it fits after a state.
+#[inline(always)]
+fn better_fit<R: Ruler>(ruler: &R, least: Option<u64>, state: u64, label: Label) -> Option<u64>
+    ensures { result ≡ least_of least (fit_value (R.ruling ruler.now) state label) }
+{
+    if !ruler.fits(state, label.need) {
+        return least;
+    }
+    match least {
+        Some(known) => Some(known.min(label.value)),
+        None => Some(label.value),
+    }
+}
+
+// The least value of a label that fits after a state.
+#[inline(always)]
+fn least_within<R: Ruler>(ruler: &R, labels: &[Label], state: u64) -> Option<u64>
+    ensures { result ≡ least_fit (R.ruling ruler.now) labels.now state }
+{
+    let mut least: Option<u64> = None;
+    let mut left = labels;
+    'fits: while let [label, rest @ ..] = left {
+        least = better_fit(ruler, least, state, *label);
+        left = rest;
+    }
+    least
+}
+
+// The labels of a node.
+#[inline(always)]
+pub fn labels_of(lists: &[Vec<Label>], node: NodeId) -> &[Label]
+    ensures { result.now ≡ labels_at (lists_of lists.now) node.0 }
+{
+    match lists.get(node.0 as usize) {
+        Some(labels) => labels.as_slice(),
+        None => &[],
+    }
+}
+
+impl Labels {
+    /// The bound of a state at a node; none where no label fits.
+    #[inline(always)]
+    pub fn bound<R: Ruler>(&self, ruler: &R, node: NodeId, state: u64) -> Option<Bound>
+        ensures { result ≡ label_bound (R.ruling ruler.now) (lists_of self.now.minutes.items)
+            (lists_of self.now.costs.items) node.0 state }
+    {
+        let minutes = least_within(ruler, labels_of(&self.minutes, node), state)?;
+        let cost = least_within(ruler, labels_of(&self.costs, node), state)?;
+        Some(Bound { minutes, cost })
+    }
+}

@@ -1,0 +1,24 @@
+//! Rulers, which say what a driver may do; bounds to a goal for each node and state of a ruler; the states that a search under a ruler
+//! has reached, by number; and what of a state's costs no better state of its node dominates.
+//!
+//! The bounds are found by a search over labels of nodes (`label_search`), of which nothing is proved, and checked in one pass over the
+//! arcs and labels (`label_check`): for each arc and label of its head, its tail has a label that is as good. So they hold along each
+//! drive, rest and service of each state (`AreRuledBounds` of `state_dominance`), though no state is made.
+#![tactic(auto)]
+
+mod dominance;
+mod label_check;
+mod label_search;
+mod labels;
+mod laws;
+mod radix_queue;
+mod rulers;
+mod table;
+
+pub use dominance::undominated;
+pub use label_check::ruled_labels;
+pub use label_search::Ground;
+pub use labels::{Label, Labels};
+pub use laws::{cuts_are_narrow, merges_by_code};
+pub use rulers::{OneRule, Ruler, Service};
+pub use table::{Info, Place, Table};

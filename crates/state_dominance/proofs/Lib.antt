@@ -1,0 +1,11 @@
+pub mod Pruned
+pub mod Finishing
+pub mod Narrowing
+pub mod Keeping
+pub mod Parting
+pub mod Roads
+pub mod Simulating
+pub mod OneRuled
+pub mod Served
+pub mod Widening
+pub mod Relaxing

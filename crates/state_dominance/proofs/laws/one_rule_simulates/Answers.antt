@@ -1,0 +1,8 @@
+use Rattle.state_dominance.proofs.OneRuled.{simulates, fitting}
+use Rattle.state_dominance.proofs.laws.one_rule_simulates.Goals as goal
+
+pub returns-clause-simulates : goal.returns-clause-simulates
+returns-clause-simulates c = λ drive rest. simulates drive rest
+
+pub returns-clause-fits : goal.returns-clause-fits
+returns-clause-fits c = λ drive rest. fitting drive rest

@@ -1,0 +1,4 @@
+pub mod Inside
+pub mod OneRule
+pub mod Words
+pub mod Serving

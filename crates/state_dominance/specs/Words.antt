@@ -1,0 +1,7 @@
+-- The words of the crate's clauses (source: own).
+pub use Rattle.propagation.specs.Inside.Invariants.{Progress, no_part, point}
+pub use Rattle.state_dominance.specs.Inside.Dominance.{Task, IsSimulation, AreBoundsAlong, IsSearching, IsResting, IsAchievedIn, IsRelaxedIn, IsDominated, DrivesRelaxed}
+pub use Rattle.state_dominance.specs.Inside.Taking.{TakesOffer, TakesPart, IsOffer, IsWide, IsNarrowed, IsFirstOffer}
+pub use Rattle.front_transport.specs.ParetoFronts.{IsParetoFront, ArrivesBefore}
+pub use Rattle.route_base.specs.Front.{IsNoWorse}
+pub use Rattle.state_dominance.specs.Inside.Product.{Ruler, IsSimulating, IsFitting, IsBase, AreRuledBounds, task_over}
