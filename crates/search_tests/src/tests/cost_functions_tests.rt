@@ -3,7 +3,7 @@ ghost use Rattle.std.specs.Prelude.{IfOk};
 ghost use Rattle.cost_functions.specs.Pieces.{AreSmallPieces};
 
 use cost_functions::{Builder, CostFn, Piece, held_for};
-use route_base::OutOfMemory;
+use route_base::{Cost, Minute, OutOfMemory};
 use std::alloc::Global;
 
 const LONG: Piece = Piece {
@@ -55,13 +55,28 @@ fn has_values(f: &CostFn) -> bool {
     true
 }
 
+const POINTS: &[(Minute, Cost)] = &[(1, 5), (2, 7), (3, 9), (5, 0)];
+
+const MADE: &[Piece] = &[LONG, FREE];
+
+const SINGLE: &[Piece] = &[LATE];
+
+// Whether the function of the points has their pieces and values.
+fn is_made(alloc: Global) -> Result<bool, OutOfMemory> {
+    let made = CostFn::from_points(alloc, POINTS)?;
+    Ok(made.pieces() == MADE && has_values(&made))
+}
+
+// Whether the function of one point is one piece.
+fn is_single(alloc: Global) -> Result<bool, OutOfMemory> {
+    let pieces = CostFn::single(alloc, 7, 4)?.into_pieces();
+    Ok(pieces.as_slice() == SINGLE)
+}
+
 #[test]
 fn makes_functions_of_points(rt: HostRuntime) {
-    let points = [(1, 5), (2, 7), (3, 9), (5, 0)];
-    let made = CostFn::from_points(rt.alloc(), &points).expect(&rt, "memory");
-    assert!(rt; made.pieces() == [LONG, FREE].as_slice() && has_values(&made));
-    let one = CostFn::single(rt.alloc(), 7, 4).expect(&rt, "memory");
-    assert!(rt; one.into_pieces().as_slice() == [LATE].as_slice());
+    assert!(rt; is_made(rt.alloc()) == Ok(true));
+    assert!(rt; is_single(rt.alloc()) == Ok(true));
     assert!(rt; CostFn::empty(rt.alloc()).at(7) == None);
     assert!(rt; LONG.value(3) == 9 && held_for(7, 3, 1, 10) == 3);
 }
@@ -83,13 +98,24 @@ fn built(alloc: Global) -> Result<CostFn, OutOfMemory> {
     Ok(longer.finish())
 }
 
+// The first two minutes in one piece.
+const SHORT: &[Piece] = &[Piece { hi: 2, ..LONG }];
+
+// Whether the pieces of the first two minutes become one.
+fn is_reduced(alloc: Global) -> Result<bool, OutOfMemory> {
+    let apart = apart(alloc)?;
+    let reduced = apart.reduce(alloc)?;
+    Ok(!apart.is_reduced() && reduced.is_reduced() && reduced.pieces() == SHORT)
+}
+
+// Whether the same is built.
+fn is_built(alloc: Global) -> Result<bool, OutOfMemory> {
+    let built = built(alloc)?;
+    Ok(built.pieces() == SHORT)
+}
+
 #[test]
 fn reduces_and_builds(rt: HostRuntime) {
-    let long = [Piece { hi: 2, ..LONG }];
-    let apart = apart(rt.alloc()).expect(&rt, "memory");
-    assert!(rt; !apart.is_reduced());
-    let reduced = apart.reduce(rt.alloc()).expect(&rt, "memory");
-    assert!(rt; reduced.is_reduced() && reduced.pieces() == long.as_slice());
-    let built = built(rt.alloc()).expect(&rt, "memory");
-    assert!(rt; built.pieces() == long.as_slice());
+    assert!(rt; is_reduced(rt.alloc()) == Ok(true));
+    assert!(rt; is_built(rt.alloc()) == Ok(true));
 }
