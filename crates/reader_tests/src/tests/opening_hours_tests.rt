@@ -3,141 +3,123 @@ use super::is_printed;
 use opening_hours::{Holidays, Hours, HoursFault, covers, parse, print, spans_on};
 use std::alloc::{AllocError, Global};
 
-// Texts, and the canonical text of each, which is empty where the text has no rules.
-const TEXTS: &[(&str, &str)] = &[
-    (
-        "Jul-Aug: Mo,We 8:00-12:00, 13:00-17:00 open",
-        "Jul 01-Aug 31 Mo,We 08:00-12:00,13:00-17:00",
-    ),
-    ("24/7", "00:00-24:00"),
-    ("Fr 22:00-06:00", "Fr 22:00-30:00"),
-    ("Sa 22:00-Su 24:00", "Sa 22:00-Mo 00:00"),
-    ("Mo 08:00-12:00 off", ""),
-    ("Mo 25:00-26:00", ""),
-    ("", ""),
-    ("Jul", "Jul 01-Jul 31 00:00-24:00"),
-    ("Jul:", "Jul 01-Jul 31 00:00-24:00"),
-    ("Jul: open", "Jul 01-Jul 31 00:00-24:00"),
-    ("Nov-Feb 06:00-07:00", "Nov 01-Feb 31 06:00-07:00"),
-    ("Dec 24", "Dec 24-Dec 24 00:00-24:00"),
-    ("Dec 24-26 off", "Dec 24-Dec 26 off"),
-    ("Dec 24-Jan 06: off", "Dec 24-Jan 06 off"),
-    ("Jul 5-Aug 7,Oct", "Jul 05-Aug 07,Oct 01-Oct 31 00:00-24:00"),
-    (
-        "Jan-Jan,Feb-Mar,Apr,May,Jun,Sep 1 off",
-        "Jan 01-Jan 31,Feb 01-Mar 31,Apr 01-Apr 31,May 01-May 31,Jun 01-Jun 31,Sep 01-Sep 01 off",
-    ),
-    ("Feb 30", "Feb 30-Feb 30 00:00-24:00"),
-    ("Feb 32", ""),
-    ("Jul 00", ""),
-    ("Jan 01,06", ""),
-    ("Jul 05-29:08:00-12:00", ""),
-    ("Jul 05-29: 08:00-12:00", "Jul 05-Jul 29 08:00-12:00"),
-    ("Jul12:00-13:00", "Jul 01-Jul 31 12:00-13:00"),
-    ("Jul 12 12:00-13:00", "Jul 12-Jul 12 12:00-13:00"),
-    ("Jul::", ""),
-    (": 08:00-12:00", ""),
-    ("Jul-", ""),
-    ("Jul,", ""),
-    ("Jul-Aug 7", ""),
-    ("2024 Jul", ""),
-    ("Mo-Fr", "Mo-Fr 00:00-24:00"),
-    ("Mo-Mo", "Mo 00:00-24:00"),
-    ("Th-Tu,PH,SH 09:00-10:00", "Th-Tu,PH,SH 09:00-10:00"),
-    ("PH off; SH closed", "PH off; SH off"),
-    ("PH Mo 08:00-09:00", ""),
-    ("Mo SH", ""),
-    ("Mo-PH", ""),
-    ("mo 08:00-09:00", ""),
-    ("MO", ""),
-    ("Mo08:00-09:00", "Mo 08:00-09:00"),
-    ("Mo:08:00-09:00", ""),
-    ("8:00-8:00", "08:00-32:00"),
-    ("23:59-00:00", "23:59-24:00"),
-    ("24:00-25:00", ""),
-    ("22:00-48:00", "22:00-48:00"),
-    ("22:00-48:01", ""),
-    ("08:60-09:00", ""),
-    ("08:00-09:60", ""),
-    ("17:00+", ""),
-    ("08:00", ""),
-    ("8:0-9:00", ""),
-    ("008:00-09:00", ""),
-    ("08:000-09:00", ""),
-    ("08:00 - 09:00", "08:00-09:00"),
-    ("08 :00-09:00", ""),
-    ("sunrise-sunset", ""),
-    ("open", ""),
-    ("off", "off"),
-    ("closed", "off"),
-    ("24/7 open", "00:00-24:00"),
-    ("24/7open", "00:00-24:00"),
-    ("24/7 off", ""),
-    ("Jul 24/7", ""),
-    ("24/7;PH off", "00:00-24:00; PH off"),
-    ("08:00-12:00 open open", ""),
-    ("08:00-12:00open", "08:00-12:00"),
-    ("08:00-12:00off", ""),
-    ("Mooff", ""),
-    ("Mo Off", ""),
-    ("Mo 08:00-12:00;", ""),
-    (";Mo", ""),
-    ("Mo; ;Tu", ""),
-    ("Mo 08:00-12:00, Tu 09:00-10:00", ""),
-    ("Mo || Tu", ""),
-    (" 24/7", ""),
-    ("24/7 ", ""),
-    (
-        "Mo\t-  Tu\t08:00 -\t09:00 ; Sa",
-        "Mo-Tu 08:00-09:00; Sa 00:00-24:00",
-    ),
-    ("Sa 22:00-Su 22:00", "Sa 22:00-Su 22:00"),
-    ("Mo 08:00-Mo 08:00", "Mo 08:00-Mo 08:00"),
-    ("Mo 09:00-Mo 08:00", "Mo 09:00-Mo 08:00"),
-    (
-        "Jul: Fr 20:00-Mo 06:00 open",
-        "Jul 01-Jul 31 Fr 20:00-Mo 06:00",
-    ),
-    ("Fr 24:00-Mo 06:00", ""),
-    ("Fr 22:00-Mo 24:01", ""),
-    ("Fr 22:00-We 24:00", "Fr 22:00-Th 00:00"),
-    ("Fr 22:00-Mo 06:00 off", ""),
-    ("Fr,Sa 20:00-Su 06:00", ""),
-    ("Fr 20:00-Mo 06:00,Tu 07:00-We 08:00", ""),
-    ("Su[1]", "Su[1] 00:00-24:00"),
-    ("Su [1]", "Su[1] 00:00-24:00"),
-    ("Su[ -1 ]", "Su[-1] 00:00-24:00"),
-    ("Su[-1] off", "Su[-1] off"),
-    ("Mo[1]-Fr", ""),
-    ("Su[0]", ""),
-    ("Su[5]", "Su[5] 00:00-24:00"),
-    ("Su[6]", ""),
-    ("Su[01]", ""),
-    ("Su[-05]", ""),
-    ("Su[+1]", ""),
-    ("Su[1,3]", ""),
-    ("Su[1-2]", ""),
-    ("Su[1]-Mo", ""),
-    ("Su[--1]", ""),
-    ("Su[]", ""),
-    ("Su[1", ""),
-    ("Su 1]", ""),
-    ("[1]", ""),
-    ("PH[1]", ""),
-    ("Su[1:30]", ""),
-    ("Su 5", ""),
-    ("Fr [ - 1 ] 8:00-9:00", "Fr[-1] 08:00-09:00"),
-    (
-        "Jul Su[1],PH,Fr[-2],Mo-We 08:00-12:00",
-        "Jul 01-Jul 31 Su[1],PH,Fr[-2],Mo-We 08:00-12:00",
-    ),
-    (
-        "Jul 5:Su[2]off;24/7",
-        "Jul 05-Jul 05 Su[2] off; 00:00-24:00",
-    ),
-    ("Su[1] 22:00-Mo 06:00", ""),
-    ("Sa 22:00-Su[1] 06:00", ""),
-];
+// In each row a text, and behind `~` its canonical text, which is empty where the text has no rules.
+const TEXTS: &str = "\
+Jul-Aug: Mo,We 8:00-12:00, 13:00-17:00 open~Jul 01-Aug 31 Mo,We 08:00-12:00,13:00-17:00
+24/7~00:00-24:00
+Fr 22:00-06:00~Fr 22:00-30:00
+Sa 22:00-Su 24:00~Sa 22:00-Mo 00:00
+Mo 08:00-12:00 off~
+Mo 25:00-26:00~
+~
+Jul~Jul 01-Jul 31 00:00-24:00
+Jul:~Jul 01-Jul 31 00:00-24:00
+Jul: open~Jul 01-Jul 31 00:00-24:00
+Nov-Feb 06:00-07:00~Nov 01-Feb 31 06:00-07:00
+Dec 24~Dec 24-Dec 24 00:00-24:00
+Dec 24-26 off~Dec 24-Dec 26 off
+Dec 24-Jan 06: off~Dec 24-Jan 06 off
+Jul 5-Aug 7,Oct~Jul 05-Aug 07,Oct 01-Oct 31 00:00-24:00
+Jan-Jan,Feb-Mar,Apr,May,Jun,Sep 1 off~Jan 01-Jan 31,Feb 01-Mar 31,Apr 01-Apr 31,May 01-May 31,Jun 01-Jun 31,Sep 01-Sep 01 off
+Feb 30~Feb 30-Feb 30 00:00-24:00
+Feb 32~
+Jul 00~
+Jan 01,06~
+Jul 05-29:08:00-12:00~
+Jul 05-29: 08:00-12:00~Jul 05-Jul 29 08:00-12:00
+Jul12:00-13:00~Jul 01-Jul 31 12:00-13:00
+Jul 12 12:00-13:00~Jul 12-Jul 12 12:00-13:00
+Jul::~
+: 08:00-12:00~
+Jul-~
+Jul,~
+Jul-Aug 7~
+2024 Jul~
+Mo-Fr~Mo-Fr 00:00-24:00
+Mo-Mo~Mo 00:00-24:00
+Th-Tu,PH,SH 09:00-10:00~Th-Tu,PH,SH 09:00-10:00
+PH off; SH closed~PH off; SH off
+PH Mo 08:00-09:00~
+Mo SH~
+Mo-PH~
+mo 08:00-09:00~
+MO~
+Mo08:00-09:00~Mo 08:00-09:00
+Mo:08:00-09:00~
+8:00-8:00~08:00-32:00
+23:59-00:00~23:59-24:00
+24:00-25:00~
+22:00-48:00~22:00-48:00
+22:00-48:01~
+08:60-09:00~
+08:00-09:60~
+17:00+~
+08:00~
+8:0-9:00~
+008:00-09:00~
+08:000-09:00~
+08:00 - 09:00~08:00-09:00
+08 :00-09:00~
+sunrise-sunset~
+open~
+off~off
+closed~off
+24/7 open~00:00-24:00
+24/7open~00:00-24:00
+24/7 off~
+Jul 24/7~
+24/7;PH off~00:00-24:00; PH off
+08:00-12:00 open open~
+08:00-12:00open~08:00-12:00
+08:00-12:00off~
+Mooff~
+Mo Off~
+Mo 08:00-12:00;~
+;Mo~
+Mo; ;Tu~
+Mo 08:00-12:00, Tu 09:00-10:00~
+Mo || Tu~
+ 24/7~
+24/7 ~
+Mo\t-  Tu\t08:00 -\t09:00 ; Sa~Mo-Tu 08:00-09:00; Sa 00:00-24:00
+Sa 22:00-Su 22:00~Sa 22:00-Su 22:00
+Mo 08:00-Mo 08:00~Mo 08:00-Mo 08:00
+Mo 09:00-Mo 08:00~Mo 09:00-Mo 08:00
+Jul: Fr 20:00-Mo 06:00 open~Jul 01-Jul 31 Fr 20:00-Mo 06:00
+Fr 24:00-Mo 06:00~
+Fr 22:00-Mo 24:01~
+Fr 22:00-We 24:00~Fr 22:00-Th 00:00
+Fr 22:00-Mo 06:00 off~
+Fr,Sa 20:00-Su 06:00~
+Fr 20:00-Mo 06:00,Tu 07:00-We 08:00~
+Su[1]~Su[1] 00:00-24:00
+Su [1]~Su[1] 00:00-24:00
+Su[ -1 ]~Su[-1] 00:00-24:00
+Su[-1] off~Su[-1] off
+Mo[1]-Fr~
+Su[0]~
+Su[5]~Su[5] 00:00-24:00
+Su[6]~
+Su[01]~
+Su[-05]~
+Su[+1]~
+Su[1,3]~
+Su[1-2]~
+Su[1]-Mo~
+Su[--1]~
+Su[]~
+Su[1~
+Su 1]~
+[1]~
+PH[1]~
+Su[1:30]~
+Su 5~
+Fr [ - 1 ] 8:00-9:00~Fr[-1] 08:00-09:00
+Jul Su[1],PH,Fr[-2],Mo-We 08:00-12:00~Jul 01-Jul 31 Su[1],PH,Fr[-2],Mo-We 08:00-12:00
+Jul 5:Su[2]off;24/7~Jul 05-Jul 05 Su[2] off; 00:00-24:00
+Su[1] 22:00-Mo 06:00~
+Sa 22:00-Su[1] 06:00~
+";
 
 // Whether this is the canonical text of a text, or the text has no rules and this is empty.
 fn has_canonical(alloc: Global, text: &str, canonical: &str) -> bool {
@@ -147,10 +129,18 @@ fn has_canonical(alloc: Global, text: &str, canonical: &str) -> bool {
     }
 }
 
+// Whether the text of a row has its canonical text.
+fn is_row(alloc: Global, row: &str) -> bool {
+    match row.split_once('~') {
+        Some((text, canonical)) => has_canonical(alloc, text, canonical),
+        None => false,
+    }
+}
+
 #[test]
 fn texts_have_these_canonical_texts_or_none(rt: HostRuntime) {
-    for (text, canonical) in TEXTS {
-        assert!(rt; has_canonical(rt.alloc(), text, canonical), "{text}");
+    for row in TEXTS.lines() {
+        assert!(rt; is_row(rt.alloc(), row), "{row}");
     }
 }
 
