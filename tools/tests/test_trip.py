@@ -155,6 +155,8 @@ class InWords(TripTest):
         self.assertEqual([instant_text(it) for it in (second.start, second.end)], ["2026-07-07T04:00Z", "2026-07-10T04:00Z"])
         self.assertEqual((third.place.node, third.service), (3, 120))
         self.assertEqual([instant_text(it) for it in (third.start, third.end)], ["2026-07-08T04:00Z", "2026-07-08T05:30Z"])
+        early = self.asked("Inn, 30 min, 04:00-05:00").stops[0]
+        self.assertEqual([instant_text(it) for it in (early.start, early.end)], ["2026-07-08T02:00Z", "2026-07-08T03:00Z"])
         for text, minutes in (("20 min", 20), ("2 h", 120), ("1h5min", 65)):
             self.assertEqual(read_span(text), minutes)
 
@@ -166,7 +168,7 @@ class InWords(TripTest):
             ("Innn, 20 min", "is no name of"),
             ("Inn, 0 min", "a service takes from 1 to 1440 minutes"),
             ("Inn, 20 min, 09:00-08:00", "the window ends at 08:00, which isn't after 09:00"),
-            ("Inn, 20 min, 04:00-05:00", "is over before the departure; with a date it can be on another day"),
+            ("Inn, 20 min, 2026-07-07 04:00-05:00", "the window is over before the departure"),
         ):
             self.refused(["--stop", said], self.asked, text)
 

@@ -2,10 +2,11 @@
 from __future__ import annotations
 
 import dataclasses
+import datetime
 import re
 from typing import Optional
 
-from lorry_tools.clocks import local_of, read_time
+from lorry_tools.clocks import Clock, local_of, read_time
 from lorry_tools.folder import Folder
 from lorry_tools.instants import DAY, LONGEST_HORIZON
 from lorry_tools.places import Place, Places
@@ -21,6 +22,7 @@ USUAL_DAYS = 3.0
 DRIVE_TO_BREAK, BREAK, DRIVE_A_DAY, REST = 270, 45, 540, 660
 
 ANY = "any"
+ONE_DAY = datetime.timedelta(days=1)
 
 SPAN = re.compile(r"(?:(\d+)[ \t]*h)?[ \t]*(?:(\d+)[ \t]*min)?", re.ASCII)
 DURATION = r"(?:\d+[ \t]*h(?:[ \t]*\d+[ \t]*min)?|\d+[ \t]*min)"
@@ -33,8 +35,8 @@ STOP = re.compile(
 )
 STOP_EXPECTED = (
     'expected is a place and the minutes of service, with a window if there is one: "Vaduz, 20 '
-    'min" or "Vaduz, 20 min, 08:00-12:00", whose day is that of the departure, or '
-    '"Vaduz, 20 min, 2026-07-11 08:00-12:00"'
+    'min" or "Vaduz, 20 min, 08:00-12:00", which is the first such window that isn\'t over at the '
+    'departure, or "Vaduz, 20 min, 2026-07-11 08:00-12:00"'
 )
 
 
@@ -180,7 +182,7 @@ def read_span(text: str) -> int:
 
 
 def read_stop(places: Places, text: str, depart: int, until: int) -> Stop:
-    """Returns a stop. A window without a date is on the day of the departure, at the place."""
+    """Returns a stop. A window without a date is the first that isn't over at the departure."""
     what = f"--stop {text!r}"
     parts = STOP.fullmatch(text.strip())
     if not parts or not parts["place"]:
@@ -192,15 +194,28 @@ def read_stop(places: Places, text: str, depart: int, until: int) -> Stop:
     if parts["from"] is None:
         return Stop(place, service, depart, until)
     clocks = places.clocks(place.node)
-    date = parts["date"] or f"{local_of(clocks[0], depart):%Y-%m-%d}"
-    start = read_time(f"{date} {parts['from']}", clocks, f"{what}: the window's")
-    end = read_time(f"{date} {parts['to']}", clocks, f"{what}: the window's")
+    hours = (parts["from"], parts["to"])
+    if parts["date"]:
+        start, end = read_window(clocks, parts["date"], hours, what)
+        if end <= depart:
+            raise Problem(f"{what}: the window is over before the departure")
+        return Stop(place, service, start, end)
+    day = local_of(clocks[0], depart).date()
+    start, end = read_window(clocks, f"{day:%Y-%m-%d}", hours, what)
+    if end <= depart:
+        start, end = read_window(clocks, f"{day + ONE_DAY:%Y-%m-%d}", hours, what)
+    return Stop(place, service, start, end)
+
+
+def read_window(
+    clocks: list[Clock], date: str, hours: tuple[str, str], what: str
+) -> tuple[int, int]:
+    """Returns the minutes at which a window of a local day begins and ends."""
+    start = read_time(f"{date} {hours[0]}", clocks, f"{what}: the window's")
+    end = read_time(f"{date} {hours[1]}", clocks, f"{what}: the window's")
     if end <= start:
         raise Problem(
-            f"{what}: the window ends at {parts['to']}, which isn't after {parts['from']}: "
+            f"{what}: the window ends at {hours[1]}, which isn't after {hours[0]}: "
             "expected is a window within a day"
         )
-    if end <= depart:
-        hint = "" if parts["date"] else "; with a date it can be on another day"
-        raise Problem(f"{what}: the window, on {date}, is over before the departure{hint}")
-    return Stop(place, service, start, end)
+    return start, end
