@@ -27,11 +27,11 @@ import tempfile
 
 TOP = os.path.dirname(os.path.dirname(os.path.abspath(__file__)))
 
-# The module beside the manual page leaves no compiled file in the repository.
+# The library of the tools leaves no compiled files in the repository.
 sys.dont_write_bytecode = True
-sys.path.insert(0, os.path.join(TOP, "tools", "package.d"))
+sys.path.insert(0, os.path.join(TOP, "tools"))
 
-import manual
+from lorry_tools.packages import manual
 
 BLOCK = re.compile(r"^```console\n(.*?)^```$", re.M | re.S)
 QUOTED = re.compile(r"^```\w+ (\S+)\n(.*?)^```$", re.M | re.S)
