@@ -11,6 +11,7 @@ import beside
 
 import lorry_tools
 from lorry_tools.files import NETWORK, TABLES
+from lorry_tools.speed import limits
 from lorry_tools.trials import small_folder
 
 
@@ -35,6 +36,10 @@ class Lists(unittest.TestCase):
 
     def test_the_small_folder(self):
         self.assertEqual(list(small_folder.NETWORK), list(NETWORK))
+
+    def test_the_limits(self):
+        """Each table but those of vehicles and rules, which `speed` adds by itself, is written at its limits, in the order of reading."""
+        self.assertEqual(list(limits.ROWS), [it.name for it in TABLES if it.name not in ("vehicles.csv", "rules.csv")])
 
     def test_the_documents(self):
         with open(os.path.join(beside.TOP, "docs", "FORMATS.md"), encoding="utf-8") as file:

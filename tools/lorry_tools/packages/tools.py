@@ -28,7 +28,7 @@ SCRIPTS = {
     "examples": "lorry_tools/examples.py",
 }
 KEPT = (".py", ".json", ".typed", ".html", ".css", ".js", ".svg", ".sh", ".txt", ".md", ".1")
-NOT_PACKED = ("packages", "proving", "second", "trials")  # of the library
+NOT_PACKED = ("packages", "proving", "second", "speed", "trials")  # of the library
 
 DEPENDS = "lorry-plan, python3 (>= 3.9), python3-jinja2"
 SUGGESTS = "parallel, python3-holidays, python3-pyosmium, rsync, tzdata"
