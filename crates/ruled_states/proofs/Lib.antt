@@ -5,4 +5,5 @@ pub mod Goods
 pub mod Lowered
 pub mod Narrow
 pub mod Numbers
+pub mod Parts
 pub mod Rows

@@ -1,27 +1,16 @@
 -- What a state's number takes, its code takes; and a state that is added has no cost.
-use Rattle.std.proofs.Common.{◌≡◌, inl, inr, ⊎_elim, ℕ, zero, suc, Option, Some, None, List, refl, sym, ◌∙◌, ap, subst}
-use Rattle.std.proofs.lemmas.Option.{same_Some}
+use Rattle.std.proofs.Common.{◌≡◌, inl, inr, ⊎_elim, ℕ, Option, Some, List, sym, ◌∙◌, ap, subst}
 use Rattle.route_base.specs.Net.{at_number}
 use Rattle.propagation.specs.Inside.Invariants.{point, HasIn, IsLower, IsMerged}
 use Rattle.ruled_states.specs.Inside.Tables.{code_of, number_in}
 use Rattle.ruled_states.specs.declared.table.Info.{Info}
-use Rattle.ruled_states.proofs.Numbers.{number_is}
+use Rattle.ruled_states.proofs.Numbers.{code_with}
 
 module _ (infos : List Info) (n : ℕ) (i : Info) (at : at_number infos n ≡ Some i) (is : number_in infos (code_of i) ≡ n) (offer : ℕ → Option ℕ)
     (old new : ℕ → ℕ → Option ℕ) (merged : IsMerged n offer old new) where
-  -- another code has another number
-  other_number : (c : ℕ) → (c ≡ code_of i → ⊥) → number_in infos c ≡ n → ⊥
-  other_number c other same = by n refl
-    where
-      by : (m : ℕ) → n ≡ m → ⊥
-      by zero none = let bad : None ≡ Some i = ap (at_number infos) (sym none) ∙ at in cc
-      by (suc m) some =
-          let j = number_is infos c m (same ∙ some) in
-          other (sym j.2 ∙ ap code_of (same_Some j.0 i (sym j.1 ∙ ap (at_number infos) (sym some) ∙ at)))
-
   pub merged_by_code : IsMerged (code_of i) offer (λ c t. old (number_in infos c) t) (λ c t. new (number_in infos c) t)
   merged_by_code = record {
-    others = λ c t other. merged.others (number_in infos c) t (other_number c other);
+    others = λ c t other. merged.others (number_in infos c) t (λ same. other (code_with infos c n i at same));
     kept = λ t x was. has t x (merged.kept t x (ap (λ m. old m t) (sym is) ∙ was));
     offered = λ t x one. has t x (merged.offered t x one);
     either = λ t x one. ⊎_elim

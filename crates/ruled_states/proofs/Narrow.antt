@@ -1,9 +1,8 @@
 -- What no better state of the node cuts is what isn't dominated, by codes.
-use Rattle.std.proofs.Common.{◌≡◌, inl, inr, ⊎_elim, ℕ, zero, suc, ◌*◌, ◌/◌, ◌%◌, ◌<◌, ◌≤◌, ◌&&◌, eqb, Bool, true, false, Option, Some, None, List, refl, sym, ◌∙◌, ap, subst, arith}
+use Rattle.std.proofs.Common.{◌≡◌, inl, inr, ⊎_elim, ℕ, ◌*◌, ◌/◌, ◌%◌, ◌<◌, ◌≤◌, ◌&&◌, eqb, Bool, true, false, Option, Some, List, refl, sym, ◌∙◌, ap, subst, arith}
 use Rattle.std.specs.Prelude.{Contains}
 use Rattle.std.proofs.lemmas.Bool.{eqb-true, eq-eqb, cases_eq}
 use Rattle.std.proofs.lemmas.Nat.{div-mul-add, mod-mul-add, div-add-mod'}
-use Rattle.route_base.specs.Net.{at_number}
 use Rattle.route_base.specs.Setting.{Setting}
 use Rattle.route_base.specs.declared.types.Bound.{Bound}
 use Rattle.route_base.specs.declared.types.Pair.{Pair}
@@ -16,10 +15,10 @@ use Rattle.state_dominance.specs.Inside.Product.{Ruler, IsSimulating, code, task
 use Rattle.state_dominance.specs.Inside.Taking.{IsNarrowed}
 use Rattle.ruled_states.specs.Inside.Codes.{base, found_by, HaveSmallNodes}
 use Rattle.ruled_states.specs.Inside.Cuts.{IsCutAt, AreCut}
-use Rattle.ruled_states.specs.Inside.Tables.{IsStateOf, ArePlacesOf, code_of, number_in}
+use Rattle.ruled_states.specs.Inside.Tables.{IsStateOf, ArePlacesOf, number_in}
 use Rattle.ruled_states.specs.declared.table.Info.{Info}
 use Rattle.ruled_states.specs.declared.table.Place.{Place}
-use Rattle.ruled_states.proofs.Numbers.{number_is, has_number}
+use Rattle.ruled_states.proofs.Numbers.{number_of_code, state_at}
 
 two_parts : (a b : Bool) → (a && b) ≡ true → (a ≡ true) × (b ≡ true)
 two_parts true b is = (refl, is)
@@ -29,45 +28,11 @@ both_true : (a b : Bool) → a ≡ true → b ≡ true → (a && b) ≡ true
 both_true true b one two = two
 both_true false b one two = absurd (cc)
 
--- nothing has number 0
-none_at_zero : (functions : List (List Piece)) (n t y : ℕ) → n ≡ 0 → cost_at functions n t ≡ Some y → ⊥
-none_at_zero functions n t y is at = let bad : None ≡ Some y = ap (λ m. cost_at functions m t) (sym is) ∙ at in cc
-
 module _ (s : Setting) (r : Ruler) (origin goal depart until : ℕ) (bound : ℕ → ℕ → Option Bound) (sim : IsSimulating r)
     (infos : List Info) (functions : List (List Piece)) (pending : List (List Run)) (pairs : List Pair) (small : HaveSmallNodes infos)
     (distinct : (v k n m : ℕ) → IsStateOf infos v k n → IsStateOf infos v k m → n ≡ m)
     (v k : ℕ) (row : List Place) (node : v < base) (places : ArePlacesOf infos v row) (wide narrow : ℕ → Option ℕ)
     (cut : AreCut r functions k row wide narrow) where
-  -- the number of a state by its code
-  number_of_code : (j n : ℕ) → IsStateOf infos v j n → number_in infos (code base v j) ≡ n
-  number_of_code j n is =
-      let own : code_of is.info ≡ code base v j = ap (λ w. code base w is.info.state) is.node ∙ ap (λ w. code base v w) is.state in
-      let m = has_number infos n is.info is.at in
-      let same : number_in infos (code base v j) ≡ suc m.0 = ap (number_in infos) (sym own) ∙ m.1 in
-      let first = number_is infos (code base v j) m.0 same in
-      let small_first = small (suc m.0) first.0 first.1 in
-      let at_first : IsStateOf infos v j (suc m.0) = record {
-        info = first.0;
-        at = first.1;
-        node = sym (mod-mul-add first.0.state base first.0.node.0 small_first) ∙ ap (λ n. n % base) first.2 ∙ mod-mul-add j base v node;
-        state = sym (div-mul-add first.0.state base first.0.node.0 small_first) ∙ ap (λ n. n / base) first.2 ∙ div-mul-add j base v node;
-      } in
-      same ∙ distinct v j (suc m.0) n at_first is
-
-  -- a state with a code of this node that has a cost
-  state_at : (c t y m : ℕ) → number_in infos c ≡ m → cost_at functions (number_in infos c) t ≡ Some y → c % base ≡ v
-      → IsStateOf infos v (c / base) (number_in infos c)
-  state_at c t y zero is at same = absurd (none_at_zero functions (number_in infos c) t y is at)
-  state_at c t y (suc m) is at same =
-      let i = number_is infos c m is in
-      let low = small (suc m) i.0 i.1 in
-      record {
-        info = i.0;
-        at = ap (at_number infos) is ∙ i.1;
-        node = sym (mod-mul-add i.0.state base i.0.node.0 low) ∙ ap (λ n. n % base) i.2 ∙ same;
-        state = sym (div-mul-add i.0.state base i.0.node.0 low) ∙ ap (λ n. n / base) i.2;
-      }
-
   clear_of : (t x : ℕ) → narrow t ≡ Some x
       → IsDominated (task_over s r base origin goal depart until bound) (found_by infos functions pending pairs) (point (code base v k) t x) → ⊥
   clear_of t x is d =
@@ -77,7 +42,7 @@ module _ (s : Setting) (r : Ruler) (origin goal depart until : ℕ) (bound : ℕ
       let same : c % base ≡ v = eqb-true (c % base) (own % base) parts.0 ∙ mod-mul-add k base v node in
       let state : own / base ≡ k = div-mul-add k base v node in
       let better : r.no_worse (c / base) k ≡ true = subst (λ n. r.no_worse (c / base) n ≡ true) state parts.1 in
-      let there = state_at c t d.known.least (number_in infos c) refl d.known.is same in
+      let there = state_at infos small v functions c t d.known.least (number_in infos c) refl d.known.is same in
       let p = places.full (c / base) (number_in infos c) there in
       cut.clear p.0 p.1 t x is (record {
         other = λ equal. (let q : c / base ≡ k = sym p.2 ∙ equal in
@@ -104,7 +69,7 @@ module _ (s : Setting) (r : Ruler) (origin goal depart until : ℕ) (bound : ℕ
         other = omega (arith, less);
         known = record {
           least = at.cost;
-          is = ap (λ n. cost_at functions n t) (number_of_code p.state p.number (places.sound p one)) ∙ at.known;
+          is = ap (λ n. cost_at functions n t) (number_of_code infos small distinct v p.state p.number node (places.sound p one)) ∙ at.known;
           within = at.within;
         };
       }

@@ -3,9 +3,10 @@ use Rattle.std.proofs.Common.{◌≡◌, ◌⊎◌, inl, inr, ⊎_elim, ℕ, Boo
 use Rattle.std.specs.Prelude.{Contains}
 use Rattle.std.proofs.lemmas.Bool.{cases_eq}
 use Rattle.route_base.specs.Itinerary.{Position, wait, Waits}
+use Rattle.route_base.specs.Front.{RiseAndFall}
 use Rattle.route_base.specs.Relaxing.{HasWithin, HasPair}
 use Rattle.route_base.specs.declared.types.Pair.{Pair}
-use Rattle.propagation.specs.Inside.Invariants.{Progress, point, HasIn, InPart, IsLabel, IsLower, no_part}
+use Rattle.propagation.specs.Inside.Invariants.{Progress, point, HasIn, InPart, IsBlank, IsLabel, IsLower, no_part}
 use Rattle.state_dominance.specs.Inside.Dominance.{Task, IsSimulation, AreBoundsAlong, Reaches, IsCovered, IsDominated, IsPrunable, IsRelaxedIn, DrivesRelaxed}
 use Rattle.state_dominance.specs.Inside.Dominance.{IsStart, ComesBy, IsPairKnown, IsSettledIn, IsSearching, IsResting}
 use Rattle.state_dominance.specs.Inside.Taking.{IsOffer, IsFirstOffer, TakesOffer, WaitsFrom}
@@ -203,3 +204,31 @@ module _ (k : Task) (old new : Progress) (h : ℕ) (offer : ℕ → Option ℕ) 
     where
       nowhere : {C : Type 0} (p : Position) → IsLabel old p → C
       nowhere {C} p is = let bad : None ≡ Some p.cost = sym (first.cost p.node p.minute) ∙ is in cc
+
+-- where nothing is known and the start is prunable nothing is at work
+pub blank_rests : (k : Task) (now : Progress) → IsSimulation k → AreBoundsAlong k → IsBlank now → IsPrunable k now.pairs k.start → IsResting k now
+blank_rests k now sim bound blank out = takes_first k now now k.start.node (λ t. None) sim bound
+    (record {
+      reached = λ t x is. none x is;
+      comes = λ t x is. none x is;
+      waits = λ away t x q is step. none x is;
+    })
+    (record {
+      merged = record {
+        others = λ v t other. refl;
+        kept = λ t x is. record { least = x; is = is; within = omega arith };
+        offered = λ t x is. none x is;
+        either = λ t x is. inl is;
+      };
+      stays = λ v t is. is;
+      awaits = λ away t x is low. none x is;
+      cause = λ v t is. inl is;
+      pairs = λ t x had. had;
+      trade = subst RiseAndFall (sym blank.pairs) (λ i j d before within. absurd (omega (arith, within)));
+      each = λ p one. inl one;
+      matched = λ t x goal is. none x is;
+    })
+    (record { cost = blank.cost; idle = blank.pending; pairs = blank.pairs; start = inr out })
+  where
+    none : {C : Type 0} (x : ℕ) → None ≡ Some x → C
+    none {C} x is = cc

@@ -4,6 +4,7 @@ pub mod Narrowing
 pub mod Keeping
 pub mod Parting
 pub mod Roads
+pub mod Alike
 pub mod Simulating
 pub mod OneRuled
 pub mod Served

@@ -1,5 +1,5 @@
 -- The roads over states are drives, rests and services, and each of these is one.
-use Rattle.std.proofs.Common.{◌≡◌, ◌⊎◌, inl, inr, ℕ, zero, suc, ◌+◌, ◌*◌, ◌/◌, ◌%◌, ◌<◌, Option, Some, None, refl, ◌∙◌, ap}
+use Rattle.std.proofs.Common.{◌≡◌, ◌⊎◌, inl, inr, ℕ, zero, suc, ◌+◌, ◌*◌, ◌/◌, ◌%◌, ◌<◌, Option, Some, None, refl, ◌∙◌, ap, arith, mod-lt}
 use Rattle.std.specs.Prelude.{slice_get}
 use Rattle.std.proofs.lemmas.Nat.{div-mul-add, mod-mul-add}
 use Rattle.route_base.specs.Setting.{Setting, Road}
@@ -8,6 +8,8 @@ use Rattle.state_dominance.specs.Inside.Product.{Ruler, Service, code, driven_by
 -- the road is a drive over an arc in a state
 pub record IsDriveRoad (s : Setting) (r : Ruler) (base x : ℕ) (road : Road) : Type 0 where
   pub arc : ℕ
+  pub kind : x % 3 ≡ 0
+  pub number : x / 3 % base ≡ arc
   pub over : Road
   pub is : s.road arc ≡ Some over
   pub state : ℕ
@@ -22,6 +24,8 @@ pub record IsDriveRoad (s : Setting) (r : Ruler) (base x : ℕ) (road : Road) : 
 -- the road is a rest at a node in a state
 pub record IsRestRoad (s : Setting) (r : Ruler) (base x : ℕ) (road : Road) : Type 0 where
   pub place : ℕ
+  pub kind : x % 3 ≡ 1
+  pub number : x / 3 % base ≡ place
   pub rest : ℕ
   pub is : slice_get r.rests place ≡ Some rest
   pub node : ℕ
@@ -37,6 +41,8 @@ pub record IsRestRoad (s : Setting) (r : Ruler) (base x : ℕ) (road : Road) : T
 -- the road is a service in a state
 pub record IsServiceRoad (s : Setting) (r : Ruler) (base x : ℕ) (road : Road) : Type 0 where
   pub place : ℕ
+  pub kind : x % 3 ≡ 2
+  pub number : x / 3 % base ≡ place
   pub service : Service
   pub is : slice_get r.services place ≡ Some service
   pub state : ℕ
@@ -51,12 +57,12 @@ pub record IsServiceRoad (s : Setting) (r : Ruler) (base x : ℕ) (road : Road) 
 module _ (s : Setting) (r : Ruler) (base : ℕ) where
   pub road_kinds : (x : ℕ) (road : Road) → (product s r base).road x ≡ Some road
       → IsDriveRoad s r base x road ⊎ (IsRestRoad s r base x road ⊎ IsServiceRoad s r base x road)
-  road_kinds x road is = by (x % 3) (x / 3 % base) (x / 3 / base % base) (x / 3 / base / base) (λ t. refl) is
+  road_kinds x road is = by (x % 3) (x / 3 % base) (x / 3 / base % base) (x / 3 / base / base) refl refl (λ t. refl) is
     where
-      drive_of : (a k : ℕ) (o : Option Road) → s.road a ≡ o → ((t : ℕ) → (product s r base).shut x t ≡ s.shut a t) → driven_by r base k o ≡ Some road
+      drive_of : (a k : ℕ) (o : Option Road) → x % 3 ≡ 0 → x / 3 % base ≡ a → s.road a ≡ o → ((t : ℕ) → (product s r base).shut x t ≡ s.shut a t) → driven_by r base k o ≡ Some road
           → IsDriveRoad s r base x road
-      drive_of a k None at shut is = let bad : None ≡ Some road = is in cc
-      drive_of a k (Some over) at shut is = to (r.drive k over.minutes) refl is
+      drive_of a k None kind number at shut is = let bad : None ≡ Some road = is in cc
+      drive_of a k (Some over) kind number at shut is = to (r.drive k over.minutes) refl is
         where
           to : (o : Option ℕ) → r.drive k over.minutes ≡ o → driven_to r base k over o ≡ Some road → IsDriveRoad s r base x road
           to None at_next is = let bad : None ≡ Some road = is in cc
@@ -65,6 +71,8 @@ module _ (s : Setting) (r : Ruler) (base : ℕ) where
               let same : road ≡ made = cc in
               record {
                 arc = a;
+                kind = kind;
+                number = number;
                 over = over;
                 is = at;
                 state = k;
@@ -77,15 +85,17 @@ module _ (s : Setting) (r : Ruler) (base : ℕ) where
                 shut = shut;
               }
 
-      rest_of : (i v k : ℕ) (o : Option ℕ) (p : Option ℕ) → slice_get r.rests i ≡ o → s.weight v ≡ p
+      rest_of : (i v k : ℕ) (o : Option ℕ) (p : Option ℕ) → x % 3 ≡ 1 → x / 3 % base ≡ i → slice_get r.rests i ≡ o → s.weight v ≡ p
           → ((t : ℕ) → (product s r base).shut x t ≡ s.wait_shut v t) → rested_by r base v k o p ≡ Some road → IsRestRoad s r base x road
-      rest_of i v k None p at rated shut is = let bad : None ≡ Some road = is in cc
-      rest_of i v k (Some rest) None at rated shut is = let bad : None ≡ Some road = is in cc
-      rest_of i v k (Some rest) (Some weight) at rated shut is =
+      rest_of i v k None p kind number at rated shut is = let bad : None ≡ Some road = is in cc
+      rest_of i v k (Some rest) None kind number at rated shut is = let bad : None ≡ Some road = is in cc
+      rest_of i v k (Some rest) (Some weight) kind number at rated shut is =
           let made : Road = record { tail = code base v k; head = code base v (r.rest k rest); minutes = rest; cost = rest * weight } in
           let same : road ≡ made = cc in
           record {
             place = i;
+            kind = kind;
+            number = number;
             rest = rest;
             is = at;
             node = v;
@@ -99,10 +109,10 @@ module _ (s : Setting) (r : Ruler) (base : ℕ) where
             shut = shut;
           }
 
-      service_of : (i k : ℕ) (o : Option Service) → slice_get r.services i ≡ o → ((t : ℕ) → (product s r base).shut x t ≡ shut_for (slice_get r.services i) t)
+      service_of : (i k : ℕ) (o : Option Service) → x % 3 ≡ 2 → x / 3 % base ≡ i → slice_get r.services i ≡ o → ((t : ℕ) → (product s r base).shut x t ≡ shut_for (slice_get r.services i) t)
           → served_by r base i k o ≡ Some road → IsServiceRoad s r base x road
-      service_of i k None at shut is = let bad : None ≡ Some road = is in cc
-      service_of i k (Some c) at shut is = to (r.serve k i) refl is
+      service_of i k None kind number at shut is = let bad : None ≡ Some road = is in cc
+      service_of i k (Some c) kind number at shut is = to (r.serve k i) refl is
         where
           to : (o : Option ℕ) → r.serve k i ≡ o → served_to base k c o ≡ Some road → IsServiceRoad s r base x road
           to None at_next is = let bad : None ≡ Some road = is in cc
@@ -111,6 +121,8 @@ module _ (s : Setting) (r : Ruler) (base : ℕ) where
               let same : road ≡ made = cc in
               record {
                 place = i;
+                kind = kind;
+                number = number;
                 service = c;
                 is = at;
                 state = k;
@@ -123,11 +135,13 @@ module _ (s : Setting) (r : Ruler) (base : ℕ) where
                 shut = λ t. shut t ∙ ap (λ o. shut_for o t) at;
               }
 
-      by : (kind a v k : ℕ) → ((t : ℕ) → (product s r base).shut x t ≡ shut_by s r kind a v t) → road_by s r base kind a v k ≡ Some road
-          → IsDriveRoad s r base x road ⊎ (IsRestRoad s r base x road ⊎ IsServiceRoad s r base x road)
-      by zero a v k shut is = inl (drive_of a k (s.road a) refl shut is)
-      by (suc zero) a v k shut is = inr (inl (rest_of a v k (slice_get r.rests a) (s.weight v) refl refl shut is))
-      by (suc (suc n)) a v k shut is = inr (inr (service_of a k (slice_get r.services a) refl shut is))
+      by : (kind a v k : ℕ) → x % 3 ≡ kind → x / 3 % base ≡ a → ((t : ℕ) → (product s r base).shut x t ≡ shut_by s r kind a v t)
+          → road_by s r base kind a v k ≡ Some road → IsDriveRoad s r base x road ⊎ (IsRestRoad s r base x road ⊎ IsServiceRoad s r base x road)
+      by zero a v k kind number shut is = inl (drive_of a k (s.road a) kind number refl shut is)
+      by (suc zero) a v k kind number shut is = inr (inl (rest_of a v k (slice_get r.rests a) (s.weight v) kind number refl refl shut is))
+      by (suc (suc n)) a v k kind number shut is =
+          let below : x % 3 < 3 = mod-lt x (omega arith) in
+          inr (inr (service_of a k (slice_get r.services a) (omega (arith, kind, below)) number refl shut is))
 
   -- the digits of a road's number
   module _ (kind a v k : ℕ) (small : kind < 3) (arc : a < base) (node : v < base) where

@@ -6,7 +6,8 @@ ghost use Rattle.state_dominance.specs.Words.{TakesOffer, TakesPart, IsOffer, Is
 ghost use Rattle.state_dominance.specs.Inside.Dominance.{IsRelaxedIn, Reaches};
 ghost use Rattle.route_base.specs.Itinerary.{Position, Step, Drives, Walks};
 ghost use Rattle.route_base.specs.declared.types.Pair.{Pair};
-ghost use Rattle.state_dominance.specs.Inside.Widening.{IsKnownPart, IsDriven, IsCleared, IsClosed};
+ghost use Rattle.state_dominance.specs.Inside.Widening.{IsKnownPart, IsDriven, IsStartAlone, IsCleared, IsClosed};
+ghost use Rattle.propagation.specs.Inside.Invariants.{IsBlank};
 ghost use Rattle.state_dominance.specs.OneRule.{one_rule};
 ghost use Rattle.state_dominance.specs.Inside.Product.{Service};
 ghost use Rattle.state_dominance.specs.Serving.{serving};
@@ -99,6 +100,19 @@ pub fn drives_are_wide()
         → IsSimulation k → AreBoundsAlong k → IsKnownPart k now v part → IsDriven k a v part h ends
         → IsCleared k now.pairs h ends clear → IsClosed k now.pairs h clear wide
         → IsWide k now h wide }
+{}
+
+/// The law that the cost of the start, pruned and waited on, is an offer, and where nothing is known the first. The call does nothing.
+pub fn starts_are_first()
+    ensures offer { (k : Task) (now : Progress) (costs clear wide : ℕ → Option ℕ)
+        → IsSimulation k → AreBoundsAlong k → IsStartAlone k costs
+        → IsCleared k now.pairs k.start.node costs clear
+        → IsClosed k now.pairs k.start.node clear wide → IsOffer k now k.start.node wide }
+    ensures first { (k : Task) (now : Progress) (costs clear wide : ℕ → Option ℕ)
+        → IsSimulation k → AreBoundsAlong k → IsStartAlone k costs
+        → IsCleared k now.pairs k.start.node costs clear
+        → IsClosed k now.pairs k.start.node clear wide → IsBlank now
+        → IsFirstOffer k now k.start.node wide }
 {}
 
 /// The law that where such an offer is taken, without what is dominated, each drive of the part over the road is relaxed. The call does

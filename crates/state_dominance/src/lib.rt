@@ -17,5 +17,6 @@ mod laws;
 
 pub use laws::{
     best_ways_are_known, drives_are_relaxed, drives_are_wide, finished_is_front, offers_are_kept,
-    one_rule_simulates, parts_are_kept, rulers_simulate, servings_simulate, wide_offers_narrow,
+    one_rule_simulates, parts_are_kept, rulers_simulate, servings_simulate, starts_are_first,
+    wide_offers_narrow,
 };

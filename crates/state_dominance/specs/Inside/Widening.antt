@@ -1,12 +1,12 @@
 -- How the costs of a part become what is offered behind a road of the setting: driven, pruned, waited on, and pruned (source: own; no law).
-use Rattle.std.specs.Prelude.{◌≡◌, ◌⊎◌, ℕ, ◌-◌, Option, Some, None, List}
+use Rattle.std.specs.Prelude.{◌≡◌, ◌⊎◌, ℕ, ◌-◌, ◌≤◌, Option, Some, None, List}
 use Rattle.route_base.specs.Itinerary.{Position, Drives}
 use Rattle.route_base.specs.Relaxing.{HasWithin}
 use Rattle.route_base.specs.declared.types.Bound.{Bound}
 use Rattle.route_base.specs.declared.types.Pair.{Pair}
 use Rattle.propagation.specs.Inside.Invariants.{Progress, point}
 use Rattle.propagation.specs.Inside.Offers.{IsWaited}
-use Rattle.state_dominance.specs.Inside.Dominance.{Task, Reaches, IsPrunable}
+use Rattle.state_dominance.specs.Inside.Dominance.{Task, Reaches, IsStart, ComesBy, IsPrunable}
 
 -- each cost of the part is reached and known
 pub record IsKnownPart (k : Task) (now : Progress) (v : ℕ) (part : ℕ → Option ℕ) : Type 0 where
@@ -17,6 +17,16 @@ pub record IsKnownPart (k : Task) (now : Progress) (v : ℕ) (part : ℕ → Opt
 pub record IsDriven (k : Task) (a v : ℕ) (part : ℕ → Option ℕ) (h : ℕ) (driven : ℕ → Option ℕ) : Type 0 where
   pub from : (t x : ℕ) → driven t ≡ Some x → (u : ℕ) × (y : ℕ) × (part u ≡ Some y) × Drives k.setting k.until a (point v u y) (point h t x)
   pub to : (u y : ℕ) (q : Position) → part u ≡ Some y → Drives k.setting k.until a (point v u y) q → (q.node ≡ h) × (driven q.minute ≡ Some q.cost)
+
+-- costs at node h that are reached, and come from the start or from known costs, as do all that are no lower
+pub record IsSource (k : Task) (now : Progress) (h : ℕ) (costs : ℕ → Option ℕ) : Type 0 where
+  pub reached : (t x : ℕ) → costs t ≡ Some x → Reaches k (point h t x)
+  pub comes : (t x y : ℕ) → costs t ≡ Some y → y ≤ x → IsStart k (point h t x) ⊎ ComesBy k now.cost (point h t x)
+
+-- the cost of the start, alone
+pub record IsStartAlone (k : Task) (costs : ℕ → Option ℕ) : Type 0 where
+  pub here : costs k.start.minute ≡ Some k.start.cost
+  pub elsewhere : (t : ℕ) → (t ≡ k.start.minute → ⊥) → costs t ≡ None
 
 -- what is prunable is left out
 pub record IsCleared (k : Task) (pairs : List Pair) (h : ℕ) (f g : ℕ → Option ℕ) : Type 0 where

@@ -1,0 +1,25 @@
+-- The bounds by labels, or of nothing where there are none, hold along each road.
+use Rattle.std.proofs.Common.{ℕ, Option, Some, None, refl, arith}
+use Rattle.std.specs.Prelude.{IfSome}
+use Rattle.route_base.specs.Setting.{Setting}
+use Rattle.route_base.specs.declared.types.Bound.{Bound}
+use Rattle.state_dominance.specs.Inside.Product.{Ruler, AreRuledBounds}
+use Rattle.ruled_states.specs.Inside.Labels.{label_bound, lists_of}
+use Rattle.ruled_states.specs.declared.labels.Labels.{Labels}
+use Rattle.ruled_search.specs.Inside.Tasks.{state_bound}
+
+nothing : Bound
+nothing = record { minutes = 0; cost = 0 }
+
+pub bounds_hold : (s : Setting) (r : Ruler) (end : ℕ) (found : Option Labels)
+    → IfSome found (λ labels. AreRuledBounds s r end (label_bound r (lists_of labels.minutes.items) (lists_of labels.costs.items)))
+    → AreRuledBounds s r end (state_bound r found)
+unfolding nothing
+bounds_hold s r end None hold = record {
+  at_goal = λ k is. refl;
+  falls = λ v j k b is has. (nothing, refl, omega arith, omega arith);
+  drives = λ a k next over h is goes has. (nothing, refl, omega arith, omega arith);
+  rests = λ i v k minutes weight h is rated has. (nothing, refl, omega arith, omega arith);
+  serves = λ i k next c h is goes has. (nothing, refl, omega arith, omega arith);
+}
+bounds_hold s r end (Some labels) hold = hold

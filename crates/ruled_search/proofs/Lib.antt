@@ -1,0 +1,28 @@
+mod Made
+mod Making
+mod Moving
+mod Starting
+mod TakenOffers
+mod Growing
+mod Covered
+mod Offering
+mod Closing
+mod Placed
+mod Shapes
+mod Widened
+mod Improving
+pub mod Relaxed
+pub mod Reshaped
+pub mod Work
+pub mod Leaving
+pub mod Bounding
+pub mod Cheap
+pub mod Beginning
+pub mod Planned
+pub mod Turning
+pub mod Backward
+pub mod Arriving
+pub mod Tried
+pub mod Numbering
+pub mod Sourcing
+pub mod Ends

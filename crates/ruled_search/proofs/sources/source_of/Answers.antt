@@ -1,0 +1,43 @@
+use Rattle.std.proofs.Common.{◌≡◌, ⊎_elim, ◌<◌, ◌≤◌, get_or, refl, subst, arith}
+use Rattle.std.proofs.lemmas.Bool.{cases_lt}
+use Rattle.route_base.specs.declared.types.ArcId.{ArcId}
+use Rattle.node_arcs.specs.declared.links.End.TheVariants.{Head}
+use Rattle.node_arcs.proofs.StarPlaces.{place_ends, ends_place, earlier_or_next}
+use Rattle.ruled_search.specs.Inside.Sources.{HasNoRoad}
+use Rattle.ruled_search.specs.Inside.Tasks.{progress_of, task_of}
+use Rattle.ruled_search.proofs.Sourcing.{has_none}
+use Rattle.ruled_search.proofs.sources.source_of.Goals as goal
+
+abbrev no_arc : ArcId
+no_arc = record { 0 = 0 }
+
+pub drive_into-requires-clause-ends : goal.drive_into-requires-clause-ends
+drive_into-requires-clause-ends g c = place_ends c.args.task.net.now Head c.args.incoming.now c.requires.solved.arcs c.args.spot.info.node.0
+    c.of-a-items.result.now c.of-a-items.ensures c.loop-a.a-index no_arc c.loop-a-test.true
+
+pub loop-a-preserved : goal.loop-a-preserved
+loop-a-preserved g c i a below is = ⊎_elim
+    (λ (before : i < c.loop-a.a-index). c.loop-a.invariant i a before is)
+    (λ (here : get_or c.of-a-items.result.now c.loop-a.a-index no_arc ≡ a).
+    subst (λ (w : ArcId). HasNoRoad (task_of _ g.R.Ruler.ruling c.args.task) (progress_of c.args.progress.now).cost c.args.spot 0 w.0) here
+    (c.in_default-drive_into.ensures.none refl))
+    (earlier_or_next c.of-a-items.result.now c.loop-a.a-index i a no_arc below is)
+
+pub loop-place-preserved : goal.loop-place-preserved
+loop-place-preserved g c i below = ⊎_elim
+    (λ (before : i < c.loop-place.place). c.loop-place.invariant i before)
+    (λ (here : c.loop-place.place ≤ i).
+    let same : c.loop-place.place ≡ i = omega (arith, below, here) in
+    subst (λ n. HasNoRoad (task_of _ g.R.Ruler.ruling c.args.task) (progress_of c.args.progress.now).cost c.args.spot 2 n) same
+    (c.in_default-service_into.ensures.none refl))
+    (cases_lt i c.loop-place.place)
+
+pub unreachable-requires : goal.unreachable-requires
+unreachable-requires g c = has_none c.requires.solved c.args.spot c.requires.spot c.requires.upto
+    (c.in_default.ensures.none refl)
+    (λ a ends. let place = ends_place c.args.task.net.now Head c.args.incoming.now c.requires.solved.arcs c.args.spot.info.node.0
+    c.of-a-items.result.now c.of-a-items.ensures a ends in
+    c.loop-a.invariant place.0 (record { 0 = a }) (omega (arith, place.1, c.loop-a-test.false)) place.2)
+    (c.in_default-rest_into.ensures.none refl)
+    (λ place within. c.loop-place.invariant place (omega (arith, within, c.loop-place-test.false, c.service_count-place-end.ensures)))
+    c.requires.comes

@@ -1,0 +1,5 @@
+-- Machinery of the search, which is no law (source: own).
+pub mod Tasks
+pub mod Ways
+pub mod Steps
+pub mod Sources

@@ -1,0 +1,84 @@
+// Trips under rules.
+ghost use Rattle.std.specs.Prelude.{◌≤◌, IfOk};
+ghost use Rattle.node_arcs.specs.Stars.{AreIncoming};
+ghost use Rattle.route_base.specs.Net.{IsGoodRequest, setting_of};
+ghost use Rattle.state_dominance.specs.Inside.Product.{IsBase, AreRuledBounds};
+ghost use Rattle.ruled_states.specs.Inside.Codes.{base};
+ghost use Rattle.ruled_search.specs.Inside.Tasks.{state_bound};
+ghost use Rattle.ruled_search.specs.Routes.{IsPlanned, RuledCostsFit};
+
+use crate::back::routes_of;
+use crate::bounds::bound_at;
+use crate::routes::RuledRoute;
+use crate::searching::searched;
+use crate::task::Task;
+use node_arcs::NodeArcs;
+use route_base::{Minute, OutOfMemory, Request, TimedNet};
+use ruled_states::{Ground, Labels, Ruler, ruled_labels};
+use std::alloc::Global;
+
+/// The Pareto front of arrival (Unix minutes) and cost (thousandths) over the states of a ruler, each pair with legs that achieve it. The only
+/// error is out of memory.
+pub fn plan_ruled<R: Ruler + Copy>(
+    alloc: Global,
+    net: &TimedNet,
+    request: Request,
+    ruler: &R,
+) -> Result<Vec<RuledRoute>, OutOfMemory>
+    requires good { IsGoodRequest net.now request }
+    requires in_time { request.depart ≤ request.until }
+    requires fit { RuledCostsFit (setting_of net.now) (R.ruling ruler.now) base request }
+    requires numbers { IsBase (setting_of net.now) (R.ruling ruler.now) base }
+    ensures planned { IfOk result (λ routes. IsPlanned (setting_of net.now) (R.ruling ruler.now)
+        base request routes.items) }
+{
+    let _nodes = net.node_count();
+    let incoming = NodeArcs::incoming(alloc, net)?;
+    let bounds = bounds_of(alloc, net, &incoming, request, ruler)?;
+    let outgoing = NodeArcs::outgoing(alloc, net)?;
+    let task = Task {
+        net,
+        outgoing: &outgoing,
+        ruler,
+        bounds: &bounds,
+        request,
+        earliest: earliest_arrival(&bounds, ruler, request),
+    };
+    let progress = searched(alloc, task)?;
+    let routes = routes_of(alloc, task, &incoming, &progress)?;
+    Ok(routes)
+}
+
+// Labels whose bounds hold; none where what is found doesn't, and then the bound of nothing holds.
+fn bounds_of<R: Ruler + Copy>(
+    alloc: Global,
+    net: &TimedNet,
+    incoming: &NodeArcs,
+    request: Request,
+    ruler: &R,
+) -> Result<Option<Labels>, OutOfMemory>
+    requires incoming { AreIncoming net.now incoming.now }
+    ensures { IfOk result (λ bounds. AreRuledBounds (setting_of net.now) (R.ruling ruler.now)
+        request.goal.0 (state_bound (R.ruling ruler.now) bounds)) }
+{
+    let ground = Ground {
+        net,
+        incoming,
+        ruler,
+        goal: request.goal,
+    };
+    let bounds = ruled_labels(alloc, &ground)?;
+    Ok(bounds)
+}
+
+// The earliest minute at which one could be at the goal by the bounds.
+fn earliest_arrival<R: Ruler + Copy>(
+    bounds: &Option<Labels>,
+    ruler: &R,
+    request: Request,
+) -> Minute {
+    match bound_at(bounds, ruler, request.origin, ruler.first()) {
+        Some(bound) => request.depart.saturating_add(bound.minutes),
+        None => request.depart,
+    }
+}
