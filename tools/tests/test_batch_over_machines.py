@@ -535,7 +535,8 @@ MaxStartups 100
         return f"ssh -F {self.path('ssh_config')} {name}"
 
     def sent(self):
-        return [name for name in os.listdir("/tmp") if name.startswith("lorry_plan-")]
+        # (other tests at work have folders of other names there)
+        return sorted(name for name in os.listdir("/tmp") if re.fullmatch("lorry_plan-[0-9a-f]{16}", name))
 
     @long_test
     def test_shared_folder(self):
