@@ -6,6 +6,7 @@ pub mod Parting
 pub mod Roads
 pub mod Alike
 pub mod Simulating
+pub mod NotRuled
 pub mod OneRuled
 pub mod Served
 pub mod Widening

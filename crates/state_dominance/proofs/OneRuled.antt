@@ -1,11 +1,12 @@
 -- The ruler of one break rule simulates and fits.
-use Rattle.std.proofs.Common.{◌≡◌, ◌⊎◌, inl, inr, ⊎_elim, ℕ, ◌+◌, ◌≤◌, ◌||◌, leb, eqb, Bool, true, false, Some, None, refl, ap, arith}
+use Rattle.std.proofs.Common.{◌≡◌, ◌⊎◌, inl, inr, ⊎_elim, ℕ, ◌+◌, ◌≤◌, ◌<◌, ◌||◌, leb, eqb, Bool, true, false, Some, None, refl, ap, arith}
 use Rattle.std.specs.Prelude.{if◌then◌else◌}
 use Rattle.std.proofs.lemmas.Bool.{leb-true, le-leb, eqb-true, eq-eqb}
 use Rattle.std.proofs.lemmas.Option.{same_Some}
 use Rattle.route_base.proofs.Logic.{behind_test}
 use Rattle.state_dominance.specs.Inside.Product.{IsSimulating, IsFitting}
 use Rattle.state_dominance.specs.OneRule.{one_rule}
+use Rattle.state_dominance.specs.Serving.{served_limit, HasSmallStates}
 
 module _ (drive rest : ℕ) where
   allowed : (k minutes next : ℕ) → (one_rule drive rest).drive k minutes ≡ Some next → (k + minutes ≤ drive) × (k + minutes ≡ next)
@@ -85,4 +86,17 @@ module _ (drive rest : ℕ) where
         (λ (none : o ≡ 0). fits_none k o none)
         (λ (within : k + o ≤ drive). fits_within k o within)
         (rest_fits (leb rest minutes) k n o (fit_kinds (if leb rest minutes then 0 else k) n fits) low);
+  }
+
+  rest_small : (b : Bool) (k : ℕ) → k < served_limit → (if b then 0 else k) < served_limit
+  rest_small true k less = omega arith
+  rest_small false k less = less
+
+  -- its states are small where its limit is
+  pub small_states : drive < served_limit → HasSmallStates (one_rule drive rest)
+  small_states less = record {
+    first = omega arith;
+    last = omega arith;
+    drives = λ k minutes next is. let a = allowed k minutes next is in omega (arith, a.0, a.1, less);
+    rests = λ k minutes small. rest_small (leb rest minutes) k small;
   }

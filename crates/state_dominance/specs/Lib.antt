@@ -1,4 +1,5 @@
 pub mod Inside
+pub mod NoRule
 pub mod OneRule
 pub mod Words
 pub mod Serving

@@ -1,5 +1,5 @@
 // What a search with dominance keeps, and what it has found where nothing is pending.
-ghost use Rattle.std.specs.Prelude.{◌≡◌, ◌⊎◌, ◌≤◌, ◌<◌, ℕ, List, Option, Some, None, true, false, Contains};
+ghost use Rattle.std.specs.Prelude.{◌≡◌, ◌⊎◌, ◌≤◌, ◌<◌, ℕ, List, Option, Some, None, true, false, Contains, length};
 ghost use Rattle.state_dominance.specs.Words.{Task, Progress, IsSimulation, AreBoundsAlong, IsSearching, IsResting};
 ghost use Rattle.state_dominance.specs.Words.{IsAchievedIn, IsParetoFront, IsNoWorse, ArrivesBefore, no_part, point};
 ghost use Rattle.state_dominance.specs.Words.{TakesOffer, TakesPart, IsOffer, IsWide, IsNarrowed, IsFirstOffer, IsDominated, DrivesRelaxed};
@@ -8,9 +8,10 @@ ghost use Rattle.route_base.specs.Itinerary.{Position, Step, Drives, Walks};
 ghost use Rattle.route_base.specs.declared.types.Pair.{Pair};
 ghost use Rattle.state_dominance.specs.Inside.Widening.{IsKnownPart, IsDriven, IsStartAlone, IsCleared, IsClosed};
 ghost use Rattle.propagation.specs.Inside.Invariants.{IsBlank};
+ghost use Rattle.state_dominance.specs.NoRule.{no_rule};
 ghost use Rattle.state_dominance.specs.OneRule.{one_rule};
 ghost use Rattle.state_dominance.specs.Inside.Product.{Service};
-ghost use Rattle.state_dominance.specs.Serving.{serving};
+ghost use Rattle.state_dominance.specs.Serving.{serving, served_limit};
 ghost use Rattle.state_dominance.specs.Words.{Ruler, IsSimulating, IsFitting, IsBase, AreRuledBounds, task_over};
 ghost use Rattle.route_base.specs.Setting.{Setting};
 ghost use Rattle.route_base.specs.declared.types.Bound.{Bound};
@@ -86,11 +87,20 @@ pub fn one_rule_simulates()
     ensures fits { (drive rest : ℕ) → IsFitting (one_rule drive rest) }
 {}
 
-/// The law that the ruler of a trip that serves stops simulates and fits where that of its rules does. The call does nothing.
+/// The law that the ruler without a rule simulates and fits. The call does nothing.
+pub fn no_rule_simulates()
+    ensures simulates { IsSimulating no_rule }
+    ensures fits { IsFitting no_rule }
+{}
+
+/// The law that the ruler of a trip that serves stops, of which there are fewer than 2^32, simulates and fits where that of its rules does. The
+/// call does nothing.
 pub fn servings_simulate()
-    ensures simulates { (services : List Service) (r : Ruler) → IsSimulating r
+    ensures simulates { (services : List Service) (r : Ruler)
+        → length services < served_limit → IsSimulating r
         → IsSimulating (serving services r) }
-    ensures fits { (services : List Service) (r : Ruler) → IsFitting r
+    ensures fits { (services : List Service) (r : Ruler)
+        → length services < served_limit → IsFitting r
         → IsFitting (serving services r) }
 {}
 

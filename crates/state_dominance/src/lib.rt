@@ -3,7 +3,7 @@
 //!
 //! A ruler (`specs/Inside/Product`) says what a driver may do in a state: which drives, rests and services, to which states they lead, and
 //! which states are no worse than which. `OneRule` has the ruler of one break rule, whose states are the minutes driven since the last
-//! break, and `Serving` that of a trip which serves stops in their order and keeps another ruler's rules. The setting over states
+//! break, `NoRule` that without a rule, and `Serving` that of a trip which serves stops in their order and keeps another ruler's rules. The setting over states
 //! (`product`) has a node for each node and state, and a road for each drive, rest and service.
 //!
 //! The laws are calls that do nothing. `finished_is_front`: where nothing is pending, the pairs are the Pareto front over all walks of the
@@ -16,7 +16,7 @@
 mod laws;
 
 pub use laws::{
-    best_ways_are_known, drives_are_relaxed, drives_are_wide, finished_is_front, offers_are_kept,
-    one_rule_simulates, parts_are_kept, rulers_simulate, servings_simulate, starts_are_first,
-    wide_offers_narrow,
+    best_ways_are_known, drives_are_relaxed, drives_are_wide, finished_is_front, no_rule_simulates,
+    offers_are_kept, one_rule_simulates, parts_are_kept, rulers_simulate, servings_simulate,
+    starts_are_first, wide_offers_narrow,
 };

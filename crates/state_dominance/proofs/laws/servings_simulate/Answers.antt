@@ -2,7 +2,7 @@ use Rattle.state_dominance.proofs.Served.{serving_simulates, serving_fits}
 use Rattle.state_dominance.proofs.laws.servings_simulate.Goals as goal
 
 pub returns-clause-simulates : goal.returns-clause-simulates
-returns-clause-simulates c = λ services r sim. serving_simulates services r sim
+returns-clause-simulates c = λ services r few sim. serving_simulates services r few sim
 
 pub returns-clause-fits : goal.returns-clause-fits
-returns-clause-fits c = λ services r fit. serving_fits services r fit
+returns-clause-fits c = λ services r few fit. serving_fits services r few fit

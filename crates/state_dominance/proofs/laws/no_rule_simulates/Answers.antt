@@ -1,0 +1,8 @@
+use Rattle.state_dominance.proofs.NotRuled.{simulates, fitting}
+use Rattle.state_dominance.proofs.laws.no_rule_simulates.Goals as goal
+
+pub returns-clause-simulates : goal.returns-clause-simulates
+returns-clause-simulates c = simulates
+
+pub returns-clause-fits : goal.returns-clause-fits
+returns-clause-fits c = fitting
