@@ -1,5 +1,6 @@
-//! Rulers, which say what a driver may do; bounds to a goal for each node and state of a ruler; the states that a search under a ruler
-//! has reached, by number; and what of a state's costs no better state of its node dominates.
+//! Rulers, which say what a driver may do: one break rule (`OneRule`), none (`NoRule`), and stops to serve in their order beside the rules
+//! of either (`Serving`); bounds to a goal for each node and state of a ruler; the states that a search under a ruler has reached, by
+//! number; and what of a state's costs no better state of its node dominates.
 //!
 //! The bounds are found by a search over labels of nodes (`label_search`), of which nothing is proved, and checked in one pass over the
 //! arcs and labels (`label_check`): for each arc and label of its head, its tail has a label that is as good. So they hold along each
@@ -11,8 +12,10 @@ mod label_check;
 mod label_search;
 mod labels;
 mod laws;
+mod no_rule;
 mod radix_queue;
 mod rulers;
+mod serving;
 mod table;
 
 pub use dominance::undominated;
@@ -20,5 +23,7 @@ pub use label_check::ruled_labels;
 pub use label_search::Ground;
 pub use labels::{Label, Labels};
 pub use laws::{cuts_are_narrow, merges_by_code};
+pub use no_rule::NoRule;
 pub use rulers::{OneRule, Ruler, Service};
+pub use serving::Serving;
 pub use table::{Info, Place, Table};

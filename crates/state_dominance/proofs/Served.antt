@@ -1,8 +1,9 @@
 -- The ruler of a trip that serves stops simulates and fits where that of its rules does.
-use Rattle.std.proofs.Common.{◌≡◌, ℕ, suc, ◌/◌, ◌%◌, ◌≤◌, ◌<◌, ◌&&◌, ltb, eqb, Bool, true, false, Some, None, List, length, refl, sym, ◌∙◌, ap, subst, arith}
+use Rattle.std.proofs.Common.{◌≡◌, ℕ, suc, ◌/◌, ◌%◌, ◌≤◌, ◌<◌, ◌&&◌, ltb, eqb, Bool, true, false, Some, None, List, length, map, refl, sym, ◌∙◌, ap, subst, arith}
 use Rattle.std.specs.Prelude.{if◌then◌else◌}
 use Rattle.std.specs.Option.{option_map}
 use Rattle.std.proofs.lemmas.Bool.{eqb-true, eq-eqb, ltb-true, lt-ltb}
+use Rattle.std.proofs.lemmas.List.{length-map}
 use Rattle.std.proofs.lemmas.Nat.{div-mul-add, mod-mul-add, div-add-mod'}
 use Rattle.std.proofs.lemmas.Option.{same_Some}
 use Rattle.std.proofs.Math.Nat.{mul-le-mul_right, mod-lt}
@@ -160,3 +161,14 @@ module _ (services : List Service) (r : Ruler) where
               (subst (λ w. r.fits w (state n) ≡ true) after (fit_state next n fits))),
         );
   }
+
+-- the same for services that are made of a list
+module _ {A : Type 0} (service : A → Service) (all : List A) (r : Ruler) (few : length all < served_limit) where
+  few_services : length (map service all) < served_limit
+  few_services = subst (λ n. n < served_limit) (sym (length-map all service)) few
+
+  pub made_simulates : IsSimulating r → IsSimulating (serving (map service all) r)
+  made_simulates sim = serving_simulates (map service all) r few_services sim
+
+  pub made_fits : IsFitting r → IsFitting (serving (map service all) r)
+  made_fits fit = serving_fits (map service all) r few_services fit
