@@ -129,15 +129,11 @@ module _ (k : Task) (now : Progress) (sim : IsSimulation k) (bound : AreBoundsAl
       (λ p one. let a = facts.achieved p one in record { node = a.node; goal = a.goal; reached = a.reached })
       (pair_covered in_time)
 
-  -- on a walk to a pair each position than which none that is reached is better is known with its cost
-  pub known_exactly : k.start.minute ≤ k.until → (pair : Pair) → Contains now.pairs pair → (p : Position) → Reaches k p → (after : List Step) (g : ℕ)
-      → k.goal g ≡ true → Walks k.setting k.until after p (point g pair.arrival pair.cost)
-      → ((u x : ℕ) → k.no_worse u p.node ≡ true → x ≤ p.cost → Reaches k (point u p.minute x) → (u ≡ p.node) × (x ≡ p.cost))
-      → now.cost p.node p.minute ≡ Some p.cost
-  known_exactly in_time pair one p reach after g goal walk best = ⊎_elim
-      (λ (h : IsCovered k now p).
-      let same = best h.node h.known.least h.better h.known.within (facts.reached (point h.node p.minute h.known.least) h.known.is) in
-      ap (λ v. now.cost v p.minute) (sym same.0) ∙ h.known.is ∙ ap (λ (n : ℕ). Some n) same.1)
+  -- on a walk to a pair some state that is no worse than a position that is reached is known to cost no more
+  pub covered_on_way : k.start.minute ≤ k.until → (pair : Pair) → Contains now.pairs pair → (p : Position) → Reaches k p → (after : List Step) (g : ℕ)
+      → k.goal g ≡ true → Walks k.setting k.until after p (point g pair.arrival pair.cost) → IsCovered k now p
+  covered_on_way in_time pair one p reach after g goal walk = ⊎_elim
+      (λ (h : IsCovered k now p). h)
       (λ (e : IsPrunable k now.pairs p).
       let a = facts.achieved pair one in
       let late : pair.arrival ≤ k.until = walk_in_time k.setting k.until a.reached.0 k.start (point a.node pair.arrival pair.cost) in_time a.reached.1 in
@@ -154,3 +150,13 @@ module _ (k : Task) (now : Progress) (sim : IsSimulation k) (bound : AreBoundsAl
       had.better.other)
       (subst (λ o. IsWorseOrLate k.until now.pairs o (point g pair.arrival pair.cost)) (bound.goal g goal) last))
       (walk_relaxed reach.0 p reach.1)
+
+  -- each position there than which none that is reached is better is known with its cost
+  pub known_exactly : k.start.minute ≤ k.until → (pair : Pair) → Contains now.pairs pair → (p : Position) → Reaches k p → (after : List Step) (g : ℕ)
+      → k.goal g ≡ true → Walks k.setting k.until after p (point g pair.arrival pair.cost)
+      → ((u x : ℕ) → k.no_worse u p.node ≡ true → x ≤ p.cost → Reaches k (point u p.minute x) → (u ≡ p.node) × (x ≡ p.cost))
+      → now.cost p.node p.minute ≡ Some p.cost
+  known_exactly in_time pair one p reach after g goal walk best =
+      let h = covered_on_way in_time pair one p reach after g goal walk in
+      let same = best h.node h.known.least h.better h.known.within (facts.reached (point h.node p.minute h.known.least) h.known.is) in
+      ap (λ v. now.cost v p.minute) (sym same.0) ∙ h.known.is ∙ ap (λ (n : ℕ). Some n) same.1

@@ -9,7 +9,7 @@ use Rattle.route_base.specs.declared.types.Bound.{Bound}
 use Rattle.propagation.specs.Inside.Invariants.{point}
 use Rattle.state_dominance.specs.Inside.Dominance.{Task, IsNoWorseThan, IsSimulation, AreBoundsAlong}
 use Rattle.state_dominance.specs.Inside.Product.{Ruler, IsSimulating, IsBase, AreRuledBounds, code, driven_by, driven_to, rested_by, served_by, served_to, shut_for, road_code, product, task_over}
-use Rattle.state_dominance.proofs.Roads.{IsDriveRoad, IsRestRoad, IsServiceRoad, road_kinds, road_is, shut_is}
+use Rattle.state_dominance.proofs.Roads.{IsDriveRoad, IsRestRoad, IsServiceRoad, road_kinds, road_is, shut_is, kind_is, arc_is}
 
 both_parts : (a b : Bool) → (a && b) ≡ true → (a ≡ true) × (b ≡ true)
 both_parts true b is = (refl, is)
@@ -18,6 +18,16 @@ both_parts false b is = absurd (cc)
 both_true : (a b : Bool) → a ≡ true → b ≡ true → (a && b) ≡ true
 both_true true b one two = two
 both_true false b one two = absurd (cc)
+
+-- from state u, with cost y, a drive over a road of the same kind, with the same arc, rest or service, leads to what is no worse, and costs as much
+pub record IsDrivenToo (k : Task) (base u y x : ℕ) (p q : Position) : Type 0 where
+  pub road : ℕ
+  pub end : Position
+  pub move : Drives k.setting k.until road (point u p.minute y) end
+  pub no_worse : IsNoWorseThan k end q
+  pub kind : x % 3 ≡ road % 3
+  pub number : x / 3 % base ≡ road / 3 % base
+  pub paid : end.cost + p.cost ≡ q.cost + y
 
 module _ (s : Setting) (r : Ruler) (base origin goal depart until : ℕ) (bound : ℕ → ℕ → Option Bound) (sim : IsSimulating r) (is_base : IsBase s r base)
     (bounds : AreRuledBounds s r goal bound) where
@@ -41,7 +51,7 @@ module _ (s : Setting) (r : Ruler) (base origin goal depart until : ℕ) (bound 
       → (task_over s r base origin goal depart until bound).no_worse u v ≡ true
   no_worse_by u v same better = both_true (eqb (u % base) (v % base)) (r.no_worse (u / base) (v / base)) (eq-eqb (u % base) (v % base) same) better
 
-  code_low : (u v : ℕ) → u % base ≡ v % base → u / base ≤ v / base → u ≤ v
+  pub code_low : (u v : ℕ) → u % base ≡ v % base → u / base ≤ v / base → u ≤ v
   code_low u v same le = omega (arith, div-add-mod' u base, div-add-mod' v base, same, mul-le-mul_right base le)
 
   -- a code that is no worse than the tail of a road is that of its node
@@ -49,7 +59,7 @@ module _ (s : Setting) (r : Ruler) (base origin goal depart until : ℕ) (bound 
   code_is u v k small same = omega (arith, div-add-mod' u base, same, node_of v k small)
 
   drive_too : (u y x : ℕ) (p q : Position) → over.no_worse u p.node ≡ true → y ≤ p.cost → (move : Drives over.setting until x p q)
-      → IsDriveRoad s r base x move.road → (b : ℕ) × (w : Position) × Drives over.setting until b (point u p.minute y) w × IsNoWorseThan over w q
+      → IsDriveRoad s r base x move.road → IsDrivenToo over base u y x p q
   unfolding over
   drive_too u y x p q better le move d =
       let small = is_base.arcs d.arc d.over d.is in
@@ -63,10 +73,11 @@ module _ (s : Setting) (r : Ruler) (base origin goal depart until : ℕ) (bound 
       road_is s r base 0 d.arc d.over.tail (u / base) (omega arith) small.0 small.1
       ∙ ap (λ o. driven_by r base (u / base) o) d.is ∙ ap (λ o. driven_to r base (u / base) d.over o) next.1 in
       let own : u ≡ code base d.over.tail (u / base) =
-      code_is u d.over.tail d.state small.1 (same_node u p.node better ∙ ap (λ n. n % base) at) in (
-        b,
-        record { node = code base d.over.head next.0; minute = p.minute + d.over.minutes; cost = y + d.over.cost },
-        record {
+      code_is u d.over.tail d.state small.1 (same_node u p.node better ∙ ap (λ n. n % base) at) in
+      record {
+        road = b;
+        end = record { node = code base d.over.head next.0; minute = p.minute + d.over.minutes; cost = y + d.over.cost };
+        move = record {
           road = road;
           is = is_road;
           tail = sym own;
@@ -76,19 +87,22 @@ module _ (s : Setting) (r : Ruler) (base origin goal depart until : ℕ) (bound 
           node = refl;
           minute = refl;
           cost = refl;
-        },
-        record {
+        };
+        no_worse = record {
           node = no_worse_by (code base d.over.head next.0) q.node
               (node_of d.over.head next.0 small.2 ∙ sym (ap (λ n. n % base) (move.node ∙ d.head) ∙ node_of d.over.head d.next small.2))
               (subst (λ n. r.no_worse n (q.node / base) ≡ true) (sym (state_of d.over.head next.0 small.2))
               (subst (λ n. r.no_worse next.0 n ≡ true) (sym (ap (λ n. n / base) (move.node ∙ d.head) ∙ state_of d.over.head d.next small.2)) next.2));
           minute = omega (arith, move.minute, d.minutes);
           cost = omega (arith, move.cost, d.cost, le);
-        },
-      )
+        };
+        kind = d.kind ∙ sym (kind_is s r base 0 d.arc d.over.tail (u / base) (omega arith) small.0 small.1);
+        number = d.number ∙ sym (arc_is s r base 0 d.arc d.over.tail (u / base) (omega arith) small.0 small.1);
+        paid = omega (arith, move.cost, d.cost);
+      }
 
   rest_too : (u y x : ℕ) (p q : Position) → over.no_worse u p.node ≡ true → y ≤ p.cost → (move : Drives over.setting until x p q)
-      → IsRestRoad s r base x move.road → (b : ℕ) × (w : Position) × Drives over.setting until b (point u p.minute y) w × IsNoWorseThan over w q
+      → IsRestRoad s r base x move.road → IsDrivenToo over base u y x p q
   unfolding over
   rest_too u y x p q better le move d =
       let node = is_base.nodes d.node d.weight d.rated in
@@ -103,10 +117,11 @@ module _ (s : Setting) (r : Ruler) (base origin goal depart until : ℕ) (bound 
       road_is s r base 1 d.place d.node (u / base) (omega arith) place node
       ∙ ap (λ o. rested_by r base d.node (u / base) o (s.weight d.node)) d.is ∙ ap (λ o. rested_by r base d.node (u / base) (Some d.rest) o) d.rated in
       let own : u ≡ code base d.node (u / base) =
-      code_is u d.node d.state node (same_node u p.node better ∙ ap (λ n. n % base) at) in (
-        b,
-        record { node = code base d.node next; minute = p.minute + d.rest; cost = y + d.rest * d.weight },
-        record {
+      code_is u d.node d.state node (same_node u p.node better ∙ ap (λ n. n % base) at) in
+      record {
+        road = b;
+        end = record { node = code base d.node next; minute = p.minute + d.rest; cost = y + d.rest * d.weight };
+        move = record {
           road = road;
           is = is_road;
           tail = sym own;
@@ -116,8 +131,8 @@ module _ (s : Setting) (r : Ruler) (base origin goal depart until : ℕ) (bound 
           node = refl;
           minute = refl;
           cost = refl;
-        },
-        record {
+        };
+        no_worse = record {
           node = no_worse_by (code base d.node next) q.node
               (node_of d.node next node ∙ sym (ap (λ n. n % base) (move.node ∙ d.head) ∙ node_of d.node (r.rest d.state d.rest) node))
               (subst (λ n. r.no_worse n (q.node / base) ≡ true) (sym (state_of d.node next node))
@@ -125,11 +140,14 @@ module _ (s : Setting) (r : Ruler) (base origin goal depart until : ℕ) (bound 
               (sim.rest (u / base) d.state d.rest no_worse)));
           minute = omega (arith, move.minute, d.minutes);
           cost = omega (arith, move.cost, d.cost, le);
-        },
-      )
+        };
+        kind = d.kind ∙ sym (kind_is s r base 1 d.place d.node (u / base) (omega arith) place node);
+        number = d.number ∙ sym (arc_is s r base 1 d.place d.node (u / base) (omega arith) place node);
+        paid = omega (arith, move.cost, d.cost);
+      }
 
   serve_too : (u y x : ℕ) (p q : Position) → over.no_worse u p.node ≡ true → y ≤ p.cost → (move : Drives over.setting until x p q)
-      → IsServiceRoad s r base x move.road → (b : ℕ) × (w : Position) × Drives over.setting until b (point u p.minute y) w × IsNoWorseThan over w q
+      → IsServiceRoad s r base x move.road → IsDrivenToo over base u y x p q
   unfolding over
   serve_too u y x p q better le move d =
       let small = is_base.services d.place d.service d.is in
@@ -144,10 +162,11 @@ module _ (s : Setting) (r : Ruler) (base origin goal depart until : ℕ) (bound 
       road_is s r base 2 d.place 0 (u / base) (omega arith) small.0 some
       ∙ ap (λ o. served_by r base d.place (u / base) o) d.is ∙ ap (λ o. served_to base (u / base) d.service o) next.1 in
       let own : u ≡ code base d.service.node (u / base) =
-      code_is u d.service.node d.state small.1 (same_node u p.node better ∙ ap (λ n. n % base) at) in (
-        b,
-        record { node = code base d.service.node next.0; minute = p.minute + d.service.minutes; cost = y + 0 },
-        record {
+      code_is u d.service.node d.state small.1 (same_node u p.node better ∙ ap (λ n. n % base) at) in
+      record {
+        road = b;
+        end = record { node = code base d.service.node next.0; minute = p.minute + d.service.minutes; cost = y + 0 };
+        move = record {
           road = road;
           is = is_road;
           tail = sym own;
@@ -157,16 +176,47 @@ module _ (s : Setting) (r : Ruler) (base origin goal depart until : ℕ) (bound 
           node = refl;
           minute = refl;
           cost = refl;
-        },
-        record {
+        };
+        no_worse = record {
           node = no_worse_by (code base d.service.node next.0) q.node
               (node_of d.service.node next.0 small.1 ∙ sym (ap (λ n. n % base) (move.node ∙ d.head) ∙ node_of d.service.node d.next small.1))
               (subst (λ n. r.no_worse n (q.node / base) ≡ true) (sym (state_of d.service.node next.0 small.1))
               (subst (λ n. r.no_worse next.0 n ≡ true) (sym (ap (λ n. n / base) (move.node ∙ d.head) ∙ state_of d.service.node d.next small.1)) next.2));
           minute = omega (arith, move.minute, d.minutes);
           cost = omega (arith, move.cost, d.cost, le);
-        },
-      )
+        };
+        kind = d.kind ∙ sym (kind_is s r base 2 d.place 0 (u / base) (omega arith) small.0 some);
+        number = d.number ∙ sym (arc_is s r base 2 d.place 0 (u / base) (omega arith) small.0 some);
+        paid = omega (arith, move.cost, d.cost);
+      }
+
+  too : (u y x : ℕ) (p q : Position) → over.no_worse u p.node ≡ true → y ≤ p.cost → Drives over.setting until x p q → IsDrivenToo over base u y x p q
+  unfolding over
+  too u y x p q better le move = ⊎_elim
+      (λ (d : IsDriveRoad s r base x move.road). drive_too u y x p q better le move d)
+      (λ (other : IsRestRoad s r base x move.road ⊎ IsServiceRoad s r base x move.road). ⊎_elim
+      (λ (d : IsRestRoad s r base x move.road). rest_too u y x p q better le move d)
+      (λ (d : IsServiceRoad s r base x move.road). serve_too u y x p q better le move d)
+      other)
+      (road_kinds s r base x move.road move.is)
+
+  pub driven_too : (u y x : ℕ) (p q : Position) → (task_over s r base origin goal depart until bound).no_worse u p.node ≡ true → y ≤ p.cost
+      → Drives (product s r base) until x p q → IsDrivenToo (task_over s r base origin goal depart until bound) base u y x p q
+  unfolding over
+  driven_too u y x p q better le move = too u y x p q better le move
+
+  -- the number of a road has the state in which it is driven
+  pub drive_state : (x : ℕ) (p q : Position) → Drives (product s r base) until x p q → x / 3 / base / base ≡ p.node / base
+  drive_state x p q move = ⊎_elim
+      (λ (d : IsDriveRoad s r base x move.road).
+      d.held ∙ sym (ap (λ n. n / base) (sym move.tail ∙ d.tail) ∙ state_of d.over.tail d.state (is_base.arcs d.arc d.over d.is).1))
+      (λ (other : IsRestRoad s r base x move.road ⊎ IsServiceRoad s r base x move.road). ⊎_elim
+      (λ (d : IsRestRoad s r base x move.road).
+      d.held ∙ sym (ap (λ n. n / base) (sym move.tail ∙ d.tail) ∙ state_of d.node d.state (is_base.nodes d.node d.weight d.rated)))
+      (λ (d : IsServiceRoad s r base x move.road).
+      d.held ∙ sym (ap (λ n. n / base) (sym move.tail ∙ d.tail) ∙ state_of d.service.node d.state (is_base.services d.place d.service d.is).1))
+      other)
+      (road_kinds s r base x move.road move.is)
 
   wait_too : (u y : ℕ) (p q : Position) → over.no_worse u p.node ≡ true → y ≤ p.cost → Waits over.setting until p q
       → (w : Position) × Waits over.setting until (point u p.minute y) w × IsNoWorseThan over w q
@@ -202,13 +252,7 @@ module _ (s : Setting) (r : Ruler) (base origin goal depart until : ℕ) (bound 
         (sim.ends (u / base) (v / base) (better_state u v is) parts.1);
     bounds = λ u v b is at. let d = bounds.falls (v % base) (u / base) (v / base) b (better_state u v is) at in
         (d.0, ap (λ n. bound n (u / base)) (same_node u v is) ∙ d.1, d.2, d.3);
-    drives = λ u y a p q better le move. ⊎_elim
-        (λ (d : IsDriveRoad s r base a move.road). drive_too u y a p q better le move d)
-        (λ (other : IsRestRoad s r base a move.road ⊎ IsServiceRoad s r base a move.road). ⊎_elim
-        (λ (d : IsRestRoad s r base a move.road). rest_too u y a p q better le move d)
-        (λ (d : IsServiceRoad s r base a move.road). serve_too u y a p q better le move d)
-        other)
-        (road_kinds s r base a move.road move.is);
+    drives = λ u y a p q better le move. let d = too u y a p q better le move in (d.road, d.end, d.move, d.no_worse);
     waits = wait_too;
   }
 
