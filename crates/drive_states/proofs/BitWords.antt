@@ -1,15 +1,15 @@
 -- Bits of words, and of rows of words.
 use Rattle.std.proofs.Common.{◌≡◌, ◌⊎◌, inl, inr, ⊎_elim, ℕ, zero, suc, ◌+◌, ◌-◌, ◌*◌, ◌/◌, ◌%◌, ◌^◌, ◌≤◌, ◌<◌, Bool, true, false, cond, leb, ◌&&◌}
-use Rattle.std.proofs.Common.{List, length, get_or, set, max, min, refl, sym, ◌∙◌, ap, subst, arith}
+use Rattle.std.proofs.Common.{List, length, get_or, set, take, drop, max, min, refl, sym, ◌∙◌, ap, subst, arith}
 use Rattle.std.specs.Prelude.{bit_and, bit_or}
 use Rattle.std.specs.Int.{bit_at, w64}
 use Rattle.std.specs.Int.Count.{ones}
 use Rattle.std.proofs.lemmas.Bool.{cases_eq, cases_lt, le-leb, lt-leb}
-use Rattle.std.proofs.lemmas.List.{get_or-set_same, get_or-set_other}
+use Rattle.std.proofs.lemmas.List.{get_or-set_same, get_or-set_other, get_or-take, get_or-drop, get_or_past, length-take}
 use Rattle.std.proofs.lemmas.Nat.{shr_split, shr-shr, shr_below, and_le_l, pow_pos, mod_below, ones-le, and_mask}
 use Rattle.std.proofs.lemmas.Nat.Bits.{bit_at_lowest, bit_at-suc, bit_at-zero, bit_at_and, bit_at_or, bit_at_not, bit_at-lt, bit_at_above, bit_at_cat_low, bit_at_cat_high}
 use Rattle.std.proofs.lemmas.Nat.Bits.{ones_shr}
-use Rattle.drive_states.specs.Inside.BitRows.{sum_below, bit_of, later_bit, TakesLater}
+use Rattle.drive_states.specs.Inside.BitRows.{sum_below, bit_of, later_bit, TakesFresh, TakesLater, IsTrimmed}
 use Rattle.drive_states.proofs.Sums.{sum_same, sum_split, sum_first, sum_both, sum_small}
 use lib.Count.{ones_step}
 
@@ -324,10 +324,175 @@ joined_step row old from by most i fresh later c more low_word same low part wit
     subst (λ (w : ℕ). sum_below (λ k. bit_at (bit_or (get_or row i 0) w) k) d ≡ sum_below (λ k. bit_at (get_or row i 0) k) d + more) same
     (lacking d few (subst (λ (w : ℕ). w < 2 ^ d) (sym same) small))))
 
+-- no word has taken any
+pub joined_none : (row from : List ℕ) (by most : ℕ) → AreJoined row row from by most (by / 64) 0
+joined_none row from by most = record {
+  done = λ r low. omega (arith, later_early from by most r (omega (arith, low)));
+  rest = λ j high. refl;
+  count = omega arith;
+}
+
+-- a row has nothing behind its end
+bit_behind : (words : List ℕ) (r : ℕ) → length words ≤ r / 64 → bit_of words r ≡ 0
+unfolding bit_of
+bit_behind words r high = ap (λ (m : ℕ). bit_at m (r % 64)) (get_or_past words (r / 64) 0 high) ∙ bit_at-zero (r % 64)
+
+later_behind : (from : List ℕ) (by most i r : ℕ) → (most / 64 + 1 ≤ i) ⊎ (by / 64 + length from + 1 ≤ i) → 64 * i ≤ r → later_bit from by most r ≡ 0
+later_behind from by most i r end late = ⊎_elim
+    (λ (past : most < r). later_past from by most r past)
+    (λ (low : r ≤ most). ⊎_elim
+    (λ (over : most / 64 + 1 ≤ i). absurd (omega (arith, over, late, low)))
+    (λ (behind : by / 64 + length from + 1 ≤ i).
+    later_is from by most r (omega (arith, behind, late)) low ∙ bit_behind from (r - by) (omega (arith, behind, late)))
+    end)
+    (cases_lt most r)
+
 -- all words have taken it
-pub joined_all : (row old from : List ℕ) (by most i fresh : ℕ) → AreJoined row old from by most i fresh → most / 64 + 1 ≤ i
-    → (r : ℕ) → bit_of row r ≡ max (bit_of old r) (later_bit from by most r)
+pub joined_all : (row old from : List ℕ) (by most i fresh : ℕ) → AreJoined row old from by most i fresh
+    → (most / 64 + 1 ≤ i) ⊎ (by / 64 + length from + 1 ≤ i) → (r : ℕ) → bit_of row r ≡ max (bit_of old r) (later_bit from by most r)
 joined_all row old from by most i fresh joined end r = ⊎_elim
     (λ (early : r < 64 * i). joined.done r early)
-    (λ (late : 64 * i ≤ r). omega (arith, same_words row old i r joined.rest late, later_past from by most r (omega (arith, late, end))))
+    (λ (late : 64 * i ≤ r). omega (arith, same_words row old i r joined.rest late, later_behind from by most i r end late))
     (cases_lt r (64 * i))
+
+pub joined_count : (row old from : List ℕ) (by most i fresh : ℕ) → AreJoined row old from by most i fresh
+    → sum_below (bit_of row) (most + 1) ≡ sum_below (bit_of old) (most + 1) + fresh
+joined_count row old from by most i fresh joined =
+    let upto : ℕ = min (most + 1) (64 * i) in
+    let rest : ℕ = most + 1 - upto in
+    let whole : upto + rest ≡ most + 1 = omega arith in
+    omega (
+      arith,
+      joined.count,
+      sum_split (bit_of row) upto rest,
+      sum_split (bit_of old) upto rest,
+      ap (sum_below (bit_of row)) whole,
+      ap (sum_below (bit_of old)) whole,
+      sum_same (λ k. bit_of row (upto + k)) (λ k. bit_of old (upto + k)) rest
+          (λ k low. same_words row old i (upto + k) joined.rest (omega (arith, low))),
+    )
+
+-- the words below one were taken, and what was new of them is written
+pub record AreTaken (old new row fresh : List ℕ) (i : ℕ) : Type 0 where
+  pub taken : (j : ℕ) → j < i → get_or new j 0 ≡ get_or row j 0
+  pub written : (j : ℕ) → j < i → get_or fresh j 0 ≡ bit_and (get_or row j 0) (2 ^ 64 - 1 - get_or old j 0)
+  pub rest : (j : ℕ) → i ≤ j → get_or new j 0 ≡ get_or old j 0
+  pub none : (j : ℕ) → i ≤ j → get_or fresh j 0 ≡ 0
+
+pub taken_none : (old row fresh : List ℕ) → ((j : ℕ) → get_or fresh j 0 ≡ 0) → AreTaken old old row fresh 0
+taken_none old row fresh none = record {
+  taken = λ j low. absurd (omega (arith, low));
+  written = λ j low. absurd (omega (arith, low));
+  rest = λ j high. refl;
+  none = λ j high. none j;
+}
+
+pub taken_on : (old new row fresh : List ℕ) (i : ℕ) → i < length new → i < length fresh → AreTaken old new row fresh i
+    → AreTaken old (set new i (get_or row i 0)) row (set fresh i (bit_and (get_or row i 0) (2 ^ 64 - 1 - get_or new i 0))) (i + 1)
+taken_on old new row fresh i within within_fresh taken =
+    let word : ℕ = bit_and (get_or row i 0) (2 ^ 64 - 1 - get_or new i 0) in
+    record {
+      taken = λ j low. ⊎_elim
+          (λ (here : i ≡ j). subst (λ (k : ℕ). get_or (set new i (get_or row i 0)) k 0 ≡ get_or row k 0) here
+          (get_or-set_same new i (get_or row i 0) 0 within))
+          (λ (other : i ≡ j → ⊥).
+          get_or-set_other new i j (get_or row i 0) 0 (λ is. other (sym is)) ∙ taken.taken j (omega (arith, low, other)))
+          (cases_eq i j);
+      written = λ j low. ⊎_elim
+          (λ (here : i ≡ j). subst (λ (k : ℕ). get_or (set fresh i word) k 0 ≡ bit_and (get_or row k 0) (2 ^ 64 - 1 - get_or old k 0)) here
+          (get_or-set_same fresh i word 0 within_fresh
+          ∙ ap (λ (m : ℕ). bit_and (get_or row i 0) (2 ^ 64 - 1 - m)) (taken.rest i (omega arith))))
+          (λ (other : i ≡ j → ⊥). get_or-set_other fresh i j word 0 (λ is. other (sym is)) ∙ taken.written j (omega (arith, low, other)))
+          (cases_eq i j);
+      rest = λ j high. get_or-set_other new i j (get_or row i 0) 0 (λ is. absurd (omega (arith, is, high))) ∙ taken.rest j (omega (arith, high));
+      none = λ j high. get_or-set_other fresh i j word 0 (λ is. absurd (omega (arith, is, high))) ∙ taken.none j (omega (arith, high));
+    }
+
+-- a bit of a word that another lacks
+new_bit : (a b k : ℕ) → b < 2 ^ 64 → k < 64 → bit_at (bit_and a (2 ^ 64 - 1 - b)) k ≡ bit_at a k - bit_at b k
+new_bit a b k fits low = omega (arith, bit_at_and a (2 ^ 64 - 1 - b) k, bit_at_not w64 b k fits low, bit_at-lt a k, bit_at-lt b k)
+
+pub taken_all : (old new row fresh : List ℕ) (i : ℕ) → length row ≤ i → ((j : ℕ) → get_or old j 0 < 2 ^ 64) → AreTaken old new row fresh i
+    → TakesFresh old new row fresh
+unfolding bit_of
+taken_all old new row fresh i whole fits taken = record {
+  has = λ r has. ⊎_elim
+      (λ (low : r / 64 < i). ap (λ (m : ℕ). bit_at m (r % 64)) (taken.taken (r / 64) low) ∙ has)
+      (λ (high : i ≤ r / 64). absurd (omega (arith, has, bit_behind row r (omega (arith, high, whole)))))
+      (cases_lt (r / 64) i);
+  found = λ r has. ⊎_elim
+      (λ (low : r / 64 < i). ⊎_elim
+      (λ (was : bit_at (get_or old (r / 64) 0) (r % 64) ≡ 1). inl was)
+      (λ (not : bit_at (get_or old (r / 64) 0) (r % 64) ≡ 1 → ⊥). inr (omega (
+        arith,
+        not,
+        ap (λ (m : ℕ). bit_at m (r % 64)) (taken.written (r / 64) low),
+        new_bit (get_or row (r / 64) 0) (get_or old (r / 64) 0) (r % 64) (fits (r / 64)) (omega arith),
+        bit_at-lt (get_or old (r / 64) 0) (r % 64),
+        ap (λ (m : ℕ). bit_at m (r % 64)) (taken.taken (r / 64) low),
+        has,
+      )))
+      (cases_eq (bit_at (get_or old (r / 64) 0) (r % 64)) 1))
+      (λ (high : i ≤ r / 64). inl (sym (ap (λ (m : ℕ). bit_at m (r % 64)) (taken.rest (r / 64) high)) ∙ has))
+      (cases_lt (r / 64) i);
+  within = λ r has. ⊎_elim
+      (λ (low : r / 64 < i). omega (
+        arith,
+        ap (λ (m : ℕ). bit_at m (r % 64)) (taken.written (r / 64) low),
+        new_bit (get_or row (r / 64) 0) (get_or old (r / 64) 0) (r % 64) (fits (r / 64)) (omega arith),
+        bit_at-lt (get_or row (r / 64) 0) (r % 64),
+        has,
+      ))
+      (λ (high : i ≤ r / 64). absurd (omega (
+        arith,
+        has,
+        ap (λ (m : ℕ). bit_at m (r % 64)) (taken.none (r / 64) high),
+        bit_at-zero (r % 64),
+      )))
+      (cases_lt (r / 64) i);
+}
+
+-- rows whose words are the same have the same minutes
+pub fresh_since : (old same new row fresh : List ℕ) → ((k : ℕ) → get_or same k 0 ≡ get_or old k 0) → TakesFresh same new row fresh
+    → TakesFresh old new row fresh
+unfolding bit_of
+fresh_since old same new row fresh words takes = record {
+  has = takes.has;
+  found = λ r has. ⊎_elim
+      (λ (was : bit_of same r ≡ 1). inl (sym (ap (λ (m : ℕ). bit_at m (r % 64)) (words (r / 64))) ∙ was))
+      (λ (new : bit_of fresh r ≡ 1). inr new)
+      (takes.found r has);
+  within = takes.within;
+}
+
+-- a part of a row without which only words of 0 are left
+part_bit : (row : List ℕ) (first end q : ℕ) → q / 64 < end - first → bit_of (take (end - first) (drop first row)) q ≡ bit_of row (q + 64 * first)
+unfolding bit_of
+part_bit row first end q low =
+    let place : first + q / 64 ≡ (q + 64 * first) / 64 = omega arith in
+    let bit : q % 64 ≡ (q + 64 * first) % 64 = omega arith in
+    ap (λ (m : ℕ). bit_at m (q % 64)) (get_or-take (end - first) (drop first row) (q / 64) 0 low ∙ get_or-drop first row (q / 64) 0
+    ∙ ap (λ (k : ℕ). get_or row k 0) place) ∙ ap (bit_at (get_or row ((q + 64 * first) / 64) 0)) bit
+
+pub is_trimmed : (row : List ℕ) (first end : ℕ) → first ≤ end → end ≤ length row → ((k : ℕ) → k < first → get_or row k 0 ≡ 0)
+    → ((k : ℕ) → end ≤ k → get_or row k 0 ≡ 0) → IsTrimmed row (take (end - first) (drop first row)) (64 * first)
+unfolding bit_of
+is_trimmed row first end order within before behind = record {
+  found = λ r has. ⊎_elim
+      (λ (early : r / 64 < first). absurd (omega (arith, has, ap (λ (m : ℕ). bit_at m (r % 64)) (before (r / 64) early), bit_at-zero (r % 64))))
+      (λ (high : first ≤ r / 64). ⊎_elim
+      (λ (low : r / 64 < end).
+      (let back : r - 64 * first + 64 * first ≡ r = omega (arith, high) in
+      (r - 64 * first, part_bit row first end (r - 64 * first) (omega (arith, high, low)) ∙ ap (bit_of row) back ∙ has, back)))
+      (λ (late : end ≤ r / 64). absurd (omega (arith, has, ap (λ (m : ℕ). bit_at m (r % 64)) (behind (r / 64) late), bit_at-zero (r % 64))))
+      (cases_lt (r / 64) end))
+      (cases_lt (r / 64) first);
+  within = λ r has. ⊎_elim
+      (λ (low : has.0 / 64 < end - first). subst (λ (m : ℕ). bit_of row m ≡ 1) has.2 (sym (part_bit row first end has.0 low) ∙ has.1))
+      (λ (high : end - first ≤ has.0 / 64). absurd (omega (
+        arith,
+        has.1,
+        bit_behind (take (end - first) (drop first row)) has.0 (omega (arith, high, length-take (end - first) (drop first row))),
+      )))
+      (cases_lt (has.0 / 64) (end - first));
+}

@@ -1,9 +1,9 @@
 // A row of bits for each node.
 ghost use Rattle.std.specs.Prelude.{◌≡◌, ◌≢◌, ◌<◌, ◌≤◌, ℕ, [], length, IfOk, OnOk};
-ghost use Rattle.drive_states.specs.Words.{TakesLater, row_of};
+ghost use Rattle.drive_states.specs.Words.{TakesFresh, TakesLater, row_of};
 ghost use Rattle.route_base.specs.declared.limits.TheConstants.{DAY_MINUTES};
 
-use crate::bits::add_later;
+use crate::bits::{add_later, take_fresh};
 use route_base::{NodeId, OutOfMemory};
 use std::alloc::Global;
 use std::marker::Model;
@@ -55,6 +55,17 @@ impl BitRows {
         let place = v.0 as usize;
         self.add_rows(place)?;
         add_later(&mut self.rows[place], from, by as usize, most as usize)
+    }
+
+    /// Takes all minutes of a row at a node, and writes the new ones. Linear in the minutes over the bits of a word.
+    pub fn take(&mut self, v: NodeId, row: &[u64], fresh: &mut Vec<u64>) -> Result<(), OutOfMemory>
+        ensures took { OnOk result (TakesFresh (row_of self.old v.0) (row_of self.new v.0)
+            row.now fresh.new.items) }
+        ensures others { OnOk result ((u : ℕ) → u ≢ v.0 → row_of self.new u ≡ row_of self.old u) }
+    {
+        let place = v.0 as usize;
+        self.add_rows(place)?;
+        take_fresh(&mut self.rows[place], row, fresh)
     }
 
     // Adds empty rows up to this one.

@@ -1,10 +1,11 @@
 // Sets of minutes as words of bits.
 ghost use Rattle.std.specs.Int.{bit_at};
 ghost use Rattle.std.specs.Prelude.{◌≡◌, ◌+◌, ◌-◌, ◌*◌, ◌/◌, ◌%◌, ◌^◌, ◌≤◌, ◌<◌, ℕ, IfOk, OnOk, bit_or, cond, leb, length, max, slice_index_or};
-ghost use Rattle.drive_states.specs.Words.{TakesLater, bit_of, later_bit, sum_below};
+ghost use Rattle.drive_states.specs.Words.{TakesFresh, TakesLater, IsTrimmed, bit_of, later_bit, sum_below};
 ghost use Rattle.route_base.specs.declared.limits.TheConstants.{DAY_MINUTES};
 
 use route_base::OutOfMemory;
+use route_base::limits::DAY_MINUTES;
 
 // The word at a place, or 0 behind the end.
 fn word_at(words: &[u64], i: usize) -> u64
@@ -51,7 +52,7 @@ fn lacking(word: u64, other: u64) -> u32
     (other & !word).count_ones()
 }
 
-// Takes the minutes of another row, and counts the new ones.
+// Takes the minutes of another row, and counts the new ones. It goes over the words in which the other row's minutes can be.
 fn join_words(row: &mut [u64], from: &[u64], by: usize, most: usize) -> u32
     requires most { most ≤ DAY_MINUTES }
     requires room { most / 64 < length row.old }
@@ -60,8 +61,10 @@ fn join_words(row: &mut [u64], from: &[u64], by: usize, most: usize) -> u32
     ensures count { sum_below (bit_of row.new) (most + 1)
         ≡ sum_below (bit_of row.old) (most + 1) + result }
 {
+    let first = by / 64;
+    let count = (most / 64 + 1).saturating_sub(first).min(from.len() + 1);
     let mut fresh = 0;
-    for i in 0..most / 64 + 1 {
+    for i in first..first + count {
         let later = low_bits(later_word(from, by, i), (most + 1 - 64 * i).min(64));
         fresh += lacking(row[i], later);
         row[i] |= later;
@@ -82,8 +85,8 @@ fn lengthen(row: &mut Vec<u64>, place: usize) -> Result<(), OutOfMemory>
     Ok(())
 }
 
-/// Takes the minutes of another row, all later by some minutes, up to the most, and counts the new ones. Linear in the minutes over
-/// the bits of a word.
+/// Takes the minutes of another row, all later by some minutes, up to the most, and counts the new ones. Linear in the words of the
+/// other row.
 pub fn add_later(
     row: &mut Vec<u64>,
     from: &[u64],
@@ -95,6 +98,87 @@ pub fn add_later(
 {
     lengthen(row, most / 64)?;
     Ok(join_words(row, from, by, most))
+}
+
+// Lengthens a row to a number of words.
+fn reach(row: &mut Vec<u64>, count: usize) -> Result<(), OutOfMemory>
+    ensures same { (k : ℕ) → slice_index_or row.new.items k 0 ≡ slice_index_or row.old.items k 0 }
+    ensures within { OnOk result (count ≤ length row.new.items) }
+{
+    if count > row.len() {
+        row.resize(count, 0)?;
+    }
+    Ok(())
+}
+
+// Takes the words of a row, and writes what is new of each.
+fn take_words(done: &mut Vec<u64>, row: &[u64], fresh: &mut Vec<u64>)
+    requires done { length row.now ≤ length done.old.items }
+    requires fresh { length row.now ≤ length fresh.old.items }
+    requires none { (k : ℕ) → slice_index_or fresh.old.items k 0 ≡ 0 }
+    ensures { TakesFresh done.old.items done.new.items row.now fresh.new.items }
+{
+    for i in 0..row.len() {
+        fresh[i] = row[i] & !done[i];
+        done[i] = row[i];
+    }
+}
+
+// As many words of 0, in the place of what was there.
+fn blank(row: &mut Vec<u64>, count: usize) -> Result<(), OutOfMemory>
+    ensures none { OnOk result ((k : ℕ) → slice_index_or row.new.items k 0 ≡ 0) }
+    ensures within { OnOk result (count ≤ length row.new.items) }
+{
+    row.clear();
+    row.resize(count, 0)?;
+    Ok(())
+}
+
+/// Takes all minutes of a row, and writes the new ones. Linear in the minutes over the bits of a word.
+pub fn take_fresh(done: &mut Vec<u64>, row: &[u64], fresh: &mut Vec<u64>) -> Result<(), OutOfMemory>
+    ensures { OnOk result (TakesFresh done.old.items done.new.items row.now fresh.new.items) }
+{
+    reach(done, row.len())?;
+    blank(fresh, row.len())?;
+    take_words(done, row, fresh);
+    Ok(())
+}
+
+// The place of the first word that isn't 0, or the number of words.
+fn first_word(row: &[u64]) -> usize
+    ensures within { result ≤ length row.now }
+    ensures none { (k : ℕ) → k < result → slice_index_or row.now k 0 ≡ 0 }
+{
+    for (i, word) in row.iter().enumerate() {
+        if *word != 0 {
+            return i;
+        }
+    }
+    row.len()
+}
+
+// The place behind the last word that isn't 0, but no place before the first.
+fn last_word(row: &[u64], first: usize) -> usize
+    requires { first ≤ length row.now }
+    ensures low { first ≤ result }
+    ensures within { result ≤ length row.now }
+    ensures none { (k : ℕ) → result ≤ k → slice_index_or row.now k 0 ≡ 0 }
+{
+    let mut end = row.len();
+    'words: while end > first && row[end - 1] == 0 {
+        end -= 1;
+    }
+    end
+}
+
+/// The words of a row from the first to the last that isn't 0, and the minute at which they begin.
+pub fn trimmed(row: &[u64]) -> (&[u64], u64)
+    ensures part { IsTrimmed row.now result.0.now result.1 }
+    ensures early { result.1 ≤ DAY_MINUTES }
+{
+    let first = first_word(row).min(DAY_MINUTES as usize / 64);
+    let end = last_word(row, first);
+    (&row[first..end], 64 * first as u64)
 }
 
 /// The number of minutes below one. Linear in the minutes over the bits of a word.

@@ -7,16 +7,18 @@ use crate::bit_rows::BitRows;
 use crate::node_queue::NodeQueue;
 use route_base::{NodeId, OutOfMemory};
 
-/// For each node the minutes driven since the last break, the nodes at which some of them are new, and how many there are in all.
+/// For each node the minutes driven since the last break, those with which a visit of the node has begun, the nodes at which there are others,
+/// and how many there are in all.
 #[derive(Drop)]
 pub struct Marks {
     pub rows: BitRows,
+    pub done: BitRows,
     pub queue: NodeQueue,
     pub count: u64,
 }
 
 /// Marks the minutes of a row at a node, all later by some minutes, up to the most. Where one is new, the node is queued. Linear in the
-/// minutes over the bits of a word.
+/// words of the row.
 pub fn mark(
     marks: &mut Marks,
     v: NodeId,

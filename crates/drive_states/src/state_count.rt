@@ -1,7 +1,7 @@
 // The number of states, and of the drives and breaks that leave them, without a list of them.
 ghost use Rattle.std.specs.Prelude.{◌≡◌, ◌↔◌, ◌+◌, ◌<◌, ◌≤◌, ◌^◌, Some, [], IfOk, IsTrue, OnOk};
 ghost use Rattle.drive_states.specs.Words.{setting_of, EndsAt, AreOutgoing, arcs_of, drives_over, row_of};
-ghost use Rattle.drive_states.specs.Words.{AreAllMarked, AreQueued, IsPaid, IsVisited, IsVisiting, TakesMarks};
+ghost use Rattle.drive_states.specs.Words.{AreAllMarked, AreQueued, IsOpened, IsPaid, IsVisited, IsVisiting, TakesMarks};
 ghost use Rattle.drive_states.specs.Words.{HasTooManyStates, drives_by, drives_in, rests_by, rests_in};
 ghost use Rattle.front_transport.specs.declared.limits.TheConstants.{MOST_STATES};
 ghost use Rattle.node_arcs.specs.declared.links.End.TheVariants.{Tail};
@@ -10,7 +10,7 @@ ghost use Rattle.route_base.specs.declared.limits.TheConstants.{DAY_MINUTES};
 ghost use Rattle.route_base.specs.declared.types.Leg.TheVariants.{Drive, Wait};
 
 use crate::bit_rows::BitRows;
-use crate::bits::count_below;
+use crate::bits::{count_below, trimmed};
 use crate::exploration::Plan;
 use crate::marks::{Marks, mark};
 use crate::node_queue::NodeQueue;
@@ -18,11 +18,12 @@ use front_transport::MOST_STATES;
 use route_base::{ArcId, NodeId, OutOfMemory, TimedArc};
 use std::alloc::Global;
 
-// A node, and the minutes that were marked there when its visit began.
+// A node, and the minutes that were new there when its visit began: those of the row, all later by `first`.
 #[derive(Clone, Copy)]
 struct Visit<'a> {
     node: NodeId,
     row: &'a [u64],
+    first: u64,
 }
 
 // Takes an arc of the node.
@@ -35,13 +36,16 @@ fn drive_over(
     requires tail { EndsAt plan.net.now Tail visit.node.0 a.0 }
     requires drive { plan.rule.drive ≤ DAY_MINUTES }
     requires room { marks.old.count < 2 ^ 63 }
+    requires early { visit.first ≤ DAY_MINUTES }
     ensures { OnOk result (TakesMarks (setting_of plan.entry.net.now) plan.entry.origin.0
-        plan.entry.rule visit.entry.node.0 visit.entry.row.now (Drive a) marks.old marks.new) }
+        plan.entry.rule visit.entry.node.0 visit.entry.row.now visit.entry.first (Drive a)
+        marks.old marks.new) }
 {
     let Some(arc) = plan.net.arc(a) else {
         return Ok(());
     };
-    mark(marks, arc.head, visit.row, arc.minutes, plan.rule.drive)
+    let later = visit.first + arc.minutes;
+    mark(marks, arc.head, visit.row, later, plan.rule.drive)
 }
 
 // Takes a break at the node, where it is rated.
@@ -51,8 +55,8 @@ fn rest_at(plan: Plan<'_>, visit: Visit<'_>, marks: &mut Marks) -> Result<(), Ou
     requires drive { plan.rule.drive ≤ DAY_MINUTES }
     requires room { marks.old.count < 2 ^ 63 }
     ensures { OnOk result (TakesMarks (setting_of plan.entry.net.now) plan.entry.origin.0
-        plan.entry.rule visit.entry.node.0 visit.entry.row.now (Wait plan.entry.rule.rest)
-        marks.old marks.new) }
+        plan.entry.rule visit.entry.node.0 visit.entry.row.now visit.entry.first
+        (Wait plan.entry.rule.rest) marks.old marks.new) }
 {
     if plan.net.weight(visit.node).is_none() {
         return Ok(());
@@ -66,10 +70,11 @@ fn drive_on(plan: Plan<'_>, visit: Visit<'_>, marks: &mut Marks) -> Result<(), O
     requires drive { plan.rule.drive ≤ DAY_MINUTES }
     requires low { 1 ≤ plan.origin.0 }
     requires high { plan.origin.0 ≤ plan.net.now.nodes }
+    requires early { visit.first ≤ DAY_MINUTES }
     requires facts { IsVisiting (setting_of plan.net.now) plan.origin.0 plan.rule
-        visit.node.0 visit.row.now [] marks.old }
+        visit.node.0 visit.row.now visit.first [] marks.old }
     ensures facts { OnOk result (IsVisiting (setting_of plan.entry.net.now) plan.entry.origin.0
-        plan.entry.rule visit.entry.node.0 visit.entry.row.now
+        plan.entry.rule visit.entry.node.0 visit.entry.row.now visit.entry.first
         (drives_over (arcs_of plan.entry.outgoing.now visit.entry.node.0)) marks.new) }
     ensures paid { OnOk result (IsPaid marks.old marks.new) }
 {
@@ -80,27 +85,28 @@ fn drive_on(plan: Plan<'_>, visit: Visit<'_>, marks: &mut Marks) -> Result<(), O
     Ok(())
 }
 
-// Takes all arcs of a node that was queued, and a break at it.
+// Takes all arcs of a node that was queued, and a break at it, for its new minutes, which are written into a list.
 fn visit_node(
-    alloc: Global,
     plan: Plan<'_>,
     marks: &mut Marks,
+    fresh: &mut Vec<u64>,
     v: NodeId,
 ) -> Result<(), OutOfMemory>
     requires outgoing { AreOutgoing plan.net.now plan.outgoing.now }
     requires drive { plan.rule.drive ≤ DAY_MINUTES }
     requires low { 1 ≤ plan.origin.0 }
     requires high { plan.origin.0 ≤ plan.net.now.nodes }
-    requires facts { IsVisiting (setting_of plan.net.now) plan.origin.0 plan.rule
-        v.0 (row_of marks.old.rows v.0) [] marks.old }
+    requires queued { IsOpened (setting_of plan.net.now) plan.origin.0 plan.rule v.0 marks.old }
     ensures { OnOk result (IsVisited (setting_of plan.entry.net.now) plan.entry.origin.0
         plan.entry.rule marks.old marks.new) }
 {
     let _nodes = plan.net.node_count();
-    let row = Vec::from_slice(alloc, marks.rows.row(v))?;
+    marks.done.take(v, marks.rows.row(v), fresh)?;
+    let (row, first) = trimmed(fresh.as_slice());
     let visit = Visit {
         node: v,
-        row: row.as_slice(),
+        row,
+        first,
     };
     drive_on(plan, visit, marks)?;
     rest_at(plan, visit, marks)
@@ -115,6 +121,7 @@ fn first_marks(alloc: Global, plan: Plan<'_>) -> Result<Marks, OutOfMemory>
 {
     let mut marks = Marks {
         rows: BitRows::new(alloc),
+        done: BitRows::new(alloc),
         queue: NodeQueue::new(alloc, plan.net.node_count() as usize + 1)?,
         count: 0,
     };
@@ -133,8 +140,9 @@ fn mark_all(alloc: Global, plan: Plan<'_>) -> Result<Marks, OutOfMemory>
 {
     let _nodes = plan.net.node_count();
     let mut marks = first_marks(alloc, plan)?;
+    let mut fresh = Vec::new(alloc);
     'nodes: while let Some(v) = marks.queue.pop() {
-        visit_node(alloc, plan, &mut marks, NodeId(v))?;
+        visit_node(plan, &mut marks, &mut fresh, NodeId(v))?;
         if marks.count > u64::from(MOST_STATES) {
             return Ok(marks);
         }
@@ -195,8 +203,8 @@ fn rest_count(plan: Plan<'_>, rows: &BitRows) -> u64
 }
 
 /// Whether the states of a trip, and the drives and breaks that leave them, are more than `MOST_STATES`. It keeps a bit for each minute
-/// of the rule at each node that is reached, and no list of states; whenever some bits of a node are new, it takes a pass over those
-/// of the node and of the heads of its arcs, until the states alone are more than `MOST_STATES`.
+/// of the rule at each node that is reached, and one for each whose drives were taken, and no list of states; whenever some bits of a node are
+/// new, these are moved over its arcs, until the states alone are more than `MOST_STATES`.
 pub fn has_too_many_states(alloc: Global, plan: Plan<'_>) -> Result<bool, OutOfMemory>
     requires outgoing { AreOutgoing plan.net.now plan.outgoing.now }
     requires drive { plan.rule.drive ≤ DAY_MINUTES }

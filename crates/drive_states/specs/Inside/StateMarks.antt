@@ -3,7 +3,7 @@ use Rattle.std.specs.Prelude.{◌≡◌, ◌≢◌, ◌⊎◌, ℕ, suc, ◌+◌
 use Rattle.route_base.specs.Setting.{Setting, Road}
 use Rattle.route_base.specs.declared.types.Leg.{Leg}
 use Rattle.drive_states.specs.StateSize.{IsState, IsDeparture}
-use Rattle.drive_states.specs.Inside.BitRows.{HasMinute, TakesLater, bit_of, row_of, sum_below}
+use Rattle.drive_states.specs.Inside.BitRows.{HasLater, HasMinute, TakesLater, bit_of, row_of, sum_below}
 use Rattle.drive_states.specs.declared.rule.BreakRule.{BreakRule}
 use Rattle.drive_states.specs.declared.rule.State.{State}
 use Rattle.drive_states.specs.declared.marks.Marks.{Marks}
@@ -36,6 +36,7 @@ pub record IsMarked (old new : Marks) (v : ℕ) (from : List ℕ) (by most : ℕ
   pub fresh : ℕ
   pub takes : TakesLater (row_of old.rows v) (row_of new.rows v) from by most fresh
   pub others : (u : ℕ) → u ≢ v → row_of new.rows u ≡ row_of old.rows u
+  pub done : new.done ≡ old.done
   pub count : new.count ≡ old.count + fresh
   pub queued : (u : ℕ) → Contains old.queue u → Contains new.queue u
   pub pushed : 0 < fresh → Contains new.queue v
@@ -56,27 +57,40 @@ IsLegMarked s rule rows v leg = (from to : State) → from.node.0 ≡ v → HasS
 abbrev pub IsSettled : Setting → BreakRule → List (List ℕ) → ℕ → Type 0
 IsSettled s rule rows v = (leg : Leg) → IsLegMarked s rule rows v leg
 
--- each node is queued or settled
+-- where any leg leads from the state, if it is marked, the state is marked too
+abbrev pub IsStateSettled : Setting → BreakRule → List (List ℕ) → State → Type 0
+IsStateSettled s rule rows from = (leg : Leg) (to : State) → IsDeparture s rule from leg to → HasState rows to
+
+-- each node is queued, or all its marks are done with, and marks that are done with are settled
 pub record AreQueued (s : Setting) (origin : ℕ) (rule : BreakRule) (marks : Marks) : Type 0 where
   pub facts : AreMarks s origin rule marks
-  pub nodes : (v : ℕ) → Contains marks.queue v ⊎ IsSettled s rule marks.rows v
+  pub waits : (v : ℕ) → Contains marks.queue v ⊎ ((r : ℕ) → HasMinute (row_of marks.rows v) r → HasMinute (row_of marks.done v) r)
+  pub settled : (from : State) → HasState marks.done from → IsStateSettled s rule marks.rows from
 
--- a node is at work, which had this row at the start, and these of its legs were taken
-pub record IsVisiting (s : Setting) (origin : ℕ) (rule : BreakRule) (v : ℕ) (row : List ℕ) (seen : List Leg) (marks : Marks) : Type 0 where
+-- a node has left the queue
+pub record IsOpened (s : Setting) (origin : ℕ) (rule : BreakRule) (v : ℕ) (marks : Marks) : Type 0 where
   pub facts : AreMarks s origin rule marks
-  pub others : (u : ℕ) → u ≢ v → Contains marks.queue u ⊎ IsSettled s rule marks.rows u
-  pub here : Contains marks.queue v ⊎ ((leg : Leg) → Contains seen leg → IsLegMarked s rule marks.rows v leg)
-  pub within : (r : ℕ) → HasMinute row r → HasMinute (row_of marks.rows v) r
-  pub same : Contains marks.queue v ⊎ ((r : ℕ) → HasMinute (row_of marks.rows v) r → HasMinute row r)
-  pub some : (r : ℕ) × HasMinute row r
+  pub waits : (u : ℕ) → u ≢ v → Contains marks.queue u ⊎ ((r : ℕ) → HasMinute (row_of marks.rows u) r → HasMinute (row_of marks.done u) r)
+  pub settled : (from : State) → HasState marks.done from → IsStateSettled s rule marks.rows from
+  pub some : (r : ℕ) × HasMinute (row_of marks.rows v) r
+
+-- a node is at work, whose visit takes the minutes of this row, all later, and these of its legs were taken
+pub record IsVisiting (s : Setting) (origin : ℕ) (rule : BreakRule) (v : ℕ) (row : List ℕ) (first : ℕ) (seen : List Leg) (marks : Marks) : Type 0 where
+  pub facts : AreMarks s origin rule marks
+  pub waits : (u : ℕ) → Contains marks.queue u ⊎ ((r : ℕ) → HasMinute (row_of marks.rows u) r → HasMinute (row_of marks.done u) r)
+  pub settled : (from : State) → HasState marks.done from → IsStateSettled s rule marks.rows from ⊎ ((from.node.0 ≡ v) × HasLater row first from.driven)
+  pub here : (from : State) (leg : Leg) (to : State) → from.node.0 ≡ v → HasLater row first from.driven → Contains seen leg → IsDeparture s rule from leg to
+      → HasState marks.rows to
+  pub within : (r : ℕ) → HasLater row first r → HasMinute (row_of marks.rows v) r
+  pub some : (r : ℕ) × HasMinute (row_of marks.rows v) r
 
 -- so many more are queued at most as there are more marks
 abbrev pub IsPaid : Marks → Marks → Type 0
 IsPaid old new = length new.queue + old.count ≤ length old.queue + new.count
 
 -- one more leg is taken
-pub record TakesMarks (s : Setting) (origin : ℕ) (rule : BreakRule) (v : ℕ) (row : List ℕ) (leg : Leg) (old new : Marks) : Type 0 where
-  pub keeps : (seen : List Leg) → IsVisiting s origin rule v row seen old → IsVisiting s origin rule v row (seen ++ leg ∷ []) new
+pub record TakesMarks (s : Setting) (origin : ℕ) (rule : BreakRule) (v : ℕ) (row : List ℕ) (first : ℕ) (leg : Leg) (old new : Marks) : Type 0 where
+  pub keeps : (seen : List Leg) → IsVisiting s origin rule v row first seen old → IsVisiting s origin rule v row first (seen ++ leg ∷ []) new
   pub paid : IsPaid old new
 
 -- a queued node is visited

@@ -1,14 +1,11 @@
-use Rattle.std.proofs.Common.{◌≡◌, ◌+◌, ◌*◌, ap, min, arith, refl}
+use Rattle.std.proofs.Common.{◌≡◌, ◌+◌, ◌*◌, ◌/◌, ◌≤◌, ◌<◌, inl, inr, ⊎_elim, length, ap, min, arith, refl}
+use Rattle.std.proofs.lemmas.Bool.{cases_lt}
 use Rattle.drive_states.specs.Inside.BitRows.{bit_of, sum_below}
-use Rattle.drive_states.proofs.BitWords.{joined_few, joined_step, joined_all}
+use Rattle.drive_states.proofs.BitWords.{joined_none, joined_few, joined_step, joined_all, joined_count}
 use Rattle.drive_states.proofs.bits.join_words.Goals as goal
 
 pub loop-i-init : goal.loop-i-init
-loop-i-init c = record {
-  done = λ r low. absurd (omega (arith, low));
-  rest = λ j low. refl;
-  count = omega arith;
-}
+loop-i-init c = joined_none c.args.row.now c.args.from.now c.args.by c.args.most
 
 pub overflow_add-fresh : goal.overflow_add-fresh
 overflow_add-fresh c =
@@ -24,9 +21,12 @@ loop-i-preserved c =
 pub returns-clause-bits : goal.returns-clause-bits
 returns-clause-bits c =
     joined_all c.loop-i.row c.args.row.now c.args.from.now c.args.by c.args.most c.loop-i.i c.loop-i.fresh c.loop-i.invariant
-    (omega (arith, c.loop-i-test.false))
+    (⊎_elim
+    (λ (over : c.args.most / 64 < c.loop-i.i). inl (omega (arith, over)))
+    (λ (low : c.loop-i.i ≤ c.args.most / 64).
+    inr (omega (arith, low, c.loop-i-test.false, c.min-count.ensures, c.saturating_sub.ensures)))
+    (cases_lt (c.args.most / 64) c.loop-i.i))
 
 pub returns-clause-count : goal.returns-clause-count
 returns-clause-count c =
-    let end : min (c.args.most + 1) (64 * c.loop-i.i) ≡ c.args.most + 1 = omega (arith, c.loop-i-test.false) in
-    omega (arith, c.loop-i.invariant.count, ap (sum_below (bit_of c.loop-i.row)) end, ap (sum_below (bit_of c.args.row.now)) end)
+    joined_count c.loop-i.row c.args.row.now c.args.from.now c.args.by c.args.most c.loop-i.i c.loop-i.fresh c.loop-i.invariant

@@ -36,7 +36,7 @@ loop-a-preserved c =
     let arcs : List ArcId = c.of-a-items.result.now in
     let s = setting_of c.args.plan.net.now in
     record {
-      facts = subst (λ (w : List Leg). IsVisiting s c.args.plan.origin.0 c.args.plan.rule c.args.visit.node.0 c.args.visit.row.now w c.drive_over.new.marks)
+      facts = subst (λ (w : List Leg). IsVisiting s c.args.plan.origin.0 c.args.plan.rule c.args.visit.node.0 c.args.visit.row.now c.args.visit.first w c.drive_over.new.marks)
           (sym (map_more (λ a. Drive a) arcs c.loop-a.a-index none c.loop-a-test.true))
           (c.in_ok-drive_over.ensures.keeps (drives_over (take c.loop-a.a-index arcs)) c.loop-a.invariant.facts);
       paid = omega (arith, c.in_ok-drive_over.ensures.paid, c.loop-a.invariant.paid);

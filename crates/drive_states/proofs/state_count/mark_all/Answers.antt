@@ -2,11 +2,11 @@ use Rattle.std.proofs.Common.{inr, ⊎_elim, ℕ, List, length, ap, subst, arith
 use Rattle.std.specs.Prelude.{Contains}
 use Rattle.route_base.specs.Net.{setting_of}
 use Rattle.drive_states.specs.Inside.StateMarks.{IsSettled}
-use Rattle.drive_states.proofs.Marked.{marks_few, opened}
+use Rattle.drive_states.proofs.Marked.{all_settled, marks_few, opened}
 use Rattle.drive_states.proofs.state_count.mark_all.Goals as goal
 
-pub visit_node-requires-clause-facts : goal.visit_node-requires-clause-facts
-visit_node-requires-clause-facts c = opened (setting_of c.args.plan.net.now) c.args.plan.origin.0 c.args.plan.rule c.nodes.marks.rows c.nodes.marks.queue
+pub visit_node-requires-clause-queued : goal.visit_node-requires-clause-queued
+visit_node-requires-clause-queued c = opened (setting_of c.args.plan.net.now) c.args.plan.origin.0 c.args.plan.rule c.nodes.marks.rows c.nodes.marks.done c.nodes.marks.queue
     c.pop.new.self c.nodes.marks.count c.in-Some.v c.in-Some.ensures c.nodes.invariant
 
 pub nodes-smaller : goal.nodes-smaller
@@ -27,8 +27,6 @@ returns c = record {
     count = c.nodes.invariant.facts.count;
     some = λ v one. absurd (omega (arith, (subst (λ (w : List ℕ). Contains w v) c.in_default.ensures.1 one).1));
   };
-  all = inr (λ v. ⊎_elim
-      (λ (one : Contains c.nodes.marks.queue v). absurd (omega (arith, (subst (λ (w : List ℕ). Contains w v) c.in_default.ensures.0 one).1)))
-      (λ (settled : IsSettled (setting_of c.args.plan.net.now) c.args.plan.rule c.nodes.marks.rows v). settled)
-      (c.nodes.invariant.nodes v));
+  all = inr (all_settled (setting_of c.args.plan.net.now) c.args.plan.origin.0 c.args.plan.rule c.nodes.marks c.nodes.invariant
+      (λ v one. omega (arith, (subst (λ (w : List ℕ). Contains w v) c.in_default.ensures.0 one).1)));
 }

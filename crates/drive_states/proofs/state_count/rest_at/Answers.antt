@@ -10,12 +10,12 @@ some_is None is = absurd (cc)
 some_is (Some x) is = (x, refl)
 
 pub returns-then-is_none : goal.returns-then-is_none
-returns-then-is_none c = rest_passes c.args.plan.net.now c.args.plan.origin.0 c.args.plan.rule c.args.visit.node.0 c.args.visit.row.now c.args.marks.now
+returns-then-is_none c = rest_passes c.args.plan.net.now c.args.plan.origin.0 c.args.plan.rule c.args.visit.node.0 c.args.visit.row.now c.args.visit.first c.args.marks.now
     (sym c.weight.ensures.value ∙ none_from_test c.weight.result c.if-is_none.ensures)
 
 pub returns : goal.returns
 returns c =
     let found = some_is c.weight.result c.if-is_none.ensures in
     IfOk-weaker c.mark.result _ _ (λ _ marked.
-    rest_takes c.args.plan.net.now c.args.plan.origin.0 c.args.plan.rule c.args.visit.node.0 found.0 c.args.visit.row.now c.args.marks.now c.mark.new.marks
+    rest_takes c.args.plan.net.now c.args.plan.origin.0 c.args.plan.rule c.args.visit.node.0 found.0 c.args.visit.row.now c.args.visit.first c.args.marks.now c.mark.new.marks
     (sym c.weight.ensures.value ∙ found.1) c.requires.high marked) c.mark.ensures
