@@ -6,6 +6,7 @@ ghost use Rattle.state_dominance.specs.Inside.Product.{AreRuledBounds};
 ghost use Rattle.ruled_states.specs.Inside.Labels.{HasAsGood, HoldsAlong, HoldsAt, AreGoodLabels, labels_at, lists_of, label_bound, counting_of, HoldsBy, RestsHold, HoldsServed, ServesBy};
 ghost use Rattle.ruled_states.specs.Inside.Services.{service_at};
 
+use crate::back_star::BackStar;
 use crate::label_search::{Counted, Ground, found_labels};
 use crate::labels::{Label, Labels, labels_of};
 use crate::rulers::{Ruler, Service};
@@ -265,8 +266,10 @@ pub fn ruled_labels<R: Ruler>(
         ground.now.goal.0 (label_bound (R.ruling ground.now.ruler.now)
         (lists_of labels.minutes.items) (lists_of labels.costs.items)))) }
 {
-    let minutes = found_labels(alloc, ground, Counted::Minutes, u64::MAX)?;
-    let costs = found_labels(alloc, ground, Counted::Cost, u64::MAX)?;
+    let star = BackStar::new(alloc, ground.net, ground.incoming)?;
+    let minutes = found_labels(alloc, ground, &star, Counted::Minutes)?;
+    let costs = found_labels(alloc, ground, &star, Counted::Cost)?;
+    drop(star);
     if !lists_hold(ground, Counted::Minutes, minutes.as_slice()) {
         return Ok(None);
     }

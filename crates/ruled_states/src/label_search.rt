@@ -4,6 +4,7 @@ ghost use Rattle.route_base.specs.Net.{road_of};
 ghost use Rattle.ruled_states.specs.Inside.Labels.{counting_of};
 ghost use Rattle.ruled_states.specs.Inside.Services.{service_at};
 
+use crate::back_star::{BackArc, BackStar};
 use crate::labels::Label;
 use crate::radix_queue::{Entry, RadixQueue};
 use crate::rulers::{Ruler, Service};
@@ -24,6 +25,13 @@ impl Counted {
     {
         match self {
             Counted::Minutes => arc.minutes,
+            Counted::Cost => arc.cost,
+        }
+    }
+
+    pub fn of_arc(self, arc: BackArc) -> u64 {
+        match self {
+            Counted::Minutes => u64::from(arc.minutes),
             Counted::Cost => arc.cost,
         }
     }
@@ -56,14 +64,15 @@ pub struct Ground<'a, R> {
     pub goal: NodeId,
 }
 
+// The labels that are kept of each node, by rising value, the need of the last of them, and those that wait.
 #[derive(Drop)]
 struct Search {
     kept: Vec<Vec<Label>>,
+    last: Vec<Option<u64>>,
     queue: RadixQueue,
 }
 
 // Whether a label with this need is dominated by one of these, whose values are no larger.
-#[inline(always)]
 fn is_dominated<R: Ruler>(ruler: &R, kept: &[Label], need: u64) -> bool {
     for label in kept.iter().rev() {
         if ruler.is_no_worse(label.need, need) {
@@ -74,16 +83,28 @@ fn is_dominated<R: Ruler>(ruler: &R, kept: &[Label], need: u64) -> bool {
 }
 
 impl Search {
+    // Whether a label of the node dominates one with this need. The last that was kept mostly does, if one does.
+    #[inline(always)]
+    fn dominates<R: Ruler>(&self, ruler: &R, node: NodeId, need: u64) -> bool {
+        let place = node.0 as usize;
+        if place >= self.last.len() || place >= self.kept.len() {
+            return true;
+        }
+        let Some(last) = self.last[place] else {
+            return false;
+        };
+        ruler.is_no_worse(last, need) || is_dominated(ruler, self.kept[place].as_slice(), need)
+    }
+
+    #[inline(always)]
     fn offer<R: Ruler>(
         &mut self,
         ruler: &R,
         node: NodeId,
         label: Label,
     ) -> Result<(), OutOfMemory> {
-        if let Some(kept) = self.kept.get(node.0 as usize) {
-            if is_dominated(ruler, kept.as_slice(), label.need) {
-                return Ok(());
-            }
+        if self.dominates(ruler, node, label.need) {
+            return Ok(());
         }
         self.queue.push(Entry {
             value: label.value,
@@ -92,34 +113,39 @@ impl Search {
         })
     }
 
+    // Keeps a label that isn't dominated. Tells whether it is kept.
     fn keep<R: Ruler>(
         &mut self,
         ruler: &R,
         node: NodeId,
         label: Label,
     ) -> Result<bool, OutOfMemory> {
-        let Some(kept) = self.kept.get_mut(node.0 as usize) else {
-            return Ok(false);
-        };
-        if is_dominated(ruler, kept.as_slice(), label.need) {
+        let place = node.0 as usize;
+        if self.dominates(ruler, node, label.need) {
             return Ok(false);
         }
-        kept.push(label)?;
+        if let Some(kept) = self.kept.get_mut(place) {
+            kept.push(label)?;
+        }
+        if let Some(last) = self.last.get_mut(place) {
+            *last = Some(label.need);
+        }
         Ok(true)
     }
 
+    #[inline(always)]
     fn drive_back<R: Ruler>(
         &mut self,
-        ground: &Ground<'_, R>,
+        ruler: &R,
         counted: Counted,
-        arc: TimedArc,
+        arc: BackArc,
         label: Label,
     ) -> Result<(), OutOfMemory> {
-        let Some(need) = ground.ruler.drive(label.need, arc.minutes) else {
+        let Some(need) = ruler.drive(label.need, u64::from(arc.minutes)) else {
             return Ok(());
         };
-        let value = label.value.saturating_add(counted.of_drive(arc));
-        self.offer(ground.ruler, arc.tail, Label { value, need })
+        let value = label.value.saturating_add(counted.of_arc(arc));
+        self.offer(ruler, arc.tail, Label { value, need })
     }
 
     fn rest_before<R: Ruler>(
@@ -165,33 +191,34 @@ impl Search {
     fn go_back<R: Ruler>(
         &mut self,
         ground: &Ground<'_, R>,
+        star: &BackStar,
         counted: Counted,
         node: NodeId,
         label: Label,
     ) -> Result<(), OutOfMemory> {
-        for a in ground.incoming.of(node) {
-            if let Some(arc) = ground.net.arc(*a) {
-                self.drive_back(ground, counted, arc, label)?;
-            }
+        for arc in star.of(node) {
+            self.drive_back(ground.ruler, counted, *arc, label)?;
         }
         self.rest_before(ground, counted, node, label)?;
         self.serve_before(ground, counted, node, label)
     }
 }
 
-// The labels of each node that are not dominated, by rising value up to a highest one.
+// The labels of each node that are not dominated, by rising value.
 pub fn found_labels<R: Ruler>(
     alloc: Global,
     ground: &Ground<'_, R>,
+    star: &BackStar,
     counted: Counted,
-    most: u64,
 ) -> Result<Vec<Vec<Label>>, OutOfMemory> {
-    let mut lists = Vec::new(alloc);
-    for _ in 0..ground.net.node_count() as u64 + 1 {
+    let count = ground.net.node_count() as usize + 1;
+    let mut lists = Vec::with_capacity(alloc, count)?;
+    for _ in 0..count {
         lists.push(Vec::new(alloc))?;
     }
     let mut search = Search {
         kept: lists,
+        last: vec![in alloc; None; count]?,
         queue: RadixQueue::new(alloc)?,
     };
     let need = ground.ruler.last();
@@ -200,12 +227,9 @@ pub fn found_labels<R: Ruler>(
         let Some(Entry { value, need, node }) = search.queue.pop(alloc)? else {
             return Ok(search.kept);
         };
-        if value > most {
-            return Ok(search.kept);
-        }
         let label = Label { value, need };
         if search.keep(ground.ruler, NodeId(node), label)? {
-            search.go_back(ground, counted, NodeId(node), label)?;
+            search.go_back(ground, star, counted, NodeId(node), label)?;
         }
     }
     Ok(search.kept)

@@ -7,6 +7,7 @@
 //! drive, rest and service of each state (`AreRuledBounds` of `state_dominance`), though no state is made.
 #![tactic(auto)]
 
+mod back_star;
 mod dominance;
 mod label_check;
 mod label_search;
