@@ -1,22 +1,18 @@
 //! The program `lorry_plan`: `front_desk::run` over the real files, the real standard output and the command line's words.
 //!
-//! The contract of `run` says what it prints and why it refuses. This crate adds the trusted edge, in `real_folder` and
-//! `real_out`, whose faults are counted from 0 on as the traits of `route_base` ask (`specs/Untold`); and the tests that cross
-//! crates.
+//! The contract of `run` says what it prints and why it refuses. The files and the output are those of `system_files`. This crate adds
+//! the words, the status, and the tests that cross crates.
 #![tactic(auto)]
 
-mod real_folder;
-mod real_out;
 #[cfg(test)]
 mod tests;
 
-use crate::real_folder::RealFolder;
-use crate::real_out::RealOut;
 use front_desk::run;
 use route_base::{Status, Text};
 use std::env;
 use std::io::ErrorKind;
 use std::process::ExitCode;
+use system_files::{RealFolder, RealOut};
 
 // The words behind the program's name, or the status to exit with where they can't be had.
 fn words_of(rt: &HostRuntime) -> Result<Vec<Text>, Status> {

@@ -1,7 +1,5 @@
 // The edge to the system: the real files and the real output.
 use super::expect_whole;
-use crate::real_folder::RealFolder;
-use crate::real_out::RealOut;
 use route_base::{Folder, ReadAllFault, Sink, WriteError};
 use std::cell::Cell;
 use std::fmt::Display;
@@ -10,6 +8,7 @@ use std::process::Abort;
 use std::rt::Files;
 use std::test::Fail;
 use std::{env, fs, process};
+use system_files::{RealFolder, RealOut};
 
 // The name of the directory of temporary files.
 fn temp_name(rt: &HostRuntime) -> Result<String, Fail> {

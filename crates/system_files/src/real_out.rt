@@ -1,10 +1,11 @@
 // The standard output. The bytes that it took aren't told, so nothing is proved of them: this is the trusted edge.
 ghost use Rattle.std.specs.Prelude.{◌≡◌, OnOk};
 ghost use Rattle.route_base.specs.SinkState.{Appends, AppendsPrefix, StaysSilent, FaultsRise, FailedToAppend};
-ghost use Rattle.lorry_plan.specs.Untold.{sink_with, after_append};
+ghost use Rattle.system_files.specs.Untold.{sink_with, after_append};
 
 use route_base::{Sink, WriteError};
 use std::io::{self, ErrorKind};
+use std::marker::Model;
 
 /// The output that a runtime prints to, and the number of its faults so far.
 #[derive(Drop)]
@@ -13,10 +14,18 @@ pub struct RealOut<'a, R: Print> {
     faults: u64,
 }
 
+impl<'a, R: Print> Model for RealOut<'a, R> {
+    ghost use Rattle.std.specs.Prelude.{ℕ};
+
+    ghost Value = { ℕ };
+
+    ghost view = { λ o. o.faults };
+}
+
 impl<'a, R: Print> RealOut<'a, R> {
     /// The output; no fault is counted yet.
     pub fn new(out: &'a R) -> Self
-        ensures faults { result.faults ≡ 0 }
+        ensures { result ≡ 0 }
     {
         RealOut { out, faults: 0 }
     }
@@ -36,21 +45,19 @@ fn write_whole<R: Print>(out: &R, bytes: &[u8]) -> io::Result<()> {
 }
 
 impl<R: Print> Sink for RealOut<'_, R> {
-    ghost state = { λ s. sink_with s.faults };
+    ghost state = { sink_with };
 
     // Counts the fault that it answers, and nothing else.
     fn write(&mut self, bytes: &[u8]) -> Result<(), WriteError>
-        ensures ok { OnOk result
-            (Appends (sink_with self.old.faults) (sink_with self.new.faults) bytes.now) }
+        ensures ok { OnOk result (Appends (sink_with self.old) (sink_with self.new) bytes.now) }
         ensures prefix { result ≡ Err WriteError.Failed
-            → AppendsPrefix (sink_with self.old.faults) (sink_with self.new.faults) bytes.now }
+            → AppendsPrefix (sink_with self.old) (sink_with self.new) bytes.now }
         ensures no_memory { result ≡ Err WriteError.OutOfMemory
-            → StaysSilent (sink_with self.old.faults) (sink_with self.new.faults) }
-        ensures count { FaultsRise (sink_with self.old.faults) (sink_with self.new.faults) }
+            → StaysSilent (sink_with self.old) (sink_with self.new) }
+        ensures count { FaultsRise (sink_with self.old) (sink_with self.new) }
         ensures failed { result ≡ Err WriteError.Failed
-            → FailedToAppend (sink_with self.old.faults) (sink_with self.new.faults) }
-        ensures after { sink_with self.new.faults ≡ after_append
-            (sink_with self.old.faults) result }
+            → FailedToAppend (sink_with self.old) (sink_with self.new) }
+        ensures after { self.new ≡ after_append self.old result }
     {
         match write_whole(self.out, bytes) {
             Ok(()) => Ok(()),

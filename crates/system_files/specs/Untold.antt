@@ -8,30 +8,39 @@ use Rattle.route_base.specs.declared.folder.PartError.TheVariants as part
 use Rattle.route_base.specs.declared.sink.WriteError.{WriteError}
 use Rattle.route_base.specs.declared.sink.WriteError.TheVariants as write
 
+-- how often the calls of a folder failed
+pub record FaultCounts : Type 0 where
+  pub missing : ℕ
+  pub read_faults : ℕ
+  pub write_faults : ℕ
+
+-- no fault yet
+abbrev pub no_faults : FaultCounts
+no_faults = record { missing = 0; read_faults = 0; write_faults = 0 }
+
 -- a folder with these counts
-abbrev pub state_with : ℕ → ℕ → ℕ → FolderState
-state_with missing read_faults write_faults =
-    record { contents = None; missing = missing; read_faults = read_faults; write_faults = write_faults }
+abbrev pub state_with : FaultCounts → FolderState
+state_with s = record { contents = None; missing = s.missing; read_faults = s.read_faults; write_faults = s.write_faults }
 
 -- a sink with this count
 abbrev pub sink_with : ℕ → SinkState
 sink_with faults = record { written = None; faults = faults }
 
--- the folder after this answer to a read: the fault is counted, where it is one, and nothing else
-abbrev pub after_read : FolderState → Result ℕ PartError → FolderState
+-- the counts after this answer to a read: the fault is counted, where it is one, and nothing else
+abbrev pub after_read : FaultCounts → Result ℕ PartError → FaultCounts
 after_read s (Ok k) = s
 after_read s (Err part.Missing) = record s { missing = next_ordinal s.missing }
 after_read s (Err part.Failed) = record s { read_faults = next_ordinal s.read_faults }
 after_read s (Err part.OutOfMemory) = s
 
--- the folder after this answer to a write
-abbrev pub after_write : {A : Type 0} → FolderState → Result A WriteError → FolderState
+-- the counts after this answer to a write
+abbrev pub after_write : {A : Type 0} → FaultCounts → Result A WriteError → FaultCounts
 after_write s (Ok done) = s
 after_write s (Err write.Failed) = record s { write_faults = next_ordinal s.write_faults }
 after_write s (Err write.OutOfMemory) = s
 
--- the sink after this answer to a write
-abbrev pub after_append : {A : Type 0} → SinkState → Result A WriteError → SinkState
-after_append s (Ok done) = s
-after_append s (Err write.Failed) = record s { faults = next_ordinal s.faults }
-after_append s (Err write.OutOfMemory) = s
+-- the count after this answer to a write of a sink
+abbrev pub after_append : {A : Type 0} → ℕ → Result A WriteError → ℕ
+after_append faults (Ok done) = faults
+after_append faults (Err write.Failed) = next_ordinal faults
+after_append faults (Err write.OutOfMemory) = faults

@@ -2,11 +2,12 @@
 ghost use Rattle.std.specs.Prelude.{◌≡◌, ◌≤◌, length, IfOk, OnOk};
 ghost use Rattle.route_base.specs.FolderState.{CountsRise, KeepsFiles, MissedFile, FailedToRead, FailedToWrite};
 ghost use Rattle.route_base.specs.FolderState.{ReadsPart, LacksFile, PutsFile, SpoilsFile};
-ghost use Rattle.lorry_plan.specs.Untold.{state_with, after_read, after_write};
+ghost use Rattle.system_files.specs.Untold.{no_faults, state_with, after_read, after_write};
 
 use route_base::{Folder, PartError, WriteError};
 use std::fs;
 use std::io::{self, ErrorKind, Read, Seek, SeekFrom, Write};
+use std::marker::Model;
 use std::rt::Files;
 
 /// The system's files by their paths, and the numbers of their faults so far.
@@ -18,12 +19,22 @@ pub struct RealFolder<'a, R: Files> {
     write_faults: u64,
 }
 
+impl<'a, R: Files> Model for RealFolder<'a, R> {
+    ghost use Rattle.system_files.specs.Untold.{FaultCounts};
+
+    ghost Value = { FaultCounts };
+
+    ghost view = { λ f. record {
+      missing = f.missing;
+      read_faults = f.read_faults;
+      write_faults = f.write_faults;
+    } };
+}
+
 impl<'a, R: Files> RealFolder<'a, R> {
     /// The files; no fault is counted yet.
     pub fn new(files: &'a R) -> Self
-        ensures missing { result.missing ≡ 0 }
-        ensures read_faults { result.read_faults ≡ 0 }
-        ensures write_faults { result.write_faults ≡ 0 }
+        ensures { result ≡ no_faults }
     {
         RealFolder {
             files,
@@ -58,28 +69,20 @@ fn write_whole<R: Files>(files: &R, name: &str, bytes: &[u8]) -> io::Result<()> 
 }
 
 impl<R: Files> Folder for RealFolder<'_, R> {
-    ghost state = { λ s. state_with s.missing s.read_faults s.write_faults };
+    ghost state = { state_with };
 
     // Counts the fault that it answers, and nothing else.
     fn read_part(&mut self, name: &str, at: u64, buf: &mut [u8]) -> Result<usize, PartError>
         ensures bound { IfOk result (λ k. k ≤ length buf.new) }
-        ensures kept { KeepsFiles
-            (state_with self.old.missing self.old.read_faults self.old.write_faults)
-            (state_with self.new.missing self.new.read_faults self.new.write_faults) }
-        ensures part { IfOk result (λ k. ReadsPart
-            (state_with self.old.missing self.old.read_faults self.old.write_faults)
-            name.now at k buf.new) }
-        ensures not_there { result ≡ Err PartError.Missing → LacksFile
-            (state_with self.old.missing self.old.read_faults self.old.write_faults) name.now }
-        ensures missing { result ≡ Err PartError.Missing → MissedFile
-            (state_with self.old.missing self.old.read_faults self.old.write_faults)
-            (state_with self.new.missing self.new.read_faults self.new.write_faults) }
-        ensures failed { result ≡ Err PartError.Failed → FailedToRead
-            (state_with self.old.missing self.old.read_faults self.old.write_faults)
-            (state_with self.new.missing self.new.read_faults self.new.write_faults) }
-        ensures after { state_with self.new.missing self.new.read_faults self.new.write_faults
-            ≡ after_read
-            (state_with self.old.missing self.old.read_faults self.old.write_faults) result }
+        ensures kept { KeepsFiles (state_with self.old) (state_with self.new) }
+        ensures part { IfOk result (λ k. ReadsPart (state_with self.old) name.now at k buf.new) }
+        ensures not_there { result ≡ Err PartError.Missing
+            → LacksFile (state_with self.old) name.now }
+        ensures missing { result ≡ Err PartError.Missing
+            → MissedFile (state_with self.old) (state_with self.new) }
+        ensures failed { result ≡ Err PartError.Failed
+            → FailedToRead (state_with self.old) (state_with self.new) }
+        ensures after { self.new ≡ after_read self.old result }
     {
         match read_at(self.files, name, at, buf) {
             Ok(count) => Ok(count),
@@ -97,22 +100,14 @@ impl<R: Files> Folder for RealFolder<'_, R> {
 
     // Counts the fault that it answers, and nothing else.
     fn write_file(&mut self, name: &str, bytes: &[u8]) -> Result<(), WriteError>
-        ensures ok { OnOk result (PutsFile
-            (state_with self.old.missing self.old.read_faults self.old.write_faults)
-            (state_with self.new.missing self.new.read_faults self.new.write_faults)
-            name.now bytes.now) }
-        ensures spoilt { result ≡ Err WriteError.Failed → SpoilsFile
-            (state_with self.old.missing self.old.read_faults self.old.write_faults)
-            (state_with self.new.missing self.new.read_faults self.new.write_faults) name.now }
-        ensures counts { CountsRise
-            (state_with self.old.missing self.old.read_faults self.old.write_faults)
-            (state_with self.new.missing self.new.read_faults self.new.write_faults) }
-        ensures failed { result ≡ Err WriteError.Failed → FailedToWrite
-            (state_with self.old.missing self.old.read_faults self.old.write_faults)
-            (state_with self.new.missing self.new.read_faults self.new.write_faults) }
-        ensures after { state_with self.new.missing self.new.read_faults self.new.write_faults
-            ≡ after_write
-            (state_with self.old.missing self.old.read_faults self.old.write_faults) result }
+        ensures ok { OnOk result
+            (PutsFile (state_with self.old) (state_with self.new) name.now bytes.now) }
+        ensures spoilt { result ≡ Err WriteError.Failed
+            → SpoilsFile (state_with self.old) (state_with self.new) name.now }
+        ensures counts { CountsRise (state_with self.old) (state_with self.new) }
+        ensures failed { result ≡ Err WriteError.Failed
+            → FailedToWrite (state_with self.old) (state_with self.new) }
+        ensures after { self.new ≡ after_write self.old result }
     {
         match write_whole(self.files, name, bytes) {
             Ok(()) => Ok(()),
