@@ -8,6 +8,5 @@ pub mod OverStates
 pub mod Routed
 pub mod Since
 pub mod SoundBreaks
-pub mod StateBounds
 pub mod Unpacked
 pub mod RestedOrders

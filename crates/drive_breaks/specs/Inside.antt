@@ -1,5 +1,4 @@
 -- What the net over states keeps, which is no law (source: own).
-pub mod StateBounds
 pub mod StateNet
 pub mod Unpacking
 pub mod WithinRule

@@ -6,8 +6,6 @@ pub use Rattle.front_transport.specs.CheapArcs.{HasCheapArcs}
 pub use Rattle.front_transport.specs.Inside.Tidiness.{IsTidy}
 pub use Rattle.drive_breaks.specs.Rested.{IsGoodRule, AreRightRested}
 pub use Rattle.drive_states.specs.StateSize.{HasTooManyStates}
-pub use Rattle.drive_breaks.specs.Inside.StateBounds.{breaks_ahead, state_bound, bound_of_state, bounds_over, AreStateBounds}
-pub use Rattle.drive_breaks.specs.Inside.StateBounds.{IsBoundedAlong, AreNetBounds}
 pub use Rattle.drive_breaks.specs.Inside.StateNet.{IsArcFor, Arrives, AreBuilt, AddsWay, net_over}
 pub use Rattle.drive_states.specs.Inside.StateSearch.{IsSoundWay, IsExplored}
 pub use Rattle.drive_breaks.specs.Inside.Unpacking.{unpacked, IsSourced, IsSourcedRoute, IsUnpackedRoute, AreUnpacked}

@@ -5,12 +5,10 @@ ghost use Rattle.drive_breaks.specs.Words.{AreRightRested, HasTooManyStates, IsE
 ghost use Rattle.drive_states.specs.declared.rule.BreakFault.TheVariants.{TooManyStates};
 ghost use Rattle.route_base.specs.declared.limits.TheConstants.{DAY_MINUTES, LONGEST_HORIZON};
 
-use crate::bounds_check::net_bounds;
 use crate::sources::unpacked_routes;
 use crate::states_as_net::{Ground, state_arcs, state_net};
-use drive_states::{BreakFault, BreakRule, Explored, Plan, explore, has_too_many_states};
+use drive_states::{BreakFault, BreakRule, Explored, Plan, explore};
 use node_arcs::NodeArcs;
-use potentials::{BoundedSearch, WithoutBounds};
 use route_base::{
     FrontSearch, Legs, Minute, NodeId, OutOfMemory, Pair, Request, Route, Routes, TimedNet,
 };
@@ -32,7 +30,7 @@ fn stay(alloc: Global, depart: Minute) -> Result<Vec<Route>, OutOfMemory>
 }
 
 // The routes of a trip over the net of its states. The states are given back before the search.
-fn routes_over<E: BoundedSearch>(
+fn routes_over<E: FrontSearch>(
     alloc: Global,
     engine: &E,
     net: &TimedNet,
@@ -61,19 +59,18 @@ fn routes_over<E: BoundedSearch>(
     };
     let built = state_arcs(alloc, ground, explored.ways)?;
     let over = state_net(alloc, net, ground.states, built.arcs)?;
-    let bounds = net_bounds(alloc, ground, &over)?;
     let trip = Request {
         origin: NodeId(1),
         goal: NodeId(states.len() as u32 + 1),
         ..request
     };
     drop(states);
-    let routes = engine.front_with(alloc, &over, bounds, trip)?;
+    let routes = engine.front(alloc, &over, trip)?;
     unpacked_routes(alloc, built.sources.as_slice(), routes.as_slice())
 }
 
 // The routes of a trip whose states are known.
-fn routes_of<E: BoundedSearch>(
+fn routes_of<E: FrontSearch>(
     alloc: Global,
     engine: &E,
     net: &TimedNet,
@@ -97,8 +94,7 @@ fn routes_of<E: BoundedSearch>(
     routes_over(alloc, engine, net, request, rule, explored)
 }
 
-// The states of a trip, and the ways between them. Whether they are too many is known before any is listed. The lists of outgoing arcs are
-// given back.
+// The states of a trip, and the ways between them. The lists of outgoing arcs are given back.
 fn explored_from(
     alloc: Global,
     net: &TimedNet,
@@ -125,47 +121,15 @@ fn explored_from(
         origin,
         rule,
     };
-    match has_too_many_states(alloc, plan) {
-        Ok(false) => explore(alloc, plan),
-        Ok(true) => Err(BreakFault::TooManyStates),
-        Err(_) => Err(BreakFault::OutOfMemory),
-    }
+    explore(alloc, plan)
 }
 
 /// The Pareto front of arrival and cost over all lawful itineraries that keep the break rule, by rising arrival, each pair with the
 /// legs of one. Where the origin is the goal, that is to stay. `TooManyStates` comes exactly where the states of the trip, and the
 /// drives and breaks that leave them, are more than `MOST_STATES`, whatever the goal.
 ///
-/// It takes the time and memory of a net with a node for each state and an arc for each drive and break, and of a search over it. The
-/// engine finds bounds of its own over that net, which `plan_breaks_with` spares.
+/// It takes the time and memory of a net with a node for each state and an arc for each drive and break, and of a search over it.
 pub fn plan_breaks<E: FrontSearch>(
-    alloc: Global,
-    engine: &E,
-    net: &TimedNet,
-    request: Request,
-    rule: BreakRule,
-) -> Result<Routes, BreakFault>
-    requires good { IsGoodRequest net.now request }
-    requires in_time { request.depart ≤ request.until }
-    requires horizon { request.until - request.depart ≤ LONGEST_HORIZON }
-    requires rule { IsGoodRule rule }
-    requires cheap { HasCheapArcs net.now }
-    ensures right { IfOk result (AreRightRested (setting_of net.now) request rule) }
-    ensures few { IfOk result (λ routes.
-        HasTooManyStates (setting_of net.now) request.origin.0 rule → ⊥) }
-    ensures many { result ≡ Err TooManyStates
-        → HasTooManyStates (setting_of net.now) request.origin.0 rule }
-{
-    plan_breaks_with(alloc, &WithoutBounds { engine }, net, request, rule)
-}
-
-/// The same by an engine that takes bounds. Those of a state are the least minutes and the least cost from it to the goal, breaks
-/// included, as a search over labels of nodes finds them. Where that search takes too long, or its bounds don't hold along each arc
-/// over states, they are those of the node over the arcs of the net, with the minutes of the breaks that are still needed.
-///
-/// It takes the time and memory of two searches over the net's labels, of a net with a node for each state and an arc for each drive
-/// and break, of a pass over these arcs, and of a search over them by bounds that are given.
-pub fn plan_breaks_with<E: BoundedSearch>(
     alloc: Global,
     engine: &E,
     net: &TimedNet,

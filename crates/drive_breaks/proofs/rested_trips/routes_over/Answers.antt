@@ -1,22 +1,18 @@
-use Rattle.std.proofs.Common.{◌≡◌, ⊎_elim, ◌+◌, ℕ, List, length, All, sym, ◌∙◌, ap, subst}
+use Rattle.std.proofs.Common.{◌≡◌, ℕ, List, length, All, sym, ◌∙◌, ap, subst}
 use Rattle.std.proofs.lemmas.Result.{IfOk-weaker}
 use Rattle.route_base.specs.Front.{IsRight}
 use Rattle.route_base.specs.Legs.{CostsFit}
 use Rattle.route_base.specs.Net.{Net, setting_of}
-use Rattle.route_base.specs.Relaxing.{AreBounds}
 use Rattle.route_base.specs.declared.types.Leg.{Leg}
 use Rattle.route_base.specs.declared.types.Route.{Route}
-use Rattle.potentials.specs.Sums.{bound_at}
 use Rattle.drive_states.specs.Inside.StateSearch.{IsExplored}
 use Rattle.drive_states.specs.declared.rule.BreakRule.{BreakRule}
 use Rattle.drive_states.specs.declared.rule.State.{State}
 use Rattle.drive_states.specs.declared.rule.Way.{Way}
-use Rattle.drive_breaks.specs.Inside.StateBounds.{AreStateBounds}
 use Rattle.drive_breaks.specs.Inside.Unpacking.{IsSourcedRoute, AreUnpacked}
 use Rattle.drive_breaks.proofs.BreakFronts.{over_states}
 use Rattle.drive_breaks.proofs.GoodStates.{good_over}
 use Rattle.drive_breaks.proofs.Routed.{fits_over, sourced_routes, right_breaks}
-use Rattle.drive_breaks.proofs.StateBounds.{bounds_long, bounds_over_net, driven_within}
 use Rattle.drive_breaks.proofs.rested_trips.routes_over.Goals as goal
 
 -- a list of all states is explored as they are, and as long
@@ -27,12 +23,6 @@ all_explored net origin rule all states ways same explored = subst (λ (w : List
 as_many : (all states : List State) (n : ℕ) → all ≡ states → n ≡ length states → length all ≡ n
 as_many all states n same many = ap (λ (w : List State). length w) same ∙ sym many
 
-pub net_bounds-requires-clause-driven : goal.net_bounds-requires-clause-driven
-net_bounds-requires-clause-driven g c =
-    driven_within (setting_of c.args.net.now) c.args.request.origin.0 c.args.rule c.as_slice.result.now c.args.explored.ways.items
-    (all_explored c.args.net.now c.args.request.origin.0 c.args.rule c.as_slice.result.now c.args.explored.states c.args.explored.ways.items
-    c.as_slice.ensures c.requires.explored)
-
 pub state_net-requires-clause-good : goal.state_net-requires-clause-good
 state_net-requires-clause-good g c =
     let explored = all_explored c.args.net.now c.args.request.origin.0 c.args.rule c.as_slice.result.now c.args.explored.states c.args.explored.ways.items
@@ -41,8 +31,8 @@ state_net-requires-clause-good g c =
     c.args.explored.ways.items c.in_ok-built.built.arcs.items c.in_ok-built.built.sources.items explored c.in_ok-built.ensures
     c.requires.rule.rest.0 c.requires.rule.rest.1
 
-pub front_with-requires-clause-fit : goal.front_with-requires-clause-fit
-front_with-requires-clause-fit g c =
+pub front-requires-clause-fit : goal.front-requires-clause-fit
+front-requires-clause-fit g c =
     let explored = all_explored c.args.net.now c.args.request.origin.0 c.args.rule c.as_slice.result.now c.args.explored.states c.args.explored.ways.items
     c.as_slice.ensures c.requires.explored in
     let many = as_many c.as_slice.result.now c.args.explored.states c.len.result c.as_slice.ensures c.len.ensures.value in
@@ -51,33 +41,6 @@ front_with-requires-clause-fit g c =
     (fits_over c.args.net.now c.node_count-nodes.ensures.good c.args.request c.requires.good c.args.rule c.as_slice.result.now c.args.explored.ways.items
     explored c.in_ok-built.built.arcs.items c.in_ok-built.built.sources.items c.in_ok-built.ensures
     c.requires.rule.rest.0 c.requires.rule.rest.1 c.requires.cheap c.requires.in_time c.requires.horizon))
-
-pub front_with-requires-clause-bounds : goal.front_with-requires-clause-bounds
-front_with-requires-clause-bounds g c =
-    let explored = all_explored c.args.net.now c.args.request.origin.0 c.args.rule c.as_slice.result.now c.args.explored.states c.args.explored.ways.items
-    c.as_slice.ensures c.requires.explored in
-    let many = as_many c.as_slice.result.now c.args.explored.states c.len.result c.as_slice.ensures c.len.ensures.value in
-    subst (λ (n : ℕ). AreBounds (setting_of c.in_ok-over.over) (n + 1) (bound_at c.in_ok-bounds.bounds)) many
-    (subst (λ (w : Net). AreBounds (setting_of w) (length c.as_slice.result.now + 1) (bound_at c.in_ok-bounds.bounds)) (sym c.in_ok-over.ensures)
-    (⊎_elim
-    (λ (by_nodes : AreStateBounds c.args.net.now c.args.rule c.args.request.goal.0 c.as_slice.result.now c.in_ok-bounds.bounds).
-    bounds_over_net c.args.net.now c.node_count-nodes.ensures.good c.args.rule c.args.request.origin.0 c.args.request.goal.0 c.as_slice.result.now
-    c.args.explored.ways.items c.in_ok-built.built.arcs.items c.in_ok-built.built.sources.items explored c.in_ok-built.ensures
-    c.in_ok-bounds.bounds by_nodes)
-    (λ (tested : AreBounds (setting_of c.in_ok-over.over) (length c.as_slice.result.now + 1) (bound_at c.in_ok-bounds.bounds)
-    × (length c.in_ok-bounds.bounds ≡ length c.as_slice.result.now + 1)).
-    subst (λ (w : Net). AreBounds (setting_of w) (length c.as_slice.result.now + 1) (bound_at c.in_ok-bounds.bounds)) c.in_ok-over.ensures tested.0)
-    c.in_ok-bounds.ensures))
-
-pub front_with-requires-clause-bounded : goal.front_with-requires-clause-bounded
-front_with-requires-clause-bounded g c =
-    ⊎_elim
-    (λ (by_nodes : AreStateBounds c.args.net.now c.args.rule c.args.request.goal.0 c.as_slice.result.now c.in_ok-bounds.bounds).
-    bounds_long c.args.net.now c.args.rule c.args.request.goal.0 c.as_slice.result.now c.in_ok-bounds.bounds by_nodes)
-    (λ (tested : AreBounds (setting_of c.in_ok-over.over) (length c.as_slice.result.now + 1) (bound_at c.in_ok-bounds.bounds)
-    × (length c.in_ok-bounds.bounds ≡ length c.as_slice.result.now + 1)). tested.1)
-    c.in_ok-bounds.ensures
-    ∙ ap (λ (w : Net). w.nodes) (sym c.in_ok-over.ensures)
 
 pub unpacked_routes-requires : goal.unpacked_routes-requires
 unpacked_routes-requires g c =
