@@ -1,0 +1,11 @@
+pub mod Based
+pub mod Found
+pub mod Fronts
+pub mod NoStops
+pub mod Reading
+pub mod RestedLegs
+pub mod RightTours
+pub mod Sound
+pub mod TidyTours
+pub mod Told
+pub mod TourWalking
