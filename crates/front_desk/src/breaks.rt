@@ -10,11 +10,11 @@ ghost use Rattle.route_base.specs.Net.{Net, setting_of};
 use crate::networks::net_for;
 use crate::outcome::{Halt, Report, too_many_states};
 use crate::requests::{request_of, trip_of};
-use drive_breaks::{BreakFault, BreakRule, plan_breaks_with, rested_trips_agree};
+use drive_breaks::{BreakFault, BreakRule, rested_trips_agree};
 use front_words::Breaks;
-use itinerary_unpack::FunctionEngine;
 use network_folder::load_network;
 use plan_report::plain_text;
+use rested_tours::plan_rested;
 use route_base::{Folder, Gate, TimedNet};
 use std::alloc::Global;
 use std::thread::Threads;
@@ -49,7 +49,7 @@ fn rested_text(alloc: Global, net: &TimedNet, breaks: &Breaks) -> Result<Vec<u8>
         drive: breaks.drive,
         rest: breaks.rest,
     };
-    match plan_breaks_with(alloc, &FunctionEngine, net, request, rule) {
+    match plan_rested(alloc, net, request, rule) {
         Ok(routes) => Ok(plain_text(alloc, &routes)?),
         Err(BreakFault::TooManyStates) => Err(too_many_states()),
         Err(BreakFault::OutOfMemory) => Err(Halt::NoMemory),
@@ -57,7 +57,7 @@ fn rested_text(alloc: Global, net: &TimedNet, breaks: &Breaks) -> Result<Vec<u8>
 }
 
 /// The report of a trip with driver breaks over the files of its folder. Several workers make the net at once; the network is given back
-/// before the search. It takes the time and memory of `plan_breaks_with` beside reading.
+/// before the search. It takes the time and memory of `plan_rested` beside reading.
 pub fn report_breaks<R: Threads + Sync, F: Folder, G: Gate>(
     rt: &R,
     alloc: Global,

@@ -5,10 +5,11 @@ ghost use Rattle.stop_tour.specs.Tours.{IsGoodStop};
 
 use crate::tests::engines::fronts::is_over;
 use crate::tests::engines::nets::{NetLists, net_of};
-use drive_breaks::{BreakFault, BreakRule, plan_breaks, plan_breaks_with};
+use drive_breaks::{BreakFault, BreakRule, plan_breaks};
 use itinerary_unpack::FunctionEngine;
 use latest_departure::{LateRoutes, latest};
 use plain_search::TableEngine;
+use rested_tours::plan_rested;
 use route_base::limits::{DAY_MINUTES, LONGEST_HORIZON};
 use route_base::{OutOfMemory, Request, Routes, TimedNet};
 use std::alloc::Global;
@@ -84,14 +85,14 @@ pub fn tour_over(
     }
 }
 
-/// What `plan_breaks` answers, or `plan_breaks_with` by the engine that takes bounds; `None` where the lists aren't those of a small well-formed net,
-/// the request isn't one over it, or a number of the rule is out of range.
+/// What `plan_breaks` answers, or `plan_rested` by the search over states; `None` where the lists aren't those of a small well-formed net, the
+/// request isn't one over it, or a number of the rule is out of range.
 pub fn breaks_over(
     alloc: Global,
     lists: NetLists<'_>,
     request: Request,
     rule: BreakRule,
-    bounded: bool,
+    by_states: bool,
 ) -> Result<Option<Routes>, OutOfMemory> {
     let net = net_of(alloc, lists)?;
     if !is_whole(&net, lists) || !is_over(&net, request) {
@@ -100,8 +101,8 @@ pub fn breaks_over(
     if rule.drive > DAY_MINUTES || rule.rest < 1 || rule.rest > DAY_MINUTES {
         return Ok(None);
     }
-    let answer = if bounded {
-        plan_breaks_with(alloc, &FunctionEngine, &net, request, rule)
+    let answer = if by_states {
+        plan_rested(alloc, &net, request, rule)
     } else {
         plan_breaks(alloc, &TableEngine, &net, request, rule)
     };
