@@ -3,7 +3,7 @@ use Rattle.std.proofs.Common.{◌≡◌, refl, codes, List, Option, Some, None, 
 use Rattle.clap.specs.Walk.{Text, nothing_held}
 use Rattle.clap.specs.Simple.{App, Shape, built}
 use Rattle.clap.proofs.OnLiterals.{clap_on_literals}
-use Rattle.front_words.specs.Breaks.{breaks_choices, breaks_usage}
+use Rattle.front_words.specs.Breaks.{breaks_usage, rule_choices}
 use Rattle.front_words.specs.ClapCommands.{plan_places, written_out}
 use Rattle.front_words.specs.Inside.{TakesRow}
 use Rattle.front_words.proofs.ClapWalk.{Opens, rule_by_id}
@@ -11,7 +11,7 @@ use Rattle.front_words.proofs.OptionLines.{Fills, behind_one, behind_two, two_op
 
 -- `breaks`, as `clap` builds it
 abbrev written : App
-written = written_out (codes "breaks") plan_places breaks_choices
+written = written_out (codes "breaks") plan_places rule_choices
 
 abbrev shape : Shape
 shape = (built written).top
@@ -25,13 +25,13 @@ unfolding clap_on_literals
 rest_opens None = record { rule = rule_by_id shape (codes "rest"); found = refl; turns = refl; walks = refl; closes = λ word. refl }
 rest_opens (Some x) = record { rule = rule_by_id shape (codes "rest"); found = refl; turns = refl; walks = refl; closes = λ word. refl }
 
-pub breaks_row : TakesRow breaks_usage plan_places breaks_choices
+pub breaks_row : TakesRow breaks_usage plan_places rule_choices
 breaks_row =
     two_options _ _ (codes "--drive") (codes "drive") (codes "--rest") (codes "rest") refl refl refl
     (record { simple = refl; named = refl; alone = refl }) drive_opens rest_opens fills
   where
     fills : (drive rest : Option Text) (words : List Text) → length words ≡ 6
-        → Fills written (behind_two written (codes "drive") (codes "rest") drive rest) plan_places words breaks_choices (drive ∷ rest ∷ [])
+        → Fills written (behind_two written (codes "drive") (codes "rest") drive rest) plan_places words rule_choices (drive ∷ rest ∷ [])
     fills None None (a ∷ b ∷ c ∷ d ∷ e ∷ f ∷ []) n = record { met = refl; passes = refl; places = refl; options = refl }
     fills None (Some y) (a ∷ b ∷ c ∷ d ∷ e ∷ f ∷ []) n = record { met = refl; passes = refl; places = refl; options = refl }
     fills (Some x) None (a ∷ b ∷ c ∷ d ∷ e ∷ f ∷ []) n = record { met = refl; passes = refl; places = refl; options = refl }

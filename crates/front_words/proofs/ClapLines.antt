@@ -14,6 +14,7 @@ use Rattle.front_words.proofs.BatchLines.{batch_row}
 use Rattle.front_words.proofs.BreaksLines.{breaks_row}
 use Rattle.front_words.proofs.ClapWalk.{IsLeaf, due_from, held_behind, met_from, passes_at, passes_line, texts_in, walks_nowhere}
 use Rattle.front_words.proofs.PlanLines.{plan_row}
+use Rattle.front_words.proofs.TourLines.{tour_row}
 
 -- the line of a command without options, by where the walk over its words ends
 passes_alone : (name : Text) (ids words : List Text) → IsLeaf (written_out name ids []) → ArePlain words
@@ -70,6 +71,6 @@ takes_row row.Bans = alone_row _ _ refl refl bans_words
 takes_row row.Batch = batch_row
 takes_row row.Gen = alone_row _ _ refl refl drawn_words
 takes_row row.Latest = alone_row _ _ refl refl trip_words
-takes_row row.Tour = alone_row _ _ refl refl named_words
+takes_row row.Tour = tour_row
 takes_row row.Breaks = breaks_row
 takes_row row.Explain = alone_row _ _ refl refl named_words

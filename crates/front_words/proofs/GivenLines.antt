@@ -1,5 +1,5 @@
 -- The options that are given, as a line.
-use Rattle.std.proofs.Common.{◌≡◌, ℕ, Option, Some, None, List, [], ◌∷◌, ◌++◌, map, ap, refl, sym, ◌∙◌}
+use Rattle.std.proofs.Common.{◌≡◌, ℕ, Option, Some, None, List, [], ◌∷◌, ◌++◌, map, ap, refl, subst, sym, ◌∙◌}
 use Rattle.std.specs.Prelude.{Result, Ok, Err, option_and_then, option_map}
 use Rattle.std.specs.Result.{IsErrAnd}
 use Rattle.std.proofs.lemmas.List.{append_assoc}
@@ -7,7 +7,7 @@ use Rattle.std.proofs.lemmas.Option.{same_Some}
 use Rattle.route_base.proofs.Lists.{same_head, same_tail}
 use Rattle.front_words.specs.ClapCommands.{given_line, option_line, options_line}
 use Rattle.front_words.specs.Forms.{Value}
-use Rattle.front_words.specs.Inside.{ArePlain, ArePlainIf, IsAnswerWith}
+use Rattle.front_words.specs.Inside.{ArePlain, ArePlainIf, IsAnswer, IsAnswerWith}
 use Rattle.front_words.specs.Splitting.{Given, Split, only_value, values_for}
 use Rattle.front_words.specs.Usages.{OptionUsage, Usage, made_of, option_names, options_read, places_read, value_if}
 use Rattle.front_words.specs.declared.commands.WordsFault.{WordsFault}
@@ -86,6 +86,16 @@ twice_made {A} usage s e = rw (twice_read s.given usage.options e) (at (places_r
     at : (vs : Option (List Value)) → option_and_then (λ v. option_and_then (usage.make v) (let n : Option (List (Option Value)) = None in n)) vs ≡ None
     at None = refl
     at (Some x) = refl
+
+-- the fault of an option that is given twice is the answer
+pub fault_made : {A B : Type 0} (value_in : B → List (List ℕ)) (usage : Usage A) (s : Split) (names : List (List ℕ)) (result : Result A WordsFault)
+    (fault : WordsFault) → names ≡ option_names usage.options → IsErrAnd result (λ e. e ≡ fault)
+    → IsAnswerWith value_in (given_line names s.given) (Err fault) → IsAnswer (made_of usage s) result
+fault_made value_in usage s names (Ok v) fault e at is = absurd at
+fault_made value_in usage s names (Err OutOfMemory) fault e at is = tt
+fault_made value_in usage s names (Err NotACommand) fault e at is =
+    twice_made usage s (sym (ap (λ (ns : List (List ℕ)). given_line ns s.given) e)
+    ∙ subst (λ (f : WordsFault). IsAnswerWith value_in (given_line names s.given) (Err f)) (sym at) is)
 
 -- one option more
 pub one_option_more : (given : List Given) (names done rest more : List (List ℕ)) (name : List ℕ) (value : Option (List ℕ))

@@ -9,3 +9,5 @@ pub mod OptionLines
 pub mod Places
 pub mod Plain
 pub mod PlanLines
+pub mod TourLines
+pub mod TourWords

@@ -23,7 +23,7 @@ some_others : {A P : Type 0} {x : A} {xs : List A} → x ∷ xs ≡ [] → P
 some_others h = cc
 
 -- one value more, in front
-abbrev in_front : {A : Type 0} → Option A → Option (List A) → Option (List A)
+abbrev pub in_front : {A : Type 0} → Option A → Option (List A) → Option (List A)
 in_front first others = option_and_then (λ v. option_map (λ vs. v ∷ vs) others) first
 
 module _ (matches : ArgMatches) (app : App) (line : List (List ℕ)) (found : (id : List ℕ) → text_at matches id ≡ text_found app line id) where

@@ -4,7 +4,7 @@ use Rattle.route_base.specs.declared.limits.TheConstants.{DAY_MINUTES}
 use Rattle.front_words.specs.declared.limits.TheConstants.{USUAL_DRIVE, USUAL_REST}
 use Rattle.front_words.specs.Forms.{Value, count, folder, of_number, of_text}
 use Rattle.front_words.specs.Trips.{Command, trip_forms, trip_to}
-use Rattle.front_words.specs.Usages.{Usage, number_in}
+use Rattle.front_words.specs.Usages.{OptionUsage, Usage, number_in}
 pub use Rattle.front_words.specs.declared.breaks.Breaks.{Breaks}
 pub use Rattle.front_words.specs.declared.commands.Invocation.TheVariants.{Breaks as to_breaks}
 
@@ -19,20 +19,23 @@ breaks_of (of_text dir ∷ of_text lorry ∷ of_number from ∷ of_number to ∷
     }))
 breaks_of places options = None
 
+-- the options of a break rule
+abbrev pub rule_options : List OptionUsage
+rule_options = record { name = codes "--drive"; form = count DAY_MINUTES } ∷ record { name = codes "--rest"; form = count DAY_MINUTES } ∷ []
+
 -- `breaks DIR VEHICLE FROM TO DEPART UNTIL [--drive B] [--rest L]`
 abbrev pub breaks_usage : Usage Command
-breaks_usage = record {
-  name = codes "breaks";
-  places = folder ∷ trip_forms;
-  options = record { name = codes "--drive"; form = count DAY_MINUTES } ∷ record { name = codes "--rest"; form = count DAY_MINUTES } ∷ [];
-  make = breaks_of;
-}
+breaks_usage = record { name = codes "breaks"; places = folder ∷ trip_forms; options = rule_options; make = breaks_of }
 
--- the names that `clap` has for the options of `breaks`
-abbrev pub breaks_choices : List (List ℕ)
-breaks_choices = codes "drive" ∷ codes "rest" ∷ []
+-- the names that `clap` has for the options of a break rule
+abbrev pub rule_choices : List (List ℕ)
+rule_choices = codes "drive" ∷ codes "rest" ∷ []
 
--- both numbers of the break rule are from 1 to the minutes of a day
-pub record HasGoodRule (b : Breaks) : Type 0 where
-  pub drive : (1 ≤ b.drive) × (b.drive ≤ DAY_MINUTES)
-  pub rest : (1 ≤ b.rest) × (b.rest ≤ DAY_MINUTES)
+-- both numbers of a break rule are from 1 to the minutes of a day
+pub record AreRuleMinutes (minutes pause : ℕ) : Type 0 where
+  pub drive : (1 ≤ minutes) × (minutes ≤ DAY_MINUTES)
+  pub rest : (1 ≤ pause) × (pause ≤ DAY_MINUTES)
+
+-- those of the command's rule
+abbrev pub HasGoodRule : Breaks → Type 0
+HasGoodRule b = AreRuleMinutes b.drive b.rest

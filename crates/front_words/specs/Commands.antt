@@ -10,7 +10,7 @@ pub use Rattle.front_words.specs.Bans.{Bans, bans_usage, to_bans}
 pub use Rattle.front_words.specs.Batch.{Batch, batch_usage, to_batch}
 pub use Rattle.front_words.specs.Gen.{Gen, gen_usage, to_gen}
 pub use Rattle.front_words.specs.Latest.{Latest, latest_usage, to_latest}
-pub use Rattle.front_words.specs.Tour.{Tour, to_tour, tour_usage}
+pub use Rattle.front_words.specs.Tour.{HasGoodTourRule, RestedTour, Tour, to_rested_tour, to_tour, tour_usage}
 pub use Rattle.front_words.specs.Breaks.{Breaks, HasGoodRule, breaks_usage, to_breaks}
 pub use Rattle.front_words.specs.Explain.{Explain, explain_usage, to_explain}
 use Rattle.front_words.specs.declared.flat.Command.{Command as FlatCommand}
@@ -38,6 +38,8 @@ command_in (flat.Batch dir name workers) = to_batch (record { dir = dir; jobs = 
 command_in (flat.Gen dir from rows columns) = to_gen (record { dir = dir; number = from; rows = rows; columns = columns })
 command_in (flat.Latest dir lorry from to start end) = to_latest (record { dir = dir; trip = trip_to lorry from to start end })
 command_in (flat.Tour dir lorry from to start end stops) = to_tour (record { dir = dir; trip = trip_to lorry from to start end; stops = stops })
+command_in (flat.RestedTour dir lorry from to start end stops drive rest) =
+    to_rested_tour (record { tour = record { dir = dir; trip = trip_to lorry from to start end; stops = stops }; drive = drive; rest = rest })
 command_in (flat.Breaks dir lorry from to start end drive rest) =
     to_breaks (record { dir = dir; trip = trip_to lorry from to start end; drive = drive; rest = rest })
 command_in (flat.Explain dir lorry from to start end name) =
@@ -53,5 +55,6 @@ AsksSupported (to_batch b) = (1 ≤ b.workers) × (b.workers ≤ MOST_WORKERS)
 AsksSupported (to_gen g) = IsDrawable g.number g.rows g.columns
 AsksSupported (to_latest l) = IsTimed l.trip
 AsksSupported (to_tour t) = IsTimed t.trip
+AsksSupported (to_rested_tour t) = IsTimed t.tour.trip × HasGoodTourRule t
 AsksSupported (to_breaks b) = IsTimed b.trip × HasGoodRule b
 AsksSupported (to_explain e) = IsTimed e.trip

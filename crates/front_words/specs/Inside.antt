@@ -4,7 +4,7 @@ use Rattle.std.specs.Borrow.{Bor}
 use Rattle.clap.specs.Words.{Rule}
 use Rattle.front_words.specs.Bans.{bans_places}
 use Rattle.front_words.specs.Batch.{batch_choices, batch_places}
-use Rattle.front_words.specs.Breaks.{breaks_choices}
+use Rattle.front_words.specs.Breaks.{rule_choices}
 use Rattle.front_words.specs.ClapCommands.{Passes, app_with, check_places, choice, options_line, place, plan_places}
 use Rattle.front_words.specs.Commands as law
 use Rattle.front_words.specs.Commands.{Command, Gen, Trip}
@@ -76,8 +76,8 @@ row_in row.Bans = row_with law.bans_usage bans_places []
 row_in row.Batch = row_with law.batch_usage batch_places batch_choices
 row_in row.Gen = row_with law.gen_usage gen_places []
 row_in row.Latest = row_with law.latest_usage plan_places []
-row_in row.Tour = row_with law.tour_usage check_places []
-row_in row.Breaks = row_with law.breaks_usage plan_places breaks_choices
+row_in row.Tour = row_with law.tour_usage check_places rule_choices
+row_in row.Breaks = row_with law.breaks_usage plan_places rule_choices
 row_in row.Explain = row_with law.explain_usage check_places []
 
 abbrev pub usage_in : CommandName → Usage Command
@@ -110,6 +110,10 @@ pub record IsPlainSplit (s : Split) : Type 0 where
 -- the values of the words of a trip
 abbrev pub trip_values : Trip → List Value
 trip_values t = of_text t.vehicle ∷ of_number t.origin ∷ of_number t.goal ∷ of_number t.depart ∷ of_number t.until ∷ []
+
+-- the values of the positional words of a tour
+abbrev pub tour_values : law.Tour → List Value
+tour_values t = of_text t.dir ∷ (trip_values t.trip ++ of_text t.stops ∷ [])
 
 -- the values of the words of a network to draw
 abbrev pub gen_values : Gen → List Value

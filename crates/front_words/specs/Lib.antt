@@ -10,8 +10,8 @@ pub mod Bans
 pub mod Batch
 pub mod Gen
 pub mod Latest
-pub mod Tour
 pub mod Breaks
+pub mod Tour
 pub mod Explain
 pub mod Commands
 pub mod Words

@@ -37,6 +37,11 @@ abbrev pub number_in : ℕ → Option Value → ℕ
 number_in usual (Some (of_number n)) = n
 number_in usual value = usual
 
+-- the number that is given, or none
+abbrev pub count_in : Option Value → Option ℕ
+count_in (Some (of_number n)) = Some n
+count_in value = None
+
 -- the values of positional words, each in its form; nothing where there are more or fewer words than forms
 abbrev pub places_read : List WordForm → List (List ℕ) → Option (List Value)
 places_read [] [] = Some []

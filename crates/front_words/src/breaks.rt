@@ -1,6 +1,6 @@
 // `breaks DIR VEHICLE FROM TO DEPART UNTIL [--drive B] [--rest L]`
 ghost use Rattle.std.specs.Prelude.{◌≡◌, IfOk};
-ghost use Rattle.front_words.specs.Breaks.{breaks_choices};
+ghost use Rattle.front_words.specs.Breaks.{rule_choices};
 ghost use Rattle.front_words.specs.ClapCommands.{made_at, plan_places};
 ghost use Rattle.front_words.specs.Commands.{AsksSupported, command_in, breaks_usage, to_breaks};
 ghost use Rattle.front_words.specs.Inside.{IsAnswer};
@@ -24,15 +24,15 @@ pub struct Breaks {
     pub rest: u64,
 }
 
-// The values of the options, by the names that `clap` has for them, and the options as words.
-pub const BREAKS_CHOICES: &[&str] = &["drive", "rest"];
+// The values of the options of a break rule, by the names that `clap` has for them, and the options as words.
+pub const RULE_CHOICES: &[&str] = &["drive", "rest"];
 
-pub const BREAKS_OPTIONS: &[&str] = &["--drive", "--rest"];
+pub const RULE_OPTIONS: &[&str] = &["--drive", "--rest"];
 
 // The command that the words make which `clap` found.
 pub fn breaks_found(alloc: Global, matches: &ArgMatches) -> Result<Invocation, WordsFault>
     ensures made { IsAnswer
-        (made_at matches.now breaks_usage plan_places breaks_choices) result }
+        (made_at matches.now breaks_usage plan_places rule_choices) result }
     ensures supported { IfOk result AsksSupported }
 {
     Ok(Invocation::Breaks(Breaks {

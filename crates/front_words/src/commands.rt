@@ -1,7 +1,7 @@
 // The commands, with the values of their words; each has its struct in a file of its own.
 ghost use Rattle.std.specs.Prelude.{◌≡◌};
 
-use crate::{Bans, Batch, Breaks, Check, Explain, Gen, Latest, Plan, Tour};
+use crate::{Bans, Batch, Breaks, Check, Explain, Gen, Latest, Plan, RestedTour, Tour};
 use route_base::{Minute, OutOfMemory, Text};
 use std::alloc::AllocFailed;
 
@@ -26,6 +26,7 @@ pub enum Invocation {
     Gen(Gen),
     Latest(Latest),
     Tour(Tour),
+    RestedTour(RestedTour),
     Breaks(Breaks),
     Explain(Explain),
 }

@@ -11,7 +11,7 @@ use crate::explain::flat_explain;
 use crate::generate::flat_gen;
 use crate::latest::flat_latest;
 use crate::plan::flat_plan;
-use crate::tour::flat_tour;
+use crate::tour::{flat_rested_tour, flat_tour};
 use route_base::{Form, Minute, Text};
 
 /// A command, with the values of its words. Nodes and arcs are numbered from 1; minutes are Unix minutes.
@@ -80,6 +80,19 @@ pub enum Command {
         until: Minute,
         stops: Text,
     },
+    /// Plans a trip that serves each stop of the file `stops`, under a break rule: at most `drive` minutes of driving since the last unbroken
+    /// wait of `rest` minutes.
+    RestedTour {
+        dir: Text,
+        vehicle: Text,
+        from: u32,
+        to: u32,
+        depart: Minute,
+        until: Minute,
+        stops: Text,
+        drive: u64,
+        rest: u64,
+    },
     /// Plans a trip over the files of the folder `dir` under a break rule: at most `drive` minutes of driving since the last unbroken wait
     /// of `rest` minutes.
     Breaks {
@@ -117,6 +130,7 @@ pub fn side_by_side(invocation: Invocation) -> Command
         Invocation::Gen(network) => flat_gen(network),
         Invocation::Latest(latest) => flat_latest(latest),
         Invocation::Tour(tour) => flat_tour(tour),
+        Invocation::RestedTour(tour) => flat_rested_tour(tour),
         Invocation::Breaks(breaks) => flat_breaks(breaks),
         Invocation::Explain(explain) => flat_explain(explain),
     }

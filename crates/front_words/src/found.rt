@@ -1,9 +1,9 @@
 // The values of the words that `clap` found, each in its form.
-ghost use Rattle.std.specs.Prelude.{IfOk, option_map};
+ghost use Rattle.std.specs.Prelude.{IfOk, IfSome, option_map};
 ghost use Rattle.front_words.specs.ClapCommands.{text_at, value_at};
 ghost use Rattle.front_words.specs.Forms.{certificate, count, file, folder, instant, number, of_number, of_text, report, text_if, vehicle};
 ghost use Rattle.front_words.specs.Inside.{IsAnswer, IsAnswerWith, IsUpTo};
-ghost use Rattle.front_words.specs.Usages.{name_in, number_in, report_in, value_if};
+ghost use Rattle.front_words.specs.Usages.{count_in, name_in, number_in, report_in, value_if};
 ghost use Rattle.front_words.specs.declared.limits.TheConstants.{MOST_WORKERS, USUAL_WORKERS};
 ghost use Rattle.route_base.specs.Time.{IsInstant};
 
@@ -146,6 +146,18 @@ pub fn workers_or_usual(matches: &ArgMatches, id: &str) -> Result<u32, WordsFaul
     match matches.get_str(id) {
         Some(word) => small_count_word(word, MOST_WORKERS).ok_or(WordsFault::NotACommand),
         None => Ok(USUAL_WORKERS),
+    }
+}
+
+// A number from 1 to the limit, if there is one.
+pub fn count_if(matches: &ArgMatches, id: &str, limit: u64) -> Result<Option<u64>, WordsFault>
+    ensures value { IsAnswer (option_map count_in
+        (value_if (count limit) (text_at matches.now id.now))) result }
+    ensures within { IfOk result (λ number. IfSome number (IsUpTo limit)) }
+{
+    match matches.get_str(id) {
+        Some(word) => Ok(Some(count_word(word, limit).ok_or(WordsFault::NotACommand)?)),
+        None => Ok(None),
     }
 }
 

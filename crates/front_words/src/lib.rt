@@ -52,4 +52,4 @@ pub use latest::Latest;
 pub use limits::{MOST_WORKERS, USUAL_DRIVE, USUAL_REST, USUAL_WORKERS};
 pub use plan::Plan;
 pub use reading::{read_invocation, read_words};
-pub use tour::Tour;
+pub use tour::{RestedTour, Tour};

@@ -7,7 +7,7 @@ ghost use Rattle.front_words.specs.Usages.{made_of, option_names, usage_named};
 
 use crate::bans::{BANS_PLACES, bans_found};
 use crate::batch::batch_found;
-use crate::breaks::{BREAKS_CHOICES, BREAKS_OPTIONS, breaks_found};
+use crate::breaks::{RULE_CHOICES, RULE_OPTIONS, breaks_found};
 use crate::check::check_found;
 use crate::clap_words::{line_of, matches_for, push_option};
 use crate::explain::explain_found;
@@ -102,8 +102,8 @@ impl CommandName {
             CommandName::Batch => row_of("batch", &["dir", "jobs"], &["workers"], &["--workers"]),
             CommandName::Gen => row_of("gen", &["dir", "number", "rows", "columns"], &[], &[]),
             CommandName::Latest => row_of("latest", TRIP_PLACES, &[], &[]),
-            CommandName::Tour => row_of("tour", NAMED_TRIP_PLACES, &[], &[]),
-            CommandName::Breaks => row_of("breaks", TRIP_PLACES, BREAKS_CHOICES, BREAKS_OPTIONS),
+            CommandName::Tour => row_of("tour", NAMED_TRIP_PLACES, RULE_CHOICES, RULE_OPTIONS),
+            CommandName::Breaks => row_of("breaks", TRIP_PLACES, RULE_CHOICES, RULE_OPTIONS),
             CommandName::Explain => row_of("explain", NAMED_TRIP_PLACES, &[], &[]),
         }
     }

@@ -1,14 +1,19 @@
-// `tour DIR VEHICLE FROM TO DEPART UNTIL STOPS`
-ghost use Rattle.std.specs.Prelude.{◌≡◌, [], IfOk};
-ghost use Rattle.front_words.specs.ClapCommands.{check_places, made_at};
-ghost use Rattle.front_words.specs.Commands.{AsksSupported, command_in, tour_usage, to_tour};
-ghost use Rattle.front_words.specs.Inside.{IsAnswer};
+// `tour DIR VEHICLE FROM TO DEPART UNTIL STOPS [--drive B] [--rest L]`
+ghost use Rattle.std.specs.Prelude.{◌≡◌, IfOk, IfSome};
+ghost use Rattle.front_words.specs.Breaks.{rule_choices};
+ghost use Rattle.front_words.specs.ClapCommands.{check_places, made_at, values_at};
+ghost use Rattle.front_words.specs.Commands.{AsksSupported, IsTimed, command_in, tour_usage, to_rested_tour, to_tour};
+ghost use Rattle.front_words.specs.Inside.{IsAnswer, IsAnswerWith, IsUpTo, tour_values};
+ghost use Rattle.front_words.specs.Tour.{tour_under as under};
+ghost use Rattle.route_base.specs.declared.limits.TheConstants.{DAY_MINUTES};
 
-use crate::found::{file_at, folder_at};
+use crate::found::{count_if, file_at, folder_at};
+use crate::limits::{USUAL_DRIVE, USUAL_REST};
 use crate::trip_words::trip_found;
 use crate::{Command, Invocation, Trip, WordsFault};
 use clap::ArgMatches;
 use route_base::Text;
+use route_base::limits::DAY_MINUTES;
 use std::alloc::Global;
 
 /// Plans a trip that serves each stop of the file `stops` over the files of the folder `dir`.
@@ -19,16 +24,64 @@ pub struct Tour {
     pub stops: Text,
 }
 
-// The command that the words make which `clap` found.
+/// Plans a tour under a break rule: at most `drive` minutes of driving since the last unbroken wait of `rest` minutes.
+#[derive(Drop)]
+pub struct RestedTour {
+    pub tour: Tour,
+    pub drive: u64,
+    pub rest: u64,
+}
+
+// The command that the words make which `clap` found: a tour under a rule where one of its numbers is given.
 pub fn tour_found(alloc: Global, matches: &ArgMatches) -> Result<Invocation, WordsFault>
-    ensures made { IsAnswer (made_at matches.now tour_usage check_places []) result }
+    ensures made { IsAnswer
+        (made_at matches.now tour_usage check_places rule_choices) result }
     ensures supported { IfOk result AsksSupported }
 {
-    Ok(Invocation::Tour(Tour {
+    let tour = places_found(alloc, matches)?;
+    let drive = count_if(matches, "drive", DAY_MINUTES)?;
+    let rest = count_if(matches, "rest", DAY_MINUTES)?;
+    Ok(tour_under(tour, drive, rest))
+}
+
+// The tour that the positional words say.
+fn places_found(alloc: Global, matches: &ArgMatches) -> Result<Tour, WordsFault>
+    ensures values { IsAnswerWith tour_values
+        (values_at matches.now check_places tour_usage.places) result }
+    ensures timed { IfOk result (λ tour. IsTimed tour.trip) }
+{
+    Ok(Tour {
         dir: folder_at(alloc, matches, "dir")?,
         trip: trip_found(alloc, matches)?,
         stops: file_at(alloc, matches, "name")?,
-    }))
+    })
+}
+
+// The tour by itself, or under a rule where one of its numbers is given; the other is then the usual one.
+fn tour_under(tour: Tour, drive: Option<u64>, rest: Option<u64>) -> Invocation
+    requires drive { IfSome drive (IsUpTo DAY_MINUTES) }
+    requires rest { IfSome rest (IsUpTo DAY_MINUTES) }
+    requires timed { IsTimed tour.trip }
+    ensures made { result ≡ under tour drive rest }
+    ensures supported { AsksSupported result }
+{
+    match (drive, rest) {
+        (None, None) => Invocation::Tour(tour),
+        (Some(drive), None) => ruled(tour, drive, USUAL_REST),
+        (None, Some(rest)) => ruled(tour, USUAL_DRIVE, rest),
+        (Some(drive), Some(rest)) => ruled(tour, drive, rest),
+    }
+}
+
+// The tour under a rule.
+fn ruled(tour: Tour, drive: u64, rest: u64) -> Invocation
+    ensures { result ≡ to_rested_tour (record {
+      tour = tour;
+      drive = drive;
+      rest = rest;
+    }) }
+{
+    Invocation::RestedTour(RestedTour { tour, drive, rest })
 }
 
 // The command with its words side by side.
@@ -44,5 +97,24 @@ pub fn flat_tour(tour: Tour) -> Command
         depart: trip.depart,
         until: trip.until,
         stops,
+    }
+}
+
+// The same under a break rule.
+pub fn flat_rested_tour(rested: RestedTour) -> Command
+    ensures { command_in result ≡ to_rested_tour rested }
+{
+    let RestedTour { tour, drive, rest } = rested;
+    let Tour { dir, trip, stops } = tour;
+    Command::RestedTour {
+        dir,
+        vehicle: trip.vehicle,
+        from: trip.origin,
+        to: trip.goal,
+        depart: trip.depart,
+        until: trip.until,
+        stops,
+        drive,
+        rest,
     }
 }

@@ -183,7 +183,24 @@ tour|d|any|1|3|26563680|26564080|a/s.csv => no
 tour|d|any|1|3|26563680|26564080|-s.csv => no
 tour|d|any|1|3|26563680|26564080|s csv => no
 tour|d|any|1|3|s.csv|26563680|26564080 => no
-tour|d|any|1|3|26563680|26564080|s.csv|--rest|45 => no
+tour|d|any|1|3|26563680|26564080|s.csv|--rest|45 => rested tour d any 1 3 26563680 26564080 s.csv 270 45
+tour|d|any|1|3|26563680|26564080|s.csv|--drive=540 => rested tour d any 1 3 26563680 26564080 s.csv 540 45
+tour|--drive|179|d|any|1|3|26563680|26564080|--rest=1440|s.csv => rested tour d any 1 3 26563680 26564080 s.csv 179 1440
+tour|d|any|1|3|26563680|26564080|s.csv|--rest|45|--drive|270 => rested tour d any 1 3 26563680 26564080 s.csv 270 45
+tour|d|any|1|3|26563680|26564080|s.csv|--drive|1|--rest|1 => rested tour d any 1 3 26563680 26564080 s.csv 1 1
+tour|d|any|1|3|26563680|26564080|s.csv|--drive|0 => no
+tour|d|any|1|3|26563680|26564080|s.csv|--drive|1441 => no
+tour|d|any|1|3|26563680|26564080|s.csv|--rest|0 => no
+tour|d|any|1|3|26563680|26564080|s.csv|--rest|1441 => no
+tour|d|any|1|3|26563680|26564080|s.csv|--drive|270|--drive|270 => no
+tour|d|any|1|3|26563680|26564080|s.csv|--rest=45|--rest=45 => no
+tour|d|any|1|3|26563680|26564080|s.csv|--drive|-1 => no
+tour|d|any|1|3|26563680|26564080|s.csv|--rest=-45 => no
+tour|d|any|1|3|26563680|26564080|s.csv|--drive=045 => no
+tour|d|any|1|3|26563680|26564080|s.csv|--drive= => no
+tour|d|any|1|3|26563680|26564080|s.csv|--drive => no
+tour|d|any|1|3|26563680|26564080|s.csv|--rest| => no
+tour|d|any|1|3|26563680|26564080|--drive|270 => no
 tour|d|any|1|3|26563680|26564080|s.csv|--form=csv => no
 explain|d|any|1|3|26563680|26564080|i.txt => explain d any 1 3 26563680 26564080 i.txt
 explain|a b/c|v_1.x|0|4294967295|2020-07-04T00:00Z|120968639|any => explain a b/c v_1.x 0 4294967295 26563680 120968639 any
@@ -458,6 +475,37 @@ fn is_tour(alloc: Global, command: &Command, wanted: &str) -> bool {
     is_longer(alloc, "tour", trip, stops.as_str(), wanted)
 }
 
+// Whether the command is this line of `tour` under a rule.
+fn is_rested_tour(alloc: Global, command: &Command, wanted: &str) -> bool {
+    let Command::RestedTour {
+        dir,
+        vehicle,
+        from,
+        to,
+        depart,
+        until,
+        stops,
+        drive,
+        rest,
+    } = command
+    else {
+        return false;
+    };
+    let trip = Trip {
+        dir: dir.as_str(),
+        vehicle: vehicle.as_str(),
+        from: *from,
+        to: *to,
+        depart: *depart,
+        until: *until,
+    };
+    let stops = stops.as_str();
+    match format!(in alloc; "{stops} {drive} {rest}") {
+        Ok(more) => is_longer(alloc, "rested tour", trip, more.as_str(), wanted),
+        Err(_) => false,
+    }
+}
+
 // Whether the command is this line of `breaks`.
 fn is_breaks(alloc: Global, command: &Command, wanted: &str) -> bool {
     let Command::Breaks {
@@ -521,6 +569,7 @@ fn has_line(alloc: Global, command: &Command, wanted: &str) -> bool {
         || is_gen(alloc, command, wanted)
         || is_latest(alloc, command, wanted)
         || is_tour(alloc, command, wanted)
+        || is_rested_tour(alloc, command, wanted)
         || is_breaks(alloc, command, wanted)
         || is_explain(alloc, command, wanted)
 }

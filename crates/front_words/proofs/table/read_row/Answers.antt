@@ -1,9 +1,11 @@
 use Rattle.std.proofs.Common.{Bor, ◌∙◌, ◌++◌, ◌∷◌, ap, length, map, subst, sym, List, ℕ}
+use Rattle.std.specs.Prelude.{Vec}
+use Rattle.std.specs.declared.alloc.Global.{Global}
 use Rattle.front_words.specs.ClapCommands.{IsTaken, app_with, given_line}
 use Rattle.front_words.specs.Inside.{choices_in, ids_in, split_of_words, usage_in}
 use Rattle.front_words.proofs.ClapLines.{takes_row}
 use Rattle.front_words.proofs.ClapWalk.{words_length}
-use Rattle.front_words.proofs.GivenLines.{are_given}
+use Rattle.front_words.proofs.GivenLines.{are_given, fault_made}
 use Rattle.front_words.proofs.Made.{answers_line, each_option, miscounted_made, passes_row}
 use Rattle.front_words.proofs.table.read_row.Goals as goal
 
@@ -16,6 +18,12 @@ returns-then-places-row-clause-made c =
     let ids = c.row-row.result.places.now in
     miscounted_made (usage_in c.args.command) c.args.places.now c.args.given.now
     (λ e. c.if-places-row.true (e ∙ sym (takes_row c.args.command).counted ∙ sym (ap length c.row-row.ensures.places) ∙ words_length ids))
+
+pub returns-in_err-options-clause-made : goal.returns-in_err-options-clause-made
+returns-in_err-options-clause-made c =
+    fault_made (λ (line : Vec (Bor (List ℕ)) Global). texts line.items) (usage_in c.args.command)
+    (split_of_words c.args.places.now c.args.given.now) (texts c.row-row.result.options.now)
+    c.from_residual.result c.in_err-options.field-0.0 c.row-row.ensures.options c.from_residual.ensures.1 c.in_err-options.ensures
 
 pub matches_for-requires : goal.matches_for-requires
 matches_for-requires c =
