@@ -21,6 +21,7 @@ pub mod ReportedBans
 pub mod ReportedBreaks
 pub mod ReportedExplain
 pub mod ReportedLate
+pub mod ReportedRestedTours
 pub mod ReportedTours
 pub mod Rows
 pub mod Running

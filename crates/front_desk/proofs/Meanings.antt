@@ -11,6 +11,7 @@ use Rattle.front_desk.proofs.ReportedBans.{bans_sound}
 use Rattle.front_desk.proofs.ReportedBreaks.{breaks_sound}
 use Rattle.front_desk.proofs.ReportedExplain.{explain_sound}
 use Rattle.front_desk.proofs.ReportedLate.{latest_sound}
+use Rattle.front_desk.proofs.ReportedRestedTours.{rested_tour_sound}
 use Rattle.front_desk.proofs.ReportedTours.{tour_sound}
 
 pub sound : (command : Command) → IsSound (meaning_of command)
@@ -21,5 +22,6 @@ sound (command.Batch b) = batch_sound b
 sound (command.Gen g) = gen_sound g
 sound (command.Latest l) = latest_sound l
 sound (command.Tour t) = tour_sound t
+sound (command.RestedTour t) = rested_tour_sound t
 sound (command.Breaks b) = breaks_sound b
 sound (command.Explain e) = explain_sound e

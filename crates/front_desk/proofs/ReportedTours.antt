@@ -24,7 +24,7 @@ use Rattle.front_desk.proofs.Sound.{one_text_sound, reads_sound}
 module _ (t : Tour) (old new : FolderState) (network : NetworkModel) (stops : List Stop)
     (found : IfTold old (λ held. network ≡ network_held held t.dir)) (stated : IfTold old (λ held. stops ≡ stops_held t held)) where
   -- what holds of the stops over the network holds of the folder's
-  held_there : (P : NetworkModel → List Stop → Type 0) → P network stops → IfTold old (λ held. P (network_held held t.dir) (stops_held t held))
+  pub held_there : (P : NetworkModel → List Stop → Type 0) → P network stops → IfTold old (λ held. P (network_held held t.dir) (stops_held t held))
   held_there P here held is =
       subst (λ (n : NetworkModel). P n (stops_held t held)) (found held is) (subst (λ (xs : List Stop). P network xs) (stated held is) here)
 
@@ -34,7 +34,7 @@ module _ (t : Tour) (old new : FolderState) (network : NetworkModel) (stops : Li
       (ap (λ (o : Option RequestFault). option_or o (failed_size (trip_setting network t.trip) stops)) failed)
 
   module _ (passed : failed_check network t.trip ≡ None) where
-    behind : (size : Option RequestFault) → failed_size (trip_setting network t.trip) stops ≡ size → failed_tour_check network t.trip stops ≡ size
+    pub behind : (size : Option RequestFault) → failed_size (trip_setting network t.trip) stops ≡ size → failed_tour_check network t.trip stops ≡ size
     behind size is = ap (λ (o : Option RequestFault). option_or o (failed_size (trip_setting network t.trip) stops)) passed ∙ is
 
     -- behind these comes the size

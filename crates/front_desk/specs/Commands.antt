@@ -13,6 +13,7 @@ use Rattle.front_desk.specs.Gen.{gen_meaning}
 use Rattle.front_desk.specs.Latest.{latest_meaning}
 use Rattle.front_desk.specs.Meaning.{Meaning}
 use Rattle.front_desk.specs.Plan.{plan_meaning}
+use Rattle.front_desk.specs.RestedTour.{rested_tour_meaning}
 use Rattle.front_desk.specs.Tour.{tour_meaning}
 
 -- the meaning of a command
@@ -24,6 +25,7 @@ meaning_of (command.Batch b) = batch_meaning b
 meaning_of (command.Gen g) = gen_meaning g
 meaning_of (command.Latest l) = latest_meaning l
 meaning_of (command.Tour t) = tour_meaning t
+meaning_of (command.RestedTour t) = rested_tour_meaning t
 meaning_of (command.Breaks b) = breaks_meaning b
 meaning_of (command.Explain e) = explain_meaning e
 

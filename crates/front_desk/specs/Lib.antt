@@ -13,5 +13,6 @@ pub mod Outcomes
 pub mod Plan
 pub mod Run
 pub mod Tour
+pub mod RestedTour
 pub mod Trips
 pub mod Words

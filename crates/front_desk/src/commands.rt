@@ -11,6 +11,7 @@ use crate::judgement::report_check;
 use crate::latest::report_latest;
 use crate::outcome::{Halt, Report};
 use crate::plan::report_plan;
+use crate::rested_tour::report_rested_tour;
 use crate::tour::report_tour;
 use front_words::{Invocation, WordsFault, read_invocation};
 use plan_report::Refusal;
@@ -51,6 +52,7 @@ fn report<R: Threads + Sync, F: Folder, G: Gate>(
         Invocation::Gen(grid) => report_gen(rt, alloc, folder, grid, gate),
         Invocation::Latest(late) => report_latest(rt, alloc, folder, late, gate),
         Invocation::Tour(tour) => report_tour(rt, alloc, folder, tour, gate),
+        Invocation::RestedTour(rested) => report_rested_tour(rt, alloc, folder, rested, gate),
         Invocation::Breaks(breaks) => report_breaks(rt, alloc, folder, breaks, gate),
         Invocation::Explain(explain) => report_explain(rt, alloc, folder, explain, gate),
     }

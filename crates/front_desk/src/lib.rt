@@ -3,15 +3,16 @@
 //! `requests` checks a request and finds its vehicle, and `networks` makes the net of a trip over a network that `network_folder` has loaded:
 //! `net_for` does both, and `net_within` for a shorter time. `batch_trips` plans the jobs of a batch over nets that trips share (`shared_nets`).
 //! Each command has a module of its own, `plan`, `judgement` (of certificates), `bans`, `latest`, `batch`, `generation` (of networks), `tour`,
-//! `breaks` and `explain`; `commands` has one case for each. `desk` has the top call, `run`, and `run_gated`, whose workers go through a
+//! `rested_tour` (under a break rule), `breaks` and `explain`; `commands` has one case for each. `desk` has the top call, `run`, and `run_gated`, whose workers go through a
 //! gate; `outcome` says how a command may end; `laws` has the numbers of the limits, the law that `check` accepts what `plan` writes, the law
 //! of explanations, and that of one text for one request. The commands are those of `front_words`; reports and the lines of refusals are
-//! those of `plan_report`, latest departures those of `latest_departure`, tours those of `stop_tour`, and explanations those of
+//! those of `plan_report`, latest departures those of `latest_departure`, tours those of `stop_tour` and `rested_tours`, and explanations those of
 //! `trip_explain`.
 //!
 //! The law of `run` is in `specs/`. `Run` says which text is due with each status and what a run promises by its status, over `Meaning` (what
 //! any command means), `Outcomes` (how a command is answered, refused or stopped, by its meaning), `Commands` (the meaning of each command, one
-//! line a command), `Trips` (the first check that fails), and `Plan`, `Check`, `Bans`, `Latest`, `Batch`, `Gen`, `Tour`, `Breaks` and `Explain`,
+//! line a command), `Trips` (the first check that fails), and `Plan`, `Check`, `Bans`, `Latest`, `Batch`, `Gen`, `Tour`, `RestedTour`, `Breaks` and
+//! `Explain`,
 //! each of which ends with the meaning of its command; `OneText` says what one text over the same files is; the files are those of
 //! `network_folder`. It is proved on `run`; each other call answers exactly as its definition says, a command's by one clause, `Ends`. `Inside`
 //! is no law: it has how a command ends, and the facts that the functions hand to one another. `Words` passes the names of all these on to the
@@ -33,6 +34,7 @@ mod networks;
 mod outcome;
 mod plan;
 mod requests;
+mod rested_tour;
 mod shared_nets;
 mod tour;
 

@@ -81,7 +81,7 @@ fn stops_of(alloc: Global, network: &Network, bytes: &[u8]) -> Result<Stops, Loa
 }
 
 // The network of the tour's folder, and the stops of its table.
-fn load_tour<F: Folder>(
+pub fn load_tour<F: Folder>(
     alloc: Global,
     folder: &mut F,
     tour: &Tour,

@@ -1,3 +1,4 @@
+pub mod AgreeingRestedTours
 pub mod Based
 pub mod Found
 pub mod Fronts

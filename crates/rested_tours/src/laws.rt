@@ -3,17 +3,20 @@ ghost use Rattle.std.specs.Prelude.{◌≡◌, ◌↔◌, ◌<◌, ◌≤◌, �
 ghost use Rattle.drive_states.specs.declared.rule.BreakRule.{BreakRule};
 ghost use Rattle.front_transport.specs.ParetoFronts.{IsParetoFront, ArrivesBefore};
 ghost use Rattle.rested_tours.specs.Words.{tour_ruler, as_tour_leg};
-ghost use Rattle.rested_tours.specs.Words.{IsRestedTourFront, AchievesRestedTour, IsRestedFront, AchievesRested};
+ghost use Rattle.rested_tours.specs.Words.{AreRightRestedTours, IsRestedTourFront, AchievesRestedTour, IsRestedFront, AchievesRested};
 ghost use Rattle.route_base.specs.Front.{IsNoWorse};
 ghost use Rattle.route_base.specs.Net.{at_number};
 ghost use Rattle.route_base.specs.Setting.{Setting};
 ghost use Rattle.route_base.specs.declared.types.Bound.{Bound};
 ghost use Rattle.route_base.specs.declared.types.Leg.{Leg};
 ghost use Rattle.route_base.specs.declared.types.Pair.{Pair};
+ghost use Rattle.route_base.specs.Matching.{StandsFor, IsInWindow};
 ghost use Rattle.route_base.specs.declared.types.Request.{Request};
+ghost use Rattle.route_base.specs.declared.types.Run.{Run};
 ghost use Rattle.state_dominance.specs.Inside.Dominance.{IsAchievedIn};
 ghost use Rattle.state_dominance.specs.Inside.Product.{IsBase, task_over};
 ghost use Rattle.stop_tour.specs.declared.stops.Stop.{Stop};
+ghost use Rattle.stop_tour.specs.declared.stops.TourRoute.{TourRoute};
 
 /// The law that the front over the states of the ruler of rested tours is the front of rested tours, where no arc has the number 0, as in
 /// each net. The call does nothing.
@@ -39,4 +42,13 @@ pub fn no_stops_is_the_rested_trip()
           legs = map as_tour_leg legs;
         })
         ↔ AchievesRested s r rule (record { pair = pair; legs = legs }) }
+{}
+
+/// The law of two settings of which one stands for the other within a window: for each request of the window, any stops and any rule both
+/// have the same right rested tours. The call does nothing.
+pub fn rested_tours_agree()
+    ensures { (s z : Setting) (window : Run) (r : Request) (stops : List Stop) (rule : BreakRule)
+        → StandsFor s z window → IsInWindow r window
+        → (routes : List TourRoute)
+        → AreRightRestedTours s r stops rule routes ↔ AreRightRestedTours z r stops rule routes }
 {}

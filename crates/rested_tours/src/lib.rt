@@ -21,6 +21,6 @@ mod trip_routes;
 mod trips;
 
 pub use drive_breaks::{BreakFault, BreakRule};
-pub use laws::{no_stops_is_the_rested_trip, rested_tours_are_found};
+pub use laws::{no_stops_is_the_rested_trip, rested_tours_agree, rested_tours_are_found};
 pub use tours::plan_rested_tour;
 pub use trips::plan_rested;

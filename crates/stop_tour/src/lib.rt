@@ -36,4 +36,4 @@ pub use limits::MOST_STOPS;
 pub use stop_table::read_stops;
 pub use stops::{Stop, Stops, TourFault, TourLeg, TourLegs, TourRoute, TourRoutes};
 pub use text::tour_text;
-pub use tours::{tour, tour_with};
+pub use tours::{tour, tour_fits, tour_with};

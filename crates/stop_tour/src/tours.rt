@@ -14,8 +14,9 @@ use potentials::{BoundedSearch, WithoutBounds};
 use route_base::{ArcId, FrontSearch, Leg, NodeId, OutOfMemory, Request, Route, TimedNet};
 use std::alloc::Global;
 
-// Whether the layers are small enough.
-fn fits(net: &TimedNet, stops: &[Stop]) -> bool
+/// Whether tours of these stops over the net aren't too large: the number of stops plus one, times the number of nodes and arcs, is at most
+/// `MOST_STATES`. It takes constant time.
+pub fn tour_fits(net: &TimedNet, stops: &[Stop]) -> bool
     ensures { IsTrue result ↔ (tour_size_of net.now stops.now ≤ MOST_STATES) }
 {
     let layers = stops.len() as u64 + 1;
@@ -160,7 +161,7 @@ pub fn tour_with<E: BoundedSearch>(
     ensures few { IfOk result (λ routes. tour_size_of net.now stops.now ≤ MOST_STATES) }
     ensures many { result ≡ Err TooManyStates → MOST_STATES < tour_size_of net.now stops.now }
 {
-    if !fits(net, stops) {
+    if !tour_fits(net, stops) {
         return Err(TourFault::TooManyStates);
     }
     match tours_over(alloc, engine, net, request, stops) {
