@@ -18,7 +18,7 @@ _lorry_plan_options() {
   case $1 in
     plan) echo '--form --certificate' ;;
     batch) echo '--workers' ;;
-    breaks) echo '--drive --rest' ;;
+    tour | breaks) echo '--drive --rest' ;;
   esac
 }
 

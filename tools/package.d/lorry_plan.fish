@@ -62,5 +62,7 @@ complete -c lorry_plan -n '__lorry_plan_next 7 explain' -a '(__lorry_plan_files 
 complete -c lorry_plan -n '__fish_seen_subcommand_from plan' -l form -x -a 'plain table csv json' -d 'the form of the report'
 complete -c lorry_plan -n '__fish_seen_subcommand_from plan' -l certificate -x -a '(__lorry_plan_files .cert)' -d 'write a certificate into the folder'
 complete -c lorry_plan -n '__fish_seen_subcommand_from batch' -l workers -x -d 'how many plan at once'
+complete -c lorry_plan -n '__fish_seen_subcommand_from tour' -l drive -x -d 'the most minutes of driving since a break'
+complete -c lorry_plan -n '__fish_seen_subcommand_from tour' -l rest -x -d 'the minutes of a break'
 complete -c lorry_plan -n '__fish_seen_subcommand_from breaks' -l drive -x -d 'the most minutes of driving since a break'
 complete -c lorry_plan -n '__fish_seen_subcommand_from breaks' -l rest -x -d 'the minutes of a break'
