@@ -22,7 +22,7 @@ loop-entry-preserved c k d less within =
     } in
     ⊎_elim
     (λ (same : k ≡ i). subst (λ (n : ℕ). IsInRange (setting_of c.args.net.now) r (get_or functions n d)) (sym same)
-        (subst (λ (f : NodeId × List Piece). IsInRange (setting_of c.args.net.now) r f)
-        (get_or_read functions i e (omega (arith, same, within)) at d) here))
+    (subst (λ (f : NodeId × List Piece). IsInRange (setting_of c.args.net.now) r f)
+    (get_or_read functions i e (omega (arith, same, within)) at d) here))
     (λ (other : k ≡ i → ⊥). c.loop-entry.invariant k d (omega (arith, less, other)) within)
     (cases_eq k i)

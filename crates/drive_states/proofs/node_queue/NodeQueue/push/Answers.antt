@@ -10,9 +10,9 @@ invariant_of-self-2 c u flagged =
     let v : ℕ = c.args.v in
     let items : c.push_back.new.self.items ≡ was ++ v ∷ [] = c.in_ok-push_back.ensures.items in
     subst (λ (us : List ℕ). Contains us u) (sym items)
-        (⊎_elim (λ (same : u ≡ v). subst (λ (w : ℕ). Contains (was ++ v ∷ []) w) (sym same) (Contains-push was v))
-            (λ (other : u ≡ v → ⊥). Contains-append_left was (v ∷ []) u (c.self.invariant u (sym (c.set_flag.ensures.others u other) ∙ flagged)))
-            (cases_eq u v))
+    (⊎_elim (λ (same : u ≡ v). subst (λ (w : ℕ). Contains (was ++ v ∷ []) w) (sym same) (Contains-push was v))
+    (λ (other : u ≡ v → ⊥). Contains-append_left was (v ∷ []) u (c.self.invariant u (sym (c.set_flag.ensures.others u other) ∙ flagged)))
+    (cases_eq u v))
 
 pub returns-clause-kept : goal.returns-clause-kept
 returns-clause-kept c u has =
@@ -21,7 +21,7 @@ returns-clause-kept c u has =
     let items : c.push_back.new.self.items ≡ was ++ v ∷ [] = c.in_ok-push_back.ensures.items in
     let before : c.args.self.now ≡ was = cc in
     subst (λ (us : List ℕ). Contains us u) (sym items)
-        (Contains-append_left was (v ∷ []) u (subst (λ (us : List ℕ). Contains us u) before has))
+    (Contains-append_left was (v ∷ []) u (subst (λ (us : List ℕ). Contains us u) before has))
 
 pub returns-clause-only : goal.returns-clause-only
 returns-clause-only c u has =
@@ -30,4 +30,4 @@ returns-clause-only c u has =
     let items : c.push_back.new.self.items ≡ was ++ v ∷ [] = c.in_ok-push_back.ensures.items in
     let before : was ≡ c.args.self.now = cc in
     ⊎_elim (λ (old : Contains was u). inl (subst (λ (us : List ℕ). Contains us u) before old)) (λ (new : v ≡ u). inr (sym new))
-        (Contains-push_cases was v u (subst (λ (us : List ℕ). Contains us u) items has))
+    (Contains-push_cases was v u (subst (λ (us : List ℕ). Contains us u) items has))
