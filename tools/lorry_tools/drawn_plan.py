@@ -86,20 +86,20 @@ class Trip:
         depart, until = (minute_of(it) for it in words[4:6])
         if origin is None or goal is None or depart is None or until is None:
             raise Unreadable("--trip has the words of a plan: DIR VEHICLE FROM TO DEPART UNTIL")
-        self.asked = Asked(folder, words[1], origin, goal, depart, until)
+        self.take_trip(Asked(folder, words[1], origin, goal, depart, until), pairs)
+        self.take_names(folder)
+
+    def take_trip(self, asked: Asked, pairs: list[JsonPair]) -> None:
+        """Follows the legs of the pairs."""
+        self.asked = asked
         for route, pair in zip(self.routes, pairs):
-            self.follow(route, pair, self.asked)
-        if self.last() > until:
+            self.follow(route, pair, asked)
+        if self.last() > asked.until:
             raise Unreadable(
                 f"{self.name} is no plan of this trip: a route arrives on "
                 f"{instant_text(self.last())}, after UNTIL"
             )
-        comments = folder.graph().comments
-        if any("openstreetmap" in it.lower() for it in comments):  # as its licence asks
-            self.credit = (
-                "Map data © OpenStreetMap contributors, under the Open Database Licence 1.0."
-            )
-        self.take_names(folder)
+        self.credit = asked.folder.graph().credit()
 
     def follow(self, route: Route, pair: JsonPair, asked: Asked) -> None:
         """Takes the legs of a pair, which have to be those of a trip as it was asked for."""

@@ -35,12 +35,14 @@ class Row:
 
 
 class Folder:
-    """The files of a folder, each read when it is asked for the first time."""
+    """The files of a folder, each read when it is asked for the first time. SHOWN is its name in
+    texts, where that isn't its path."""
 
-    def __init__(self, path: str):
+    def __init__(self, path: str, shown: Optional[str] = None):
         if not os.path.isdir(path):
             raise Unreadable(f"{path} is not a folder")
         self.path = path
+        self.shown = path if shown is None else shown
         self._tables: dict[str, list[Row]] = {}
         self._graph: Optional[Graph] = None
         self._areas: Optional[tuple[dict[Optional[int], str], str]] = None
@@ -48,6 +50,9 @@ class Folder:
 
     def file(self, name: str) -> str:
         return os.path.join(self.path, name)
+
+    def shown_file(self, name: str) -> str:
+        return os.path.join(self.shown, name)
 
     def has(self, name: str) -> bool:
         return os.path.isfile(self.file(name))
@@ -72,6 +77,10 @@ class Folder:
                 Row(number, dict(zip(header, fields)), fields) for number, fields in records[1:]
             ]
         return self._tables[name]
+
+    def forget(self, name: str) -> None:
+        """Drops the rows of a table, of which all that is needed is known."""
+        self._tables.pop(name, None)
 
     def graph(self) -> Graph:
         if self._graph is None:

@@ -10,6 +10,7 @@ from lorry_tools.problems import Unreadable
 
 ARC_LINE = re.compile(rb"[ \t]*a[ \t]+(\d+)[ \t]+(\d+)[ \t]+(\d+)[ \t\r]*")
 MOST_COMMENTS = 100
+OPENSTREETMAP = "Map data © OpenStreetMap contributors, under the Open Database Licence 1.0."
 
 
 def numbers() -> array.array[int]:
@@ -32,6 +33,11 @@ class Graph:
     def ends(self, arc: int) -> tuple[int, int, int]:
         """Returns the tail, the head and the minutes of an arc, by its number."""
         return self.tails[arc - 1], self.heads[arc - 1], self.minutes[arc - 1]
+
+    def credit(self) -> str:
+        """Returns whom the roads are from, where a licence asks for that."""
+        is_osm = any("openstreetmap" in it.lower() for it in self.comments)
+        return OPENSTREETMAP if is_osm else ""
 
     def arcs_at(self, nodes: Iterable[int]) -> dict[int, list[int]]:
         """Returns the numbers of the arcs that leave each node, where these are the tails, or that

@@ -1,6 +1,8 @@
 """Places in people's words: a name of nodes.csv, coordinates, or a node's number."""
 from __future__ import annotations
 
+import bisect
+import copy
 import dataclasses
 import difflib
 import math
@@ -9,7 +11,7 @@ from typing import Optional
 
 from lorry_tools.clocks import Clock, clock_of, named_clock
 from lorry_tools.files import GRAPH, NODES
-from lorry_tools.folder import Folder, number_of, zones_of_areas
+from lorry_tools.folder import UTC, Folder, number_of, zones_of_areas
 from lorry_tools.problems import Problem
 
 COORDINATES = re.compile(
@@ -18,6 +20,7 @@ COORDINATES = re.compile(
 EARTH_RADIUS = 6_371_009  # metres
 MOST_LISTED = 12
 MOST_CLOSE = 5
+MOST_COMPARED = 20_000  # names that are compared letter by letter
 
 
 @dataclasses.dataclass(frozen=True)
@@ -42,6 +45,14 @@ class Place:
         return f"{self.node}: {self.name}{town}{where}"
 
 
+class Ambiguous(Problem):
+    """A name of several places."""
+
+    def __init__(self, words: str, choices: list[Place]):
+        super().__init__(words)
+        self.choices = choices
+
+
 class Places:
     """The places of a folder."""
 
@@ -52,6 +63,8 @@ class Places:
         self.named_zone: Optional[Clock] = named_clock(folder, zone) if zone else None
         self._clocks: dict[int, list[Clock]] = {}
         self._zones: Optional[dict[int, dict[str, int]]] = None
+        self._by_name: Optional[dict[str, list[Place]]] = None
+        self._by_latitude: Optional[list[tuple[float, int, Place]]] = None
         for row in folder.table(NODES):
             node = number_of(row["node"])
             if node and node <= self.nodes:
@@ -61,6 +74,12 @@ class Places:
 
     def at(self, node: int) -> Place:
         return self.known.get(node, Place(node, ""))
+
+    def in_zone(self, zone: str) -> Places:
+        """Returns these places with the clock of one zone for all of them."""
+        places = copy.copy(self)
+        places.named_zone, places._clocks = named_clock(self.folder, zone), {}
+        return places
 
     # Words of a user.
 
@@ -77,8 +96,8 @@ class Places:
             return self.at(number)
         if not self.folder.has(NODES):
             raise Problem(
-                f"{what} {text!r} is no number, and {self.folder.path} has no {NODES}: expected is "
-                f"the number of a node, from 1 to {self.nodes}"
+                f"{what} {text!r} is no number, and {self.folder.shown} has no {NODES}: expected "
+                f"is the number of a node, from 1 to {self.nodes}"
             )
         pair = COORDINATES.fullmatch(word)
         return (
@@ -88,37 +107,48 @@ class Places:
         )
 
     def named(self, word: str, text: str, what: str) -> Place:
-        alike = [it for it in self.known.values() if it.name.casefold() == word.casefold()]
+        alike = self.by_name().get(word.casefold(), [])
         if len(alike) == 1:
             return alike[0]
         if alike:
             lines = [f"  {it.listed()}" for it in alike[:MOST_LISTED]]
             if len(alike) > MOST_LISTED:
                 lines.append(f"  and {len(alike) - MOST_LISTED} more of {NODES}")
-            raise Problem(
+            raise Ambiguous(
                 f"{what} {text!r} is the name of {len(alike)} nodes: expected is the number of one "
-                "of them, or coordinates\n" + "\n".join(lines)
+                "of them, or coordinates\n" + "\n".join(lines),
+                alike,
             )
         close = self.close_to(word)
         others = "; the nearest names are " + ", ".join(close) if close else ""
         raise Problem(
-            f"{what} {text!r} is no name of {self.folder.file(NODES)}: expected is such a name, "
-            f"coordinates such as 47.2405,9.5275, or the number of a node{others}"
+            f"{what} {text!r} is no name of {self.folder.shown_file(NODES)}: expected is such a "
+            f"name, coordinates such as 47.2405,9.5275, or the number of a node{others}"
         )
 
-    def close_to(self, word: str) -> list[str]:
+    def by_name(self) -> dict[str, list[Place]]:
+        """Returns the places of each name, in small letters."""
+        if self._by_name is None:
+            found: dict[str, list[Place]] = {}
+            for place in self.known.values():
+                if place.name:
+                    found.setdefault(place.name.casefold(), []).append(place)
+            self._by_name = found
+        return self._by_name
+
+    def close_to(self, word: str, most: int = MOST_CLOSE) -> list[str]:
         """Returns the names that are most like a word, those first of which it is a part."""
-        names = {it.name.casefold(): it.name for it in self.known.values() if it.name}
-        small = word.casefold()
+        names, small = self.by_name(), word.casefold()
         found = sorted((it for it in names if small in it), key=lambda it: (len(it), it))
-        parts: dict[str, str] = {}
-        for name in names:
-            for part in [name, *name.split(" / ")]:
-                parts.setdefault(part, name)
-        for part in difflib.get_close_matches(small, list(parts), MOST_CLOSE, 0.6):
-            if parts[part] not in found:
-                found.append(parts[part])
-        return [names[it] for it in found[:MOST_CLOSE]]
+        if len(found) < most and len(names) <= MOST_COMPARED:
+            parts: dict[str, str] = {}
+            for name in names:
+                for part in [name, *name.split(" / ")]:
+                    parts.setdefault(part, name)
+            for part in difflib.get_close_matches(small, list(parts), MOST_CLOSE, 0.6):
+                if parts[part] not in found:
+                    found.append(parts[part])
+        return [names[it][-1].name for it in found[:most]]
 
     def nearest(self, lat: float, lon: float, text: str, what: str) -> Place:
         if abs(lat) > 90 or abs(lon) > 180:
@@ -126,16 +156,41 @@ class Places:
                 f"{what} {text!r} is off the globe: expected is the latitude and then the "
                 "longitude in degrees, such as 47.2405,9.5275"
             )
-        found: Optional[Place] = None
-        least = math.inf
-        for place in self.known.values():
-            if place.lat is not None and place.lon is not None:
-                metres = distance(lat, lon, place.lat, place.lon)
-                if metres < least:
-                    found, least = place, metres
+        found = self.nearest_to(lat, lon)
         if found is None:
-            raise Problem(f"{what} {text!r}: {self.folder.file(NODES)} has no coordinates")
+            raise Problem(f"{what} {text!r}: {self.folder.shown_file(NODES)} has no coordinates")
+        return found
+
+    def nearest_to(self, lat: float, lon: float) -> Optional[Place]:
+        """Returns the nearest node that has coordinates, with its distance. Two places are at least
+        as far apart as their circles of latitude, so those of near latitudes come first."""
+        rows = self.by_latitude()
+        if not rows:
+            return None
+        above = bisect.bisect_left(rows, (lat, -1, rows[0][2]))
+        below, (_, first, found), least = above - 1, rows[0], math.inf
+        while above < len(rows) or below >= 0:
+            up = rows[above][0] - lat if above < len(rows) else math.inf
+            down = lat - rows[below][0] if below >= 0 else math.inf
+            if math.radians(min(up, down)) * EARTH_RADIUS > least + 1:
+                break
+            there, order, place = rows[above if up < down else below]
+            above, below = (above + 1, below) if up < down else (above, below - 1)
+            metres = distance(lat, lon, there, place.lon or 0.0)
+            if (metres, order) < (least, first):
+                first, found, least = order, place, metres
         return dataclasses.replace(found, away=round(least))
+
+    def by_latitude(self) -> list[tuple[float, int, Place]]:
+        """Returns the places that have coordinates by their latitudes, each with its number among
+        all."""
+        if self._by_latitude is None:
+            rows = enumerate(self.known.values())
+            self._by_latitude = sorted(
+                ((it.lat, order, it) for order, it in rows if it.lat is not None),
+                key=lambda row: row[:2],
+            )
+        return self._by_latitude
 
     # Clocks.
 
@@ -155,19 +210,29 @@ class Places:
 
     def zones_of(self, node: int) -> dict[str, int]:
         """Returns how many roads at a node are in areas of each zone."""
+        zones = zones_of_areas(self.folder)
+        if len(set(zones.values())) == 1:
+            return {next(iter(zones.values())): 1}
         if self._zones is None:
-            self._zones = {}
-            graph, zones = self.folder.graph(), zones_of_areas(self.folder)
-            areas, first = self.folder.areas_of_arcs()
-            for arc in range(1, len(graph) + 1):
-                zone = zones.get(areas.get(arc, first), "UTC")
-                for end in graph.ends(arc)[:2]:
-                    counts = self._zones.setdefault(end, {})
-                    counts[zone] = counts.get(zone, 0) + 1
-        if node in self._zones:
-            return self._zones[node]
-        areas_zones = zones_of_areas(self.folder)
-        return {next(iter(areas_zones.values())): 1}
+            self._zones = self.count_zones(zones)
+        return self._zones.get(node) or {next(iter(zones.values())): 1}
+
+    def count_zones(self, zones: dict[str, str]) -> dict[int, dict[str, int]]:
+        """Returns, for each node with roads that aren't all in areas of the first zone, how many
+        are in those of each."""
+        graph, (areas, first) = self.folder.graph(), self.folder.areas_of_arcs()
+        usual = next(iter(zones.values()))
+        named = (zones.get(areas.get(arc, first), UTC) for arc in range(1, len(graph) + 1))
+        by_arc = [None if it == usual else it for it in named]
+        ends = zip(by_arc, graph.tails, graph.heads)
+        other = {node for zone, *nodes in ends if zone is not None for node in nodes}
+        counted: dict[int, dict[str, int]] = {node: {} for node in other}
+        for zone, *nodes in zip(by_arc, graph.tails, graph.heads):
+            for node in nodes:
+                if node in other:
+                    name = usual if zone is None else zone
+                    counted[node][name] = counted[node].get(name, 0) + 1
+        return counted
 
 
 def position(lat: str, lon: str) -> tuple[Optional[float], Optional[float]]:

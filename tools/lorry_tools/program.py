@@ -88,12 +88,11 @@ class Program:
 
     def run(self, words: Iterable[object]) -> tuple[int, str]:
         """Runs the program on these words, and returns its status and what it printed."""
+        return self.execute([self.path, *(str(it) for it in words)])
+
+    def execute(self, words: list[str]) -> tuple[int, str]:
         try:
-            done = subprocess.run(
-                [self.path, *(str(it) for it in words)],
-                stdout=subprocess.PIPE,
-                stdin=subprocess.DEVNULL,
-            )
+            done = subprocess.run(words, stdout=subprocess.PIPE, stdin=subprocess.DEVNULL)
         except OSError as error:
             raise Unreadable(f"the program can't be run: {self.path}: {error.strerror}") from error
         return done.returncode, done.stdout.decode("utf-8", "replace")

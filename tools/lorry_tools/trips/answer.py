@@ -90,6 +90,7 @@ class Judged:
     name: str
     accepted: bool
     number: int
+    text: Optional[str] = None  # where it is handed out with the answer
 
 
 @dataclasses.dataclass
@@ -122,6 +123,7 @@ class Answer:
     why: Optional[Why] = None
     commands: list[str] = dataclasses.field(default_factory=list)
     picture: Optional[str] = None
+    has_geometry: bool = False  # whether its JSON has lines and points
 
 
 def trip_of(folder: Folder, request: Request) -> Trip:

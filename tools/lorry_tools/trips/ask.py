@@ -10,7 +10,7 @@ from lorry_tools.folder import Folder
 from lorry_tools.instants import instant_text, minute_of
 from lorry_tools.places import Places
 from lorry_tools.problems import Problem
-from lorry_tools.program import Program, Trip
+from lorry_tools.program import Trip
 from lorry_tools.rules import Streets
 from lorry_tools.trips.answer import Answer, Judged, options_of, trip_of
 from lorry_tools.trips.reasons import Reasons
@@ -26,7 +26,7 @@ from lorry_tools.trips.request import (
 )
 from lorry_tools.trips.shown import NotedProgram
 from lorry_tools.trips.warnings import warnings_of
-from lorry_tools.trips.why import explained
+from lorry_tools.trips.why import explained, read_way
 from lorry_tools.why_empty import Case
 
 STOPS = "stops.csv"
@@ -46,20 +46,30 @@ def answer_to(
     check_options(request, certificate, why)
     answer = Answer(request, folder, places, Streets(folder))
     if why is not None:
-        answer.why = explained(answer, program, why)
+        answer.why = explained(answer, program, read_way(answer, why))
     else:
-        answer.options = options_of(answer, pairs_of(answer, program, certificate))
-        reasons = Reasons(answer, program)
-        for option in answer.options:
-            reasons.take(option)
-        answer.warnings = warnings_of(answer.options, request.command)
+        take_pairs(answer, pairs_of(answer, program, certificate))
+        take_reasons(answer, program)
         if certificate is not None:
             accepted, number = program.check(trip_of(folder, request), certificate)
             answer.judged = Judged(certificate, accepted, number)
-        if not answer.options:
-            answer.causes = causes_of(answer, program)
     answer.commands = program.lines
     return answer
+
+
+def take_pairs(answer: Answer, pairs: list[Pair]) -> None:
+    """Adds the options of the program's pairs, and warnings."""
+    answer.options = options_of(answer, pairs)
+    answer.warnings = warnings_of(answer.options, answer.request.command)
+
+
+def take_reasons(answer: Answer, program: NotedProgram) -> None:
+    """Adds what the waits of the options are for, or why there is no option."""
+    reasons = Reasons(answer, program)
+    for option in answer.options:
+        reasons.take(option)
+    if not answer.options:
+        answer.causes = causes_of(answer, program)
 
 
 def check_options(request: Request, certificate: Optional[str], why: Optional[str]) -> None:
@@ -115,7 +125,7 @@ def causes_of(answer: Answer, program: NotedProgram) -> list[str]:
     if request.command == BREAKS and program.plan(trip):
         return ["with-breaks: there is a trip without breaks, and none that keeps the breaks"]
     program.note(" ".join(["tools/why_empty", *trip.words()]))
-    lines = Case(Program(program.path), answer.folder, trip).causes()
+    lines = Case(program.unnoted(), answer.folder, trip).causes()
     return [in_words(answer, line) for line in lines]
 
 

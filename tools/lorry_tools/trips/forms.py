@@ -12,6 +12,7 @@ from lorry_tools.instants import cost_text, instant_text
 from lorry_tools.places import Place
 from lorry_tools.rules import Cause
 from lorry_tools.trips.answer import Answer, Option, Part, WaitReason, Why
+from lorry_tools.trips.geometry import geojson
 
 Value = dict[str, Any]
 
@@ -56,7 +57,7 @@ class Forms:
         judged = answer.judged
         return {
             "command": "explain" if answer.why else request.command,
-            "folder": answer.folder.path,
+            "folder": answer.folder.shown,
             "lorry": request.vehicle,
             "from": self.place(request.origin),
             "to": self.place(request.goal),
@@ -76,10 +77,16 @@ class Forms:
             "causes": answer.causes,
             "warnings": answer.warnings,
             "certificate": judged
-            and {"name": judged.name, "accepted": judged.accepted, "number": judged.number},
+            and {
+                "name": judged.name,
+                "accepted": judged.accepted,
+                "number": judged.number,
+                "text": judged.text,
+            },
             "why": answer.why and self.why(answer.why),
             "picture": answer.picture,
             "commands": answer.commands,
+            "geometry": geojson(answer) if answer.has_geometry else None,
         }
 
     def time(self, minute: int, node: int) -> Value:

@@ -7,7 +7,7 @@ import re
 from typing import Optional
 
 from lorry_tools.clocks import Clock, local_of, read_time
-from lorry_tools.folder import Folder
+from lorry_tools.folder import Folder, Row
 from lorry_tools.instants import DAY, LONGEST_HORIZON
 from lorry_tools.places import Place, Places
 from lorry_tools.problems import Problem
@@ -22,6 +22,7 @@ USUAL_DAYS = 3.0
 DRIVE_TO_BREAK, BREAK, DRIVE_A_DAY, REST = 270, 45, 540, 660
 
 ANY = "any"
+ANY_WORDS = "a lorry of which no size is known"
 ONE_DAY = datetime.timedelta(days=1)
 
 SPAN = re.compile(r"(?:(\d+)[ \t]*h)?[ \t]*(?:(\d+)[ \t]*min)?", re.ASCII)
@@ -110,18 +111,20 @@ def command_of(words: Words) -> str:
 
 def lorries(folder: Folder) -> list[str]:
     """Returns a line for each lorry that there is."""
-    lines = [f"  {ANY}: a lorry of which no size is known"]
+    lines = [f"  {ANY}: {ANY_WORDS}"]
     for row in folder.table("vehicles.csv"):
-        facts = [row["class"]]
-        if row["weight_kg"]:
-            facts.append(
-                f"{int(row['weight_kg']) / 1000:g} t" if row["weight_kg"].isdigit() else ""
-            )
-        if row["purpose"] == "delivery":
-            facts.append("delivers")
-        facts += row["flags"].split()
-        lines.append(f"  {row['name']}: {', '.join(filter(None, facts))}")
+        lines.append(f"  {row['name']}: {lorry_words(row)}")
     return lines
+
+
+def lorry_words(row: Row) -> str:
+    """Returns what a row of vehicles.csv says of a lorry."""
+    facts = [row["class"]]
+    if row["weight_kg"].isdigit():
+        facts.append(f"{int(row['weight_kg']) / 1000:g} t")
+    if row["purpose"] == "delivery":
+        facts.append("delivers")
+    return ", ".join(filter(None, [*facts, *row["flags"].split()]))
 
 
 def read_vehicle(folder: Folder, name: Optional[str]) -> str:
@@ -134,7 +137,7 @@ def read_vehicle(folder: Folder, name: Optional[str]) -> str:
     if len(alike) == 1:
         return alike[0]
     raise Problem(
-        f"--lorry {name!r} is no lorry of {folder.file('vehicles.csv')}: expected is one of\n"
+        f"--lorry {name!r} is no lorry of {folder.shown_file('vehicles.csv')}: expected is one of\n"
         + "\n".join(lorries(folder))
     )
 

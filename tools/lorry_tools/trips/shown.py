@@ -5,12 +5,14 @@ import os
 import shlex
 import tempfile
 from types import TracebackType
-from typing import Iterable, Optional, Type
+from typing import Iterable, Optional, Type, TypeVar
 
 from lorry_tools.folder import Folder, link_files
 from lorry_tools.program import Program
 
 WORK = '"$work"'
+
+N = TypeVar("N", bound="NotedProgram")
 
 
 class NotedProgram(Program):
@@ -20,12 +22,13 @@ class NotedProgram(Program):
     def __init__(self, folder: Folder, path: Optional[str] = None):
         super().__init__(path)
         self.folder = folder
+        self.shown = short_path(self.path)
         self.lines: list[str] = []
         self._place: Optional[tempfile.TemporaryDirectory[str]] = None
         self._is_told = False
         self._texts: dict[str, str] = {}  # of the files in it
 
-    def __enter__(self) -> NotedProgram:
+    def __enter__(self: N) -> N:
         return self
 
     def __exit__(
@@ -46,10 +49,7 @@ class NotedProgram(Program):
 
     def write(self, name: str, text: str) -> str:
         """Writes a file into the temporary folder, and returns its name."""
-        if not self._is_told:
-            self._is_told = True
-            source = shlex.quote(self.folder.path)
-            self.lines.append(f'work=$(mktemp -d) && ln -s "$(realpath {source})"/* {WORK}')
+        self.note_work()
         if self._texts.get(name) == text:
             return name
         self._texts[name] = text
@@ -60,14 +60,31 @@ class NotedProgram(Program):
         self.lines.append(f"{printed} > {WORK}/{name}")
         return name
 
+    def unnoted(self) -> Program:
+        """Returns the program without notes of its runs."""
+        return Program(self.path)
+
     def note(self, line: str) -> None:
         self.lines.append(line)
 
-    def run(self, words: Iterable[object]) -> tuple[int, str]:
+    def note_work(self) -> None:
+        """Notes how the temporary folder is made, once."""
+        if not self._is_told:
+            self._is_told = True
+            source = shlex.quote(self.folder.shown)
+            self.lines.append(f'work=$(mktemp -d) && ln -s "$(realpath {source})"/* {WORK}')
+
+    def note_run(self, words: Iterable[object]) -> None:
+        """Notes a run of the program."""
         asked = [str(it) for it in words]
         place = self._place.name if self._place else None
-        shown = [WORK if it == place else shlex.quote(it) for it in asked]
-        self.lines.append(" ".join([shlex.quote(short_path(self.path)), *shown]))
+        names = {place: WORK, self.folder.path: shlex.quote(self.folder.shown)}
+        shown = [names.get(it) or shlex.quote(it) for it in asked]
+        self.lines.append(" ".join([shlex.quote(self.shown), *shown]))
+
+    def run(self, words: Iterable[object]) -> tuple[int, str]:
+        asked = [str(it) for it in words]
+        self.note_run(asked)
         return super().run(asked)
 
 

@@ -28,9 +28,8 @@ REASONS = {
 }
 
 
-def explained(answer: Answer, program: NotedProgram, text: str) -> Why:
-    """Returns what the program says of a way, given as streets or by the name of a file."""
-    legs = read_way(answer, text)
+def explained(answer: Answer, program: NotedProgram, legs: list[Leg]) -> Why:
+    """Returns what the program says of a way."""
     request = answer.request
     steps = steps_of(answer, legs, request.depart)
     name = program.write(ITINERARY, "".join(f"{leg.line()}\n" for leg in legs))
@@ -73,18 +72,18 @@ def read_way(answer: Answer, text: str) -> list[Leg]:
     found = [LINE.fullmatch(it) for it in lines]
     if lines and all(found):
         legs = [Leg(it[1], int(it[2])) for it in found if it]
-        check_legs(answer, legs, text)
+        check_legs(answer, legs, f"--why {text}, line")
         return legs
     return by_streets(answer, lines, f"--why {text}")
 
 
-def check_legs(answer: Answer, legs: list[Leg], name: str) -> None:
-    """Tells a leg that no trip can have."""
+def check_legs(answer: Answer, legs: list[Leg], where: str) -> None:
+    """Tells a leg that no trip can have; WHERE stands before its number."""
     graph = answer.folder.graph()
     for row, leg in enumerate(legs, 1):
         if leg.kind == DRIVE and not 1 <= leg.number <= len(graph):
             raise Problem(
-                f"--why {name}, line {row}: graph.gr has no arc {leg.number}: expected is one from "
+                f"{where} {row}: graph.gr has no arc {leg.number}: expected is one from "
                 f"1 to {len(graph)}"
             )
 
@@ -95,10 +94,14 @@ def by_streets(answer: Answer, words: list[str], what: str) -> list[Leg]:
         raise Problem(f"{what} has no street: expected are streets with commas between them")
     if not answer.streets.names:
         raise Problem(
-            f"{what}: {answer.folder.path} has no names of roads (ways.csv): expected is a file "
+            f"{what}: {answer.folder.shown} has no names of roads (ways.csv): expected is a file "
             "with legs, such as `drive 7`"
         )
-    streets = [named_arcs(answer, word, what) for word in words]
+    return way_over(answer, [named_arcs(answer, word, what) for word in words], what)
+
+
+def way_over(answer: Answer, streets: list[set[int]], what: str) -> list[Leg]:
+    """Returns the quickest way that goes over an arc of each of these, in their order."""
     arcs = quickest(answer, streets)
     if arcs is None:
         request = answer.request

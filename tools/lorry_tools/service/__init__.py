@@ -1,0 +1,1 @@
+"""A service over HTTP: a trip planner for browsers and for other programs."""

@@ -1,0 +1,148 @@
+"""Plans that are asked for at about the same time are planned together, by one batch.
+
+A plan waits a few milliseconds for others, and longer only while two batches over its folder are at
+work. Where a batch fails, each of its plans is planned by itself."""
+from __future__ import annotations
+
+import asyncio
+import collections
+import concurrent.futures
+import dataclasses
+import itertools
+import os
+from typing import Deque, Union
+
+from lorry_tools.answers import Pair, RefusedTrip
+from lorry_tools.files import JOBS
+from lorry_tools.problems import Problem
+from lorry_tools.program import Refused
+from lorry_tools.service.copies import Copy
+from lorry_tools.service.limits import Limits, Stopping, TooSlow, Unavailable
+from lorry_tools.service.runs import LimitedProgram, Runs
+from lorry_tools.trips.many import row_of
+from lorry_tools.trips.answer import trip_of
+from lorry_tools.trips.request import Request
+
+BATCHES_AT_ONCE = 2  # over one folder: while one searches the other one reads
+
+Planned = Union[list[Pair], RefusedTrip]
+
+
+@dataclasses.dataclass
+class Asked:
+    """A plan that waits for its batch."""
+
+    request: Request
+    deadline: float
+    future: asyncio.Future[Planned]
+
+
+class Line:
+    """The plans over one copy that wait, and the batches that are at work."""
+
+    def __init__(self) -> None:
+        self.waiting: Deque[Asked] = collections.deque()
+        self.at_work = 0
+        self.has_timer = False
+
+
+class Gatherer:
+    """Plans trips together. All but `plan_batch` runs in the event loop."""
+
+    def __init__(self, runs: Runs, limits: Limits, pool: concurrent.futures.Executor):
+        self.runs, self.limits, self.pool = runs, limits, pool
+        self.lines: dict[str, Line] = {}  # by the paths of copies
+        self.batches = self.plans = 0
+        self._numbers = itertools.count(1)
+        self._tasks: set[asyncio.Task[None]] = set()
+
+    async def plan(self, copy: Copy, request: Request, deadline: float) -> Planned:
+        """Returns the pairs of a plan over a copy that is in use until then."""
+        loop = asyncio.get_running_loop()
+        line = self.lines.setdefault(copy.folder.path, Line())
+        asked = Asked(request, deadline, loop.create_future())
+        line.waiting.append(asked)
+        if not line.has_timer:
+            line.has_timer = True
+            loop.call_later(self.limits.gather_ms / 1000, self.begin, copy, line)
+        return await asked.future
+
+    def begin(self, copy: Copy, line: Line) -> None:
+        """Starts a batch of those that wait, unless enough are at work: their ends start it."""
+        line.has_timer = False
+        while line.waiting and line.at_work < BATCHES_AT_ONCE:
+            most = min(len(line.waiting), self.limits.batch_rows)
+            batch = [line.waiting.popleft() for _ in range(most)]
+            batch = [it for it in batch if not it.future.done()]
+            if batch:
+                line.at_work += 1
+                task = asyncio.get_running_loop().create_task(self.work(copy, line, batch))
+                self._tasks.add(task)
+                task.add_done_callback(self._tasks.discard)
+        if not line.waiting and not line.at_work:
+            self.lines.pop(copy.folder.path, None)
+
+    async def work(self, copy: Copy, line: Line, batch: list[Asked]) -> None:
+        loop = asyncio.get_running_loop()
+        copy.take()
+        try:
+            self.batches, self.plans = self.batches + 1, self.plans + len(batch)
+            number = next(self._numbers)
+            results = await loop.run_in_executor(self.pool, self.plan_batch, copy, batch, number)
+            for asked, result in zip(batch, results):
+                if asked.future.done():
+                    continue
+                if isinstance(result, BaseException):
+                    asked.future.set_exception(result)
+                else:
+                    asked.future.set_result(result)
+        finally:
+            for asked in batch:
+                asked.future.cancel()  # (those that have no result)
+            copy.release()
+            line.at_work -= 1
+            self.begin(copy, line)
+
+    def plan_batch(
+        self, copy: Copy, batch: list[Asked], number: int
+    ) -> list[Union[Planned, BaseException]]:
+        """Plans some trips by one run of the program, and each by itself where that fails."""
+        deadline = max(it.deadline for it in batch)
+        program = LimitedProgram(copy.folder, self.runs, deadline)
+        name = f"jobs-{number}.csv"
+        path = copy.folder.file(name)
+        try:
+            with open(path, "w", encoding="ascii") as file:
+                file.write("\n".join([*JOBS.headers, *(row_of(it.request) for it in batch), ""]))
+            found = program.batch(copy.folder.path, name, self.limits.runs)
+            if len(found) == len(batch):
+                return list(found)
+        except Stopping as problem:
+            return [problem] * len(batch)
+        except TooSlow as problem:
+            if len(batch) == 1:
+                return [problem]
+        except (Problem, OSError):
+            pass
+        finally:
+            remove(path)
+        return [self.plan_alone(copy, it) for it in batch]
+
+    def plan_alone(self, copy: Copy, asked: Asked) -> Union[Planned, BaseException]:
+        try:
+            program = LimitedProgram(copy.folder, self.runs, asked.deadline)
+            return program.plan(trip_of(copy.folder, asked.request))
+        except Refused as refused:
+            words = refused.line.split()
+            return RefusedTrip(words[2]) if words[:2] == ["refused", "request"] else refused
+        except Problem as problem:
+            return problem
+        except OSError as error:
+            return Unavailable(f"a file can't be read: {error.strerror}")
+
+
+def remove(path: str) -> None:
+    try:
+        os.remove(path)
+    except OSError:
+        pass

@@ -1,0 +1,160 @@
+"""Runs of the program with limits: how many at once, how long, and with how much memory."""
+from __future__ import annotations
+
+import os
+import resource
+import selectors
+import signal
+import subprocess
+import threading
+import time
+from typing import Optional
+
+from lorry_tools.folder import Folder
+from lorry_tools.program import Program, Refused
+from lorry_tools.service.limits import MEBIBYTE, Limits, Stopping, TooSlow, Unavailable
+from lorry_tools.trips.shown import NotedProgram
+
+NO_MEMORY = 6  # docs/COMMANDS.md: the status where memory is out
+CHUNK = 1 << 18
+
+
+class Missing(Unavailable):
+    """The program can't be run."""
+
+
+class Runs:
+    """Runs of the program, in processes of their own, each of which is ended in the end."""
+
+    def __init__(self, path: str, limits: Limits):
+        self.path, self.limits = path, limits
+        self._slots = threading.BoundedSemaphore(limits.runs)
+        self._lock = threading.Lock()
+        self._open: set[subprocess.Popen[bytes]] = set()
+        self._is_stopped = False
+
+    def run(self, words: list[str], deadline: float) -> tuple[int, str]:
+        """Runs the program on these words, and returns its status and what it printed."""
+        if not self._slots.acquire(timeout=max(0.0, deadline - time.monotonic())):
+            raise TooSlow(self.limits.seconds)
+        try:
+            return self._run(words, deadline)
+        finally:
+            self._slots.release()
+
+    def stop(self) -> None:
+        """Ends the runs that are open, and starts no more."""
+        with self._lock:
+            self._is_stopped = True
+            for process in self._open:
+                end(process)
+
+    def _run(self, words: list[str], deadline: float) -> tuple[int, str]:
+        with self._lock:
+            if self._is_stopped:
+                raise Stopping()
+            process = self._start(words)
+            self._open.add(process)
+        try:
+            limit_memory(process.pid, self.limits.memory_mb * MEBIBYTE)
+            text = self._text_of(process, deadline)
+            status = process.wait(max(0.1, deadline - time.monotonic()))
+        except subprocess.TimeoutExpired:
+            raise TooSlow(self.limits.seconds) from None
+        finally:
+            with self._lock:
+                self._open.discard(process)
+                is_stopped = self._is_stopped
+            end(process)
+            process.wait()
+            if process.stdout:
+                process.stdout.close()
+        if status < 0 and is_stopped:
+            raise Stopping()
+        return status, text
+
+    def _start(self, words: list[str]) -> subprocess.Popen[bytes]:
+        try:
+            return subprocess.Popen(
+                [self.path, *words],
+                stdin=subprocess.DEVNULL,
+                stdout=subprocess.PIPE,
+                stderr=subprocess.DEVNULL,
+                start_new_session=True,
+            )
+        except OSError as error:
+            raise Missing(f"the program can't be run: {error.strerror}") from None
+
+    def _text_of(self, process: subprocess.Popen[bytes], deadline: float) -> str:
+        """Returns all that a run prints, within its time."""
+        chunks: list[bytes] = []
+        size, most = 0, self.limits.answer_mb * MEBIBYTE
+        if process.stdout is None:
+            return ""
+        with selectors.DefaultSelector() as waiting:
+            waiting.register(process.stdout, selectors.EVENT_READ)
+            while True:
+                left = deadline - time.monotonic()
+                if left <= 0 or not waiting.select(left):
+                    raise TooSlow(self.limits.seconds)
+                chunk = os.read(process.stdout.fileno(), CHUNK)
+                if not chunk:
+                    return b"".join(chunks).decode("utf-8", "replace")
+                chunks.append(chunk)
+                size += len(chunk)
+                if size > most:
+                    raise Unavailable(f"the answer is larger than {self.limits.answer_mb} MB")
+
+
+def limit_memory(process: int, most: int) -> None:
+    try:
+        resource.prlimit(process, resource.RLIMIT_AS, (most, most))
+    except (ProcessLookupError, PermissionError):
+        pass  # (it has ended already)
+
+
+def end(process: subprocess.Popen[bytes]) -> None:
+    """Ends a run and all that it started, where it hasn't ended."""
+    if process.poll() is None:
+        try:
+            os.killpg(process.pid, signal.SIGKILL)
+        except ProcessLookupError:
+            pass
+
+
+class LimitedProgram(NotedProgram):
+    """The program for one request, all runs of which end by a deadline."""
+
+    def __init__(self, folder: Folder, runs: Runs, deadline: float):
+        super().__init__(folder, runs.path)
+        self.shown = os.path.basename(runs.path)
+        self.runs, self.deadline = runs, deadline
+
+    def execute(self, words: list[str]) -> tuple[int, str]:
+        return checked(words[1], *self.runs.run(words[1:], self.deadline))
+
+    def unnoted(self) -> Program:
+        return UnnotedProgram(self.runs, self.deadline)
+
+
+class UnnotedProgram(Program):
+    """The same without notes of its runs."""
+
+    def __init__(self, runs: Runs, deadline: float):
+        super().__init__(runs.path)
+        self.runs, self.deadline = runs, deadline
+
+    def execute(self, words: list[str]) -> tuple[int, str]:
+        return checked(words[1], *self.runs.run(words[1:], self.deadline))
+
+
+def checked(command: str, status: int, text: str) -> tuple[int, str]:
+    """Returns what a run gave, unless it was killed or out of memory, which isn't its answer."""
+    if status < 0 or status == NO_MEMORY:
+        raise Unavailable(str(Refused(command, text.strip(), status)))
+    return status, text
+
+
+def deadline_of(limits: Limits, since: Optional[float] = None) -> float:
+    """Returns when a request that came at a time, or comes now, has to be answered."""
+    return (time.monotonic() if since is None else since) + limits.seconds

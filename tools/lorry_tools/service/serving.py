@@ -1,0 +1,87 @@
+"""Runs the service until a signal ends it."""
+from __future__ import annotations
+
+import argparse
+import asyncio
+import signal
+import socket
+from types import FrameType
+from typing import Any, Optional
+
+import uvicorn
+from uvicorn.protocols.http.h11_impl import H11Protocol
+
+from lorry_tools.service.app import make_app
+from lorry_tools.service.copies import names_of
+from lorry_tools.service.desk import Service
+from lorry_tools.service.guards import Guard
+from lorry_tools.service.limits import Limits
+from lorry_tools.service.main import BACKLOG, hosts_of, listening, said_of
+from lorry_tools.service.runs import Runs
+
+GRACE = 10.0  # seconds that open requests have once the service is to end
+HEAD_SECONDS = 10.0  # until the head of a request is there
+
+
+class Protocol(H11Protocol):
+    """A connection that is closed where the head of its first request doesn't come in time."""
+
+    def connection_made(self, transport: Any) -> None:
+        super().connection_made(transport)
+        self.loop.call_later(HEAD_SECONDS, self.close_if_silent)
+
+    def close_if_silent(self) -> None:
+        if self.cycle is None and not self.transport.is_closing():
+            self.transport.close()
+
+
+class Server(uvicorn.Server):
+    """The server, which says where it listens, and ends runs that outlast its end."""
+
+    def __init__(self, config: uvicorn.Config, guard: Guard, runs: Runs, said: str):
+        super().__init__(config)
+        self.guard, self.runs, self.said = guard, runs, said
+
+    async def startup(self, sockets: Optional[list[socket.socket]] = None) -> None:
+        await super().startup(sockets)
+        asyncio.get_running_loop().add_signal_handler(
+            signal.SIGHUP, self.handle_exit, signal.SIGHUP, None
+        )
+        if self.started:
+            print(self.said, flush=True)
+
+    def handle_exit(self, sig: int, frame: Optional[FrameType]) -> None:
+        self.guard.is_stopping = True
+        asyncio.get_running_loop().call_later(GRACE, self.runs.stop)
+        super().handle_exit(sig, frame)
+
+
+def serve(words: argparse.Namespace, program: str, limits: Limits, place: str) -> int:
+    listener = listening(words.host, words.port)
+    address, port = listener.getsockname()[:2]
+    paths = names_of(words.folders)
+    runs = Runs(program, limits)
+    service = Service(paths, place, runs, limits)
+    app = make_app(service, words.tiles)
+    guard = Guard(app, limits, words.tiles, hosts_of(words.host, address))
+    config = uvicorn.Config(
+        guard,
+        http=Protocol,
+        ws="none",
+        lifespan="on",
+        log_level="warning",
+        access_log=False,
+        server_header=False,
+        backlog=BACKLOG,
+    )
+    server = Server(config, guard, runs, said_of(list(paths), address, port))
+    server.run(sockets=[listener])
+    return 0 if server.started else 1
+
+
+def schema() -> dict[str, Any]:
+    """Returns the schema of all addresses."""
+    limits = Limits()
+    app = make_app(Service({}, "", Runs("", limits), limits))
+    found: dict[str, Any] = app.openapi()
+    return found
