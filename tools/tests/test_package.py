@@ -205,7 +205,7 @@ class Debian(Packages):
 class Tools(Packages):
     """The package of the tools."""
 
-    COMMANDS = ["batch-over-machines", "examples", "from-osm", "holidays", "lint", "look", "trip", "why-empty", "zones"]
+    COMMANDS = [f"lorry-plan-{it}" for it in ("batch-over-machines", "examples", "from-osm", "holidays", "lint", "look", "trip", "why-empty", "zones")] + ["lorry-serve"]
 
     def unpacked(self):
         (path,) = self.made("--only", "tools")
@@ -219,18 +219,19 @@ class Tools(Packages):
         for line in ("Package: lorry-plan-tools", "Architecture: all", "Depends: lorry-plan, python3 (>= 3.9), python3-jinja2"):
             self.assertIn(line + "\n", control)
         self.assertRegex(control, r"\nSuggests: .*python3-pyosmium.*\n")
-        self.assertEqual(sorted(os.listdir(self.path("root", "usr/bin"))), [f"lorry-plan-{it}" for it in self.COMMANDS])
-        self.assertEqual(sorted(os.listdir(self.path("root", "usr/share/man/man1"))), [f"lorry-plan-{it}.1.gz" for it in self.COMMANDS])
+        self.assertRegex(control, r"\nRecommends: .*python3-fastapi.*\n")
+        self.assertEqual(sorted(os.listdir(self.path("root", "usr/bin"))), self.COMMANDS)
+        self.assertEqual(sorted(os.listdir(self.path("root", "usr/share/man/man1"))), [f"{it}.1.gz" for it in self.COMMANDS])
         self.assertEqual(subprocess.run(["md5sum", "--quiet", "-c", "DEBIAN/md5sums"], cwd=self.path("root")).returncode, 0)
 
     def test_commands(self):
         """Each command says how it is called, by its own name."""
         self.unpacked()
         for name in self.COMMANDS:
-            command = self.path("root", "usr/bin", f"lorry-plan-{name}")
+            command = self.path("root", "usr/bin", name)
             done = subprocess.run([sys.executable, command, "--help"], stdout=subprocess.PIPE, stderr=subprocess.PIPE)
             self.assertEqual(done.returncode, 0, done.stderr.decode())
-            self.assertIn(f"    lorry-plan-{name} ", done.stdout.decode())
+            self.assertIn(f"    {name} ", done.stdout.decode())
             self.assertNotRegex(done.stdout.decode(), r"\btools/[a-z]")
         names = [name for _, _, names in os.walk(self.path("root")) for name in names]
         self.assertFalse([it for it in names if it.endswith(".pyc")])
@@ -254,7 +255,7 @@ class Tools(Packages):
     def test_manual_pages(self):
         self.unpacked()
         for name in self.COMMANDS:
-            page = gzip.decompress(content(self.path("root", "usr/share/man/man1", f"lorry-plan-{name}.1.gz")))
+            page = gzip.decompress(content(self.path("root", "usr/share/man/man1", f"{name}.1.gz")))
             done = subprocess.run(["mandoc", "-Tlint", "-Wwarning"], input=page, stdout=subprocess.PIPE)
             self.assertEqual(done.stdout, b"", name)
             shown = subprocess.run(["mandoc", "-Tascii"], input=page, stdout=subprocess.PIPE).stdout

@@ -139,6 +139,7 @@ def deb_of_tools(out: str, facts: Facts) -> str:
         tools.DEPENDS,
         tools.DESCRIPTION,
         tools.SUGGESTS,
+        tools.RECOMMENDS,
     )
     return make_deb(out, files, programs, control, facts.seconds)
 

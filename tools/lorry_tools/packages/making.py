@@ -31,6 +31,7 @@ class Control:
     depends: str
     description: str
     suggests: str = ""
+    recommends: str = ""
 
 
 def link_to(target: str) -> bytes:
@@ -75,6 +76,7 @@ def make_deb(out: str, tree: Tree, programs: set[str], control: Control, seconds
         ("Maintainer", control.maintainer),
         ("Installed-Size", str(size)),
         ("Depends", control.depends),
+        *([("Recommends", control.recommends)] if control.recommends else []),
         *([("Suggests", control.suggests)] if control.suggests else []),
         ("Section", "utils"),
         ("Priority", "optional"),

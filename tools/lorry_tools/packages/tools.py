@@ -18,6 +18,7 @@ PLACE = f"share/{PACKAGE}"
 # after the package, as other packages have commands such as `look`.
 SCRIPTS = {
     "trip": "lorry_tools/trips/main.py",
+    "serve": "lorry_tools/service/main.py",
     "look": "lorry_tools/look.py",
     "why_empty": "lorry_tools/why_empty.py",
     "lint": "lorry_tools/lint.py",
@@ -31,17 +32,19 @@ KEPT = (".py", ".json", ".typed", ".html", ".css", ".js", ".svg", ".sh", ".txt",
 NOT_PACKED = ("packages", "proving", "second", "speed", "trials")  # of the library
 
 DEPENDS = "lorry-plan, python3 (>= 3.9), python3-jinja2"
+RECOMMENDS = "libjs-leaflet, python3-fastapi, python3-uvicorn"
 SUGGESTS = "parallel, python3-holidays, python3-pyosmium, rsync, tzdata"
 DESCRIPTION = """trips in people's words, and other tools beside lorry_plan
- Names of places, local times and streets in place of numbers; pages of plans;
- why a plan is empty; what a folder of roads leaves out; tables of trips over
- many machines; and folders made from OpenStreetMap.
+ Names of places, local times and streets in place of numbers; a desk in the
+ browser and a service over HTTP; pages of plans; why a plan is empty; what a
+ folder of roads leaves out; tables of trips over many machines; and folders
+ made from OpenStreetMap.
  .
  The tools aren't proved: they ask the proved program of lorry-plan."""
 
 
 def command_of(script: str) -> str:
-    return f"lorry-plan-{script.replace('_', '-')}"
+    return "lorry-serve" if script == "serve" else f"lorry-plan-{script.replace('_', '-')}"
 
 
 def installed_words(text: str) -> str:

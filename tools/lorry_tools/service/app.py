@@ -30,6 +30,7 @@ from lorry_tools.service.schemas import answers, components
 PAGES = os.path.join(TOOLS, "lorry_tools", "desk_page")
 LEAFLET = "/usr/share/javascript/leaflet"
 
+VERSION = "1"  # of the addresses and their schemas
 JSON = "application/json"
 GEOJSON = "application/geo+json"
 TEXTS = ("text/csv", GEOJSON, "application/gpx+xml")
@@ -98,7 +99,7 @@ def add_problems(app: FastAPI) -> None:
 
 def make_app(service: Service, tiles: Optional[str] = None) -> FastAPI:
     """Returns the application of a service."""
-    app = FastAPI(title="lorry_plan", version=__version__, docs_url=None, redoc_url=None)
+    app = FastAPI(title="lorry_plan", version=VERSION, docs_url=None, redoc_url=None)
     add_problems(app)
     add_folders(app, service, tiles)
     add_trips(app, service)

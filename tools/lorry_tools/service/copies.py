@@ -149,9 +149,10 @@ class Served:
             folder = Folder(path, self.name)
             judge(folder, self.runs, self.limits)
             return Copy(folder, version, stamp)
-        except OSError as error:
+        except (OSError, Unreadable) as error:
             shutil.rmtree(path, ignore_errors=True)
-            raise Unreadable(f"{self.name}: {error.strerror}") from None
+            why = error.strerror if isinstance(error, OSError) else str(error)
+            raise Unreadable(f"{self.name}: {why}") from None
         except BaseException:
             shutil.rmtree(path, ignore_errors=True)
             raise
@@ -199,7 +200,8 @@ def copy_files(source: str, target: str) -> tuple[Stamp, str]:
                     out.write(chunk)
         if stamp_of(source) == before:
             if before[0] is None:
-                raise Unreadable(f"{os.path.basename(source)} has no {GRAPH}")
+                has_folder = os.path.isdir(source)
+                raise Unreadable(f"it has no {GRAPH}" if has_folder else "there is no such folder")
             return before, digest.hexdigest()[:16]
         for name in os.listdir(target):
             os.remove(os.path.join(target, name))
