@@ -6,6 +6,8 @@ lines below it, up to the next command or the block's end, are its whole standar
 to the line `EOF`. A last line `[status N]` says that it ends with status N, otherwise it ends with 0. Each command runs at
 the top of the repository, in the order of the document.
 
+The page of NEEDED is passed over where one of its packages is missing, and a line says so.
+
 A block whose kind is followed by a path, such as `rust crates/uses/src/plans.rt`, has to be that whole file.
 
 The manual page and the completions of tools/package.d have to agree with docs/COMMANDS.md.
@@ -40,6 +42,8 @@ STATUS = re.compile(r"^\[status (\d+)\]\n", re.M)
 PASSED = re.compile(r"(?:^|\.\.\. )ok$", re.M)
 FAILED = re.compile(r"(?:^|\.\.\. )(?:FAIL|ERROR)$", re.M)
 SKIPPED = re.compile(r"\.\.\. skipped ['\"](.*)['\"]$", re.M)
+# What a page needs beside the program: commands, and modules of the system's own Python, which the tool that it shows goes on in.
+NEEDED = {"docs/SERVE.md": (["curl"], ["fastapi", "jinja2", "uvicorn"])}
 LONGEST_TESTS = 900  # (seconds: the gate takes no longer for a file of them)
 
 
@@ -59,6 +63,17 @@ def commands(text):
             command, shown = part[:end], part[end:]
             status = STATUS.search(shown)
             yield command, STATUS.sub("", shown), int(status.group(1)) if status else 0
+
+
+def lacks(name):
+    """What a page needs and this machine doesn't have."""
+    commands, modules = NEEDED.get(name, ([], []))
+    missing = [it for it in commands if not shutil.which(it)]
+    for module in modules:
+        words = ["/usr/bin/python3", "-c", f"import {module}"]
+        if not os.path.exists(words[0]) or subprocess.run(words, stderr=subprocess.DEVNULL).returncode:
+            missing.append(module)
+    return missing
 
 
 def differs(command, shown, status):
@@ -153,7 +168,10 @@ def main():
                 else:
                     failed += 1
                     print(f"{name}: {path}: {difference}")
-            for command, shown, status in commands(text):
+            missing = lacks(name)
+            if missing:
+                print(f"{name} is skipped: {', '.join(missing)} is missing")
+            for command, shown, status in commands(text) if not missing else ():
                 difference = differs(command, shown, status)
                 if difference is None:
                     passed += 1

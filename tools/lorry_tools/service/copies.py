@@ -20,6 +20,7 @@ from lorry_tools.rules import Streets
 from lorry_tools.service.limits import Limits
 from lorry_tools.service.roads import RoadMap
 from lorry_tools.service.runs import LimitedProgram, Runs, deadline_of
+from lorry_tools.service.ways import Ways
 
 FILES = (*NETWORK, NODES, WAYS)
 BAD_REQUEST = 7  # docs/COMMANDS.md: the status where all files are good, and the words aren't
@@ -41,7 +42,7 @@ class Copy:
         self.loaded = datetime.datetime.now(datetime.timezone.utc)
         self.places = Places(folder)
         self.streets = Streets(folder)
-        self.roads = RoadMap(self.places, self.streets)
+        self.roads, self.ways = RoadMap(self.places, self.streets), Ways(folder)
         self.places.by_name()
         self.places.by_latitude()
         self.places.zones_of(1)

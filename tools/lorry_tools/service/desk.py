@@ -97,7 +97,7 @@ class Service:
     ) -> bytes:
         """Returns the answer to a trip in a form; runs of the program that are still needed are
         done here."""
-        with LimitedProgram(copy.folder, self.runs, deadline) as program:
+        with LimitedProgram(copy.folder, self.runs, deadline, copy.ways) as program:
             if found is None:
                 answer = answer_of_run(copy, body, request, program)
             else:

@@ -1,19 +1,23 @@
 """Runs of the program with limits: how many at once, how long, and with how much memory."""
 from __future__ import annotations
 
+import dataclasses
 import os
 import resource
 import selectors
 import signal
 import subprocess
+import tempfile
 import threading
 import time
-from typing import Optional
+from typing import Optional, Union
 
+from lorry_tools.answers import Lawful, Leg, Unlawful
 from lorry_tools.folder import Folder
-from lorry_tools.program import Program, Refused
+from lorry_tools.program import Program, Refused, Trip
 from lorry_tools.service.limits import MEBIBYTE, Limits, Stopping, TooSlow, Unavailable
-from lorry_tools.trips.shown import NotedProgram
+from lorry_tools.service.ways import Ways
+from lorry_tools.trips.shown import ITINERARY, WORK, NotedProgram, lines_of
 
 NO_MEMORY = 6  # docs/COMMANDS.md: the status where memory is out
 CHUNK = 1 << 18
@@ -125,9 +129,9 @@ def end(process: subprocess.Popen[bytes]) -> None:
 class LimitedProgram(NotedProgram):
     """The program for one request, all runs of which end by a deadline."""
 
-    def __init__(self, folder: Folder, runs: Runs, deadline: float):
+    def __init__(self, folder: Folder, runs: Runs, deadline: float, ways: Optional[Ways] = None):
         super().__init__(folder, runs.path)
-        self.shown = os.path.basename(runs.path)
+        self.shown, self.ways = os.path.basename(runs.path), ways
         self.runs, self.deadline = runs, deadline
 
     def execute(self, words: list[str]) -> tuple[int, str]:
@@ -135,6 +139,18 @@ class LimitedProgram(NotedProgram):
 
     def unnoted(self) -> Program:
         return UnnotedProgram(self.runs, self.deadline)
+
+    def explain_way(self, trip: Trip, legs: list[Leg]) -> Union[Lawful, Unlawful]:
+        """Asks over a folder that has the roads of these legs alone, which is read sooner; noted is
+        the run over the whole folder, which has the same answer."""
+        if self.ways is None:
+            return super().explain_way(trip, legs)
+        self.note_file(ITINERARY, lines_of(legs))
+        self.note_run(["explain", WORK, *trip.words()[1:], ITINERARY])
+        with tempfile.TemporaryDirectory(prefix="way-") as place:
+            goal = self.ways.write(place, trip.origin, legs, ITINERARY)
+            own = dataclasses.replace(trip, folder=place, origin=1, goal=goal)
+            return self.unnoted().explain(own, ITINERARY)
 
 
 class UnnotedProgram(Program):

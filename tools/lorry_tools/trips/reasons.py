@@ -8,14 +8,13 @@ from __future__ import annotations
 import dataclasses
 from typing import Optional
 
-from lorry_tools.answers import DRIVE, SERVE, WAIT, Unlawful
+from lorry_tools.answers import DRIVE, SERVE, WAIT, Leg, Unlawful
 from lorry_tools.program import Refused, Trip
 from lorry_tools.rules import cause_of
 from lorry_tools.trips.answer import Answer, Option, Part, Step, WaitReason
 from lorry_tools.trips.request import BREAK, BREAKS
 from lorry_tools.trips.shown import NotedProgram
 
-ITINERARY = "trip.itinerary"
 # Beyond so many questions no further wait is explained.
 MOST_ASKED = 200
 
@@ -25,7 +24,7 @@ class Reasons:
 
     def __init__(self, answer: Answer, program: NotedProgram):
         self.answer, self.program = answer, program
-        self.asked: dict[tuple[int, str], Optional[WaitReason]] = {}
+        self.asked: dict[tuple[int, tuple[Leg, ...]], Optional[WaitReason]] = {}
         self.has_explain = True
 
     def take(self, option: Option) -> None:
@@ -73,31 +72,22 @@ class Reasons:
     ) -> Optional[WaitReason]:
         """Returns what closes a road, or the parking behind it, for a lorry that leaves the place
         of a wait at a minute; None where nothing does."""
-        lines = [
-            f"{WAIT} {wait_minutes}" if it.kind == WAIT else f"{it.kind} {it.number}"
-            for it in steps
-        ]
-        text = "".join(f"{line}\n" for line in lines)
-        key = minute, text
+        legs = [Leg(it.kind, wait_minutes if it.kind == WAIT else it.number) for it in steps]
+        key = minute, tuple(legs)
         if not steps or not self.has_explain or len(self.asked) >= MOST_ASKED:
             return self.asked.get(key)
         if key not in self.asked:
-            self.asked[key] = self.reason(wait, steps, minute, text)
+            self.asked[key] = self.reason(wait, steps, minute, legs)
         return self.asked[key]
 
-    def reason(self, wait: Step, steps: list[Step], minute: int, text: str) -> Optional[WaitReason]:
-        request = self.answer.request
-        name = self.program.write(ITINERARY, text)
-        trip = Trip(
-            self.program.work(),
-            request.vehicle,
-            wait.tail,
-            steps[-1].head,
-            minute,
-            request.until,
-        )
+    def reason(
+        self, wait: Step, steps: list[Step], minute: int, legs: list[Leg]
+    ) -> Optional[WaitReason]:
+        folder, request = self.answer.folder, self.answer.request
+        ends = wait.tail, steps[-1].head
+        trip = Trip(folder.path, request.vehicle, *ends, minute, request.until)
         try:
-            found = self.program.explain(trip, name)
+            found = self.program.explain_way(trip, legs)
         except Refused:
             self.has_explain = False
             return None

@@ -1,16 +1,19 @@
 """Runs of the program that are noted, so that each can be had again from the program alone."""
 from __future__ import annotations
 
+import dataclasses
 import os
 import shlex
 import tempfile
 from types import TracebackType
-from typing import Iterable, Optional, Type, TypeVar
+from typing import Iterable, Optional, Type, TypeVar, Union
 
+from lorry_tools.answers import Lawful, Leg, Unlawful
 from lorry_tools.folder import Folder, link_files
-from lorry_tools.program import Program
+from lorry_tools.program import Program, Trip
 
 WORK = '"$work"'
+ITINERARY = "trip.itinerary"
 
 N = TypeVar("N", bound="NotedProgram")
 
@@ -49,16 +52,26 @@ class NotedProgram(Program):
 
     def write(self, name: str, text: str) -> str:
         """Writes a file into the temporary folder, and returns its name."""
+        if self.note_file(name, text):
+            with open(os.path.join(self.work(), name), "w", encoding="utf-8", newline="") as file:
+                file.write(text)
+        return name
+
+    def note_file(self, name: str, text: str) -> bool:
+        """Notes how a file of the temporary folder is written; False where it has this text."""
         self.note_work()
         if self._texts.get(name) == text:
-            return name
+            return False
         self._texts[name] = text
-        with open(os.path.join(self.work(), name), "w", encoding="utf-8", newline="") as file:
-            file.write(text)
         words = " ".join(shlex.quote(it) for it in text.splitlines())
         printed = f"printf '%s\\n' {words}" if text else ":"
         self.lines.append(f"{printed} > {WORK}/{name}")
-        return name
+        return True
+
+    def explain_way(self, trip: Trip, legs: list[Leg]) -> Union[Lawful, Unlawful]:
+        """Asks why legs aren't lawful, where nothing is asked about better ones."""
+        name = self.write(ITINERARY, lines_of(legs))
+        return self.explain(dataclasses.replace(trip, folder=self.work()), name)
 
     def unnoted(self) -> Program:
         """Returns the program without notes of its runs."""
@@ -77,8 +90,9 @@ class NotedProgram(Program):
     def note_run(self, words: Iterable[object]) -> None:
         """Notes a run of the program."""
         asked = [str(it) for it in words]
-        place = self._place.name if self._place else None
-        names = {place: WORK, self.folder.path: shlex.quote(self.folder.shown)}
+        names = {WORK: WORK, self.folder.path: shlex.quote(self.folder.shown)}
+        if self._place:
+            names[self._place.name] = WORK
         shown = [names.get(it) or shlex.quote(it) for it in asked]
         self.lines.append(" ".join([shlex.quote(self.shown), *shown]))
 
@@ -86,6 +100,11 @@ class NotedProgram(Program):
         asked = [str(it) for it in words]
         self.note_run(asked)
         return super().run(asked)
+
+
+def lines_of(legs: list[Leg]) -> str:
+    """Returns the text of an itinerary."""
+    return "".join(f"{leg.line()}\n" for leg in legs)
 
 
 def short_path(path: str) -> str:

@@ -12,7 +12,7 @@ from lorry_tools.problems import Problem
 from lorry_tools.program import Trip
 from lorry_tools.rules import cause_of
 from lorry_tools.trips.answer import Answer, Why, parts_of, steps_of
-from lorry_tools.trips.shown import NotedProgram
+from lorry_tools.trips.shown import NotedProgram, lines_of
 
 ITINERARY = "way.itinerary"
 LINE = re.compile(r"(drive|wait) ([1-9]\d{0,9})", re.ASCII)
@@ -32,7 +32,7 @@ def explained(answer: Answer, program: NotedProgram, legs: list[Leg]) -> Why:
     """Returns what the program says of a way."""
     request = answer.request
     steps = steps_of(answer, legs, request.depart)
-    name = program.write(ITINERARY, "".join(f"{leg.line()}\n" for leg in legs))
+    name = program.write(ITINERARY, lines_of(legs))
     trip = Trip(
         program.work(),
         request.vehicle,
