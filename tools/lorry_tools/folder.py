@@ -8,6 +8,7 @@ import csv
 import dataclasses
 import os
 import re
+import sys
 import tempfile
 from typing import Callable, Hashable, Iterable, Iterator, Mapping, Optional
 
@@ -60,13 +61,26 @@ class Folder:
     def records(self, name: str) -> list[tuple[int, list[str]]]:
         """Returns the records of a file with their numbers, the header being 1; none where there is
         no such file."""
+        return list(enumerate(self.read(name), 1))
+
+    def read(self, name: str) -> Iterator[list[str]]:
+        """Yields the records of a file, the header first."""
         if not self.has(name):
-            return []
+            return
         try:
             with open(self.file(name), encoding="utf-8-sig", errors="replace", newline="") as file:
-                return list(enumerate((it for it in csv.reader(file) if it), 1))
+                yield from (it for it in csv.reader(file) if it)
         except (OSError, csv.Error) as error:
             raise Unreadable(f"{self.file(name)}: {error}") from error
+
+    def columns(self, name: str, *wanted: str) -> Iterator[list[str]]:
+        """Yields these fields of each data row of a table, whose rows aren't kept. Fields that are
+        missing are empty."""
+        records = self.read(name)
+        header: list[str] = next(records, [])
+        places = [header.index(it) if it in header else sys.maxsize for it in wanted]
+        for record in records:
+            yield [record[it] if it < len(record) else "" for it in places]
 
     def table(self, name: str) -> list[Row]:
         """Returns the data rows of a table, by the columns of its header."""
@@ -77,10 +91,6 @@ class Folder:
                 Row(number, dict(zip(header, fields)), fields) for number, fields in records[1:]
             ]
         return self._tables[name]
-
-    def forget(self, name: str) -> None:
-        """Drops the rows of a table, of which all that is needed is known."""
-        self._tables.pop(name, None)
 
     def graph(self) -> Graph:
         if self._graph is None:
@@ -93,8 +103,8 @@ class Folder:
         if self._areas is None:
             areas = self.table("areas.csv")
             first = areas[0]["area"] if areas else DEFAULT_AREA
-            rows = self.table("roads.csv")
-            self._areas = {number_of(row["arc"]): row["area"] for row in rows}, first
+            rows = self.columns("roads.csv", "arc", "area")
+            self._areas = {number_of(arc): sys.intern(area) for arc, area in rows}, first
         return self._areas
 
     def weights_of_nodes(self) -> dict[int, str]:

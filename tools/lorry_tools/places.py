@@ -65,12 +65,12 @@ class Places:
         self._zones: Optional[dict[int, dict[str, int]]] = None
         self._by_name: Optional[dict[str, list[Place]]] = None
         self._by_latitude: Optional[list[tuple[float, int, Place]]] = None
-        for row in folder.table(NODES):
-            node = number_of(row["node"])
+        rows = folder.columns(NODES, "node", "lat", "lon", "name", "town")
+        for number, latitude, longitude, own, town in rows:
+            node = number_of(number)
             if node and node <= self.nodes:
-                lat, lon = position(row["lat"], row["lon"])
-                name = " ".join((row["name"] or row["town"]).split())
-                self.known[node] = Place(node, name, row["town"], lat, lon)
+                name = " ".join((own or town).split())
+                self.known[node] = Place(node, name, town, *position(latitude, longitude))
 
     def at(self, node: int) -> Place:
         return self.known.get(node, Place(node, ""))

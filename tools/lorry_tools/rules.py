@@ -2,6 +2,7 @@
 from __future__ import annotations
 
 import dataclasses
+import sys
 from typing import Optional
 
 from lorry_tools import rule_texts
@@ -85,11 +86,10 @@ class Streets:
     def __init__(self, folder: Folder):
         self.names: dict[int, str] = {}
         self.metres: dict[int, int] = {}
-        for row in folder.table(WAYS):
-            arc = number_of(row["arc"])
-            if arc and (row["name"] or row["ref"]):
-                self.names[arc] = row["name"] or row["ref"]
-            metres = number_of(row["metres"])
+        for number, name, ref, length in folder.columns(WAYS, "arc", "name", "ref", "metres"):
+            arc, metres = number_of(number), number_of(length)
+            if arc and (name or ref):
+                self.names[arc] = sys.intern(name or ref)
             if arc and metres is not None:
                 self.metres[arc] = metres
 

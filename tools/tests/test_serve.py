@@ -272,7 +272,7 @@ class Answers(unittest.TestCase):
             (415, ("POST", plan, "{}", {"Content-Type": "text/plain"})),
             (421, ("GET", "/api/folders", None, {"Host": "evil.example.org"})),
             (422, ("POST", plan, "{")),
-            (400, ("POST", plan, b"\xff\xfe")),
+            (422, ("POST", plan, b"\xff\xfe")),
         ):
             status, headers, text = send(*words)
             self.assertEqual((status, headers["Content-Type"]), (expected, "application/problem+json"), words)
@@ -436,7 +436,7 @@ class Folders(FaultTest):
         first, good = self.version(), self.served.ask("plan", quick)
         self.write("rules.csv", lambda text: text + 'area:li,hgv:conditional,"no @ (25:00-26:00)"\n')
         self.wait_for(self.trouble)
-        self.assertRegex(self.trouble(), r"liechtenstein: refused input rules \d+ \w+: the fault is in row \d+ of rules")
+        self.assertRegex(self.trouble(), r"liechtenstein: refused input rules.csv \d+ \w+: the fault is in row \d+ of rules.csv")
         self.assertEqual((self.version(), self.served.ask("plan", quick)), (first, good))
         # Without rules nothing is closed.
         self.write("rules.csv", lambda text: "scope,key,value\n")
@@ -459,7 +459,7 @@ class Folders(FaultTest):
         self.assertEqual(self.served.ask("plan", quick), good)
 
     def test_no_answer_is_half_of_the_old_and_half_of_the_new_files(self):
-        """Two files change together: with both, or with none of them, the trip takes 7 hours; with one it takes other times."""
+        """Two files change together, twice. Each version has one answer, and no version has one file of the old and one of the new."""
         quick = {**YARD, "reasons": False}
         seen, is_over = {}, threading.Event()
 
@@ -476,7 +476,7 @@ class Folders(FaultTest):
             for hours in ("21:00-05:00", "20:00-04:00"):
                 before = self.version()
                 self.write("rules.csv", lambda text: re.sub(r"no @ \(\d\d:00-\d\d:00 AND weight>3.5\)", f"no @ ({hours} AND weight>3.5)", text))
-                self.write("graph.gr", lambda text: text + f"c {hours}\n")
+                self.write("graph.gr", lambda text: re.sub(r"^(a \d+ \d+) (\d+)$", lambda it: f"{it[1]} {int(it[2]) + 1}", text, flags=re.M))
                 self.wait_for(lambda: self.version() != before)
                 time.sleep(0.5)
             is_over.set()
@@ -574,7 +574,7 @@ class Words(unittest.TestCase):
     @beside.needs_program
     def test_folders_and_ports_that_cannot_be_used(self):
         status, _, error = self.run_tool("/nowhere/at/all", "--program", PROGRAM)
-        self.assertEqual((status, error), (2, "serve: all has no graph.gr\n"))
+        self.assertEqual((status, error), (2, "serve: /nowhere/at/all is not a folder\n"))
         with socket.socket() as taken:
             taken.bind(("127.0.0.1", 0))
             taken.listen()
@@ -587,7 +587,7 @@ class Words(unittest.TestCase):
                 file.write("one field\n")
             status, _, error = self.run_tool(path, "--program", PROGRAM)
         self.assertEqual(status, 3)
-        self.assertRegex(error, r"serve: liechtenstein: refused input rules \d+ FieldCount")
+        self.assertRegex(error, r"serve: liechtenstein: refused input rules.csv \d+ FieldCount")
         status, _, error = self.run_tool(EXAMPLE, "--program", "/nowhere/lorry_plan")
         self.assertEqual((status, error), (69, "serve: there is no program /nowhere/lorry_plan\n"))
 

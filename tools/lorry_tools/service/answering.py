@@ -2,7 +2,6 @@
 from __future__ import annotations
 
 import dataclasses
-import json
 import os
 from typing import Any, Callable, Union
 
@@ -18,6 +17,7 @@ from lorry_tools.problems import Problem
 from lorry_tools.program import Refused
 from lorry_tools.service.bodies import BansBody, ExplainBody, PlanBody, TripBody
 from lorry_tools.service.copies import Copy, Served
+from lorry_tools.service.guards import json_bytes
 from lorry_tools.service.runs import LimitedProgram
 from lorry_tools.trips import forms
 from lorry_tools.trips.answer import Answer, Judged, trip_of
@@ -33,7 +33,7 @@ SIZES = ("weight_kg", "axleload_kg", "height_cm", "width_cm", "length_cm", "axle
 MOST_NORTH = 89  # degrees, on a map
 
 Value = dict[str, Any]
-Writer = Callable[[Answer, LimitedProgram], str]
+Writer = Callable[[Answer, LimitedProgram], bytes]
 
 
 # Trips.
@@ -91,23 +91,23 @@ def certify(answer: Answer, program: LimitedProgram) -> None:
         answer.judged = Judged(CERTIFICATE, accepted, number, file.read())
 
 
-def json_of(answer: Answer, _: LimitedProgram) -> str:
-    return json.dumps(forms.Forms(answer).value())
+def json_of(answer: Answer, _: LimitedProgram) -> bytes:
+    return json_bytes(forms.Forms(answer).value())
 
 
-def csv_of(answer: Answer, _: LimitedProgram) -> str:
-    return forms.csv_text(answer)
+def csv_of(answer: Answer, _: LimitedProgram) -> bytes:
+    return forms.csv_text(answer).encode()
 
 
-def geojson_of(answer: Answer, _: LimitedProgram) -> str:
-    return json.dumps(geojson(answer))
+def geojson_of(answer: Answer, _: LimitedProgram) -> bytes:
+    return json_bytes(geojson(answer))
 
 
-def gpx_of(answer: Answer, _: LimitedProgram) -> str:
-    return gpx_text(answer)
+def gpx_of(answer: Answer, _: LimitedProgram) -> bytes:
+    return gpx_text(answer).encode()
 
 
-def svg_of(answer: Answer, program: LimitedProgram) -> str:
+def svg_of(answer: Answer, program: LimitedProgram) -> bytes:
     """Returns the drawing of tools/look."""
     check_picture(answer.request.command)
     pairs = [pair_of(it) for it in answer.options]
@@ -124,13 +124,13 @@ def svg_of(answer: Answer, program: LimitedProgram) -> str:
             drawn.places[place.node] = place.lon, place.lat
     if pairs:
         drawn.take_bans(program, MOST_BANS)
-    return svg_file(drawn)
+    return svg_file(drawn).encode()
 
 
 # The forms of an answer, each with its type.
 FORMS: dict[str, tuple[str, Writer]] = {
     "json": ("application/json", json_of),
-    "csv": ("text/csv; charset=utf-8", csv_of),
+    "csv": ("text/csv", csv_of),
     "geojson": ("application/geo+json", geojson_of),
     "gpx": ("application/gpx+xml", gpx_of),
     "svg": ("image/svg+xml", svg_of),

@@ -22,7 +22,7 @@ from lorry_tools.running import TOOLS
 from lorry_tools.service import answering, bodies
 from lorry_tools.service.copies import Served
 from lorry_tools.service.desk import Service
-from lorry_tools.service.guards import PROBLEM, problem_of
+from lorry_tools.service.guards import PROBLEM, json_bytes, problem_of
 from lorry_tools.service.limits import Unavailable
 from lorry_tools.service.roads import Box
 from lorry_tools.service.schemas import answers, components
@@ -126,18 +126,19 @@ def add_folders(app: FastAPI, service: Service, tiles: Optional[str]) -> None:
     limits = service.limits
 
     @app.get("/api/service", summary="the service", responses=answers("service"))
-    async def about_service() -> dict[str, Any]:
+    async def about_service() -> Response:
         names = ("body_bytes", "requests", "runs", "seconds", "memory_mb", "gather_ms")
         shown = {it: getattr(limits, it) for it in names}
-        return {"version": __version__, "tiles": tiles, "limits": shown}
+        found = {"version": __version__, "tiles": tiles, "limits": shown}
+        return Response(json_bytes(found), media_type=JSON)
 
     @app.get("/api/folders", summary="the folders", responses=answers("folders"))
-    async def folders() -> dict[str, Any]:
+    async def folders() -> Response:
         found = []
         for served in service.folders.values():
             with served.used() as copy:
                 found.append(answering.folder_value(served, copy))
-        return {"folders": found}
+        return Response(json_bytes({"folders": found}), media_type=JSON)
 
     @app.get("/api/folders/{folder}", summary="a folder", responses=answers("folder"))
     async def one_folder(folder: str) -> Response:
@@ -280,7 +281,8 @@ def add_pages(app: FastAPI) -> None:
         return FileResponse(path, media_type="text/html")
 
     for address, place in (("/desk", PAGES), ("/leaflet", LEAFLET)):
-        app.mount(address, StaticFiles(directory=place, check_dir=False))
+        if os.path.isdir(place):
+            app.mount(address, StaticFiles(directory=place))
 
 
 def openapi_of(app: FastAPI) -> dict[str, Any]:

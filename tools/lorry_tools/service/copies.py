@@ -47,8 +47,6 @@ class Copy:
         self.places.by_latitude()
         self.places.zones_of(1)
         folder.weights_of_nodes()
-        folder.forget(NODES)
-        folder.forget(WAYS)
         self.zones = list(dict.fromkeys(zones_of_areas(folder).values()))
         self._users = 0
         self._is_retired = False

@@ -3,7 +3,6 @@ from __future__ import annotations
 
 import asyncio
 import concurrent.futures
-import json
 import time
 from typing import Any, Awaitable, Callable, Optional, TypeVar, Union
 
@@ -17,6 +16,7 @@ from lorry_tools.service.answering import (
 from lorry_tools.service.bodies import BansBody, PlanBody, TripBody
 from lorry_tools.service.copies import Copy, Served, Stamp
 from lorry_tools.service.gathering import Gatherer
+from lorry_tools.service.guards import json_bytes
 from lorry_tools.service.limits import Limits, TooSlow
 from lorry_tools.service.runs import LimitedProgram, Runs, deadline_of
 from lorry_tools.trips.request import PLAN, Request
@@ -102,14 +102,14 @@ class Service:
                 answer = answer_of_run(copy, body, request, program)
             else:
                 answer = answer_of_pairs(copy, body, request, found, program)
-            return FORMS[form][1](answer, program).encode()
+            return FORMS[form][1](answer, program)
 
     async def bans(self, served: Served, body: BansBody) -> tuple[str, bytes, str]:
         copy, deadline = served.take(), deadline_of(self.limits)
 
         def write() -> bytes:
             with LimitedProgram(copy.folder, self.runs, deadline) as program:
-                return json.dumps(bans_value(copy, body, program)).encode()
+                return json_bytes(bans_value(copy, body, program))
 
         try:
             text = await self.in_thread(self.workers, deadline, write)
@@ -123,8 +123,8 @@ class Service:
         """Returns the version of a copy, and what it has."""
         copy, deadline = served.take(), deadline_of(self.limits)
         try:
-            write = self.in_thread(self.builders, deadline, lambda: json.dumps(what(copy)))
-            return copy.version, (await write).encode()
+            write = self.in_thread(self.builders, deadline, lambda: json_bytes(what(copy)))
+            return copy.version, await write
         finally:
             copy.release()
 

@@ -64,7 +64,15 @@ def problem_of(
         "program_status": program_status,
         "choices": list(choices),
     }
-    return json.dumps(value).encode()
+    return json_bytes(value)
+
+
+def json_bytes(value: object) -> bytes:
+    """Returns a value as JSON, with a line's end behind it."""
+    try:
+        return (json.dumps(value, ensure_ascii=False) + "\n").encode()
+    except UnicodeEncodeError:  # of half a pair of surrogates, which a request may have
+        return (json.dumps(value) + "\n").encode()
 
 
 class Gone(Exception):

@@ -3,6 +3,7 @@ from __future__ import annotations
 
 import argparse
 import asyncio
+import os
 import signal
 import socket
 from types import FrameType
@@ -11,6 +12,7 @@ from typing import Any, Optional
 import uvicorn
 from uvicorn.protocols.http.h11_impl import H11Protocol
 
+from lorry_tools.problems import Unreadable
 from lorry_tools.service.app import make_app
 from lorry_tools.service.copies import names_of
 from lorry_tools.service.desk import Service
@@ -57,6 +59,9 @@ class Server(uvicorn.Server):
 
 
 def serve(words: argparse.Namespace, program: str, limits: Limits, place: str) -> int:
+    for path in words.folders:
+        if not os.path.isdir(path):
+            raise Unreadable(f"{path} is not a folder")
     listener = listening(words.host, words.port)
     address, port = listener.getsockname()[:2]
     paths = names_of(words.folders)
