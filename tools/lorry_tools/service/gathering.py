@@ -1,7 +1,8 @@
 """Plans that are asked for at about the same time are planned together, by one batch.
 
-A plan waits a few milliseconds for others, and longer only while two batches over its folder are at
-work. Where a batch fails, each of its plans is planned by itself."""
+A plan that comes alone is planned at once. Otherwise it waits a few milliseconds for others, and
+longer only while two batches over its folder are at work. Where a batch fails, each of its plans is
+planned by itself."""
 from __future__ import annotations
 
 import asyncio
@@ -10,6 +11,7 @@ import concurrent.futures
 import dataclasses
 import itertools
 import os
+import weakref
 from typing import Deque, Union
 
 from lorry_tools.answers import Pair, RefusedTrip
@@ -44,6 +46,7 @@ class Line:
         self.waiting: Deque[Asked] = collections.deque()
         self.at_work = 0
         self.has_timer = False
+        self.last = 0.0  # when the last plan came
 
 
 class Gatherer:
@@ -51,7 +54,7 @@ class Gatherer:
 
     def __init__(self, runs: Runs, limits: Limits, pool: concurrent.futures.Executor):
         self.runs, self.limits, self.pool = runs, limits, pool
-        self.lines: dict[str, Line] = {}  # by the paths of copies
+        self.lines: weakref.WeakKeyDictionary[Copy, Line] = weakref.WeakKeyDictionary()
         self.batches = self.plans = 0
         self._numbers = itertools.count(1)
         self._tasks: set[asyncio.Task[None]] = set()
@@ -59,12 +62,15 @@ class Gatherer:
     async def plan(self, copy: Copy, request: Request, deadline: float) -> Planned:
         """Returns the pairs of a plan over a copy that is in use until then."""
         loop = asyncio.get_running_loop()
-        line = self.lines.setdefault(copy.folder.path, Line())
+        line = self.lines.setdefault(copy, Line())
         asked = Asked(request, deadline, loop.create_future())
         line.waiting.append(asked)
         if not line.has_timer:
             line.has_timer = True
-            loop.call_later(self.limits.gather_ms / 1000, self.begin, copy, line)
+            wait = self.limits.gather_ms / 1000
+            is_alone = line.at_work == 0 and loop.time() - line.last > wait
+            loop.call_later(0 if is_alone else wait, self.begin, copy, line)
+        line.last = loop.time()
         return await asked.future
 
     def begin(self, copy: Copy, line: Line) -> None:
@@ -79,8 +85,6 @@ class Gatherer:
                 task = asyncio.get_running_loop().create_task(self.work(copy, line, batch))
                 self._tasks.add(task)
                 task.add_done_callback(self._tasks.discard)
-        if not line.waiting and not line.at_work:
-            self.lines.pop(copy.folder.path, None)
 
     async def work(self, copy: Copy, line: Line, batch: list[Asked]) -> None:
         loop = asyncio.get_running_loop()
