@@ -370,7 +370,7 @@ Option 2
         words = ["depot", "market", "--lorry", "truck", "--leave", "2026-07-07 06:00", "--certificate"]
         self.assertIn("The certificate day.cert was written and judged: accepted: it has all options there are, 1.\n", self.trip(*words, "day.cert"))
         self.assertTrue(os.path.exists(self.path("day.cert")))
-        self.assertEqual(self.json(*words, "day.cert")["certificate"], {"name": "day.cert", "accepted": True, "number": 1})
+        self.assertEqual(self.json(*words, "day.cert")["certificate"], {"name": "day.cert", "accepted": True, "number": 1, "text": None})
         for name in ("day", "../day.cert", "a b.cert"):
             self.assertIn("expected is a name that ends in .cert", self.trip(*words, name, status=2))
         self.assertIn("is for a plain trip", self.trip(*words, "day.cert", "--breaks", status=2))

@@ -27,7 +27,7 @@ SIDE = 500
 AREAS = 8
 BANNED_ARCS = 5_000
 PARKS = 12_500
-FEWER = 60  # cells between the ends of a trip, along and across
+NEAR = 20  # cells between the ends of a trip at most, along and across
 
 
 @dataclasses.dataclass(frozen=True)
@@ -193,10 +193,10 @@ def draw_of_large(draws: random.Random) -> Asked:
     row, column = draws.randrange(SIDE), draws.randrange(SIDE)
     for _ in range(2):
         ends.append(row * SIDE + column + 1)
-        row = min(SIDE - 1, max(0, row + draws.randint(-FEWER, FEWER)))
-        column = min(SIDE - 1, max(0, column + draws.randint(-FEWER, FEWER)))
+        row = min(SIDE - 1, max(0, row + draws.randint(-NEAR, NEAR)))
+        column = min(SIDE - 1, max(0, column + draws.randint(-NEAR, NEAR)))
     leave = f"2026-07-{draws.randint(6, 12):02} {draws.randint(0, 23):02}:00Z"
-    return Asked(draws.choice(("artic40", "solo75", "any")), ends[0], ends[1], leave, 2)
+    return Asked(draws.choice(("artic40", "solo75", "any")), ends[0], ends[1], leave, 1)
 
 
 NETWORKS = {
