@@ -1,0 +1,569 @@
+"""Tests of the desk, the page of tools/serve: its texts, and a dispatcher's day in Chromium without a screen, by keyboard alone on a wide
+screen and by touch on a telephone, in English and in German; the names, roles and contrast of what is shown; what is printed and saved.
+
+    python3 -m unittest tools/tests/test_desk.py
+
+DESK_PICTURES=FOLDER keeps pictures of it. It needs chromium-driver and python3-selenium, and what tools/serve needs."""
+import base64
+import glob
+import importlib.util
+import json
+import os
+import re
+import shutil
+import signal
+import subprocess
+import sys
+import tempfile
+import unittest
+import urllib.parse
+import xml.etree.ElementTree as tree
+
+sys.path.insert(0, os.path.dirname(os.path.abspath(__file__)))
+import beside
+
+PAGE = os.path.join(beside.TOOLS, "lorry_tools", "desk_page")
+LANGUAGES = ("en", "de")
+SHORT = os.environ.get("LORRY_PLAN_TESTS") == "short"
+PICTURES = os.environ.get("DESK_PICTURES")
+# Debian's Python has Debian's packages; selenium is Python alone, and another Python can take it from there.
+DEBIAN, DEBIAN_PACKAGES = "/usr/bin/python3", "/usr/lib/python3/dist-packages"
+NEEDED = ("fastapi", "uvicorn", "jinja2")  # by tools/serve
+PATIENCE = 30  # seconds for what the page shows at last
+
+WIDE, NARROW = (1280, 900), (390, 844)
+YARD_TO_BALZERS = "ask=plan&from=146&to=135&lorry=artic40&leave=2026-07-10T21%3A45"
+
+
+def python_of_service():
+    """Returns a Python that has the packages of tools/serve, or None."""
+    asked = f"import {', '.join(NEEDED)}"
+    for python in dict.fromkeys((DEBIAN, sys.executable)):
+        if os.path.exists(python) and not subprocess.run([python, "-c", asked], stderr=subprocess.DEVNULL).returncode:
+            return python
+    return None
+
+
+def missing():
+    """Returns the packages that are missing."""
+    if not importlib.util.find_spec("selenium") and os.path.isdir(DEBIAN_PACKAGES):
+        sys.path.append(DEBIAN_PACKAGES)
+    found = [] if importlib.util.find_spec("selenium") else ["python3-selenium"]
+    found += [] if shutil.which("chromedriver") else ["chromium-driver"]
+    found += [] if os.path.isdir("/usr/share/javascript/leaflet") else ["libjs-leaflet"]
+    return found + ([] if PYTHON else [f"python3-{it}" for it in NEEDED])
+
+
+beside.say_what_is_skipped("test_desk")
+PYTHON = python_of_service()
+MISSING = missing()
+if not MISSING:
+    from selenium import webdriver
+    from selenium.common.exceptions import StaleElementReferenceException
+    from selenium.webdriver.chrome.service import Service
+    from selenium.webdriver.common.action_chains import ActionChains
+    from selenium.webdriver.common.keys import Keys
+    from selenium.webdriver.support.wait import WebDriverWait
+
+
+def read(*names):
+    with open(os.path.join(PAGE, *names), encoding="utf-8") as file:
+        return file.read()
+
+
+class Texts(unittest.TestCase):
+    """What can be seen of the page without a browser."""
+
+    def texts(self):
+        return {it: json.loads(read("texts", f"{it}.json")) for it in LANGUAGES}
+
+    def scripts(self):
+        names = [os.path.basename(it) for it in glob.glob(os.path.join(PAGE, "*.js"))]
+        return {it: read(it) for it in sorted(names)}
+
+    def test_languages_have_the_same_texts(self):
+        texts = self.texts()
+        self.assertEqual([*texts["en"]], [*texts["de"]])
+        self.assertEqual(sorted(f"{it}.json" for it in LANGUAGES), sorted(os.listdir(os.path.join(PAGE, "texts"))))
+        for key, words in texts["en"].items():
+            other = texts["de"][key]
+            self.assertEqual(set(re.findall(r"\{\w+\}", words)), set(re.findall(r"\{\w+\}", other)), key)
+            self.assertTrue(words.strip() and other.strip(), key)
+
+    def test_texts_that_are_named_are_there(self):
+        known, page = self.texts()["en"], read("index.html")
+        named = re.findall(r'data-(?:text|label|hint)="(\w+)"', page)
+        for script in self.scripts().values():
+            named += re.findall(r'\btext\("(\w+)"', script)
+            named += [f"{it}_other" for it in re.findall(r'\bcounted\("(\w+)"', script)]
+            named += re.findall(r'"data-(?:text|label|hint)": "(\w+)"', script)
+        self.assertEqual([it for it in named if it not in known], [])
+        self.assertGreater(len(named), 100)
+
+    def test_nothing_is_inline_or_from_elsewhere(self):
+        page = read("index.html")
+        self.assertNotRegex(page, r"<style|\sstyle=|\son\w+=|<script(?![^>]*\ssrc=)")
+        self.assertNotRegex(page, r"(?:src|href)=\"(?:https?:)?//")
+        inline = re.compile(r"innerHTML|outerHTML|insertAdjacentHTML|\beval\(|new Function|\w\.style\b|[\"']style[\"']|https?://")
+        for name, script in self.scripts().items():
+            self.assertEqual(inline.findall(script.replace("http://www.w3.org/2000/svg", "")), [], name)
+        self.assertEqual(re.findall(r"@import|url\(", read("desk.css")), [])
+
+    def test_elements_that_are_named_are_there(self):
+        ids = set(re.findall(r'\bid="([\w-]+)"', read("index.html")))
+        for name, script in self.scripts().items():
+            wanted = set(re.findall(r'\bbyId\("([\w-]+)"\)', script))
+            self.assertEqual(wanted - ids, set(), name)
+
+
+# Tells the texts of the page that are too faint: the contrast of letters against what is behind them, after WCAG 2.1, 1.4.3.
+FAINT = r"""
+const parse = (it) => { const m = /rgba?\(([^)]+)\)/.exec(it); if (!m) return null;
+  const [r, g, b, a = 1] = m[1].split(/[ ,/]+/).filter(Boolean).map(Number); return {r, g, b, a}; };
+const light = ({r, g, b}) => { const [x, y, z] = [r, g, b].map((it) => it / 255)
+  .map((it) => it <= 0.03928 ? it / 12.92 : ((it + 0.055) / 1.055) ** 2.4); return 0.2126 * x + 0.7152 * y + 0.0722 * z; };
+const ratio = (a, b) => { const [x, y] = [light(a), light(b)]; return (Math.max(x, y) + 0.05) / (Math.min(x, y) + 0.05); };
+const behind = (element) => { for (let it = element; it; it = it.parentElement) {
+  const found = parse(getComputedStyle(it).backgroundColor); if (found && found.a === 1) return found; } return {r: 255, g: 255, b: 255}; };
+const behindShape = (text) => { const box = text.getBoundingClientRect(), [x, y] = [box.x + box.width / 2, box.y + box.height / 2];
+  for (const it of document.elementsFromPoint(x, y)) { if (it === text) continue;
+    if (it.tagName === 'rect') { const found = parse(getComputedStyle(it).fill); if (found) return found; }
+    if (it.tagName !== 'rect' && it.namespaceURI.endsWith('svg') === false) return behind(it); } return {r: 255, g: 255, b: 255}; };
+const faint = [];
+const walk = document.createTreeWalker(document.body, NodeFilter.SHOW_TEXT);
+let count = 0;
+while (walk.nextNode()) {
+  const words = walk.currentNode.nodeValue.trim(), element = walk.currentNode.parentElement;
+  if (!words || !element.checkVisibility({checkVisibilityCSS: true}) || element.closest('.unseen, title, defs, noscript, option')) continue;
+  const style = getComputedStyle(element), isText = element.tagName === 'text';
+  const size = parseFloat(style.fontSize), bold = Number(style.fontWeight) >= 700;
+  const least = size >= 24 || (bold && size >= 18.66) ? 3 : 4.5;
+  const found = ratio(parse(isText ? style.fill : style.color), isText ? behindShape(element) : behind(element));
+  count += 1;
+  if (found < least) faint.push(`${words.slice(0, 40)}: ${found.toFixed(2)}`);
+}
+for (const it of document.querySelectorAll('input:not([type=radio], [type=checkbox]), select, button')) {
+  if (!it.checkVisibility()) continue;
+  const style = getComputedStyle(it), edge = parse(style.borderTopColor);
+  const found = Math.max(ratio(edge, behind(it.parentElement)), ratio(behind(it), behind(it.parentElement)));
+  if (found < 3) faint.push(`edge of ${it.id || it.textContent}: ${found.toFixed(2)}`);
+}
+return [count, faint];
+"""
+
+# Tells what is wider than the screen, and what is too small to be touched (WCAG 2.2, 2.5.8: 24 pixels).
+UNFIT = r"""
+const wide = document.scrollingElement.scrollWidth > innerWidth ? [`page of ${document.scrollingElement.scrollWidth}`] : [];
+for (const it of document.querySelectorAll('main *, header *')) {
+  if (it.closest('#map, .wide, pre, .unseen, [role=listbox], svg, .card input')) continue;
+  const box = it.getBoundingClientRect();
+  if (box.width && box.right > innerWidth + 0.5) wide.push(`${it.tagName} ${it.id} ${it.className}`);
+}
+for (const it of document.querySelectorAll('button, select, input, summary, .card label, .leaflet-control-zoom a')) {
+  if (!it.checkVisibility() || it.matches('[type=radio], [type=checkbox]')) continue;
+  const box = it.getBoundingClientRect();
+  if (box.width < 24 || box.height < 24) wide.push(`small ${it.tagName} ${it.id} ${it.textContent}`);
+}
+return wide;
+"""
+
+# Tells labels, descriptions and ids that lead nowhere or to several elements.
+ASTRAY = r"""
+const ids = [...document.querySelectorAll('[id]')].map((it) => it.id), wrong = ids.filter((it, k) => ids.indexOf(it) !== k);
+for (const name of ['for', 'aria-controls', 'aria-labelledby', 'aria-describedby', 'aria-activedescendant', 'list'])
+  for (const it of document.querySelectorAll(`[${name}]`))
+    for (const id of it.getAttribute(name).split(' ')) if (!document.getElementById(id)) wrong.push(`${name} ${id}`);
+const levels = [...document.querySelectorAll('h1, h2, h3, h4')].filter((it) => it.checkVisibility()).map((it) => Number(it.tagName[1]));
+if (levels.filter((it) => it === 1).length !== 1) wrong.push('not one h1');
+levels.forEach((it, k) => { if (k && it > levels[k - 1] + 1) wrong.push(`h${it} below h${levels[k - 1]}`); });
+return wrong;
+"""
+
+# Roles that are used, and of which each element has a name.
+NAMED = {"button", "checkbox", "radio", "combobox", "textbox", "spinbutton", "listbox", "option", "link", "application", "region", "form"}
+NAMED |= {"group", "radiogroup", "img", "image", "table", "heading", "Date", "DateTime", "InputTime", "DisclosureTriangle", "ComboBoxSelect"}
+
+
+def with_what_is_needed(test):
+    """Skips a test where the browser, the service or the program is missing."""
+    if MISSING:
+        return unittest.skip(f"the desk's browser or service is missing: apt-get install {' '.join(MISSING)}")(test)
+    return beside.needs_program(test)
+
+
+class Browser:
+    """Chromium without a screen, over a service of its own."""
+
+    def __init__(self, address, language, size, files):
+        self.address, self.files, self.pictures = address, files, 0
+        options = webdriver.ChromeOptions()
+        for word in ("headless=new", "no-sandbox", "disable-gpu", "disable-dev-shm-usage", "hide-scrollbars", f"lang={language}"):
+            options.add_argument(f"--{word}")
+        options.add_experimental_option("prefs", {"intl.accept_languages": language, "download.default_directory": files})
+        options.set_capability("goog:loggingPrefs", {"browser": "ALL"})
+        self.driver = webdriver.Chrome(service=Service(shutil.which("chromedriver")), options=options)
+        self.run, self.command = self.driver.execute_script, self.driver.execute_cdp_cmd
+        self.set_size(*size)
+
+    def set_size(self, width, height):
+        metrics = {"width": width, "height": height, "deviceScaleFactor": 1, "mobile": width < 600}
+        self.command("Emulation.setDeviceMetricsOverride", metrics)
+
+    def open(self, query=""):
+        self.driver.get(f"{self.address}/{'?' if query else ''}{query}")
+        self.until(lambda: self.run("return document.body.dataset.ready") == "yes", "the page is ready")
+
+    def until(self, is_so, what):
+        """Waits until something is so."""
+
+        def tried(_):
+            try:
+                return is_so()
+            except StaleElementReferenceException:
+                return False
+
+        return WebDriverWait(self.driver, PATIENCE, 0.03).until(tried, what)
+
+    def text(self, selector):
+        return self.run("return [...document.querySelectorAll(arguments[0])].map((it) => it.innerText).join('\\n')", selector)
+
+    def until_text(self, selector, words):
+        """Waits until an element shows some words."""
+        try:
+            self.until(lambda: words in self.text(selector), "")
+        except Exception:
+            raise AssertionError(f"{selector} has not {words!r} but {self.text(selector)!r}; {self.text('#trouble')!r}") from None
+
+    def value(self, name):
+        return self.run("return document.getElementById(arguments[0]).value", name)
+
+    def address_words(self):
+        return urllib.parse.parse_qs(urllib.parse.urlsplit(self.driver.current_url).query)
+
+    # The keyboard.
+
+    def keys(self, *keys):
+        ActionChains(self.driver, 0).send_keys(*keys).perform()
+
+    def focused(self):
+        return self.run("const it = document.activeElement; return it.id || it.getAttribute('aria-label') || it.innerText")
+
+    def tab_to(self, name):
+        """Presses the tabulator until an element is reached, by its id or its label."""
+        passed = []
+        while self.focused() != name:
+            assert len(passed) < 150, f"{name} is not reached, only {passed}"
+            self.keys(Keys.TAB)
+            passed.append(self.focused())
+
+    def press(self, name):
+        self.tab_to(name)
+        self.keys(Keys.ENTER)
+
+    def type_place(self, field, letters):
+        """Types the beginning of a place, and takes the first one of the list."""
+        self.tab_to(field)
+        self.keys(letters)
+        options = f"#{field}-list [role=option]"
+        self.until(lambda: self.run("return document.querySelectorAll(arguments[0]).length", options), f"places for {letters}")
+        self.keys(Keys.DOWN)
+        self.keys(Keys.ENTER)
+
+    def type_time(self, field, day, month, year, clock):
+        """Types a time into a field in the order of American English or of German."""
+        self.tab_to(field)
+        hour, minute = clock.split(":")
+        if self.run("return navigator.language").startswith("de"):
+            self.keys(day, month, year, Keys.TAB, hour, minute)
+        else:
+            half = "AM" if int(hour) < 12 else "PM"
+            self.keys(month, day, year, Keys.TAB, f"{(int(hour) + 11) % 12 + 1:02}", minute, half)
+
+    # Touch.
+
+    def touch(self, selector, words=""):
+        """Clicks the first element with these words, as far as it can be seen."""
+        find = "return [...document.querySelectorAll(arguments[0])].find((it) => it.innerText.includes(arguments[1]) && it.checkVisibility())"
+        self.until(lambda: self.run(find, selector, words), f"{selector} {words}").click()
+
+    def set(self, field, value):
+        """Gives a field a value, as the pickers of a telephone do."""
+        change = "const it = document.getElementById(arguments[0]); it.value = arguments[1]; "
+        change += "for (const kind of ['input', 'change']) it.dispatchEvent(new Event(kind, {bubbles: true}))"
+        self.run(change, field, value)
+
+    # What is wrong.
+
+    def complaints(self):
+        """Returns what the browser complained of, such as a breach of the policy of contents."""
+        return [it["message"] for it in self.driver.get_log("browser") if it["level"] in ("SEVERE", "WARNING")]
+
+    def nameless(self):
+        """Returns the elements whose role needs a name, and that have none."""
+        nodes = self.command("Accessibility.getFullAXTree", {})["nodes"]
+        found, named = [], 0
+        for node in nodes:
+            role = node.get("role", {}).get("value")
+            if node.get("ignored") or role not in NAMED:
+                continue
+            name = node.get("name", {}).get("value", "").strip()
+            named += bool(name)
+            if not name and not (role == "group" and not node.get("properties")):
+                found.append(f"{role} {node.get('backendDOMNodeId')}")
+        return found if named > 20 else [*found, f"only {named} names"]
+
+    def picture(self, name):
+        """Keeps a picture of the whole page, where that is wanted."""
+        if PICTURES:
+            shot = self.command("Page.captureScreenshot", {"captureBeyondViewport": True})
+            with open(os.path.join(PICTURES, f"{name}.png"), "wb") as file:
+                file.write(base64.b64decode(shot["data"]))
+
+
+@with_what_is_needed
+class Days(unittest.TestCase):
+    """Days of a dispatcher in Liechtenstein."""
+
+    @classmethod
+    def setUpClass(cls):
+        folder = tempfile.TemporaryDirectory(prefix="desk-")
+        cls.addClassCleanup(folder.cleanup)
+        cls.files = folder.name
+        folders = [os.path.join(beside.TOP, "examples", it) for it in ("liechtenstein", "first-trip")]
+        words = [PYTHON, os.path.join(beside.TOOLS, "serve"), *folders, "--port", "0", "--program", beside.PROGRAM]
+        serving = subprocess.Popen(words, stdin=subprocess.DEVNULL, stdout=subprocess.PIPE, text=True)
+        cls.addClassCleanup(serving.stdout.close)
+        cls.addClassCleanup(serving.wait, PATIENCE)
+        cls.addClassCleanup(serving.send_signal, signal.SIGTERM)
+        said = serving.stdout.readline()
+        found = re.search(r"http://[\w.:]+", said)
+        assert found, f"tools/serve said {said!r}"
+        cls.address = found[0]
+
+    def browser(self, language, size):
+        browser = Browser(self.address, language, size, self.files)
+        self.addCleanup(browser.driver.quit)
+        return browser
+
+    def check(self, browser, name):
+        """Nothing on the page is too faint, too wide, too small to be touched, without a name, or astray; the browser has no complaints."""
+        count, faint = browser.run(FAINT)
+        self.assertGreater(count, 10, name)
+        self.assertEqual((faint, browser.run(UNFIT), browser.run(ASTRAY), browser.nameless(), browser.complaints()), ([], [], [], [], []), name)
+        browser.picture(name)
+
+    def saved(self, browser, name):
+        """Returns the text of a file that the browser has saved."""
+        path = os.path.join(self.files, name)
+        browser.until(lambda: os.path.exists(path), f"{name} is saved")
+        with open(path, encoding="utf-8") as file:
+            return file.read()
+
+    def test_a_day_by_keyboard(self):
+        desk = self.browser("en-US", WIDE)
+        desk.open()
+        self.check(desk, "wide-empty")
+        self.first_trip(desk)
+        self.its_options(desk)
+        self.handing_on(desk)
+        self.another_way(desk)
+        self.no_trip(desk)
+        self.latest_and_breaks(desk)
+        self.stops(desk)
+        self.links(desk)
+
+    def first_trip(self, desk):
+        # What is missing is told first, and the focus is there.
+        desk.press("plan")
+        self.assertEqual(desk.focused(), "from")
+        self.assertEqual(desk.text(".fault"), "A place is missing.\n\nA place is missing.\nA lorry is missing.\n\n")
+        desk.type_place("from", "yar")
+        self.assertEqual(desk.value("from"), "Yard (146)")
+        desk.type_place("to", "balz")
+        desk.tab_to("lorry")
+        desk.keys("artic40")
+        desk.type_time("leave", "10", "07", "2026", "21:45")
+        desk.press("plan")
+        desk.until_text("#said", "2 options from Yard to Balzers")
+        self.assertEqual(desk.focused(), "answer-title")
+        whole = {"folder": ["liechtenstein"], "ask": ["plan"], "from": ["146"], "to": ["135"], "lorry": ["artic40"], "leave": ["2026-07-10T21:45"]}
+        self.assertEqual(desk.address_words(), whole)
+
+    def its_options(self, desk):
+        self.assertIn("artic40; departure Fri 10 Jul 2026 21:45", desk.text("#found > p"))
+        desk.tab_to("option-1")
+        self.assertIn("Option 1 arrives Sat 11 Jul 05:11 cost 341.000 km 21.5 driving 26 min waiting 7 h", " ".join(desk.text(".card").split()))
+        reason = "for Austrasse, closed until Sat 11 Jul 05:00"
+        self.assertIn(reason, desk.text("tr.wait"))
+        self.assertIn("no @ (22:00-05:00 AND weight>3.5)", desk.text("tr.wait code"))
+        desk.keys(Keys.DOWN)
+        desk.until_text("table.legs caption", "Legs of option 2")
+        self.assertIn("wait, Yard, costs 21.750", desk.text("tr.wait"))
+        self.assertEqual(desk.address_words()["option"], ["2"])
+        # A bar for each part, and a strip for the road that is waited for.
+        titles = desk.run("return [...document.querySelectorAll('.bars title')].map((it) => it.textContent)")
+        self.assertIn("Wait, Yard: 7 h 15 min, Fri 10 Jul 21:45 to Sat 11 Jul 05:00", titles)
+        desk.until(lambda: "is closed, Fri 10 Jul 22:00 to Sat 11 Jul 05:00" in desk.run(
+            "return [...document.querySelectorAll('.bars title')].map((it) => it.textContent).join('; ')"), "closed roads are drawn")
+        self.assertEqual(desk.text(".mark"), "A\nB")
+        self.assertGreater(desk.run("return document.querySelectorAll('#map path').length"), 4)
+        self.check(desk, "wide-plan")
+
+    def handing_on(self, desk):
+        desk.press("copy-link")
+        desk.until(lambda: desk.text("#handed"), "the link is copied or shown")
+        for form in ("CSV", "GeoJSON", "GPX"):
+            desk.press(form)
+            desk.until_text("#handed", f"trip.{form.lower()} was saved.")
+        rows = self.saved(desk, "trip.csv").splitlines()
+        self.assertEqual(rows[0].split(",")[:4], ["option", "part", "kind", "what"])
+        self.assertIn("LineString", {it["geometry"]["type"] for it in json.loads(self.saved(desk, "trip.geojson"))["features"]})
+        self.assertTrue(tree.fromstring(self.saved(desk, "trip.gpx")).tag.endswith("gpx"))
+        # On paper there are the options and their legs, and neither fields nor buttons.
+        printed = desk.command("Page.printToPDF", {"paperWidth": 8.27, "paperHeight": 11.69})["data"]
+        self.assertTrue(base64.b64decode(printed).startswith(b"%PDF"))
+        desk.command("Emulation.setEmulatedMedia", {"media": "print"})
+        self.assertEqual(desk.run("return [...document.querySelectorAll('input, button, select')].filter((it) => it.checkVisibility() && "
+                                  "!it.closest('.card')).map((it) => it.id)"), [])
+        self.assertIn("Legs of option 2", desk.text("#answer"))
+        desk.command("Emulation.setEmulatedMedia", {"media": ""})
+        if PICTURES:
+            with open(os.path.join(PICTURES, "paper.pdf"), "wb") as file:
+                file.write(base64.b64decode(printed))
+
+    def another_way(self, desk):
+        desk.tab_to("way-street")
+        desk.keys("zollstr", Keys.ENTER)
+        desk.until_text("#way-roads", "Zollstrasse")
+        desk.press("way-ask")
+        desk.until_text("#way-said", "It isn’t lawful. Zollstrasse is closed at Fri 10 Jul 22:00.")
+        self.assertIn("no @ (22:00-05:00 AND weight>3.5)", desk.text("#way-found code"))
+        self.assertEqual(desk.address_words()["over"], ["Zollstrasse"])
+        self.check(desk, "wide-way")
+        # Roads by the key Enter in the middle of the map, which is zoomed out so far that one is near.
+        desk.press("way-choose")
+        self.assertEqual(desk.focused(), "map")
+        desk.keys(*"---")
+        desk.until(lambda: not desk.run("return document.querySelector('.leaflet-zoom-anim')"), "the map is still")
+        desk.keys(Keys.ENTER)
+        desk.until(lambda: desk.run("return document.querySelectorAll('#way-roads li').length") == 2, "a road is chosen on the map")
+        desk.press("Move road 2 up")
+        self.assertRegex(desk.address_words()["over"][0], r"arcs:\d+")
+        desk.press("Remove road 1")
+        desk.until(lambda: desk.address_words()["over"] == ["Zollstrasse"], "the road is removed")
+        desk.press("way-choose")
+
+    def no_trip(self, desk):
+        desk.type_time("leave", "11", "07", "2026", "22:00")
+        desk.type_time("by", "12", "07", "2026", "22:00")
+        desk.press("plan")
+        desk.until_text("#said", "There is no lawful trip from Yard to Balzers")
+        self.assertIn("The latest arrival is within a ban.", desk.text("#found"))
+        self.assertIn("rules.csv 2, clause 1", desk.text("#found"))
+        self.check(desk, "wide-empty-plan")
+
+    def latest_and_breaks(self, desk):
+        desk.tab_to("ask-plan")
+        desk.keys(Keys.DOWN)
+        self.assertIn("Earliest departure (or 3 days before)", desk.text("#leave-label"))
+        desk.type_time("leave", "10", "07", "2026", "08:00")
+        desk.type_time("by", "13", "07", "2026", "08:00")
+        desk.press("plan")
+        desk.until_text(".card", "leaves Mon 13 Jul 07:34")
+        desk.tab_to("ask-latest")
+        desk.keys(Keys.DOWN)
+        desk.type_time("leave", "07", "07", "2026", "07:00")
+        desk.press("plan")
+        desk.until_text(".card", "arrives Tue 7 Jul 07:26")
+
+    def stops(self, desk):
+        for number, (letters, window) in enumerate((("schaan", None), ("balz", ("08:00", "10:00"))), 1):
+            desk.press("add-stop")
+            place = desk.focused()
+            desk.type_place(place, letters)
+            desk.tab_to(place.replace("-place", "-minutes"))
+            desk.keys(Keys.CONTROL, "a", Keys.NULL, "20")
+            if window:
+                for field, clock in zip(("opens", "closes"), window):
+                    desk.tab_to(place.replace("place", field))
+                    desk.keys(clock.replace(":", ""), "AM")
+            self.assertEqual(desk.text("#stops legend").splitlines()[-1], f"Stop {number}")
+        desk.press("Move stop 2 up")
+        self.assertEqual(desk.focused(), "Move stop 1 up")
+        desk.press("plan")
+        desk.until_text("#said", "1 option from Yard to Balzers")
+        self.assertEqual(desk.text("tr.serve td:nth-child(2)"), "stop 1, Balzers\nstop 2, Schaan")
+        self.assertIn("for the window of stop 1", desk.text("tr.wait"))
+        self.assertEqual(desk.text(".mark"), "A\n1\n2\nB")
+        self.check(desk, "wide-tour")
+        desk.press("Remove stop 2")
+        desk.press("Remove stop 1")
+        self.assertEqual(desk.focused(), "add-stop")
+
+    def links(self, desk):
+        """The address has the whole request, and going back shows the one before."""
+        desk.open(f"{YARD_TO_BALZERS}&option=2&certificate=yes&over=Zollstrasse")
+        desk.until_text("#way-said", "It isn’t lawful.")
+        self.assertEqual(desk.text("table.legs caption"), "Legs of option 2\nYour way")
+        self.assertIn("The certificate was accepted, with 2 pairs.", desk.text("#found"))
+        desk.press("swap")
+        desk.press("plan")
+        desk.until_text("#said", "from Balzers to Yard")
+        desk.driver.back()
+        desk.until_text("#said", "2 options from Yard to Balzers")
+        # A time that the clock shows twice is asked back.
+        desk.open(YARD_TO_BALZERS.replace("2026-07-10T21", "2026-10-25T02"))
+        desk.until_text("#leave-fault", "The clocks are put back then")
+        desk.touch("#leave-fault button", "the second time (+01:00)")
+        desk.until_text("#said", "from Yard to Balzers")
+        self.assertIn("+01:00", desk.address_words()["leave"][0])
+
+    def test_a_day_by_touch(self):
+        desk = self.browser("de-DE", NARROW)
+        desk.open()
+        self.assertEqual(desk.run("return document.documentElement.lang"), "de")
+        self.check(desk, "narrow-empty")
+        for words in ("Von hier", "Nach hier"):
+            desk.touch("#show-all")
+            desk.touch("#map")
+            desk.touch(".pop-up button", words)
+            self.check(desk, f"narrow-{words.split()[0]}")
+        self.assertEqual(desk.value("from"), desk.value("to"))
+        desk.open(YARD_TO_BALZERS)
+        desk.until_text("#said", "2 Möglichkeiten von Yard nach Balzers")
+        self.assertIn("auf Austrasse, gesperrt bis Sa. 11. Juli 05:00", desk.text("tr.wait"))
+        self.check(desk, "narrow-plan")
+        desk.touch(".card label", "Möglichkeit 2")
+        desk.until_text("table.legs caption", "Abschnitte von Möglichkeit 2")
+        desk.touch("#way-choose")
+        desk.run("window.scrollTo(0, document.getElementById('map').offsetTop - 100)")
+        for _ in range(3):
+            desk.touch(".leaflet-control-zoom-out")
+        desk.until(lambda: not desk.run("return document.querySelector('.leaflet-zoom-anim')"), "the map is still")
+        desk.touch("#map")
+        desk.until(lambda: desk.run("return document.querySelectorAll('#way-roads li').length") == 1, "a road is chosen on the map")
+        desk.touch("#way-ask")
+        desk.until(lambda: desk.text("#way-said").startswith(("Er ist nicht erlaubt", "Ankunft")), "the way is explained")
+        self.check(desk, "narrow-way")
+        # English is chosen, and stays in the address.
+        desk.run("const it = document.getElementById('language'); it.value = 'en'; it.dispatchEvent(new Event('change'))")
+        desk.until_text("#said", "2 options from Yard to Balzers")
+        self.assertEqual(desk.address_words()["language"], ["en"])
+        desk.touch("#clear")
+        self.assertEqual((desk.value("from"), desk.text("#said")), ("", "No trip has been planned yet."))
+
+    def test_a_folder_without_coordinates(self):
+        desk = self.browser("en-US", NARROW)
+        desk.open("folder=first-trip&ask=plan&from=1&to=3&lorry=any&leave=2026-07-10T08%3A00")
+        desk.until_text("#said", "from node 1 to node 3")
+        self.assertIn("no coordinates", desk.text("#map-help"))
+        self.check(desk, "narrow-numbers")
+        # What can't be read is told in the words of the service, and by its status.
+        desk.open("folder=liechtenstein&ask=plan&from=Industriestrasse&to=135&lorry=artic40&leave=2026-07-10T21%3A45")
+        desk.until_text("#trouble", "Choose one of these places:")
+        desk.touch("#trouble button", "(175)")
+        desk.until_text("#said", "from Industriestrasse to Balzers")
+
+
+if __name__ == "__main__":
+    unittest.main()
