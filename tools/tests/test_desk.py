@@ -167,6 +167,11 @@ for (const it of document.querySelectorAll('button, select, input, summary, .car
 return wide;
 """
 
+# The name of an element in these tests, and the elements at which the tabulator stops.
+NAME = "(it) => it.id || it.getAttribute('aria-label') || it.innerText"
+STOPS = """() => [...document.querySelectorAll('a[href], button, input, select, summary, [tabindex]')].filter((it) => it.checkVisibility()
+  && it.tabIndex >= 0 && !it.disabled && (it.type !== 'radio' || it.checked))"""
+
 # Tells labels, descriptions and ids that lead nowhere or to several elements.
 ASTRAY = r"""
 const ids = [...document.querySelectorAll('[id]')].map((it) => it.id), wrong = ids.filter((it, k) => ids.indexOf(it) !== k);
@@ -246,15 +251,30 @@ class Browser:
         ActionChains(self.driver, 0).send_keys(*keys).perform()
 
     def focused(self):
-        return self.run("const it = document.activeElement; return it.id || it.getAttribute('aria-label') || it.innerText")
+        return self.run(f"return ({NAME})(document.activeElement)")
 
     def tab_to(self, name):
-        """Presses the tabulator until an element is reached, by its id or its label."""
+        """Presses the tabulator until an element is reached, by its id or its label. In the short form the focus is set there, if the tabulator
+        may come to it: `unreached` tells whether it does."""
+        if SHORT:
+            assert self.run(f"const it = ({STOPS})().find((it) => ({NAME})(it) === arguments[0]); it?.focus(); return Boolean(it)", name), name
+            return
         passed = []
         while self.focused() != name:
             assert len(passed) < 150, f"{name} is not reached, only {passed}"
             self.keys(Keys.TAB)
             passed.append(self.focused())
+
+    def unreached(self):
+        """Returns the elements that the tabulator should come to, and doesn't on its way around the page."""
+        begin = "window.reached = []; document.addEventListener('focusin', (event) => window.reached.push(event.target)); "
+        self.run(f"{begin} document.activeElement.blur()")
+        end = "const seen = window.reached; return seen.indexOf(seen.at(-1)) < seen.length - 1"
+        for _ in range(12):
+            self.keys(*[Keys.TAB] * 25)
+            if self.run(end):
+                return self.run(f"return ({STOPS})().filter((it) => !window.reached.includes(it)).map({NAME})")
+        return ["(the tabulator comes to no end)"]
 
     def press(self, name):
         self.tab_to(name)
@@ -352,6 +372,11 @@ class Days(unittest.TestCase):
         self.assertEqual((faint, browser.run(UNFIT), browser.run(ASTRAY), browser.nameless(), browser.complaints()), ([], [], [], [], []), name)
         browser.picture(name)
 
+    def check_keyboard(self, browser, name):
+        """The same, and the tabulator reaches all that can be used."""
+        self.check(browser, name)
+        self.assertEqual(browser.unreached(), [], name)
+
     def saved(self, browser, name):
         """Returns the text of a file that the browser has saved."""
         path = os.path.join(self.files, name)
@@ -362,7 +387,7 @@ class Days(unittest.TestCase):
     def test_a_day_by_keyboard(self):
         desk = self.browser("en-US", WIDE)
         desk.open()
-        self.check(desk, "wide-empty")
+        self.check_keyboard(desk, "wide-empty")
         self.first_trip(desk)
         self.its_options(desk)
         self.handing_on(desk)
@@ -407,7 +432,7 @@ class Days(unittest.TestCase):
             "return [...document.querySelectorAll('.bars title')].map((it) => it.textContent).join('; ')"), "closed roads are drawn")
         self.assertEqual(desk.text(".mark"), "A\nB")
         self.assertGreater(desk.run("return document.querySelectorAll('#map path').length"), 4)
-        self.check(desk, "wide-plan")
+        self.check_keyboard(desk, "wide-plan")
 
     def handing_on(self, desk):
         desk.press("copy-link")
@@ -495,7 +520,7 @@ class Days(unittest.TestCase):
         self.assertEqual(desk.text("tr.serve td:nth-child(2)"), "stop 1, Balzers\nstop 2, Schaan")
         self.assertIn("for the window of stop 1", desk.text("tr.wait"))
         self.assertEqual(desk.text(".mark"), "A\n1\n2\nB")
-        self.check(desk, "wide-tour")
+        self.check_keyboard(desk, "wide-tour")
         desk.press("Remove stop 2")
         desk.press("Remove stop 1")
         self.assertEqual(desk.focused(), "add-stop")

@@ -102,10 +102,9 @@ export function drawnBars(answer, { colours, closed, chosen, width, onchoose }) 
   for (const [k, option] of answer.options.entries()) {
     const place = { ...rows, y: top + step * k, step, width };
     const group = shape("g", { class: "row", onclick: () => onchoose(option.number) });
-    if (option.number === chosen) {
-      const behind = { x: 0, y: place.y, width, height: step, class: "chosen-row" };
-      group.append(shape("rect", behind));
-    }
+    const frame = { x: 1, y: place.y + 1, width: width - 2, height: step - 2, rx: 3 };
+    const kind = option.number === chosen ? "chosen-row" : "other-row";
+    group.append(shape("rect", { ...frame, class: kind }));
     drawLabel(group, option, colours[k], place);
     drawParts(group, axis, option, place, isMerged);
     drawClosed(group, axis, option, closed, place);

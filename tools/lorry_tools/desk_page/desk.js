@@ -60,11 +60,13 @@ class Desk {
     await useLanguage(this.wanted);
     byId("language").value = language();
     this.map.write();
-    const known = this.folders.some((it) => it.name === request.folder);
-    await this.useFolder(known ? request.folder : this.folders[0].name);
+    const isKnown = this.folders.some((it) => it.name === request.folder);
+    await this.useFolder(isKnown ? request.folder : this.folders[0].name);
     this.form.value = request;
     this.way.set(request.over);
-    if (isWhole(request)) {
+    if (request.folder && !isKnown) {
+      this.tell(new Trouble(404, { detail: request.folder }));
+    } else if (isWhole(request)) {
       await this.plan({ chosen: request.option, isNew: false });
       await this.roads;
       this.way.write();
@@ -109,6 +111,8 @@ class Desk {
     this.folder = this.folders.find((it) => it.name === name);
     this.service = new FolderService(name);
     byId("folder").value = name;
+    byId("folder-trouble").hidden = !this.folder.trouble;
+    byId("folder-trouble-words").textContent = this.folder.trouble ?? "";
     this.clearAnswer();
     const roads = this.map.useFolder(this.folder, this.service, this.tiles);
     this.vehicles = await this.service.vehicles();
@@ -245,8 +249,8 @@ class Desk {
       byId("said").textContent = "";
     }
     showTrouble(trouble, {
-      onplace: (end, node) => {
-        this.form[end].value = { text: String(node), node };
+      onplace: (end, place) => {
+        this.form[end].take(place);
         this.plan();
       },
       ontime: (field, offsets) => this.form.offerTimes(field, offsets, () => this.plan()),

@@ -2,35 +2,52 @@
 
 import { element } from "./elements.js";
 import { text } from "./texts.js";
-import { cost, kilometres, moment, placeName, span, streetName } from "./writing.js";
+import { cost, kilometres, localClock, localDay, localMinute, moment } from "./writing.js";
+import { placeName, span, streetName } from "./writing.js";
 
 /** Returns the table of some parts; `goal` has the time and the place of the arrival, if any. */
 export function legsTable(parts, caption, goal = null) {
   const hasLengths = parts.some((it) => it.metres !== null);
   const names = ["leg_time", "leg_what", "leg_takes", ...(hasLengths ? ["leg_length"] : [])];
   const head = names.map((it) => element("th", { scope: "col" }, text(it)));
-  const rows = parts.map((it) => partRow(it, hasLengths));
+  const rows = new Rows(names.length);
+  for (const part of parts) {
+    const length = hasLengths ? [kilometres(part.metres)] : [];
+    rows.add(part.kind, part.start, [partCell(part), span(part.minutes), ...length]);
+  }
   if (goal) {
     const words = text("leg_arrive", { place: placeName(goal.place) });
-    rows.push(row("arrive", [moment(goal.time), words, "", ...(hasLengths ? [""] : [])]));
+    rows.add("arrive", goal.time, [words, "", ...(hasLengths ? [""] : [])]);
   }
   return element(
     "table",
     { class: "legs" },
     element("caption", {}, caption),
     element("thead", {}, element("tr", {}, head)),
-    element("tbody", {}, rows),
+    rows.made,
   );
 }
 
-function partRow(part, hasLengths) {
-  const length = hasLengths ? [kilometres(part.metres)] : [];
-  return row(part.kind, [moment(part.start), partCell(part), span(part.minutes), ...length]);
-}
+/** The rows of a table, those of a day below its name. */
+class Rows {
+  constructor(columns) {
+    this.columns = columns;
+    this.made = [];
+    this.day = "";
+  }
 
-function row(kind, cells) {
-  const made = cells.map((it, k) => element("td", k > 1 ? { class: "number" } : {}, it));
-  return element("tr", { class: kind }, made);
+  add(kind, time, cells) {
+    const minute = localMinute(time);
+    const day = localDay(minute);
+    if (day !== this.day) {
+      this.day = day;
+      const name = element("th", { scope: "rowgroup", colspan: this.columns }, day);
+      this.made.push(element("tbody", {}, element("tr", { class: "day" }, name)));
+    }
+    const all = [localClock(minute), ...cells];
+    const made = all.map((it, k) => element("td", k > 1 ? { class: "number" } : {}, it));
+    this.made.at(-1).append(element("tr", { class: kind }, made));
+  }
 }
 
 function partCell(part) {

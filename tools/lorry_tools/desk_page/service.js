@@ -6,7 +6,7 @@ export class Trouble extends Error {
     super(problem.detail ?? "");
     this.status = status;
     this.detail = problem.detail ?? "";
-    this.line = problem.line ?? null;
+    this.choices = problem.choices ?? []; // places of a name that several have
   }
 }
 

@@ -3,8 +3,8 @@
 
 import { button, byId, element } from "./elements.js";
 import { hasText, text } from "./texts.js";
+import { placeWords } from "./writing.js";
 
-const PLACE = /^\s+(\d+): (.+)$/gm;
 const END = /^(from|to) /;
 const TIMES = /^(leave|by) .* is shown twice .*?([+-]\d\d:\d\d) or .*([+-]\d\d:\d\d)/;
 
@@ -12,7 +12,7 @@ export function clearTrouble() {
   byId("trouble").replaceChildren();
 }
 
-/** Shows a trouble; `onplace(end, node)` and `ontime(field, offsets)` take what is chosen. */
+/** Shows a trouble; `onplace(end, place)` and `ontime(field, offsets)` take what is chosen. */
 export function showTrouble(trouble, { onplace, ontime }) {
   const parts = [element("strong", {}, text("problem")), " ", statusWords(trouble.status)];
   const said = [element("p", {}, parts)];
@@ -24,9 +24,9 @@ export function showTrouble(trouble, { onplace, ontime }) {
     ontime(times[1], [times[2], times[3]]);
   }
   const end = END.exec(trouble.detail);
-  const places = [...trouble.detail.matchAll(PLACE)];
-  if (end && places.length) {
-    said.push(element("p", {}, text("choose_place")), choices(places, end[1], onplace));
+  if (end && trouble.choices.length) {
+    said.push(element("p", {}, text("choose_place")));
+    said.push(choices(trouble.choices, end[1], onplace));
   }
   byId("trouble").replaceChildren(element("div", { class: "notice" }, said));
 }
@@ -40,8 +40,9 @@ function statusWords(status) {
 }
 
 function choices(places, end, onplace) {
-  const buttons = places.map(([, node, words]) =>
-    button(`${words} (${node})`, () => onplace(end, Number(node))),
+  const words = ({ town, name }) => (town && town !== name ? `, ${town}` : "");
+  const buttons = places.map((place) =>
+    button(placeWords(place) + words(place), () => onplace(end, place)),
   );
   return element("div", { class: "buttons" }, buttons);
 }
