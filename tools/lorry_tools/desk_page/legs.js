@@ -9,7 +9,7 @@ import { placeName, span, streetName } from "./writing.js";
 export function legsTable(parts, caption, goal = null) {
   const hasLengths = parts.some((it) => it.metres !== null);
   const names = ["leg_time", "leg_what", "leg_takes", ...(hasLengths ? ["leg_length"] : [])];
-  const head = names.map((it) => element("th", { scope: "col" }, text(it)));
+  const head = names.map((it, k) => element("th", { scope: "col", class: kindOf(k) }, text(it)));
   const rows = new Rows(names.length);
   for (const part of parts) {
     const length = hasLengths ? [kilometres(part.metres)] : [];
@@ -26,6 +26,11 @@ export function legsTable(parts, caption, goal = null) {
     element("thead", {}, element("tr", {}, head)),
     rows.made,
   );
+}
+
+/** Returns the class of the cells of a column: those behind the time and the words are numbers. */
+function kindOf(column) {
+  return column > 1 ? "number" : null;
 }
 
 /** The rows of a table, those of a day below its name. */
@@ -45,7 +50,7 @@ class Rows {
       this.made.push(element("tbody", {}, element("tr", { class: "day" }, name)));
     }
     const all = [localClock(minute), ...cells];
-    const made = all.map((it, k) => element("td", k > 1 ? { class: "number" } : {}, it));
+    const made = all.map((it, k) => element("td", { class: kindOf(k) }, it));
     this.made.at(-1).append(element("tr", { class: kind }, made));
   }
 }

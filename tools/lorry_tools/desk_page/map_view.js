@@ -296,12 +296,16 @@ export class MapView {
 
   showEnds(answer) {
     this.clearEnds();
-    this.mark(answer.from, "A", text("from_marker", { place: placeName(answer.from) }));
+    const isRound = answer.from.node === answer.to.node;
+    const start = text("from_marker", { place: placeName(answer.from) });
+    this.mark(answer.from, isRound ? "AB" : "A", start);
     for (const stop of answer.stops) {
       const words = { number: stop.number, place: placeName(stop.place) };
       this.mark(stop.place, String(stop.number), text("stop_marker", words));
     }
-    this.mark(answer.to, "B", text("to_marker", { place: placeName(answer.to) }));
+    if (!isRound) {
+      this.mark(answer.to, "B", text("to_marker", { place: placeName(answer.to) }));
+    }
   }
 
   mark(place, letter, words) {
