@@ -233,11 +233,12 @@ class Browser:
         return self.run("return [...document.querySelectorAll(arguments[0])].map((it) => it.innerText).join('\\n')", selector)
 
     def until_text(self, selector, words):
-        """Waits until an element shows some words."""
+        """Waits until an element shows some words, on one line or several."""
         try:
-            self.until(lambda: words in self.text(selector), "")
+            self.until(lambda: words in " ".join(self.text(selector).split()), "")
         except Exception:
-            raise AssertionError(f"{selector} has not {words!r} but {self.text(selector)!r}; {self.text('#trouble')!r}") from None
+            shown = {it: self.text(it).strip() for it in (selector, "#trouble", ".fault")}
+            raise AssertionError(f"{words!r} isn't shown, but {shown}") from None
 
     def value(self, name):
         return self.run("return document.getElementById(arguments[0]).value", name)
@@ -267,8 +268,8 @@ class Browser:
 
     def unreached(self):
         """Returns the elements that the tabulator should come to, and doesn't on its way around the page."""
-        begin = "window.reached = []; document.addEventListener('focusin', (event) => window.reached.push(event.target)); "
-        self.run(f"{begin} document.activeElement.blur()")
+        listen = "if (!window.reached) document.addEventListener('focusin', (event) => window.reached.push(event.target)); "
+        self.run(f"{listen} window.reached = []; document.activeElement.blur()")
         end = "const seen = window.reached; return seen.indexOf(seen.at(-1)) < seen.length - 1"
         for _ in range(12):
             self.keys(*[Keys.TAB] * 25)
@@ -507,7 +508,7 @@ class Days(unittest.TestCase):
             place = desk.focused()
             desk.type_place(place, letters)
             desk.tab_to(place.replace("-place", "-minutes"))
-            desk.keys(Keys.CONTROL, "a", Keys.NULL, "20")
+            desk.keys(Keys.BACKSPACE, Keys.BACKSPACE, "20")
             if window:
                 for field, clock in zip(("opens", "closes"), window):
                     desk.tab_to(place.replace("place", field))

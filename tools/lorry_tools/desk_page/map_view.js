@@ -45,6 +45,8 @@ export class MapView {
       inertia: !isCalm,
     }).setView([0, 0], 2);
     this.map.attributionControl.setPrefix(false);
+    // (the answer says in words what these lines are)
+    this.map.getPane("overlayPane").setAttribute("aria-hidden", "true");
     this.background = L.layerGroup().addTo(this.map);
     this.canvas = L.canvas({ padding: 0.3 });
     this.way = L.featureGroup().addTo(this.map);
