@@ -1,5 +1,5 @@
-// An answer: its options as cards of which one is chosen, their days, and the legs of the chosen one;
-// or why there is no option.
+// An answer: its options as cards of which one is chosen, their days, and the legs of the chosen
+// one; or why there is no option.
 
 import { arcsWaitedFor, drawnBars, legendOfBars } from "./bars.js";
 import { coloursOf } from "./colours.js";
@@ -9,8 +9,8 @@ import { counted, hasText, text } from "./texts.js";
 import { cost, kilometres, moment, momentOfYear, placeName, span } from "./writing.js";
 
 const MOST_ASKED = 400; // arcs whose closed times are asked for at once
-const WARNING =
-  /^options? ([\d, and]+): up to (.+) of driving without a (break|rest) of .+ may drive (.+?)(?: a day)? \(/;
+const WARNED = /^options? ([\d, and]+): up to (.+) of driving without a (break|rest) /;
+const ALLOWED = / may drive (.+?)(?: a day)? \(/;
 
 export class AnswerView {
   /** `onchoose(number)` is told the option that is chosen. */
@@ -207,13 +207,13 @@ function notices(answer) {
 
 /** Says a warning of the service in the language of the page; an unknown one in its own words. */
 function warningWords(words) {
-  const parts = WARNING.exec(words);
-  if (!parts) {
+  const [parts, allowed] = [WARNED.exec(words), ALLOWED.exec(words)];
+  if (!parts || !allowed) {
     return element("span", { lang: "en" }, words);
   }
-  const [, options, most, pause, may] = parts;
+  const [, options, most, pause] = parts;
   const said = options.replace(" and ", ` ${text("and")} `);
-  const values = { options: said, most: spanIn(most), may: spanIn(may) };
+  const values = { options: said, most: spanIn(most), may: spanIn(allowed[1]) };
   return text(`warning_${pause}_${said === options && !/,/.test(said) ? "one" : "other"}`, values);
 }
 

@@ -41,7 +41,7 @@ class TimeAxis {
     return (before.at(-1) ?? this.offsets[0]).offset;
   }
 
-  /** Returns the ticks, a step apart by the local clock: the minute and the local minute of each. */
+  /** Returns the ticks, a step apart by the local clock: the minute and the local one of each. */
   ticks(step) {
     const monday = step > DAY ? 4 * DAY : 0; // (the first Monday of Unix time)
     const begin = this.low + this.offset(this.low);
@@ -172,7 +172,8 @@ function drawDayName(panel, x, end, local) {
 function drawLabel(group, option, colour, place) {
   const size = place.label > 16 ? 10 : 8;
   const y = place.y + place.label - 5;
-  group.append(shape("rect", { x: 4, y: y - size + 1, width: size, height: size, fill: colour, rx: 2 }));
+  const square = { x: 4, y: y - size + 1, width: size, height: size, rx: 2 };
+  group.append(shape("rect", { ...square, fill: colour }));
   group.append(written(20, y, String(option.number), "bold"));
   const words = `${moment(option.arrival)} · ${cost(option.cost_thousandths)}`;
   group.append(written(44, y, words, ""));
@@ -264,7 +265,8 @@ function line(x1, y1, x2, y2, stroke, dashes = null) {
 }
 
 function written(x, y, words, kind) {
-  return shape("text", { x, y, class: kind || null, fill: kind.includes("soft") ? SOFT : INK }, words);
+  const fill = kind.includes("soft") ? SOFT : INK;
+  return shape("text", { x, y, class: kind || null, fill }, words);
 }
 
 function hasWeekend(answer) {

@@ -5,7 +5,8 @@ import { AnswerView } from "./answer_view.js";
 import { byId, element } from "./elements.js";
 import { prepareHandingOn } from "./hand_on.js";
 import { MapView } from "./map_view.js";
-import { bodyOf, emptyRequest, isWhole, queryOf, questionOf, requestIn, wayBodyOf } from "./request.js";
+import { bodyOf, emptyRequest, isWhole, queryOf, questionOf } from "./request.js";
+import { requestIn, wayBodyOf } from "./request.js";
 import { FolderService, Trouble, folders, service } from "./service.js";
 import { LANGUAGES, language, text, useLanguage } from "./texts.js";
 import { TripForm } from "./trip_form.js";
@@ -170,6 +171,7 @@ class Desk {
     this.map.clear();
     byId("way").hidden = true;
     byId("hand-on").hidden = true;
+    byId("handed").replaceChildren();
   }
 
   async plan({ chosen = 1, isNew = true } = {}) {

@@ -250,7 +250,7 @@ export class MapView {
         this.markWait(part);
       }
     }
-    const hasOption = this.hasMap && this.option.getLayers().length > 0;
+    const hasOption = this.hasMap && this.option.getBounds().isValid();
     byId("show-option").hidden = !hasOption;
     this.showBounds(hasOption ? this.option : this.ends);
   }
@@ -325,7 +325,7 @@ export class MapView {
   setPrinting(is) {
     document.body.classList.toggle("printing", is);
     this.map.invalidateSize({ animate: false });
-    const shown = this.option.getLayers().length ? this.option : this.ends;
+    const shown = this.option.getBounds().isValid() ? this.option : this.ends;
     this.showBounds(shown, { animate: false });
   }
 

@@ -1,4 +1,4 @@
-// A request: what the form holds, what the address of the page holds, and what the service is asked.
+// A request: what the form and the address of the page hold, and what the service is asked.
 
 /** Returns a request without any words. */
 export function emptyRequest() {

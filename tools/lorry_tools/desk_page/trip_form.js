@@ -22,7 +22,9 @@ export class TripForm {
     for (const name of ["leave", "by"]) {
       byId(name).addEventListener("input", () => this.setOffset(name, ""));
     }
-    byId("lorry").addEventListener("change", () => setFault(byId("lorry"), byId("lorry-fault"), ""));
+    byId("lorry").addEventListener("change", () => {
+      setFault(byId("lorry"), byId("lorry-fault"), "");
+    });
     byId("question").addEventListener("change", () => this.changed());
     byId("swap").addEventListener("click", () => this.swap());
     byId("clear").addEventListener("click", onclear);

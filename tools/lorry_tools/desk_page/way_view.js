@@ -142,8 +142,9 @@ export class WayView {
 
   row(road, k) {
     const named = (key, sign, onclick, isOff = false) => {
-      const label = text(key, { number: k + 1 });
-      return button(sign, onclick, { "aria-label": label, title: label, "aria-disabled": isOff });
+      const title = text(key, { number: k + 1 });
+      const off = { "aria-disabled": String(isOff) };
+      return button(sign, onclick, { "aria-label": title, title, ...off });
     };
     const buttons = [
       named("way_up", "↑", () => this.move(k, -1), k === 0),
