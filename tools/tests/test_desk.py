@@ -197,22 +197,32 @@ def with_what_is_needed(test):
 
 
 class Browser:
-    """Chromium without a screen, over a service of its own."""
+    """Chromium without a screen, over a service. Its own language is American English."""
 
-    def __init__(self, address, language, size, files):
-        self.address, self.files, self.pictures = address, files, 0
+    def __init__(self, address, files):
+        self.address = address
         options = webdriver.ChromeOptions()
-        for word in ("headless=new", "no-sandbox", "disable-gpu", "disable-dev-shm-usage", "hide-scrollbars", f"lang={language}"):
+        for word in ("headless=new", "no-sandbox", "disable-gpu", "disable-dev-shm-usage", "hide-scrollbars", "lang=en-US"):
             options.add_argument(f"--{word}")
-        options.add_experimental_option("prefs", {"intl.accept_languages": language, "download.default_directory": files})
+        options.add_experimental_option("prefs", {"download.default_directory": files})
         options.set_capability("goog:loggingPrefs", {"browser": "ALL"})
         self.driver = webdriver.Chrome(service=Service(shutil.which("chromedriver")), options=options)
         self.run, self.command = self.driver.execute_script, self.driver.execute_cdp_cmd
-        self.set_size(*size)
+        self.set_media("screen")
 
-    def set_size(self, width, height):
-        metrics = {"width": width, "height": height, "deviceScaleFactor": 1, "mobile": width < 600}
+    def become(self, language, size):
+        """Is the browser of another user from now on: the language that pages are asked for in, and the width and height of the screen."""
+        agent = self.run("return navigator.userAgent")
+        self.command("Emulation.setUserAgentOverride", {"userAgent": agent, "acceptLanguage": language})
+        metrics = {"width": size[0], "height": size[1], "deviceScaleFactor": 1, "mobile": size[0] < 600}
         self.command("Emulation.setDeviceMetricsOverride", metrics)
+        self.complaints()
+        return self
+
+    def set_media(self, media):
+        """Shows the page on a screen or on paper; without movement, for which tests would have to wait."""
+        still = {"name": "prefers-reduced-motion", "value": "reduce"}
+        self.command("Emulation.setEmulatedMedia", {"media": media, "features": [still]})
 
     def open(self, query=""):
         self.driver.get(f"{self.address}/{'?' if query else ''}{query}")
@@ -291,14 +301,11 @@ class Browser:
         self.keys(Keys.ENTER)
 
     def type_time(self, field, day, month, year, clock):
-        """Types a time into a field in the order of American English or of German."""
+        """Types a time into a field, in the order of American English."""
         self.tab_to(field)
         hour, minute = clock.split(":")
-        if self.run("return navigator.language").startswith("de"):
-            self.keys(day, month, year, Keys.TAB, hour, minute)
-        else:
-            half = "AM" if int(hour) < 12 else "PM"
-            self.keys(month, day, year, Keys.TAB, f"{(int(hour) + 11) % 12 + 1:02}", minute, half)
+        half = "AM" if int(hour) < 12 else "PM"
+        self.keys(month, day, year, Keys.TAB, f"{(int(hour) + 11) % 12 + 1:02}", minute, half)
 
     # Touch.
 
@@ -307,16 +314,10 @@ class Browser:
         find = "return [...document.querySelectorAll(arguments[0])].find((it) => it.innerText.includes(arguments[1]) && it.checkVisibility())"
         self.until(lambda: self.run(find, selector, words), f"{selector} {words}").click()
 
-    def set(self, field, value):
-        """Gives a field a value, as the pickers of a telephone do."""
-        change = "const it = document.getElementById(arguments[0]); it.value = arguments[1]; "
-        change += "for (const kind of ['input', 'change']) it.dispatchEvent(new Event(kind, {bubbles: true}))"
-        self.run(change, field, value)
-
     # What is wrong.
 
     def complaints(self):
-        """Returns what the browser complained of, such as a breach of the policy of contents."""
+        """Returns what the browser complained of since the last time, such as a breach of the content security policy."""
         return [it["message"] for it in self.driver.get_log("browser") if it["level"] in ("SEVERE", "WARNING")]
 
     def nameless(self):
@@ -359,12 +360,8 @@ class Days(unittest.TestCase):
         said = serving.stdout.readline()
         found = re.search(r"http://[\w.:]+", said)
         assert found, f"tools/serve said {said!r}"
-        cls.address = found[0]
-
-    def browser(self, language, size):
-        browser = Browser(self.address, language, size, self.files)
-        self.addCleanup(browser.driver.quit)
-        return browser
+        cls.browser = Browser(found[0], cls.files)
+        cls.addClassCleanup(cls.browser.driver.quit)
 
     def check(self, browser, name):
         """Nothing on the page is too faint, too wide, too small to be touched, without a name, or astray; the browser has no complaints."""
@@ -386,7 +383,7 @@ class Days(unittest.TestCase):
             return file.read()
 
     def test_a_day_by_keyboard(self):
-        desk = self.browser("en-US", WIDE)
+        desk = self.browser.become("en-US", WIDE)
         desk.open()
         self.check_keyboard(desk, "wide-empty")
         self.first_trip(desk)
@@ -448,11 +445,11 @@ class Days(unittest.TestCase):
         # On paper there are the options and their legs, and neither fields nor buttons.
         printed = desk.command("Page.printToPDF", {"paperWidth": 8.27, "paperHeight": 11.69})["data"]
         self.assertTrue(base64.b64decode(printed).startswith(b"%PDF"))
-        desk.command("Emulation.setEmulatedMedia", {"media": "print"})
+        desk.set_media("print")
         self.assertEqual(desk.run("return [...document.querySelectorAll('input, button, select')].filter((it) => it.checkVisibility() && "
                                   "!it.closest('.card')).map((it) => it.id)"), [])
         self.assertIn("Legs of option 2", desk.text("#answer"))
-        desk.command("Emulation.setEmulatedMedia", {"media": ""})
+        desk.set_media("screen")
         if PICTURES:
             with open(os.path.join(PICTURES, "paper.pdf"), "wb") as file:
                 file.write(base64.b64decode(printed))
@@ -469,15 +466,22 @@ class Days(unittest.TestCase):
         # Roads by the key Enter in the middle of the map, which is zoomed out so far that one is near.
         desk.press("way-choose")
         self.assertEqual(desk.focused(), "map")
-        desk.keys(*"---")
-        desk.until(lambda: not desk.run("return document.querySelector('.leaflet-zoom-anim')"), "the map is still")
-        desk.keys(Keys.ENTER)
-        desk.until(lambda: desk.run("return document.querySelectorAll('#way-roads li').length") == 2, "a road is chosen on the map")
+        self.choose_road(desk, lambda: desk.keys("-", Keys.ENTER))
         desk.press("Move road 2 up")
         self.assertRegex(desk.address_words()["over"][0], r"arcs:\d+")
         desk.press("Remove road 1")
         desk.until(lambda: desk.address_words()["over"] == ["Zollstrasse"], "the road is removed")
         desk.press("way-choose")
+
+    def choose_road(self, desk, zoom_out_and_click):
+        """Zooms the map out until a road is near its middle, and chooses it."""
+        count = "return document.querySelectorAll('#way-roads li').length"
+        before = desk.run(count)
+        for _ in range(8):
+            zoom_out_and_click()
+            if desk.run(count) > before:
+                return
+        self.fail("no road is chosen on the map")
 
     def no_trip(self, desk):
         desk.type_time("leave", "11", "07", "2026", "22:00")
@@ -545,7 +549,7 @@ class Days(unittest.TestCase):
         self.assertIn("+01:00", desk.address_words()["leave"][0])
 
     def test_a_day_by_touch(self):
-        desk = self.browser("de-DE", NARROW)
+        desk = self.browser.become("de-DE", NARROW)
         desk.open()
         self.assertEqual(desk.run("return document.documentElement.lang"), "de")
         self.check(desk, "narrow-empty")
@@ -563,11 +567,7 @@ class Days(unittest.TestCase):
         desk.until_text("table.legs caption", "Abschnitte von Möglichkeit 2")
         desk.touch("#way-choose")
         desk.run("window.scrollTo(0, document.getElementById('map').offsetTop - 100)")
-        for _ in range(3):
-            desk.touch(".leaflet-control-zoom-out")
-        desk.until(lambda: not desk.run("return document.querySelector('.leaflet-zoom-anim')"), "the map is still")
-        desk.touch("#map")
-        desk.until(lambda: desk.run("return document.querySelectorAll('#way-roads li').length") == 1, "a road is chosen on the map")
+        self.choose_road(desk, lambda: desk.touch(".leaflet-control-zoom-out") or desk.touch("#map"))
         desk.touch("#way-ask")
         desk.until(lambda: desk.text("#way-said").startswith(("Er ist nicht erlaubt", "Ankunft")), "the way is explained")
         self.check(desk, "narrow-way")
@@ -579,7 +579,7 @@ class Days(unittest.TestCase):
         self.assertEqual((desk.value("from"), desk.text("#said")), ("", "No trip has been planned yet."))
 
     def test_a_folder_without_coordinates(self):
-        desk = self.browser("en-US", NARROW)
+        desk = self.browser.become("en-US", NARROW)
         desk.open("folder=first-trip&ask=plan&from=1&to=3&lorry=any&leave=2026-07-10T08%3A00")
         desk.until_text("#said", "from node 1 to node 3")
         self.assertIn("no coordinates", desk.text("#map-help"))
