@@ -82,6 +82,10 @@ def add_problems(app: FastAPI) -> None:
     async def of_problem(_: Request, problem: Problem) -> Response:
         return problem_response(problem)
 
+    @app.exception_handler(OSError)
+    async def of_files(_: Request, error: OSError) -> Response:
+        return problem_response(Unavailable(f"a file can't be read or written: {error.strerror}"))
+
     @app.exception_handler(RequestValidationError)
     async def of_words(_: Request, error: RequestValidationError) -> Response:
         return Response(problem_of(422, validation_text(error)), 422, media_type=PROBLEM)

@@ -132,6 +132,9 @@ class Served:
             # What the program refuses stays so; anything else is tried again.
             self._tried = stamp if isinstance(problem, BadFolder) else None
             return
+        except Exception as error:
+            self.trouble = f"{self.name}: the files can't be read: {type(error).__name__}"
+            return
         self.trouble, self._tried = None, None
         with self._lock:
             old, self._copy = self._copy, copy

@@ -12,7 +12,7 @@ import dataclasses
 import itertools
 import os
 import weakref
-from typing import Deque, Union
+from typing import Deque, Sequence, Union
 
 from lorry_tools.answers import Pair, RefusedTrip
 from lorry_tools.files import JOBS
@@ -89,20 +89,17 @@ class Gatherer:
     async def work(self, copy: Copy, line: Line, batch: list[Asked]) -> None:
         loop = asyncio.get_running_loop()
         copy.take()
+        results: Sequence[Union[Planned, BaseException]] = [Stopping()] * len(batch)
         try:
             self.batches, self.plans = self.batches + 1, self.plans + len(batch)
             number = next(self._numbers)
             results = await loop.run_in_executor(self.pool, self.plan_batch, copy, batch, number)
-            for asked, result in zip(batch, results):
-                if asked.future.done():
-                    continue
-                if isinstance(result, BaseException):
-                    asked.future.set_exception(result)
-                else:
-                    asked.future.set_result(result)
+        except Exception as error:
+            results = [error] * len(batch)
         finally:
-            for asked in batch:
-                asked.future.cancel()  # (those that have no result)
+            for asked, result in zip(batch, results):
+                if not asked.future.done():
+                    give(asked.future, result)
             copy.release()
             line.at_work -= 1
             self.begin(copy, line)
@@ -143,6 +140,13 @@ class Gatherer:
             return problem
         except OSError as error:
             return Unavailable(f"a file can't be read: {error.strerror}")
+
+
+def give(future: asyncio.Future[Planned], result: Union[Planned, BaseException]) -> None:
+    if isinstance(result, BaseException):
+        future.set_exception(result)
+    else:
+        future.set_result(result)
 
 
 def remove(path: str) -> None:

@@ -14,6 +14,7 @@ Send = Callable[[Message], Awaitable[None]]
 Application = Callable[[Message, Receive, Send], Awaitable[None]]
 
 PROBLEM = "application/problem+json"
+LARGE = 1 << 16  # bytes of an answer that a client may not take at once
 WAIT_A_SECOND = {"Retry-After": "1"}
 TITLES = {
     400: "The request can't be read",
@@ -110,7 +111,13 @@ class Guard:
                     is_answer = scope["path"].startswith("/api")
                     more.append((b"cache-control", b"no-store" if is_answer else b"no-cache"))
                 message["headers"] = [*message["headers"], *more]
-            await send(message)
+            if len(message.get("body", b"")) < LARGE:
+                await send(message)
+                return
+            try:
+                await asyncio.wait_for(send(message), self.limits.send_seconds)
+            except asyncio.TimeoutError:
+                raise Gone from None
 
         if self.open >= self.limits.requests:
             self.refused += 1

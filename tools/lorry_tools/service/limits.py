@@ -14,6 +14,7 @@ class Limits:
 
     body_bytes: int = 65_536  # of a request; 413
     body_seconds: float = 10.0  # until a request is there; 408
+    send_seconds: float = 30.0  # until a client has taken an answer; then it is cut off
     requests: int = 256  # that are open at once; 429
     runs: int = 4  # of the program at once
     seconds: float = 60.0  # of a request; 504

@@ -22,6 +22,7 @@ import argparse
 import ipaddress
 import json
 import os
+import resource
 import socket
 import subprocess
 import sys
@@ -107,6 +108,12 @@ def program_of(path: Optional[str]) -> str:
     return found
 
 
+def allow_many_files() -> None:
+    """Lets this process have as many connections as it may."""
+    _, most = resource.getrlimit(resource.RLIMIT_NOFILE)
+    resource.setrlimit(resource.RLIMIT_NOFILE, (most, most))
+
+
 def listening(host: str, port: int) -> socket.socket:
     try:
         family, kind, protocol, _, address = socket.getaddrinfo(
@@ -165,6 +172,7 @@ def main() -> int:
         print(json.dumps(serving.schema(), indent=1, sort_keys=True))
         return 0
     program, limits = program_of(words.program), limits_of(words)
+    allow_many_files()
     with tempfile.TemporaryDirectory(prefix="lorry_plan-serve-") as place:
         tempfile.tempdir = place  # (of all that the library makes)
         try:

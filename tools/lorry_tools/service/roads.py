@@ -3,7 +3,7 @@ from __future__ import annotations
 
 import math
 import threading
-from typing import Any, Iterable, NamedTuple, Optional
+from typing import Any, NamedTuple, Optional
 
 from lorry_tools.graph import Graph
 from lorry_tools.places import Places
@@ -80,47 +80,48 @@ class RoadMap:
             return self._cells
 
     def _fill(self) -> dict[tuple[int, int], list[Road]]:
-        roads, bounds = list(self.roads()), self.bounds
+        bounds = self.bounds
         cells: dict[tuple[int, int], list[Road]] = {}
         if bounds is None:
             return cells
+        known = self.places.known.items()
+        points = {node: self.point(node) for node, it in known if it.lat is not None}
+        roads = self.roads(points)
         across = max(bounds.east - bounds.west, bounds.north - bounds.south, 1e-6)
         self._size = across / max(1.0, math.sqrt(len(roads) / A_CELL_HAS))
+        cell_at = {node: self.cell(*point) for node, point in points.items()}
         for road in roads:
-            box = self.box_of(road)
-            left, low = self.cell(box.west, box.south)
-            right, high = self.cell(box.east, box.north)
-            for column in range(left, right + 1):
-                for row in range(low, high + 1):
+            tail, head, _ = self.graph.ends(road.arc)
+            (left, low), (right, high) = cell_at[tail], cell_at[head]
+            if (left, low) == (right, high):
+                cells.setdefault((left, low), []).append(road)
+                continue
+            for column in range(min(left, right), max(left, right) + 1):
+                for row in range(min(low, high), max(low, high) + 1):
                     cells.setdefault((column, row), []).append(road)
         return cells
 
     def cell(self, lon: float, lat: float) -> tuple[int, int]:
         return math.floor(lon / self._size), math.floor(lat / self._size)
 
-    def roads(self) -> Iterable[Road]:
-        """Yields the roads whose ends have coordinates."""
-        graph, waiting = self.graph, dict[tuple[int, int, int, str], list[int]]()
-        pairs: dict[int, int] = {}
-        for arc, (tail, head) in enumerate(zip(graph.tails, graph.heads), 1):
-            if not self.has_place(tail) or not self.has_place(head):
+    def roads(self, points: dict[int, tuple[float, float]]) -> list[Road]:
+        """Returns the roads whose ends have coordinates."""
+        metres, names = self.streets.metres, self.streets.names
+        waiting: dict[tuple[int, int, int, str], int] = {}
+        backs: dict[int, int] = {}
+        weights: dict[int, int] = {}
+        ends = zip(self.graph.tails, self.graph.heads, self.graph.minutes)
+        for arc, (tail, head, minutes) in enumerate(ends, 1):
+            if tail not in points or head not in points:
                 continue
-            length, name = self.weight(arc), self.streets.names.get(arc, "")
-            others = waiting.get((head, tail, length, name))
-            if others:
-                pairs[others.pop()] = arc
+            weight, name = metres.get(arc, minutes), names.get(arc, "")
+            other = waiting.pop((head, tail, weight, name), 0)
+            if other:
+                backs[other] = arc
             else:
-                waiting.setdefault((tail, head, length, name), []).append(arc)
-                pairs[arc] = 0
-        for arc, back in pairs.items():
-            yield Road(arc, back, self.weight(arc))
-
-    def weight(self, arc: int) -> int:
-        metres = self.streets.metres.get(arc)
-        return self.graph.ends(arc)[2] if metres is None else metres
-
-    def has_place(self, node: int) -> bool:
-        return self.places.at(node).lat is not None
+                waiting[tail, head, weight, name] = arc
+                backs[arc], weights[arc] = 0, weight
+        return [Road(arc, back, weights[arc]) for arc, back in backs.items()]
 
     def point(self, node: int) -> tuple[float, float]:
         place = self.places.at(node)

@@ -22,6 +22,7 @@ from lorry_tools.service.main import BACKLOG, hosts_of, listening, said_of
 from lorry_tools.service.runs import Runs
 
 GRACE = 10.0  # seconds that open requests have once the service is to end
+LAST = 3.0  # seconds more until connections are cut
 HEAD_SECONDS = 10.0  # until the head of a request is there
 
 
@@ -54,8 +55,14 @@ class Server(uvicorn.Server):
 
     def handle_exit(self, sig: int, frame: Optional[FrameType]) -> None:
         self.guard.is_stopping = True
-        asyncio.get_running_loop().call_later(GRACE, self.runs.stop)
+        loop = asyncio.get_running_loop()
+        loop.call_later(GRACE, self.runs.stop)
+        loop.call_later(GRACE + LAST, self.leave)
         super().handle_exit(sig, frame)
+
+    def leave(self) -> None:
+        """Ends even where clients don't take their answers."""
+        self.force_exit = True
 
 
 def serve(words: argparse.Namespace, program: str, limits: Limits, place: str) -> int:
@@ -74,7 +81,7 @@ def serve(words: argparse.Namespace, program: str, limits: Limits, place: str) -
         http=Protocol,
         ws="none",
         lifespan="on",
-        log_level="warning",
+        log_level="error",
         access_log=False,
         server_header=False,
         backlog=BACKLOG,
