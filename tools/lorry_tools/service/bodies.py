@@ -110,6 +110,12 @@ class TripBody(Body):
     def asks_for_a_way(self) -> bool:
         return False
 
+    def is_read_at_once(self, places: Places) -> bool:
+        """Whether both ends are known by their numbers, or by names that there are; others are
+        looked for in a thread."""
+        ends = (str(self.origin), str(self.goal))
+        return all(it.isdigit() or it.casefold() in places.by_name() for it in ends)
+
 
 class PlanBody(TripBody):
     """A trip that is planned, with a certificate if wanted."""

@@ -6,7 +6,6 @@ import concurrent.futures
 import time
 from typing import Any, Awaitable, Callable, Optional, TypeVar, Union
 
-from lorry_tools.answers import Pair, RefusedTrip
 from lorry_tools.service.answering import (
     FORMS,
     answer_of_pairs,
@@ -15,7 +14,7 @@ from lorry_tools.service.answering import (
 )
 from lorry_tools.service.bodies import BansBody, PlanBody, TripBody
 from lorry_tools.service.copies import Copy, Served, Stamp
-from lorry_tools.service.gathering import Gatherer
+from lorry_tools.service.gathering import Gatherer, Planned
 from lorry_tools.service.guards import json_bytes
 from lorry_tools.service.limits import Limits, TooSlow
 from lorry_tools.service.runs import LimitedProgram, Runs, deadline_of
@@ -69,20 +68,25 @@ class Service:
         """Returns the version of the copy that was used, the answer to a trip, and its type."""
         copy, deadline = served.take(), deadline_of(self.limits)
         try:
-            read = self.in_thread(self.builders, deadline, lambda: read_body(copy, body))
-            request = await read
-            found: Union[None, list[Pair], RefusedTrip] = None
-            if is_plain(body, request):
-                plan = self.gatherer.plan(copy, request, deadline)
-                found = await self.within(deadline, plan)
-            asks_more = found is None or body.reasons or form == "svg"
-            pool = self.workers if asks_more else self.builders
+            if body.is_read_at_once(copy.places):
+                request = read_body(copy, body)
+            else:
+                read = self.in_thread(self.builders, deadline, lambda: read_body(copy, body))
+                request = await read
 
-            def write() -> bytes:
+            def write(found: Optional[Planned]) -> bytes:
                 return self.written(copy, body, request, found, form, deadline)
 
-            text = await self.in_thread(pool, deadline, write)
-            return copy.version, text, FORMS[form][0]
+            found: Union[None, Planned, bytes] = None
+            if is_plain(body, request):
+                needs_runs = body.reasons or form == "svg"
+                finish = None if needs_runs else write
+                plan = self.gatherer.plan(copy, request, deadline, finish)
+                found = await self.within(deadline, plan)
+            if not isinstance(found, bytes):
+                pairs = found
+                found = await self.in_thread(self.workers, deadline, lambda: write(pairs))
+            return copy.version, found, FORMS[form][0]
         finally:
             copy.release()
 
@@ -91,7 +95,7 @@ class Service:
         copy: Copy,
         body: TripBody,
         request: Request,
-        found: Union[None, list[Pair], RefusedTrip],
+        found: Optional[Planned],
         form: str,
         deadline: float,
     ) -> bytes:

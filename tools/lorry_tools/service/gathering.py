@@ -12,7 +12,7 @@ import dataclasses
 import itertools
 import os
 import weakref
-from typing import Deque, Sequence, Union
+from typing import Callable, Deque, Optional, Union
 
 from lorry_tools.answers import Pair, RefusedTrip
 from lorry_tools.files import JOBS
@@ -28,6 +28,9 @@ from lorry_tools.trips.request import Request
 BATCHES_AT_ONCE = 2  # over one folder: while one searches the other one reads
 
 Planned = Union[list[Pair], RefusedTrip]
+# What is made of a plan where it was planned, and what a request gets.
+Finish = Callable[[Planned], bytes]
+Result = Union[Planned, bytes]
 
 
 @dataclasses.dataclass
@@ -36,7 +39,8 @@ class Asked:
 
     request: Request
     deadline: float
-    future: asyncio.Future[Planned]
+    future: asyncio.Future[Result]
+    finish: Optional[Finish]
 
 
 class Line:
@@ -59,11 +63,14 @@ class Gatherer:
         self._numbers = itertools.count(1)
         self._tasks: set[asyncio.Task[None]] = set()
 
-    async def plan(self, copy: Copy, request: Request, deadline: float) -> Planned:
-        """Returns the pairs of a plan over a copy that is in use until then."""
+    async def plan(
+        self, copy: Copy, request: Request, deadline: float, finish: Optional[Finish] = None
+    ) -> Result:
+        """Returns the pairs of a plan over a copy that is in use until then, or what FINISH makes
+        of them."""
         loop = asyncio.get_running_loop()
         line = self.lines.setdefault(copy, Line())
-        asked = Asked(request, deadline, loop.create_future())
+        asked = Asked(request, deadline, loop.create_future(), finish)
         line.waiting.append(asked)
         if not line.has_timer:
             line.has_timer = True
@@ -89,20 +96,21 @@ class Gatherer:
     async def work(self, copy: Copy, line: Line, batch: list[Asked]) -> None:
         loop = asyncio.get_running_loop()
         copy.take()
-        results: Sequence[Union[Planned, BaseException]] = [Stopping()] * len(batch)
+        failed: BaseException = Stopping()
         try:
             self.batches, self.plans = self.batches + 1, self.plans + len(batch)
             number = next(self._numbers)
-            results = await loop.run_in_executor(self.pool, self.plan_batch, copy, batch, number)
-        except Exception as error:
-            results = [error] * len(batch)
-        finally:
-            for asked, result in zip(batch, results):
-                if not asked.future.done():
-                    give(asked.future, result)
-            copy.release()
+            plan = loop.run_in_executor(self.pool, self.plan_batch, copy, batch, number)
+            found = await plan
             line.at_work -= 1
             self.begin(copy, line)
+            await loop.run_in_executor(self.pool, finish_all, loop, batch, found)
+        except Exception as error:
+            failed = error
+        finally:
+            for asked in batch:
+                give(asked.future, failed)  # (to those that have no result yet)
+            copy.release()
 
     def plan_batch(
         self, copy: Copy, batch: list[Asked], number: int
@@ -142,7 +150,25 @@ class Gatherer:
             return Unavailable(f"a file can't be read: {error.strerror}")
 
 
-def give(future: asyncio.Future[Planned], result: Union[Planned, BaseException]) -> None:
+def finish_all(
+    loop: asyncio.AbstractEventLoop,
+    batch: list[Asked],
+    found: list[Union[Planned, BaseException]],
+) -> None:
+    """Gives each plan of a batch its result, as soon as it is there."""
+    for asked, planned in zip(batch, found):
+        result: Union[Result, BaseException] = planned
+        if asked.finish and not isinstance(planned, BaseException):
+            try:
+                result = asked.finish(planned)
+            except Exception as error:
+                result = error
+        loop.call_soon_threadsafe(give, asked.future, result)
+
+
+def give(future: asyncio.Future[Result], result: Union[Result, BaseException]) -> None:
+    if future.done():
+        return
     if isinstance(result, BaseException):
         future.set_exception(result)
     else:

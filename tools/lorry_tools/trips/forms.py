@@ -51,6 +51,8 @@ class Forms:
 
     def __init__(self, answer: Answer):
         self.answer = answer
+        self._times: dict[tuple[int, int], Value] = {}
+        self._nodes: dict[int, Value] = {}
 
     def value(self) -> Value:
         answer, request = self.answer, self.answer.request
@@ -90,12 +92,14 @@ class Forms:
         }
 
     def time(self, minute: int, node: int) -> Value:
-        clock = self.answer.places.clock(node)
-        return {
-            "local": shown_text(clock, minute),
-            "zone": clock.name,
-            "utc": instant_text(minute),
-        }
+        if (minute, node) not in self._times:
+            clock = self.answer.places.clock(node)
+            self._times[minute, node] = {
+                "local": shown_text(clock, minute),
+                "zone": clock.name,
+                "utc": instant_text(minute),
+            }
+        return self._times[minute, node]
 
     def place(self, place: Place) -> Value:
         return {
@@ -107,7 +111,9 @@ class Forms:
         }
 
     def node(self, node: int) -> Value:
-        return self.place(self.answer.places.at(node))
+        if node not in self._nodes:
+            self._nodes[node] = self.place(self.answer.places.at(node))
+        return self._nodes[node]
 
     def option(self, option: Option) -> Value:
         request = self.answer.request
