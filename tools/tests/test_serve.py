@@ -442,7 +442,9 @@ class Folders(FaultTest):
         self.write("rules.csv", lambda text: "scope,key,value\n")
         self.wait_for(lambda: self.version() != first)
         self.assertIsNone(self.trouble())
-        self.assertEqual(self.served.ask("plan", quick)[1]["options"][0]["waiting_minutes"], 0)
+        status, found = self.served.ask("plan", quick)
+        self.assertEqual(status, 200, found)
+        self.assertEqual(found["options"][0]["waiting_minutes"], 0)
         self.assertEqual(len(os.listdir(os.path.join(self.temporary, os.listdir(self.temporary)[0]))), 1)
 
     def test_a_folder_that_goes_is_served_on(self):
@@ -509,7 +511,7 @@ class Load(FaultTest):
     def test_two_hundred_clients(self):
         """For a minute, or for some seconds in the short form: nothing is lost, and memory is steady."""
         seconds, quick = (4 if SHORT else 60), {**YARD, "reasons": False}
-        good = json.dumps(self.served.ask("plan", quick)[1])
+        good = self.served.send("POST", "/api/folders/liechtenstein/plan", quick)[2]
         counts, end = [0] * 200, time.monotonic() + seconds
 
         def client(number):
@@ -517,8 +519,7 @@ class Load(FaultTest):
             while time.monotonic() < end:
                 connection.request("POST", "/api/folders/liechtenstein/plan", json.dumps(quick), {"Content-Type": "application/json"})
                 answer = connection.getresponse()
-                text = answer.read().decode()
-                self.assertEqual((answer.status, text), (200, good))
+                self.assertEqual((answer.status, answer.read()), (200, good))
                 counts[number] += 1
                 if counts[number] == 1:
                     start[number] = self.served.memory() if number == 0 else 0
