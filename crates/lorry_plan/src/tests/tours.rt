@@ -224,3 +224,66 @@ const FAILING: &[(&str, &str)] = &[
 fn refuses_tours_at_their_first_failed_check(rt: HostRuntime) {
     expect_texts(&rt, AT_THE_GOAL, Status::BadRequest, FAILING);
 }
+
+// A mill, a rest area and a shop, two deliveries, and a change of trailers at the rest area in place of the second.
+const DELIVERIES: Texts<'static> = &[
+    ("d/graph.gr", "p sp 4 3\na 1 2 180\na 2 3 60\na 3 4 120\n"),
+    ("d/ratings.csv", "rating,weight\nplain,0.100\n"),
+    ("d/parking.csv", "node,rating\n3,plain\n"),
+    (
+        "d/s.csv",
+        "node,service,from,to\n2,30,26563680,26565120\n4,20,26563680,26565120\n",
+    ),
+    (
+        "d/swap.csv",
+        "node,service,from,to\n2,30,26563680,26565120\n3,45,26563680,26565120\n",
+    ),
+    ("d/none.csv", "node,service,from,to\n"),
+];
+
+// A break is due where the rule says so. No service is one, nor does one take minutes of driving.
+const RESTED: &[(&str, &str)] = &[
+    (
+        "tour d any 1 4 26563680 26564400 s.csv --drive 270",
+        "pairs 1\npair 26564135 364.500\ndrive 1\nserve 1\ndrive 2\nwait 45\ndrive 3\nserve 2\n",
+    ),
+    (
+        "tour d any 1 4 26563680 26564400 swap.csv --rest 45",
+        "pairs 1\npair 26564160 364.500\ndrive 1\nserve 1\ndrive 2\nserve 2\nwait 45\ndrive 3\n",
+    ),
+    (
+        "tour d any 1 4 26563680 26564400 s.csv --rest 20",
+        "pairs 1\npair 26564110 362.000\ndrive 1\nserve 1\ndrive 2\nwait 20\ndrive 3\nserve 2\n",
+    ),
+    (
+        "tour d any 1 4 26563680 26564400 s.csv --drive 360",
+        "pairs 1\npair 26564090 360.000\ndrive 1\nserve 1\ndrive 2\ndrive 3\nserve 2\n",
+    ),
+    ("tour d any 1 4 26563680 26564400 s.csv --drive 239", NONE),
+    (
+        "tour d any 1 4 26563680 26564400 none.csv --rest=45",
+        "pairs 1\npair 26564085 364.500\ndrive 1\ndrive 2\nwait 45\ndrive 3\n",
+    ),
+];
+
+#[test]
+fn keeps_the_rule_that_is_given(rt: HostRuntime) {
+    expect_texts(&rt, DELIVERIES, Status::Done, RESTED);
+}
+
+// The same refusals under a rule.
+const FAILING_RESTED: &[(&str, &str)] = &[
+    (
+        "tour d x 0 9 26563680 26563679 s.csv --rest 45",
+        "refused request UnknownVehicle\n",
+    ),
+    (
+        "tour d any 1 3 26563680 26650081 s.csv --drive 270",
+        "refused request HorizonTooLong\n",
+    ),
+];
+
+#[test]
+fn refuses_tours_under_a_rule_as_others(rt: HostRuntime) {
+    expect_texts(&rt, AT_THE_GOAL, Status::BadRequest, FAILING_RESTED);
+}
