@@ -342,6 +342,21 @@ class Browser:
                 file.write(base64.b64decode(shot["data"]))
 
 
+def thirty_roads(folder):
+    """Writes thirty roads side by side."""
+    place = os.path.join(folder, "thirty")
+    os.mkdir(place)
+    tables = {
+        "graph.gr": beside.graph(2, *((1, 2, 10 + it) for it in range(30))),
+        "tolls.csv": "arc,toll\n" + "".join(f"{it + 1},{100 - 3 * it}\n" for it in range(30)),
+        "nodes.csv": "node,lon,lat,name\n1,9.0,47.0,<b>Yard</b> & Son\n2,9.2,47.1,Goal\n",
+    }
+    for name, text in tables.items():
+        with open(os.path.join(place, name), "w", encoding="utf-8") as file:
+            file.write(text)
+    return place
+
+
 @with_what_is_needed
 class Days(unittest.TestCase):
     """Days of a dispatcher in Liechtenstein."""
@@ -352,6 +367,7 @@ class Days(unittest.TestCase):
         cls.addClassCleanup(folder.cleanup)
         cls.files = folder.name
         folders = [os.path.join(beside.TOP, "examples", it) for it in ("liechtenstein", "first-trip")]
+        folders.append(thirty_roads(cls.files))
         words = [PYTHON, os.path.join(beside.TOOLS, "serve"), *folders, "--port", "0", "--program", beside.PROGRAM]
         serving = subprocess.Popen(words, stdin=subprocess.DEVNULL, stdout=subprocess.PIPE, text=True)
         cls.addClassCleanup(serving.stdout.close)
@@ -589,6 +605,32 @@ class Days(unittest.TestCase):
         desk.until_text("#trouble", "Choose one of these places:")
         desk.touch("#trouble button", "(175)")
         desk.until_text("#said", "from Industriestrasse to Balzers")
+        # So is a service that can't be reached; the form stays as it is, and the next try can do.
+        self.addCleanup(self.set_line, desk, True)
+        self.set_line(desk, False)
+        desk.touch("#plan")
+        desk.until_text("#trouble", "The service can’t be reached.")
+        self.set_line(desk, True)
+        desk.touch("#plan")
+        desk.until_text("#said", "from Industriestrasse to Balzers")
+        self.assertEqual(desk.text("#trouble"), "")
+
+    def set_line(self, desk, is_there):
+        """Cuts the line between the browser and the service, or mends it."""
+        speed = -1 if is_there else 0
+        line = {"offline": not is_there, "latency": 0, "downloadThroughput": speed, "uploadThroughput": speed}
+        desk.command("Network.enable", {})
+        desk.command("Network.emulateNetworkConditions", line)
+
+    def test_many_options(self):
+        """Thirty roads side by side, each a minute longer and 2.000 cheaper; names that look like elements of a page stay names."""
+        desk = self.browser.become("en-US", WIDE)
+        desk.open("folder=thirty&ask=plan&from=1&to=2&lorry=any&leave=2026-07-06T06%3A00&option=30")
+        desk.until_text("#said", "30 options from <b>Yard</b> & Son to Goal")
+        self.assertEqual(desk.run("return document.querySelectorAll('.card').length"), 30)
+        self.assertIn("cost 52.000", " ".join(desk.text(".card:last-child").split()))
+        self.assertEqual(desk.text("table.legs caption"), "Legs of option 30")
+        self.check_keyboard(desk, "wide-many")
 
 
 if __name__ == "__main__":

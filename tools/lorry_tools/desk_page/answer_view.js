@@ -9,6 +9,7 @@ import { counted, hasText, text } from "./texts.js";
 import { cost, kilometres, moment, momentOfYear, placeName, span } from "./writing.js";
 
 const MOST_ASKED = 400; // arcs whose closed times are asked for at once
+const MOST_OPEN = 8; // options whose cards and bars don't scroll
 const WARNED = /^options? ([\d, and]+): up to (.+) of driving without a (break|rest) /;
 const ALLOWED = / may drive (.+?)(?: a day)? \(/;
 
@@ -54,7 +55,7 @@ export class AnswerView {
     byId("said").textContent = headline(answer);
     const parts = [element("p", {}, facts(answer)), ...notices(answer)];
     if (answer.options.length) {
-      this.figure = element("div", { class: "days" });
+      this.figure = element("div", { class: "days", ...this.scrolling() });
       this.legs = element("div", { class: "wide" });
       parts.push(this.cards(), this.days(), this.legs);
     } else {
@@ -62,6 +63,13 @@ export class AnswerView {
     }
     this.place.replaceChildren(...parts, commands(answer));
     this.choose(chosen);
+  }
+
+  /** Lets cards and bars scroll where there are many; returns what a part that scrolls needs. */
+  scrolling() {
+    const isMany = this.answer.options.length > MOST_OPEN;
+    this.place.classList.toggle("many", isMany);
+    return isMany ? { tabindex: 0, role: "group", "aria-label": text("bars") } : {};
   }
 
   /** Asks for the closed times of the roads that are waited for, and draws them. */
