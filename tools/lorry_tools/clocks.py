@@ -3,6 +3,7 @@
 A time that a clock skips or shows twice is asked back, never guessed."""
 from __future__ import annotations
 
+import bisect
 import datetime
 import re
 import zoneinfo
@@ -30,13 +31,17 @@ class TableClock:
     def __init__(self, name: str, changes: list[tuple[int, int]]):
         self.name = name
         self.changes = changes or [(FIRST_INSTANT, 0)]
+        self._starts = [start for start, _ in self.changes]
 
     def offset(self, minute: int) -> int:
-        found = self.changes[0][1]
-        for start, offset in self.changes:
-            if start <= minute:
-                found = offset
-        return found
+        place = bisect.bisect_right(self._starts, minute)
+        return self.changes[max(0, place - 1)][1]
+
+    def offsets(self, low: int, high: int) -> set[int]:
+        """Returns the offsets at the minutes from LOW to HIGH."""
+        places = (bisect.bisect_right(self._starts, it) for it in (low, high))
+        first, last = (max(0, it - 1) for it in places)
+        return {offset for _, offset in self.changes[first : last + 1]}
 
 
 class SystemClock:
@@ -55,6 +60,10 @@ class SystemClock:
     def offset(self, minute: int) -> int:
         moment = moment_of(minute).replace(tzinfo=datetime.timezone.utc).astimezone(self.zone)
         return int((moment.utcoffset() or datetime.timedelta()).total_seconds()) // 60
+
+    def offsets(self, low: int, high: int) -> set[int]:
+        """Returns the offsets at some minutes from LOW to HIGH, one in each hour."""
+        return {self.offset(it) for it in range(low, high + 1, 60)}
 
 
 Clock = Union[TableClock, SystemClock]
@@ -99,7 +108,7 @@ def minutes_showing(clock: Clock, shown: datetime.datetime) -> list[int]:
     """Returns the minutes at which a clock shows this: none where it skips it, two where it shows
     it twice."""
     there = minute_at(shown)
-    offsets = {clock.offset(there + it) for it in range(-DAY, DAY + 1, 60)}
+    offsets = clock.offsets(there - DAY, there + DAY)
     return sorted(there - it for it in offsets if clock.offset(there - it) == it)
 
 
