@@ -156,6 +156,23 @@ class Trips(beside.FolderTest):
             due.wrong_legs((MIDNIGHT + 240, 180_000), [("wait", 120), ("drive", 1), ("drive", 2)]), "a stretch is too long"
         )
 
+    def test_a_tour_with_breaks(self):
+        """With 60 minutes of driving a break of 30 is due at node 2, before or after the service. One waits at node 1 until 01:00 for 30, serves and rests
+        from 02:00 to 03:00, which costs 60, and arrives at 04:00: 210 with both roads. A break that the service parts is none."""
+        with open(self.path("stops.csv"), "w", encoding="utf-8") as file:
+            file.write("node,service,from,to\n2,30,2020-07-04T01:00Z,2020-07-04T03:30Z\n")
+        due = self.due("tour", "stops.csv", "--drive", "60", "--rest", "30")
+        self.assertEqual(due.pairs, [(MIDNIGHT + 240, 210_000)])
+        best = [("wait", 60), ("drive", 1), ("serve", 1), ("wait", 30), ("drive", 2)]
+        self.assertIsNone(due.wrong_legs((MIDNIGHT + 240, 210_000), best))
+        before = [("wait", 60), ("drive", 1), ("wait", 30), ("serve", 1), ("drive", 2)]
+        self.assertIsNone(due.wrong_legs((MIDNIGHT + 240, 210_000), before))
+        parted = [("wait", 60), ("drive", 1), ("wait", 15), ("serve", 1), ("wait", 15), ("drive", 2)]
+        self.assertEqual(due.wrong_legs((MIDNIGHT + 240, 210_000), parted), "a stretch is too long")
+        alone = self.due("tour", "stops.csv", "--rest=30")
+        # With the usual 270 minutes of driving none is due.
+        self.assertEqual(alone.pairs, [(MIDNIGHT + 240, 165_000)])
+
     def test_explanations(self):
         for legs, text in (
             ("drive 3\n", f"lawful {MIDNIGHT + 300} 310.000\ndominated {MIDNIGHT + 240} 180.000\n"),

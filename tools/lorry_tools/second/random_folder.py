@@ -654,7 +654,7 @@ def draw_trip_over(
         write(folder, ITINERARY, spoil_lines(rng, itinerary_text(rng, legs)))
         words.append(ITINERARY)
     words = spoil_words(rng, words, network, window) if rng.random() < 0.05 else words
-    if command == "breaks":
+    if command == "breaks" or (command == "tour" and rng.random() < 0.5):
         words = with_options(rng, words, rule_options(rng, graph, walk, window))
     if rng.random() < 0.02:
         spoil_folder(rng, folder, words, network, window)

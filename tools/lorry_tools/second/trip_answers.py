@@ -49,8 +49,9 @@ Stops = Sequence[Stop]
 # A node and how many stops were served.
 Served = tuple[int, int]
 TourCosts = dict[int, dict[Served, int]]
-# A node, the minutes driven since the last break, and the neighbouring waits so far.
-Driven = tuple[int, int, int]
+# A node, the minutes driven since the last break, the neighbouring waits so far, and the number of
+# stops served.
+Driven = tuple[int, int, int, int]
 PlainSteps = Callable[[int, int], list[tuple[int, int, int]]]
 
 COMMANDS = ["plan", "latest", "tour", "breaks", "explain"]
@@ -62,13 +63,16 @@ MOST_STATES = 40_000_000
 MOST_STOPS = 50
 MOST_ITINERARY_BYTES = 16_777_216
 
-OPTIONS: dict[str, dict[str, int]] = {"breaks": {"--drive": 270, "--rest": 45}}
+# The options of a command, with the values that they have where one of them is given.
+RULE = {"--drive": 270, "--rest": 45}
+OPTIONS: dict[str, dict[str, int]] = {"tour": RULE, "breaks": RULE}
 FILE_LABELS = {"tour": "stops", "explain": "itinerary"}
 
 
 @dataclasses.dataclass
 class Request:
-    """The words of a trip; `file` is the last word of a tour, and of a trip that is explained."""
+    """The words of a trip; `file` is the last word of a tour, and of a trip that is explained. Both
+    numbers of the break rule are 0 where the trip keeps none."""
 
     command: str
     folder: str
@@ -116,7 +120,8 @@ def request_of(words: list[str]) -> Optional[Request]:
     given = {name: option_of(value) for name, value in options.items()}
     numbers = [node_of(origin), node_of(goal), instant_of(depart), instant_of(until)]
     known = [it for it in numbers if it is not None]
-    values = {**OPTIONS.get(command, {}), **{k: it for k, it in given.items() if it is not None}}
+    usual = OPTIONS.get(command, {}) if command == "breaks" or options else {}
+    values = {**usual, **{k: it for k, it in given.items() if it is not None}}
     forms = 1 <= len(os.fsencode(folder)) <= 4_096 and is_name(vehicle) and is_name(file)
     if not forms or len(known) < len(numbers) or None in given.values():
         return None
@@ -489,27 +494,30 @@ def may_serve(stop: Stop, node: int, minute: int, until: int) -> bool:
     return node == at and begin <= minute and minute + service <= end and minute + service <= until
 
 
-def breaks_front(roads: Roads, request: Request) -> list[Pair]:
-    """A state is a node, the minutes driven since the last break, and the neighbouring waits so
-    far, which don't matter after a break."""
+def rested_front(roads: Roads, request: Request, stops: Stops = ()) -> list[Pair]:
+    """The front of the tours that keep the rule, and, without stops, of such trips. The
+    neighbouring waits so far don't matter after a break; a service ends them, and is no driving."""
 
     def steps(state: Driven, minute: int) -> Iterator[tuple[Driven, int, int]]:
-        node, driven, waits = state
+        node, driven, waits, served = state
         if roads.may_wait(node, minute, request.until):
             rested = driven == 0 or waits + 1 == request.rest
-            yield (node, 0, 0) if rested else (node, driven, waits + 1), 1, roads.price(node)
+            after = (node, 0, 0, served) if rested else (node, driven, waits + 1, served)
+            yield after, 1, roads.price(node)
         for arc in roads.drives(node, minute, request.until):
             stretch = driven + roads.minutes(arc)
             if stretch <= request.drive:
-                yield (roads.head(arc), stretch, 0), roads.minutes(arc), roads.cost(arc)
+                yield (roads.head(arc), stretch, 0, served), roads.minutes(arc), roads.cost(arc)
+        if served < len(stops) and may_serve(stops[served], node, minute, request.until):
+            yield (node, driven, 0, served + 1), stops[served][1], 0
 
-    costs = least_costs((request.origin, 0, 0), request.depart, steps)
+    costs = least_costs((request.origin, 0, 0, 0), request.depart, steps)
     return front_of(
         [
             (minute, cost)
             for minute, at in costs.items()
-            for state, cost in at.items()
-            if state[0] == request.goal
+            for (node, _, _, served), cost in at.items()
+            if (node, served) == (request.goal, len(stops))
         ]
     )
 
@@ -620,12 +628,16 @@ def closing_reason(roads: Roads, arc: int, minute: int) -> str:
 
 def is_rested(roads: Roads, legs: Legs, rule: Request) -> bool:
     """Whether the stretch of each drive is within the rule: its minutes, and those of the drives
-    after the last break before it."""
+    after the last break before it. A service is a drive of no minutes."""
+    # The minutes of each drive and service; None for a minute of waiting.
     steps: list[Optional[int]] = []
     for kind, value in legs:
-        steps += [value] if kind == "drive" else [None] * value
-    for place, arc in enumerate(steps):
-        if arc is None:
+        if kind == "wait":
+            steps += [None] * value
+        else:
+            steps.append(roads.minutes(value) if kind == "drive" else 0)
+    for place, minutes in enumerate(steps):
+        if minutes is None:
             continue
         ends = [
             end
@@ -633,10 +645,7 @@ def is_rested(roads: Roads, legs: Legs, rule: Request) -> bool:
             if all(step is None for step in steps[end - rule.rest : end])
         ]
         since = ends[-1] if ends else 0
-        if (
-            sum(roads.minutes(step) for step in steps[since : place + 1] if step is not None)
-            > rule.drive
-        ):
+        if sum(step for step in steps[since : place + 1] if step is not None) > rule.drive:
             return False
     return True
 
@@ -659,7 +668,7 @@ def wrong_route(
         return f"it ends at node {node} with {served} stops served"
     if cost != pair[1] or (not late and minute != pair[0]):
         return f"it ends at {minute} with the cost {cost}"
-    if request.command == "breaks" and not is_rested(roads, legs, request):
+    if request.drive and not is_rested(roads, legs, request):
         return "a stretch is too long"
     return None
 
@@ -752,17 +761,21 @@ def late_due(roads: Roads, request: Request) -> Due:
 def tour_due(roads: Roads, request: Request, stops: Stops) -> Due:
     if (len(stops) + 1) * (roads.network.nodes + len(roads.network.arcs)) > MOST_STATES:
         return refused(BAD_REQUEST, "request", "TooManyStates")
-    return front_due(roads, request, stops)
+    return rested_due(roads, request, stops) if request.drive else front_due(roads, request, stops)
+
+
+def rested_due(roads: Roads, request: Request, stops: Stops = ()) -> Due:
+    return Due(
+        DONE,
+        pairs=rested_front(roads, request, stops),
+        wrong_legs=lambda pair, legs: wrong_route(roads, request, pair, legs, stops),
+    )
 
 
 def breaks_due(roads: Roads, request: Request) -> Due:
     if breaks_size(roads, request) > MOST_STATES:
         return refused(BAD_REQUEST, "request", "TooManyStates")
-    return Due(
-        DONE,
-        pairs=breaks_front(roads, request),
-        wrong_legs=lambda pair, legs: wrong_route(roads, request, pair, legs),
-    )
+    return rested_due(roads, request)
 
 
 def explain_due(roads: Roads, request: Request, legs: Legs) -> Due:
