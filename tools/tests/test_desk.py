@@ -630,6 +630,10 @@ class Days(unittest.TestCase):
         self.assertEqual(desk.run("return document.querySelectorAll('.card').length"), 30)
         self.assertIn("cost 52.000", " ".join(desk.text(".card:last-child").split()))
         self.assertEqual(desk.text("table.legs caption"), "Legs of option 30")
+        for shown in ("#option-30 + label", ".chosen-row"):
+            box = desk.run("return document.querySelector(arguments[0]).getBoundingClientRect().toJSON()", shown)
+            frame = desk.run("return document.querySelector(arguments[0]).closest('.cards, .days').getBoundingClientRect().toJSON()", shown)
+            self.assertTrue(frame["top"] <= box["top"] and box["bottom"] <= frame["bottom"], f"{shown} is in view")
         self.check_keyboard(desk, "wide-many")
 
 

@@ -97,6 +97,10 @@ export class AnswerView {
       const goal = { time: option.arrival, place: this.answer.to };
       this.legs.replaceChildren(legsTable(option.parts, text("legs", { number }), goal));
       this.drawBars();
+      const card = byId(`option-${number}`).parentElement;
+      scrollTo(card.parentElement, card.offsetTop, card.offsetHeight);
+      const row = this.figure.querySelector(".chosen-row");
+      scrollTo(this.figure, Number(row.getAttribute("y")), Number(row.getAttribute("height")));
     }
   }
 
@@ -158,6 +162,15 @@ export class AnswerView {
       onchoose: this.onchoose,
     });
     this.figure.replaceChildren(drawn);
+  }
+}
+
+/** Scrolls a part of the page, and nothing around it, until this much of its inside is in view. */
+function scrollTo(part, top, height) {
+  if (top < part.scrollTop) {
+    part.scrollTop = top;
+  } else if (top + height > part.scrollTop + part.clientHeight) {
+    part.scrollTop = top + height - part.clientHeight;
   }
 }
 
