@@ -158,6 +158,20 @@ later_two words by i w v k whole word before fits low =
     ))
     (cases_lt k (by % 64)))
 
+-- whichever word it is
+pub later_any : (words : List ℕ) (by i w v k : ℕ) → by / 64 ≤ i → w ≡ get_or words (i - by / 64) 0
+    → ((i ≡ by / 64) × (v ≡ 0)) ⊎ ((by / 64 < i) × (v ≡ get_or words (i - by / 64 - 1) 0)) → v < 2 ^ 64 → k < 64
+    → bit_at (bit_or (w * 2 ^ (by % 64) % 2 ^ 64) (v / 2 ^ (64 - by % 64))) k ≡ cond (leb by (64 * i + k)) (bit_of words (64 * i + k - by)) 0
+later_any words by i w v k whole word (inl none) fits low = omega (
+  arith,
+  bit_at_or (w * 2 ^ (by % 64) % 2 ^ 64) (v / 2 ^ (64 - by % 64)) k,
+  later_one words by i w k whole word (inr none.0) low,
+  shr_bit v (64 - by % 64) k,
+  ap (λ (m : ℕ). bit_at m (64 - by % 64 + k)) none.1,
+  bit_at-zero (64 - by % 64 + k),
+)
+later_any words by i w v k whole word (inr some) fits low = later_two words by i w v k some.0 word some.1 fits low
+
 -- the bits that a word lacks
 pub lacks : (a l c : ℕ) → a < 2 ^ 64 → c ≤ 64 → l < 2 ^ c
     → sum_below (λ k. bit_at (bit_or a l) k) c ≡ sum_below (λ k. bit_at a k) c + ones (bit_and l (2 ^ 64 - 1 - a))

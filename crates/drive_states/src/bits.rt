@@ -8,6 +8,7 @@ use route_base::OutOfMemory;
 use route_base::limits::DAY_MINUTES;
 
 // The word at a place, or 0 behind the end.
+#[inline(always)]
 fn word_at(words: &[u64], i: usize) -> u64
     ensures value { result ≡ slice_index_or words.now i 0 }
     ensures fits { result < 2 ^ 64 }
@@ -16,6 +17,7 @@ fn word_at(words: &[u64], i: usize) -> u64
 }
 
 // The lowest bits of a word.
+#[inline(always)]
 fn low_bits(word: u64, count: usize) -> u64
     requires some { 1 ≤ count }
     requires few { count ≤ 64 }
@@ -24,32 +26,28 @@ fn low_bits(word: u64, count: usize) -> u64
     word & (u64::MAX >> (64 - count as u32))
 }
 
-// The word at a place of a row whose minutes are all later.
-fn later_word(words: &[u64], by: usize, i: usize) -> u64
-    requires { i < 2 ^ 32 }
-    ensures { (k : ℕ) → k < 64 → bit_at result k
-        ≡ cond (leb by (64 * i + k)) (bit_of words.now (64 * i + k - by)) 0 }
+// A word whose bits move up, with those that leave the word before.
+#[inline(always)]
+fn moved_up(word: u64, before: u64, part: u32) -> u64
+    requires { part < 64 }
+    ensures { result ≡ bit_or (word * 2 ^ part % 2 ^ 64) (before / 2 ^ (64 - part)) }
 {
-    let whole = by / 64;
-    if i < whole {
-        return 0;
-    }
-    let part = (by % 64) as u32;
-    let low = word_at(words, i - whole) << part;
-    if part == 0 || i == whole {
-        return low;
-    }
-    low | (word_at(words, i - whole - 1) >> (64 - part))
+    (word << part) | ((before >> 1) >> (63 - part))
 }
 
 // The number of bits that a word lacks of another.
+#[inline(always)]
 fn lacking(word: u64, other: u64) -> u32
     ensures few { result ≤ 64 }
     ensures count { (c : ℕ) → c ≤ 64 → other < 2 ^ c
         → sum_below (λ k. bit_at (bit_or word other) k) c
         ≡ sum_below (λ k. bit_at word k) c + result }
 {
-    (other & !word).count_ones()
+    let new = other & !word;
+    if new == 0 {
+        return 0;
+    }
+    new.count_ones()
 }
 
 // Takes the minutes of another row, and counts the new ones. It goes over the words in which the other row's minutes can be.
@@ -62,10 +60,14 @@ fn join_words(row: &mut [u64], from: &[u64], by: usize, most: usize) -> u32
         ≡ sum_below (bit_of row.old) (most + 1) + result }
 {
     let first = by / 64;
+    let part = (by % 64) as u32;
     let count = (most / 64 + 1).saturating_sub(first).min(from.len() + 1);
+    let mut before = 0;
     let mut fresh = 0;
     for i in first..first + count {
-        let later = low_bits(later_word(from, by, i), (most + 1 - 64 * i).min(64));
+        let word = word_at(from, i - first);
+        let later = low_bits(moved_up(word, before, part), (most + 1 - 64 * i).min(64));
+        before = word;
         fresh += lacking(row[i], later);
         row[i] |= later;
     }
