@@ -16,10 +16,11 @@ use Rattle.state_dominance.specs.Inside.Dominance.{Task, Reaches, IsAchievedIn, 
 use Rattle.ruled_states.specs.Inside.Codes.{base}
 use Rattle.ruled_states.specs.declared.table.Info.{Info}
 use Rattle.ruled_search.specs.Routes.{TellsSteps}
-use Rattle.ruled_search.specs.Inside.Sources.{ComesFrom, ComesOver, LeadsToEnd, place_of}
+use Rattle.ruled_search.specs.Inside.Sources.{AreFirstSteps, ComesFrom, ComesOver, LeadsToEnd, place_of}
 use Rattle.ruled_search.specs.declared.routes.RuledLeg.{RuledLeg}
 use Rattle.ruled_search.specs.declared.sources.Source.{Source}
 use Rattle.ruled_search.specs.declared.sources.Spot.{Spot}
+use Rattle.ruled_search.proofs.FirstSteps.{first_append}
 
 module _ (s : Setting) (until : ℕ) where
   -- the same step from another cost
@@ -128,10 +129,11 @@ start_is k takes p (x ∷ xs, walk) start =
 
 -- one leg more, before the others
 pub leads_before : (k : Task) (infos : List Info) (cost : ℕ → ℕ → Option ℕ) (back : List RuledLeg) (spot : Spot) (end : Position) (source : Source)
-    → ComesFrom k infos cost spot source → LeadsToEnd k back spot end → LeadsToEnd k (back ++ source.leg ∷ []) source.from end
-leads_before k infos cost back spot end source c leads = record {
+    → (c : ComesFrom k infos cost spot source) → AreFirstSteps k cost c.steps (place_of source.from) (place_of spot) → LeadsToEnd k cost back spot end
+    → LeadsToEnd k cost (back ++ source.leg ∷ []) source.from end
+leads_before k infos cost back spot end source c first leads = record {
   steps = c.steps ++ leads.steps;
   tells = subst (λ w. TellsSteps base w (c.steps ++ leads.steps)) (sym (reverse-append back (source.leg ∷ [])))
       (c.steps, leads.steps, refl, c.tells, leads.tells);
-  walk = walk-append k.setting k.until c.steps leads.steps (place_of source.from) (place_of spot) end c.walk leads.walk;
+  first = first_append k cost c.steps leads.steps (place_of source.from) (place_of spot) end first leads.first;
 }

@@ -26,3 +26,8 @@ pub mod Tried
 pub mod Numbering
 pub mod Sourcing
 pub mod Ends
+pub mod StepOrder
+pub mod FirstSteps
+pub mod Best
+pub mod FirstLegs
+pub mod EarlierArcs

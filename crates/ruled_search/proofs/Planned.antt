@@ -51,5 +51,6 @@ planned s r request bound sim numbers bounds in_time now routes facts done are =
       front = subst (λ (pairs : List Pair). IsParetoFront IsNoWorse ArrivesBefore (IsAchievedIn k) pairs) (sym are.same)
           (front k now (is_simulation s r base request.origin.0 request.goal.0 request.depart request.until bound sim numbers bounds)
           (are_bounds s r base request.origin.0 request.goal.0 request.depart request.until bound sim numbers bounds) facts done in_time);
-      legs = are.legs;
+      legs = λ i d within. (are.legs i d within).achieves;
+      first = are.legs;
     }

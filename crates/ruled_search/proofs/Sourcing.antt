@@ -2,6 +2,7 @@
 use Rattle.std.proofs.Common.{◌≡◌, ⊎_elim, ℕ, zero, suc, ◌+◌, ◌-◌, ◌*◌, ◌/◌, ◌%◌, ◌<◌, ◌≤◌, false, ◌⊎◌, inl, inr, Option, Some, List, [], ◌∷◌, length, replicate, refl, sym, ◌∙◌, ap, subst, arith, mod-lt}
 use Rattle.std.specs.Prelude.{slice_get}
 use Rattle.std.specs.Option.{option_map}
+use Rattle.std.proofs.lemmas.Nat.{div-mul-add}
 use Rattle.std.proofs.lemmas.Option.{same_Some, slice_get_within}
 use Rattle.route_base.specs.Setting.{Road}
 use Rattle.route_base.specs.Itinerary.{Position, Step, drive, wait, Walks}
@@ -19,7 +20,7 @@ use Rattle.state_dominance.specs.Inside.Product.{Ruler, Service, code, road_code
 use Rattle.ruled_states.specs.Inside.Codes.{base}
 use Rattle.ruled_states.specs.Inside.Tables.{code_of}
 use Rattle.ruled_states.specs.declared.table.Info.{Info}
-use Rattle.ruled_search.specs.Inside.Sources.{ComesFrom, ComesOver, HasNoRoad, HasNoWait, HasSource, IsKnownSpot, IsLeastAt, IsSolved, led_to, place_of}
+use Rattle.ruled_search.specs.Inside.Sources.{ComesFrom, ComesOver, HasNoRoad, HasNoRoadBefore, HasNoWait, HasSource, IsKnownSpot, IsLeastAt, IsLeastLeg, IsLeastOver, IsSolved, led_to, place_of}
 use Rattle.ruled_search.specs.Inside.Tasks.{progress_of, state_bound, task_of}
 use Rattle.ruled_search.specs.Routes.{TellsLeg}
 use Rattle.ruled_search.specs.declared.progress.Progress.{Progress as ProgressHeld}
@@ -32,7 +33,7 @@ use Rattle.ruled_search.proofs.Arriving.{drive_comes, rest_comes, service_comes,
 use Rattle.ruled_search.proofs.Numbering.{solved_numbered}
 use Rattle.ruled_search.proofs.Tried.{if_some}
 
-three_kinds : (x : ℕ) → (x % 3 ≡ 0) ⊎ ((x % 3 ≡ 1) ⊎ (x % 3 ≡ 2))
+pub three_kinds : (x : ℕ) → (x % 3 ≡ 0) ⊎ ((x % 3 ≡ 1) ⊎ (x % 3 ≡ 2))
 three_kinds x = let below : x % 3 < 3 = mod-lt x (omega arith) in by (x % 3) below
   where
     by : (n : ℕ) → n < 3 → (n ≡ 0) ⊎ ((n ≡ 1) ⊎ (n ≡ 2))
@@ -44,9 +45,9 @@ three_kinds x = let below : x % 3 < 3 = mod-lt x (omega arith) in by (x % 3) bel
 -- a road over states from a known spot is a leg
 leg_over : (k : Task) (infos : List Info) (cost : ℕ → ℕ → Option ℕ) (spot from : Spot) (leg : RuledLeg) (y v m x : ℕ)
     → TellsLeg base leg (drive y ∷ []) → IsKnownSpot infos cost from.number m x from → from.info.node.0 ≡ v → m < spot.minute
-    → ComesOver k cost (drive y) (point (code base v from.info.state) m x) (place_of spot)
+    → ComesOver k cost (drive y) (point (code base v from.info.state) m x) (place_of spot) → IsLeastLeg k cost spot leg from
     → ComesFrom k infos cost spot (record { leg = leg; from = from })
-leg_over k infos cost spot from leg y v m x tells known node earlier comes =
+leg_over k infos cost spot from leg y v m x tells known node earlier comes least =
     let at : point (code base v from.info.state) m x ≡ place_of from =
     same_position _ _ (ap (λ w. code base w from.info.state) (sym node)) (sym known.at) (sym known.paid) in
     let exact : ComesOver k cost (drive y) (place_of from) (place_of spot) =
@@ -63,6 +64,7 @@ leg_over k infos cost spot from leg y v m x tells known node earlier comes =
       steps = drive y ∷ [];
       tells = tells;
       walk = (place_of spot, exact.move, refl);
+      least = least;
     }
 
 module _ {R : Type 0} {ruling : R → Ruler} {task : TaskHeld R} {incoming : Star} {progress : ProgressHeld}
@@ -70,6 +72,46 @@ module _ {R : Type 0} {ruling : R → Ruler} {task : TaskHeld R} {incoming : Sta
     (upto : spot.minute ≤ task.request.until) where
   spot_node : spot.info.node.0 < base
   spot_node = (solved_numbered solved).small spot.number spot.info there
+
+  -- a source over a road of this kind is a drive over the arc, as it is read
+  drive_from : (a y : ℕ) (source : Position) → y % 3 ≡ 0 → y / 3 % base ≡ a
+      → ComesOver (task_of R ruling task) (progress_of progress).cost (drive y) source (place_of spot)
+      → (arc : TimedArc) × (at_number task.net.now.arcs a ≡ Some arc) × (arc.minutes ≤ spot.minute) × (arc.cost ≤ spot.cost)
+      × IsOpen (setting_of task.net.now) a (spot.minute - arc.minutes) arc.minutes
+      × (k : ℕ) × ((ruling task.ruler.now).drive k arc.minutes ≡ Some spot.info.state)
+      × ((progress_of progress).cost (code base arc.tail.0 k) (spot.minute - arc.minutes) ≡ Some (spot.cost - arc.cost)) × (source.node / base ≡ k)
+  drive_from a y source kind number comes =
+      let d = drive_comes (setting_of task.net.now) (ruling task.ruler.now) solved.asked.numbers task.request.origin.0 task.request.goal.0
+      task.request.depart task.request.until (state_bound (ruling task.ruler.now) task.bounds.now) (progress_of progress).cost spot.info.node.0 spot.info.state spot.minute spot.cost spot_node y a source
+      number comes kind in
+      let arc = map_some (at_number task.net.now.arcs a) road_of d.0 d.1 in
+      let minutes : arc.0.minutes ≡ d.0.minutes = ap (λ (w : Road). w.minutes) arc.2 in
+      let paid : arc.0.cost ≡ d.0.cost = ap (λ (w : Road). w.cost) arc.2 in
+      let begun : source.minute ≡ spot.minute - arc.0.minutes = omega (arith, d.2.minute, minutes) in
+      let before : source.cost ≡ spot.cost - arc.0.cost = omega (arith, d.2.paid, paid) in (
+        arc.0,
+        arc.1,
+        omega (arith, d.2.minute, minutes),
+        omega (arith, d.2.paid, paid),
+        λ u early late. d.2.is_open u (omega (arith, early, begun)) (omega (arith, late, begun, minutes)),
+        d.2.state,
+        ap ((ruling task.ruler.now).drive d.2.state) minutes ∙ d.2.allowed,
+        ap (λ w. (progress_of progress).cost (code base w d.2.state) (spot.minute - arc.0.minutes)) (ap (λ (w : Road). w.tail) arc.2)
+            ∙ (ap (λ c. (progress_of progress).cost c (spot.minute - arc.0.minutes)) (sym d.2.at)
+            ∙ (ap (λ (n : ℕ). (progress_of progress).cost source.node n) (sym begun) ∙ (comes.known ∙ ap (λ (n : ℕ). Some n) before))),
+        ap (λ n. n / base) d.2.at ∙ div-mul-add d.2.state base d.0.tail (solved.asked.numbers.arcs a d.0 d.1).1,
+      )
+
+  drive_least : (a : ℕ) (arc : TimedArc) → at_number task.net.now.arcs a ≡ Some arc → (from : Spot)
+      → ((k : ℕ) → (ruling task.ruler.now).drive k arc.minutes ≡ Some spot.info.state
+      → (progress_of progress).cost (code base arc.tail.0 k) (spot.minute - arc.minutes) ≡ Some (spot.cost - arc.cost) → from.info.state ≤ k)
+      → IsLeastOver (task_of R ruling task) (progress_of progress).cost spot 0 a from
+  drive_least a arc is from least y source kind number comes =
+      let d = drive_from a y source kind number comes in
+      let same : d.0 ≡ arc = same_Some d.0 arc (sym d.1 ∙ is) in
+      let le = least d.5 (subst (λ (w : TimedArc). (ruling task.ruler.now).drive d.5 w.minutes ≡ Some spot.info.state) same d.6)
+      (subst (λ (w : TimedArc). (progress_of progress).cost (code base w.tail.0 d.5) (spot.minute - w.minutes) ≡ Some (spot.cost - w.cost)) same d.7) in
+      omega (arith, le, d.8)
 
   pub drive_found : (a : ArcId) (arc : TimedArc) → at_number task.net.now.arcs a.0 ≡ Some arc → EndsAt task.net.now Head spot.info.node.0 a.0
       → arc.minutes ≤ spot.minute → arc.cost ≤ spot.cost → IsOpen (setting_of task.net.now) a.0 (spot.minute - arc.minutes) arc.minutes
@@ -91,7 +133,13 @@ module _ {R : Type 0} {ruling : R → Ruler} {task : TaskHeld R} {incoming : Sta
       (record { node = arc.tail.0; state = from.info.state; is = refl }) right.0 right.1 (omega (arith, long, early))
       (drive_leads (setting_of task.net.now) (ruling task.ruler.now) solved.asked.numbers task.request.origin.0 task.request.goal.0 task.request.depart
       task.request.until (state_bound (ruling task.ruler.now) task.bounds.now) (progress_of progress).cost spot.info.node.0 spot.info.state spot.minute spot.cost spot_node from.info.state
-      (spot.minute - arc.minutes) (spot.cost - arc.cost) upto a.0 (road_of arc) road head right.2 opens (omega (arith, early)) (omega (arith, cheap)) known)
+      (spot.minute - arc.minutes) (spot.cost - arc.cost) upto a.0 (road_of arc) road head right.2 opens (omega (arith, early)) (omega (arith, cheap)) known) (
+        (solved.asked.numbers.arcs a.0 (road_of arc) road).0,
+        drive_least a.0 arc is from
+            (if_some (λ (w : Spot). (k : ℕ) → (ruling task.ruler.now).drive k arc.minutes ≡ Some spot.info.state
+            → (progress_of progress).cost (code base arc.tail.0 k) (spot.minute - arc.minutes) ≡ Some (spot.cost - arc.cost) → w.info.state ≤ k)
+            found from some least.least),
+      )
 
   pub drive_missed : (a : ℕ) → ((arc : TimedArc) → at_number task.net.now.arcs a ≡ Some arc → arc.minutes ≤ spot.minute → arc.cost ≤ spot.cost
       → IsOpen (setting_of task.net.now) a (spot.minute - arc.minutes) arc.minutes → (k : ℕ)
@@ -99,20 +147,49 @@ module _ {R : Type 0} {ruling : R → Ruler} {task : TaskHeld R} {incoming : Sta
       → (progress_of progress).cost (code base arc.tail.0 k) (spot.minute - arc.minutes) ≡ Some (spot.cost - arc.cost) → ⊥)
       → HasNoRoad (task_of R ruling task) (progress_of progress).cost spot 0 a
   drive_missed a out y source kind number comes =
-      let d = drive_comes (setting_of task.net.now) (ruling task.ruler.now) solved.asked.numbers task.request.origin.0 task.request.goal.0
-      task.request.depart task.request.until (state_bound (ruling task.ruler.now) task.bounds.now) (progress_of progress).cost spot.info.node.0 spot.info.state spot.minute spot.cost spot_node y a source
+      let d = drive_from a y source kind number comes in
+      out d.0 d.1 d.2 d.3 d.4 d.5 d.6 d.7
+
+  rest_from : (place y : ℕ) (source : Position) → y % 3 ≡ 1 → y / 3 % base ≡ place
+      → ComesOver (task_of R ruling task) (progress_of progress).cost (drive y) source (place_of spot)
+      → (rest : ℕ) × (weight : ℕ) × (slice_get (ruling task.ruler.now).rests place ≡ Some rest)
+      × ((setting_of task.net.now).weight spot.info.node.0 ≡ Some weight) × (rest ≤ spot.minute) × (rest * weight ≤ spot.cost)
+      × IsWaitOpen (setting_of task.net.now) spot.info.node.0 (spot.minute - rest) rest
+      × (k : ℕ) × ((ruling task.ruler.now).rest k rest ≡ spot.info.state)
+      × ((progress_of progress).cost (code base spot.info.node.0 k) (spot.minute - rest) ≡ Some (spot.cost - rest * weight)) × (source.node / base ≡ k)
+  rest_from place y source kind number comes =
+      let d = rest_comes (setting_of task.net.now) (ruling task.ruler.now) solved.asked.numbers task.request.origin.0 task.request.goal.0
+      task.request.depart task.request.until (state_bound (ruling task.ruler.now) task.bounds.now) (progress_of progress).cost spot.info.node.0 spot.info.state spot.minute spot.cost spot_node y place source
       number comes kind in
-      let arc = map_some (at_number task.net.now.arcs a) road_of d.0 d.1 in
-      let minutes : arc.0.minutes ≡ d.0.minutes = ap (λ (w : Road). w.minutes) arc.2 in
-      let paid : arc.0.cost ≡ d.0.cost = ap (λ (w : Road). w.cost) arc.2 in
-      let begun : source.minute ≡ spot.minute - arc.0.minutes = omega (arith, d.2.minute, minutes) in
-      let before : source.cost ≡ spot.cost - arc.0.cost = omega (arith, d.2.paid, paid) in
-      out arc.0 arc.1 (omega (arith, d.2.minute, minutes)) (omega (arith, d.2.paid, paid))
-      (λ u early late. d.2.is_open u (omega (arith, early, begun)) (omega (arith, late, begun, minutes)))
-      d.2.state (ap ((ruling task.ruler.now).drive d.2.state) minutes ∙ d.2.allowed)
-      (ap (λ w. (progress_of progress).cost (code base w d.2.state) (spot.minute - arc.0.minutes)) (ap (λ (w : Road). w.tail) arc.2)
-      ∙ (ap (λ c. (progress_of progress).cost c (spot.minute - arc.0.minutes)) (sym d.2.at)
-      ∙ (ap (λ (n : ℕ). (progress_of progress).cost source.node n) (sym begun) ∙ (comes.known ∙ ap (λ (n : ℕ). Some n) before))))
+      let begun : source.minute ≡ spot.minute - d.0 = omega (arith, d.2.minute) in
+      let before : source.cost ≡ spot.cost - d.0 * d.2.weight = omega (arith, d.2.paid) in (
+        d.0,
+        d.2.weight,
+        d.1,
+        d.2.rated,
+        omega (arith, d.2.minute),
+        omega (arith, d.2.paid),
+        λ u early late. d.2.is_open u (omega (arith, early, begun)) (omega (arith, late, begun)),
+        d.2.state,
+        d.2.after,
+        ap (λ c. (progress_of progress).cost c (spot.minute - d.0)) (sym d.2.at)
+            ∙ (ap (λ (n : ℕ). (progress_of progress).cost source.node n) (sym begun) ∙ (comes.known ∙ ap (λ (n : ℕ). Some n) before)),
+        ap (λ n. n / base) d.2.at ∙ div-mul-add d.2.state base spot.info.node.0 spot_node,
+      )
+
+  rest_least : (place rest weight : ℕ) → slice_get (ruling task.ruler.now).rests place ≡ Some rest
+      → (setting_of task.net.now).weight spot.info.node.0 ≡ Some weight → (from : Spot)
+      → ((k : ℕ) → Some ((ruling task.ruler.now).rest k rest) ≡ Some spot.info.state
+      → (progress_of progress).cost (code base spot.info.node.0 k) (spot.minute - rest) ≡ Some (spot.cost - rest * weight) → from.info.state ≤ k)
+      → IsLeastOver (task_of R ruling task) (progress_of progress).cost spot 1 place from
+  rest_least place rest weight is rated from least y source kind number comes =
+      let d = rest_from place y source kind number comes in
+      let one : d.0 ≡ rest = same_Some d.0 rest (sym d.2 ∙ is) in
+      let two : d.1 ≡ weight = same_Some d.1 weight (sym d.3 ∙ rated) in
+      let le = least d.7 (ap (λ (n : ℕ). Some n) (subst (λ (w : ℕ). (ruling task.ruler.now).rest d.7 w ≡ spot.info.state) one d.8))
+      (subst (λ (w : ℕ). (progress_of progress).cost (code base spot.info.node.0 d.7) (spot.minute - w) ≡ Some (spot.cost - w * weight)) one
+      (subst (λ (w : ℕ). (progress_of progress).cost (code base spot.info.node.0 d.7) (spot.minute - d.0) ≡ Some (spot.cost - d.0 * w)) two d.9)) in
+      omega (arith, le, d.10)
 
   pub rest_found : (place rest weight : ℕ) → slice_get (ruling task.ruler.now).rests place ≡ Some rest
       → (setting_of task.net.now).weight spot.info.node.0 ≡ Some weight → rest ≤ spot.minute → rest * weight ≤ spot.cost
@@ -134,7 +211,13 @@ module _ {R : Type 0} {ruling : R → Ruler} {task : TaskHeld R} {incoming : Sta
       (rest_leads (setting_of task.net.now) (ruling task.ruler.now) solved.asked.numbers task.request.origin.0 task.request.goal.0 task.request.depart
       task.request.until (state_bound (ruling task.ruler.now) task.bounds.now) (progress_of progress).cost spot.info.node.0 spot.info.state spot.minute spot.cost spot_node from.info.state
       (spot.minute - rest) (spot.cost - rest * weight) upto place rest weight is rated
-      (same_Some ((ruling task.ruler.now).rest from.info.state rest) spot.info.state right.2) opens (omega (arith, early)) (omega (arith, cheap)) known)
+      (same_Some ((ruling task.ruler.now).rest from.info.state rest) spot.info.state right.2) opens (omega (arith, early)) (omega (arith, cheap)) known) (
+        solved.asked.numbers.rests place rest is,
+        rest_least place rest weight is rated from
+            (if_some (λ (w : Spot). (k : ℕ) → Some ((ruling task.ruler.now).rest k rest) ≡ Some spot.info.state
+            → (progress_of progress).cost (code base spot.info.node.0 k) (spot.minute - rest) ≡ Some (spot.cost - rest * weight) → w.info.state ≤ k)
+            found from some least.least),
+      )
 
   pub rest_missed : (place : ℕ) → ((rest weight : ℕ) → slice_get (ruling task.ruler.now).rests place ≡ Some rest
       → (setting_of task.net.now).weight spot.info.node.0 ≡ Some weight → rest ≤ spot.minute → rest * weight ≤ spot.cost
@@ -143,16 +226,44 @@ module _ {R : Type 0} {ruling : R → Ruler} {task : TaskHeld R} {incoming : Sta
       → (progress_of progress).cost (code base spot.info.node.0 k) (spot.minute - rest) ≡ Some (spot.cost - rest * weight) → ⊥)
       → HasNoRoad (task_of R ruling task) (progress_of progress).cost spot 1 place
   rest_missed place out y source kind number comes =
-      let d = rest_comes (setting_of task.net.now) (ruling task.ruler.now) solved.asked.numbers task.request.origin.0 task.request.goal.0
+      let d = rest_from place y source kind number comes in
+      out d.0 d.1 d.2 d.3 d.4 d.5 d.6 d.7 d.8 d.9
+
+  service_from : (place y : ℕ) (source : Position) → y % 3 ≡ 2 → y / 3 % base ≡ place
+      → ComesOver (task_of R ruling task) (progress_of progress).cost (drive y) source (place_of spot)
+      → (served : Service) × (slice_get (ruling task.ruler.now).services place ≡ Some served) × (served.node ≡ spot.info.node.0)
+      × (served.minutes ≤ spot.minute) × (served.from + served.minutes ≤ spot.minute) × (spot.minute ≤ served.to)
+      × (k : ℕ) × ((ruling task.ruler.now).serve k place ≡ Some spot.info.state)
+      × ((progress_of progress).cost (code base spot.info.node.0 k) (spot.minute - served.minutes) ≡ Some (spot.cost - 0)) × (source.node / base ≡ k)
+  service_from place y source kind number comes =
+      let d = service_comes (setting_of task.net.now) (ruling task.ruler.now) solved.asked.numbers task.request.origin.0 task.request.goal.0
       task.request.depart task.request.until (state_bound (ruling task.ruler.now) task.bounds.now) (progress_of progress).cost spot.info.node.0 spot.info.state spot.minute spot.cost spot_node y place source
       number comes kind in
-      let begun : source.minute ≡ spot.minute - d.0 = omega (arith, d.2.minute) in
-      let before : source.cost ≡ spot.cost - d.0 * d.2.weight = omega (arith, d.2.paid) in
-      out d.0 d.2.weight d.1 d.2.rated (omega (arith, d.2.minute)) (omega (arith, d.2.paid))
-      (λ u early late. d.2.is_open u (omega (arith, early, begun)) (omega (arith, late, begun)))
-      d.2.state d.2.after
-      (ap (λ c. (progress_of progress).cost c (spot.minute - d.0)) (sym d.2.at)
-      ∙ (ap (λ (n : ℕ). (progress_of progress).cost source.node n) (sym begun) ∙ (comes.known ∙ ap (λ (n : ℕ). Some n) before)))
+      let begun : source.minute ≡ spot.minute - d.0.minutes = omega (arith, d.2.minute) in
+      let before : source.cost ≡ spot.cost - 0 = omega (arith, d.2.paid) in (
+        d.0,
+        d.1,
+        d.2.node,
+        omega (arith, d.2.minute),
+        omega (arith, d.2.minute, d.2.begins),
+        d.2.ends,
+        d.2.state,
+        d.2.allowed,
+        ap (λ c. (progress_of progress).cost c (spot.minute - d.0.minutes)) (sym d.2.at)
+            ∙ (ap (λ (n : ℕ). (progress_of progress).cost source.node n) (sym begun) ∙ (comes.known ∙ ap (λ (n : ℕ). Some n) before)),
+        ap (λ n. n / base) d.2.at ∙ div-mul-add d.2.state base spot.info.node.0 spot_node,
+      )
+
+  service_least : (place : ℕ) (served : Service) → slice_get (ruling task.ruler.now).services place ≡ Some served → (from : Spot)
+      → ((k : ℕ) → (ruling task.ruler.now).serve k place ≡ Some spot.info.state
+      → (progress_of progress).cost (code base spot.info.node.0 k) (spot.minute - served.minutes) ≡ Some (spot.cost - 0) → from.info.state ≤ k)
+      → IsLeastOver (task_of R ruling task) (progress_of progress).cost spot 2 place from
+  service_least place served is from least y source kind number comes =
+      let d = service_from place y source kind number comes in
+      let same : d.0 ≡ served = same_Some d.0 served (sym d.1 ∙ is) in
+      let le = least d.6 d.7
+      (subst (λ (w : Service). (progress_of progress).cost (code base spot.info.node.0 d.6) (spot.minute - w.minutes) ≡ Some (spot.cost - 0)) same d.8) in
+      omega (arith, le, d.9)
 
   pub service_found : (place : ℕ) (served : Service) → slice_get (ruling task.ruler.now).services place ≡ Some served → served.node ≡ spot.info.node.0
       → served.minutes ≤ spot.minute → served.from + served.minutes ≤ spot.minute → spot.minute ≤ served.to
@@ -173,7 +284,13 @@ module _ {R : Type 0} {ruling : R → Ruler} {task : TaskHeld R} {incoming : Sta
       (service_leads (setting_of task.net.now) (ruling task.ruler.now) solved.asked.numbers task.request.origin.0 task.request.goal.0 task.request.depart
       task.request.until (state_bound (ruling task.ruler.now) task.bounds.now) (progress_of progress).cost spot.info.node.0 spot.info.state spot.minute spot.cost spot_node from.info.state
       (spot.minute - served.minutes) (spot.cost - 0) upto place served is at right.2 (omega (arith, begins, early)) ends (omega (arith, early))
-      (omega arith) known)
+      (omega arith) known) (
+        (solved.asked.numbers.services place served is).0,
+        service_least place served is from
+            (if_some (λ (w : Spot). (k : ℕ) → (ruling task.ruler.now).serve k place ≡ Some spot.info.state
+            → (progress_of progress).cost (code base spot.info.node.0 k) (spot.minute - served.minutes) ≡ Some (spot.cost - 0) → w.info.state ≤ k)
+            found from some least.least),
+      )
 
   pub service_missed : (place : ℕ) → ((served : Service) → slice_get (ruling task.ruler.now).services place ≡ Some served → served.node ≡ spot.info.node.0
       → served.minutes ≤ spot.minute → served.from + served.minutes ≤ spot.minute → spot.minute ≤ served.to → (k : ℕ)
@@ -181,14 +298,8 @@ module _ {R : Type 0} {ruling : R → Ruler} {task : TaskHeld R} {incoming : Sta
       → (progress_of progress).cost (code base spot.info.node.0 k) (spot.minute - served.minutes) ≡ Some (spot.cost - 0) → ⊥)
       → HasNoRoad (task_of R ruling task) (progress_of progress).cost spot 2 place
   service_missed place out y source kind number comes =
-      let d = service_comes (setting_of task.net.now) (ruling task.ruler.now) solved.asked.numbers task.request.origin.0 task.request.goal.0
-      task.request.depart task.request.until (state_bound (ruling task.ruler.now) task.bounds.now) (progress_of progress).cost spot.info.node.0 spot.info.state spot.minute spot.cost spot_node y place source
-      number comes kind in
-      let begun : source.minute ≡ spot.minute - d.0.minutes = omega (arith, d.2.minute) in
-      let before : source.cost ≡ spot.cost - 0 = omega (arith, d.2.paid) in
-      out d.0 d.1 d.2.node (omega (arith, d.2.minute)) (omega (arith, d.2.minute, d.2.begins)) d.2.ends d.2.state d.2.allowed
-      (ap (λ c. (progress_of progress).cost c (spot.minute - d.0.minutes)) (sym d.2.at)
-      ∙ (ap (λ (n : ℕ). (progress_of progress).cost source.node n) (sym begun) ∙ (comes.known ∙ ap (λ (n : ℕ). Some n) before)))
+      let d = service_from place y source kind number comes in
+      out d.0 d.1 d.2 d.3 d.4 d.5 d.6 d.7 d.8
 
   pub wait_found : (since weight paid : ℕ) → since < spot.minute → (setting_of task.net.now).weight spot.info.node.0 ≡ Some weight
       → IsWaitOpen (setting_of task.net.now) spot.info.node.0 since (spot.minute - since) → paid ≡ weight * (spot.minute - since) → paid ≤ spot.cost
@@ -214,6 +325,7 @@ module _ {R : Type 0} {ruling : R → Ruler} {task : TaskHeld R} {incoming : Sta
             (wait_leads (setting_of task.net.now) (ruling task.ruler.now) solved.asked.numbers task.request.origin.0 task.request.goal.0 task.request.depart
             task.request.until (state_bound (ruling task.ruler.now) task.bounds.now) (progress_of progress).cost spot.info.node.0 spot.info.state spot.minute spot.cost spot_node since
             (spot.cost - paid) weight earlier upto rated opens (omega (arith, is, cheap)));
+        least = tt;
       }
 
   pub wait_missed : ((since weight : ℕ) → since + 1 ≡ spot.minute → (setting_of task.net.now).weight spot.info.node.0 ≡ Some weight
@@ -227,6 +339,27 @@ module _ {R : Type 0} {ruling : R → Ruler} {task : TaskHeld R} {incoming : Sta
       out source.minute d.weight (sym d.minute) d.rated (omega (arith, d.paid)) d.is_open
       (ap (λ c. (progress_of progress).cost c source.minute) (sym d.at) ∙ (comes.known ∙ ap (λ (n : ℕ). Some n) before))
 
+  -- the arc of a source over a road of this kind ends at the spot's node
+  drive_ends : (x : ℕ) (source : Position) → x % 3 ≡ 0 → ComesOver (task_of R ruling task) (progress_of progress).cost (drive x) source (place_of spot)
+      → EndsAt task.net.now Head spot.info.node.0 (x / 3 % base)
+  drive_ends x source kind comes =
+      let d = drive_comes (setting_of task.net.now) (ruling task.ruler.now) solved.asked.numbers task.request.origin.0 task.request.goal.0
+      task.request.depart task.request.until (state_bound (ruling task.ruler.now) task.bounds.now) (progress_of progress).cost spot.info.node.0
+      spot.info.state spot.minute spot.cost spot_node x (x / 3 % base) source refl comes kind in
+      let arc = map_some (at_number task.net.now.arcs (x / 3 % base)) road_of d.0 d.1 in
+      ap (option_map (node_at Head)) arc.1 ∙ ap (λ (n : ℕ). Some n) (ap (λ (w : Road). w.head) arc.2 ∙ d.2.head)
+
+  -- so it is enough to look at arcs that end there
+  pub no_drives : ((a : ℕ) → EndsAt task.net.now Head spot.info.node.0 a → HasNoRoad (task_of R ruling task) (progress_of progress).cost spot 0 a)
+      → (a : ℕ) → HasNoRoad (task_of R ruling task) (progress_of progress).cost spot 0 a
+  no_drives out a x source kind number comes =
+      out a (subst (λ n. EndsAt task.net.now Head spot.info.node.0 n) number (drive_ends x source kind comes)) x source kind number comes
+
+  pub no_drives_before : (a : ℕ) → ((b : ℕ) → b < a → EndsAt task.net.now Head spot.info.node.0 b
+      → HasNoRoad (task_of R ruling task) (progress_of progress).cost spot 0 b) → HasNoRoadBefore (task_of R ruling task) (progress_of progress).cost spot 0 a
+  no_drives_before a out b below x source kind number comes =
+      out b below (subst (λ n. EndsAt task.net.now Head spot.info.node.0 n) number (drive_ends x source kind comes)) x source kind number comes
+
   -- what comes by no wait and by no road of any kind has no source
   pub has_none : HasNoWait (task_of R ruling task) (progress_of progress).cost spot
       → ((a : ℕ) → EndsAt task.net.now Head spot.info.node.0 a → HasNoRoad (task_of R ruling task) (progress_of progress).cost spot 0 a)
@@ -237,14 +370,7 @@ module _ {R : Type 0} {ruling : R → Ruler} {task : TaskHeld R} {incoming : Sta
     where
       road : (x : ℕ) → ComesOver (task_of R ruling task) (progress_of progress).cost (drive x) s.source (place_of spot) → ⊥
       road x comes = ⊎_elim
-          (λ (kind : x % 3 ≡ 0).
-          let d = drive_comes (setting_of task.net.now) (ruling task.ruler.now) solved.asked.numbers task.request.origin.0 task.request.goal.0
-          task.request.depart task.request.until (state_bound (ruling task.ruler.now) task.bounds.now) (progress_of progress).cost spot.info.node.0
-          spot.info.state spot.minute spot.cost spot_node x (x / 3 % base) s.source refl comes kind in
-          let arc = map_some (at_number task.net.now.arcs (x / 3 % base)) road_of d.0 d.1 in
-          let ends : EndsAt task.net.now Head spot.info.node.0 (x / 3 % base) = ap (option_map (node_at Head)) arc.1
-          ∙ ap (λ (n : ℕ). Some n) (ap (λ (w : Road). w.head) arc.2 ∙ d.2.head) in
-          drives (x / 3 % base) ends x s.source kind refl comes)
+          (λ (kind : x % 3 ≡ 0). drives (x / 3 % base) (drive_ends x s.source kind comes) x s.source kind refl comes)
           (λ (other : (x % 3 ≡ 1) ⊎ (x % 3 ≡ 2)). ⊎_elim
           (λ (kind : x % 3 ≡ 1). rests (x / 3 % base) x s.source kind refl comes)
           (λ (kind : x % 3 ≡ 2).

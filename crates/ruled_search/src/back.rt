@@ -4,7 +4,7 @@ ghost use Rattle.state_dominance.specs.Inside.Dominance.{IsStart};
 ghost use Rattle.ruled_states.specs.Inside.Codes.{base};
 ghost use Rattle.ruled_search.specs.Inside.Sources.{AreNumbered, IsSolved, IsEndOf, IsSpotIf, place_of};
 ghost use Rattle.ruled_search.specs.Inside.Tasks.{task_of, progress_of};
-ghost use Rattle.ruled_search.specs.Routes.{AreRoutesOf, AchievesRuled};
+ghost use Rattle.ruled_search.specs.Routes.{AreRoutesOf, IsFirstRuled};
 
 use crate::progress::Progress;
 use crate::routes::{RuledLeg, RuledRoute};
@@ -15,7 +15,7 @@ use route_base::{OutOfMemory, Pair};
 use ruled_states::{Place, Ruler};
 use std::alloc::Global;
 
-// The routes of all pairs, in their order.
+// The routes of all pairs, in their order, each the first of its pair.
 pub fn routes_of<R: Ruler + Copy>(
     alloc: Global,
     task: Task<'_, R>,
@@ -34,7 +34,7 @@ pub fn routes_of<R: Ruler + Copy>(
     Ok(routes)
 }
 
-// The legs of a pair.
+// The legs of the first route of a pair.
 fn legs_of<R: Ruler + Copy>(
     alloc: Global,
     task: Task<'_, R>,
@@ -44,7 +44,7 @@ fn legs_of<R: Ruler + Copy>(
 ) -> Result<Vec<RuledLeg>, OutOfMemory>
     requires solved { IsSolved R R.ruling task incoming.now progress.now }
     requires one { Contains progress.now.pairs.items pair }
-    ensures { IfOk result (λ legs. AchievesRuled (task_of R R.ruling task.entry) base (record {
+    ensures { IfOk result (λ legs. IsFirstRuled (task_of R R.ruling task.entry) base (record {
       pair = pair;
       legs = legs;
     })) }

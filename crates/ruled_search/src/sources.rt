@@ -6,8 +6,9 @@ ghost use Rattle.route_base.specs.Net.{at_number};
 ghost use Rattle.ruled_states.specs.Inside.Codes.{base};
 ghost use Rattle.ruled_states.specs.Inside.Tables.{code_of};
 ghost use Rattle.ruled_states.specs.declared.table.Info.{Info};
-ghost use Rattle.ruled_search.specs.Inside.Sources.{AreNumbered, ComesFrom, HasNoRoad, HasNoWait, HasSource, IsKnownSpot, IsLeastAt, IsLesser, IsSolved, IsSpotIf, led_to};
+ghost use Rattle.ruled_search.specs.Inside.Sources.{AreNumbered, ComesFirst, ComesFrom, HasNoRoad, HasNoWait, HasSource, IsFirstRest, IsKnownSpot, IsLeastAt, IsLesser, IsSolved, IsSpotIf, IsWaitLeg, led_to};
 ghost use Rattle.ruled_search.specs.Inside.Tasks.{task_of, progress_of};
+ghost use Rattle.ruled_search.specs.declared.routes.RuledLeg.TheVariants.{Drive, Rest, Serve};
 
 use crate::progress::Progress;
 use crate::routes::RuledLeg;
@@ -46,7 +47,7 @@ pub fn source_of<R: Ruler + Copy>(
     requires spot { at_number progress.now.table.infos spot.number ≡ Some spot.info }
     requires upto { spot.minute ≤ task.request.until }
     requires comes { HasSource (task_of R R.ruling task) (progress_of progress.now).cost spot }
-    ensures { ComesFrom (task_of R R.ruling task.entry) progress.now.table.infos
+    ensures { ComesFirst (task_of R R.ruling task.entry) progress.now.table.infos
         (progress_of progress.now).cost spot result }
 {
     if let Some(source) = wait_into(task, incoming, progress, spot) {
@@ -183,6 +184,7 @@ fn wait_into<R: Ruler + Copy>(
     requires upto { spot.minute ≤ task.request.until }
     ensures some { IfSome result (ComesFrom (task_of R R.ruling task.entry)
         progress.now.table.infos (progress_of progress.now).cost spot) }
+    ensures leg { IfSome result (λ source. IsWaitLeg source.leg) }
     ensures none { IsNone result → HasNoWait (task_of R R.ruling task.entry)
         (progress_of progress.now).cost spot }
 {
@@ -212,6 +214,7 @@ fn wait_since<R: Ruler + Copy>(
     requires upto { spot.minute ≤ task.request.until }
     ensures some { IfSome result (ComesFrom (task_of R R.ruling task.entry)
         progress.now.table.infos (progress_of progress.now).cost spot) }
+    ensures leg { IfSome result (λ source. IsWaitLeg source.leg) }
     ensures none { IsNone result → since + 1 ≡ spot.minute → HasNoWait
         (task_of R R.ruling task.entry) (progress_of progress.now).cost spot }
 {
@@ -272,6 +275,8 @@ fn rest_into<R: Ruler + Copy>(
     requires upto { spot.minute ≤ task.request.until }
     ensures some { IfSome result (ComesFrom (task_of R R.ruling task.entry)
         progress.now.table.infos (progress_of progress.now).cost spot) }
+    ensures leg { IfSome result (λ source. IsFirstRest (task_of R R.ruling task.entry)
+        (progress_of progress.now).cost spot source.leg) }
     ensures none { IsNone result → (place : ℕ) → HasNoRoad (task_of R R.ruling task.entry)
         (progress_of progress.now).cost spot 1 place }
 {
@@ -306,6 +311,7 @@ fn rested_into<R: Ruler + Copy>(
     requires rest { slice_get (R.ruling task.ruler.now).rests place ≡ Some rest }
     ensures some { IfSome result (ComesFrom (task_of R R.ruling task.entry)
         progress.now.table.infos (progress_of progress.now).cost spot) }
+    ensures leg { IfSome result (λ source. source.leg ≡ Rest place) }
     ensures none { IsNone result → HasNoRoad (task_of R R.ruling task.entry)
         (progress_of progress.now).cost spot 1 place }
 {
@@ -350,6 +356,7 @@ fn drive_into<R: Ruler + Copy>(
     requires ends { EndsAt task.net.now Head spot.info.node.0 a.0 }
     ensures some { IfSome result (ComesFrom (task_of R R.ruling task.entry)
         progress.now.table.infos (progress_of progress.now).cost spot) }
+    ensures leg { IfSome result (λ source. source.leg ≡ Drive a) }
     ensures none { IsNone result → HasNoRoad (task_of R R.ruling task.entry)
         (progress_of progress.now).cost spot 0 a.0 }
 {
@@ -388,6 +395,7 @@ fn service_into<R: Ruler + Copy>(
     requires upto { spot.minute ≤ task.request.until }
     ensures some { IfSome result (ComesFrom (task_of R R.ruling task.entry)
         progress.now.table.infos (progress_of progress.now).cost spot) }
+    ensures leg { IfSome result (λ source. source.leg ≡ Serve place) }
     ensures none { IsNone result → HasNoRoad (task_of R R.ruling task.entry)
         (progress_of progress.now).cost spot 2 place }
 {

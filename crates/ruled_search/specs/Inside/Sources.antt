@@ -5,47 +5,44 @@ use Rattle.route_base.specs.Itinerary.{Position, Step, drive, wait, Moves, Walks
 use Rattle.route_base.specs.Net.{at_number}
 use Rattle.route_base.specs.declared.types.Pair.{Pair}
 use Rattle.propagation.specs.Inside.Invariants.{point}
-use Rattle.state_dominance.specs.Inside.Dominance.{Task, IsResting}
+use Rattle.state_dominance.specs.Inside.Dominance.{Task, IsResting, Reaches}
 use Rattle.state_dominance.specs.Inside.Product.{Ruler, code}
 use Rattle.ruled_states.specs.Inside.Codes.{base, HaveSmallNodes}
 use Rattle.ruled_states.specs.Inside.Tables.{code_of, number_in}
 use Rattle.ruled_states.specs.declared.table.Info.{Info}
-use Rattle.ruled_search.specs.Routes.{TellsLeg, TellsSteps}
+use Rattle.ruled_search.specs.Routes.{TellsLeg, TellsSteps, IsAlikeStep, IsRuledStepBefore}
 use Rattle.ruled_search.specs.Inside.Tasks.{task_of, progress_of, IsGoodTask, IsShapedFor}
 use Rattle.ruled_search.specs.declared.progress.Progress.{Progress as ProgressHeld}
 use Rattle.ruled_search.specs.declared.routes.RuledLeg.{RuledLeg}
+use Rattle.ruled_search.specs.declared.routes.RuledLeg.TheVariants.{Drive, Rest, Wait, Serve}
 use Rattle.ruled_search.specs.declared.sources.Source.{Source}
 use Rattle.ruled_search.specs.declared.sources.Spot.{Spot}
 use Rattle.ruled_search.specs.declared.task.Task.{Task as TaskHeld}
 use Rattle.ruled_search.specs.declared.ways.Kind.{Kind}
-use Rattle.ruled_search.specs.declared.ways.Kind.TheVariants.{Drive, Rest, Serve}
+use Rattle.ruled_search.specs.declared.ways.Kind.TheVariants.{Drive as DriveKind, Rest as RestKind, Serve as ServeKind}
 
 -- a step over states leads to the position from a cost that is known, exactly
 pub record ComesOver (k : Task) (cost : ℕ → ℕ → Option ℕ) (step : Step) (source p : Position) : Type 0 where
   pub known : cost source.node source.minute ≡ Some source.cost
   pub move : Moves k.setting k.until step source p
 
--- of two steps over states with their sources the first is not after the second: a wait is first, then the rest from the least state, then the
--- drive over the arc of the smallest number, of these that from the least state, and a service is last
-abbrev pub IsRoadBefore : ℕ → ℕ → ℕ → ℕ → Type 0
-IsRoadBefore x u y v = (x % 3 ≡ 1) × ((y % 3 ≡ 1 → ⊥) ⊎ (u ≤ v))
-    ⊎ ((x % 3 ≡ 0) × ((y % 3 ≡ 2) ⊎ ((y % 3 ≡ 0) × ((x / 3 % base < y / 3 % base) ⊎ ((x / 3 % base ≡ y / 3 % base) × (u ≤ v)))))
-    ⊎ ((x % 3 ≡ 2) × (y % 3 ≡ 2)))
-
+-- of two last steps, made at the codes u and v, the first is not after the second: it comes before; or it is alike and its state isn't larger
 abbrev pub IsNotAfter : Step → ℕ → Step → ℕ → Type 0
-IsNotAfter wait u y v = ⊤
-IsNotAfter (drive x) u wait v = ⊥
-IsNotAfter (drive x) u (drive y) v = IsRoadBefore x u y v
+IsNotAfter x u y v = IsRuledStepBefore base x y ⊎ (IsAlikeStep base x y × (u / base ≤ v / base))
 
 -- the last step is first among those that lead to the position exactly
 pub record IsFirstSource (k : Task) (cost : ℕ → ℕ → Option ℕ) (step : Step) (source p : Position) : Type 0 where
   pub comes : ComesOver k cost step source p
   pub first : (y : Step) (other : Position) → ComesOver k cost y other p → IsNotAfter step source.node y other.node
 
--- the last of these steps to the position, and each before it, is first
-abbrev pub AreFirstBack : Task → (ℕ → ℕ → Option ℕ) → List Step → Position → Position → Type 0
-AreFirstBack k cost [] p q = p ≡ q
-AreFirstBack k cost (x ∷ xs) p q = (r : Position) × IsFirstSource k cost x r q × AreFirstBack k cost xs p r
+-- these steps lead from one position to another, each first of those that could be last there
+abbrev pub AreFirstSteps : Task → (ℕ → ℕ → Option ℕ) → List Step → Position → Position → Type 0
+AreFirstSteps k cost [] p q = p ≡ q
+AreFirstSteps k cost (x ∷ xs) p q = (r : Position) × IsFirstSource k cost x p r × AreFirstSteps k cost xs r q
+
+-- no state that is no worse is reached at the minute at no higher a cost, but this one at this cost
+abbrev pub IsBest : Task → Position → Type 0
+IsBest k q = (u x : ℕ) → k.no_worse u q.node ≡ true → x ≤ q.cost → Reaches k (point u q.minute x) → (u ≡ q.node) × (x ≡ q.cost)
 
 -- the search has ended over these arcs: its facts, and nothing is pending
 pub record IsSolved (R : Type 0) (ruling : R → Ruler) (task : TaskHeld R) (incoming : Star) (progress : ProgressHeld) : Type 0 where
@@ -69,9 +66,9 @@ pub record IsKnownSpot (infos : List Info) (cost : ℕ → ℕ → Option ℕ) (
 
 -- the state after a way of this kind and length, if it is allowed
 abbrev pub led_to : Ruler → Kind → ℕ → ℕ → Option ℕ
-led_to r (Drive a) minutes k = r.drive k minutes
-led_to r (Rest place) minutes k = Some (r.rest k minutes)
-led_to r (Serve place) minutes k = r.serve k place
+led_to r (DriveKind a) minutes k = r.drive k minutes
+led_to r (RestKind place) minutes k = Some (r.rest k minutes)
+led_to r (ServeKind place) minutes k = r.serve k place
 
 -- each state has a function, and the number of its code
 pub record AreNumbered (progress : ProgressHeld) : Type 0 where
@@ -109,6 +106,18 @@ HasNoWait k cost spot = (source : Position) → ComesOver k cost wait source (pl
 abbrev pub HasNoRoad : Task → (ℕ → ℕ → Option ℕ) → Spot → ℕ → ℕ → Type 0
 HasNoRoad k cost spot kind a = (x : ℕ) (source : Position) → x % 3 ≡ kind → x / 3 % base ≡ a → ComesOver k cost (drive x) source (place_of spot) → ⊥
 
+-- of the sources over roads of this kind and this arc, rest or service none has a smaller state
+abbrev pub IsLeastOver : Task → (ℕ → ℕ → Option ℕ) → Spot → ℕ → ℕ → Spot → Type 0
+IsLeastOver k cost spot kind a from = (x : ℕ) (source : Position) → x % 3 ≡ kind → x / 3 % base ≡ a → ComesOver k cost (drive x) source (place_of spot)
+    → from.info.state ≤ source.node / base
+
+-- the leg is over a road whose number has its place, from the least state; or it is a wait
+abbrev pub IsLeastLeg : Task → (ℕ → ℕ → Option ℕ) → Spot → RuledLeg → Spot → Type 0
+IsLeastLeg k cost spot (Drive a) from = (a.0 < base) × IsLeastOver k cost spot 0 a.0 from
+IsLeastLeg k cost spot (Rest place) from = (place < base) × IsLeastOver k cost spot 1 place from
+IsLeastLeg k cost spot (Serve place) from = (place < base) × IsLeastOver k cost spot 2 place from
+IsLeastLeg k cost spot (Wait minutes) from = ⊤
+
 -- a leg leads from the known cost of another spot, at an earlier minute, to the spot
 pub record ComesFrom (k : Task) (infos : List Info) (cost : ℕ → ℕ → Option ℕ) (spot : Spot) (source : Source) : Type 0 where
   pub is_one : IsKnownSpot infos cost source.from.number source.from.minute source.from.cost source.from
@@ -116,14 +125,47 @@ pub record ComesFrom (k : Task) (infos : List Info) (cost : ℕ → ℕ → Opti
   pub steps : List Step
   pub tells : TellsLeg base source.leg steps
   pub walk : Walks k.setting k.until steps (place_of source.from) (place_of spot)
+  pub least : IsLeastLeg k cost spot source.leg source.from
 
--- the spot is at the goal, with the pair
+-- the cost of the spot comes by no road of this kind over an arc, a rest or a service of a smaller number
+abbrev pub HasNoRoadBefore : Task → (ℕ → ℕ → Option ℕ) → Spot → ℕ → ℕ → Type 0
+HasNoRoadBefore k cost spot kind a = (i : ℕ) → i < a → HasNoRoad k cost spot kind i
+
+-- the leg is a wait
+abbrev pub IsWaitLeg : RuledLeg → Type 0
+IsWaitLeg (Drive a) = ⊥
+IsWaitLeg (Rest place) = ⊥
+IsWaitLeg (Serve place) = ⊥
+IsWaitLeg (Wait minutes) = ⊤
+
+-- the leg is a rest, and the cost of the spot comes by no rest of a smaller place
+abbrev pub IsFirstRest : Task → (ℕ → ℕ → Option ℕ) → Spot → RuledLeg → Type 0
+IsFirstRest k cost spot (Drive a) = ⊥
+IsFirstRest k cost spot (Rest place) = HasNoRoadBefore k cost spot 1 place
+IsFirstRest k cost spot (Serve place) = ⊥
+IsFirstRest k cost spot (Wait minutes) = ⊥
+
+-- the cost of the spot comes by nothing that is before the leg
+abbrev pub HasNoneBefore : Task → (ℕ → ℕ → Option ℕ) → Spot → RuledLeg → Type 0
+HasNoneBefore k cost spot (Wait minutes) = ⊤
+HasNoneBefore k cost spot (Rest place) = HasNoWait k cost spot × HasNoRoadBefore k cost spot 1 place
+HasNoneBefore k cost spot (Drive a) = HasNoWait k cost spot × ((i : ℕ) → HasNoRoad k cost spot 1 i) × HasNoRoadBefore k cost spot 0 a.0
+HasNoneBefore k cost spot (Serve place) = HasNoWait k cost spot × ((i : ℕ) → HasNoRoad k cost spot 1 i) × ((i : ℕ) → HasNoRoad k cost spot 0 i)
+    × HasNoRoadBefore k cost spot 2 place
+
+-- the leg leads to the spot, and nothing before it does
+pub record ComesFirst (k : Task) (infos : List Info) (cost : ℕ → ℕ → Option ℕ) (spot : Spot) (source : Source) : Type 0 where
+  pub comes : ComesFrom k infos cost spot source
+  pub first : HasNoneBefore k cost spot source.leg
+
+-- the spot is at the goal, with the pair, in the least state
 pub record IsEndOf (k : Task) (infos : List Info) (cost : ℕ → ℕ → Option ℕ) (pair : Pair) (spot : Spot) : Type 0 where
   pub is_one : IsKnownSpot infos cost spot.number pair.arrival pair.cost spot
   pub goal : k.goal (code_of spot.info) ≡ true
+  pub least : (c : ℕ) → k.goal c ≡ true → cost c pair.arrival ≡ Some pair.cost → spot.info.state ≤ c / base
 
--- legs, the last first, tell steps that lead from the spot to the end
-pub record LeadsToEnd (k : Task) (back : List RuledLeg) (spot : Spot) (end : Position) : Type 0 where
+-- legs, the last first, tell the first steps that lead from the spot to the end
+pub record LeadsToEnd (k : Task) (cost : ℕ → ℕ → Option ℕ) (back : List RuledLeg) (spot : Spot) (end : Position) : Type 0 where
   pub steps : List Step
   pub tells : TellsSteps base (reverse back) steps
-  pub walk : Walks k.setting k.until steps (place_of spot) end
+  pub first : AreFirstSteps k cost steps (place_of spot) end

@@ -6,7 +6,7 @@ use Rattle.std.proofs.lemmas.List.Elements.{All-push}
 use Rattle.route_base.specs.declared.types.Pair.{Pair}
 use Rattle.ruled_states.specs.Inside.Codes.{base}
 use Rattle.ruled_search.specs.Inside.Tasks.{task_of}
-use Rattle.ruled_search.specs.Routes.{AchievesRuled}
+use Rattle.ruled_search.specs.Routes.{IsFirstRuled}
 use Rattle.ruled_search.specs.declared.routes.RuledRoute.{RuledRoute}
 use Rattle.ruled_search.proofs.back.routes_of.Goals as goal
 
@@ -22,7 +22,7 @@ legs_of-requires-clause-one g c =
 
 pub loop-pair-preserved : goal.loop-pair-preserved
 loop-pair-preserved g c =
-    let achieves = AchievesRuled (task_of _ g.R.Ruler.ruling c.args.task) base in
+    let first = IsFirstRuled (task_of _ g.R.Ruler.ruling c.args.task) base in
     let pairs = c.as_slice-pair-items.result.now in
     let k = c.loop-pair.pair-index in
     let pair : Pair = get_or pairs k no_pair in
@@ -34,7 +34,7 @@ loop-pair-preserved g c =
       same = ap (map (λ (x : RuledRoute). x.pair)) items
           ∙ (map-append (λ (x : RuledRoute). x.pair) c.loop-pair.routes.items (route ∷ [])
           ∙ (ap (λ (w : List Pair). w ++ pair ∷ []) c.loop-pair.invariant.same ∙ sym next));
-      legs = subst (All achieves) (sym items) (All-push achieves c.loop-pair.routes.items route c.loop-pair.invariant.legs c.in_ok-legs.ensures);
+      legs = subst (All first) (sym items) (All-push first c.loop-pair.routes.items route c.loop-pair.invariant.legs c.in_ok-legs.ensures);
     }
 
 pub returns : goal.returns
