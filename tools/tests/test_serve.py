@@ -352,7 +352,7 @@ class FaultTest(unittest.TestCase):
 @needs_service
 @beside.needs_program
 class Faults(FaultTest):
-    words = ("--seconds", "4", "--requests", "40")
+    words = ("--seconds", "4", "--requests", "40", "--memory", "500")
 
     def test_faults_of_the_program(self):
         quick = {**YARD, "reasons": False}
@@ -361,6 +361,7 @@ class Faults(FaultTest):
         for mode, status, detail in (
             ("killed", 503, "ended by signal 9"),
             ("memory", 503, "out of memory"),
+            ("greedy", 503, "the program ended with status 1"),
             ("nonsense", 503, "printed what these tools don't know"),
             ("endless", 503, "the answer is larger than 64 MB"),
             ("hanging", 504, "the answer took more than 4 seconds"),
@@ -536,12 +537,18 @@ class Load(FaultTest):
         plan = b"POST /api/folders/liechtenstein/plan HTTP/1.1\r\nHost: localhost\r\nContent-Type: application/json\r\nContent-Length: 100\r\n\r\n{"
         with contextlib.ExitStack() as held:
             sockets = [held.enter_context(socket.create_connection(("127.0.0.1", self.served.port), timeout=60)) for _ in range(150)]
+            again = held.enter_context(socket.create_connection(("127.0.0.1", self.served.port), timeout=60))
+            again.sendall(b"GET /nothing HTTP/1.1\r\nHost: localhost\r\n\r\n")
+            self.assertEqual(again.recv(12), b"HTTP/1.1 404")
+            again.sendall(b"GET /noth")
             for number, one in enumerate(sockets):
                 one.sendall((b"", b"POST /api", plan)[number % 3])
             begun = time.monotonic()
             self.assertEqual(self.served.ask("plan", YARD)[0], 200)
             self.assertLess(time.monotonic() - begun, 8)
             texts = [one.recv(4096) for one in sockets]
+            while again.recv(4096):
+                pass
         self.assertEqual({it[:12] for it in texts[0::3] + texts[1::3]}, {b""})
         self.assertEqual({it[:12] for it in texts[2::3]}, {b"HTTP/1.1 408"})
         self.assertEqual(self.served.ask("plan", YARD)[0], 200)

@@ -18,6 +18,7 @@ from lorry_tools.program import Refused
 from lorry_tools.service.bodies import BansBody, ExplainBody, PlanBody, TripBody
 from lorry_tools.service.copies import Copy, Served
 from lorry_tools.service.guards import json_bytes
+from lorry_tools.service.limits import Unavailable
 from lorry_tools.service.runs import LimitedProgram
 from lorry_tools.trips import forms
 from lorry_tools.trips.answer import Answer, Judged, trip_of
@@ -86,6 +87,8 @@ def certify(answer: Answer, program: LimitedProgram) -> None:
     program.note_work()
     take_pairs(answer, program.plan(trip, CERTIFICATE))
     accepted, number = program.check(trip, CERTIFICATE)
+    if not accepted:
+        raise Unavailable(f"the certificate was rejected, by condition {number}")
     path = os.path.join(program.work(), CERTIFICATE)
     with open(path, encoding="utf-8", errors="replace") as file:
         answer.judged = Judged(CERTIFICATE, accepted, number, file.read())

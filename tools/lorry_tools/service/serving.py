@@ -27,15 +27,34 @@ HEAD_SECONDS = 10.0  # until the head of a request is there
 
 
 class Protocol(H11Protocol):
-    """A connection that is closed where the head of its first request doesn't come in time."""
+    """A connection that is closed where the head of a request doesn't come in time."""
+
+    timer: Optional[asyncio.TimerHandle] = None
 
     def connection_made(self, transport: Any) -> None:
         super().connection_made(transport)
-        self.loop.call_later(HEAD_SECONDS, self.close_if_silent)
+        self.wait_for_head()
 
-    def close_if_silent(self) -> None:
-        if self.cycle is None and not self.transport.is_closing():
+    def data_received(self, data: bytes) -> None:
+        super().data_received(data)
+        self.wait_for_head()
+
+    def is_between(self) -> bool:
+        """Whether no request is open."""
+        return self.cycle is None or self.cycle.response_complete
+
+    def wait_for_head(self) -> None:
+        if self.is_between() and self.timer is None:
+            self.timer = self.loop.call_later(HEAD_SECONDS, self.close_if_silent, self.cycle)
+
+    def close_if_silent(self, last: object) -> None:
+        self.timer = None
+        if self.transport.is_closing():
+            return
+        if self.cycle is last and self.is_between():
             self.transport.close()
+        else:
+            self.wait_for_head()
 
 
 class Server(uvicorn.Server):
