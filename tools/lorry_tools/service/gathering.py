@@ -1,8 +1,8 @@
 """Plans that are asked for at about the same time are planned together, by one batch.
 
 A plan that comes alone is planned at once. Otherwise it waits a few milliseconds for others, and
-longer only while two batches over its folder are at work. Where a batch fails, each of its plans is
-planned by itself."""
+longer only while two batches over its folder are at work, or one that has far more plans than there
+are waiting. Where a batch fails, each of its plans is planned by itself."""
 from __future__ import annotations
 
 import asyncio
@@ -49,8 +49,16 @@ class Line:
     def __init__(self) -> None:
         self.waiting: Deque[Asked] = collections.deque()
         self.at_work = 0
+        self.rows = 0  # the plans of those
         self.has_timer = False
         self.last = 0.0  # when the last plan came
+
+    def may_begin(self) -> bool:
+        """Whether a batch of those that wait is worth its reading of the folder."""
+        many = 2 * len(self.waiting) >= self.rows
+        return bool(self.waiting) and (
+            not self.at_work or (self.at_work < BATCHES_AT_ONCE and many)
+        )
 
 
 class Gatherer:
@@ -83,12 +91,13 @@ class Gatherer:
     def begin(self, copy: Copy, line: Line) -> None:
         """Starts a batch of those that wait, unless enough are at work: their ends start it."""
         line.has_timer = False
-        while line.waiting and line.at_work < BATCHES_AT_ONCE:
+        while line.may_begin():
             most = min(len(line.waiting), self.limits.batch_rows)
             batch = [line.waiting.popleft() for _ in range(most)]
             batch = [it for it in batch if not it.future.done()]
             if batch:
                 line.at_work += 1
+                line.rows += len(batch)
                 task = asyncio.get_running_loop().create_task(self.work(copy, line, batch))
                 self._tasks.add(task)
                 task.add_done_callback(self._tasks.discard)
@@ -100,11 +109,17 @@ class Gatherer:
         try:
             self.batches, self.plans = self.batches + 1, self.plans + len(batch)
             number = next(self._numbers)
-            plan = loop.run_in_executor(self.pool, self.plan_batch, copy, batch, number)
-            found = await plan
-            line.at_work -= 1
-            self.begin(copy, line)
-            await loop.run_in_executor(self.pool, finish_all, loop, batch, found)
+            try:
+                plan = loop.run_in_executor(self.pool, self.plan_batch, copy, batch, number)
+                found = await plan
+            finally:
+                line.at_work -= 1
+                line.rows -= len(batch)
+                self.begin(copy, line)
+            # All are answered together, so that those who ask again do so together.
+            results = await loop.run_in_executor(self.pool, finish_all, batch, found)
+            for asked, result in zip(batch, results):
+                give(asked.future, result)
         except Exception as error:
             failed = error
         finally:
@@ -151,11 +166,10 @@ class Gatherer:
 
 
 def finish_all(
-    loop: asyncio.AbstractEventLoop,
-    batch: list[Asked],
-    found: list[Union[Planned, BaseException]],
-) -> None:
-    """Gives each plan of a batch its result, as soon as it is there."""
+    batch: list[Asked], found: list[Union[Planned, BaseException]]
+) -> list[Union[Result, BaseException]]:
+    """Returns what each plan of a batch gets."""
+    results: list[Union[Result, BaseException]] = []
     for asked, planned in zip(batch, found):
         result: Union[Result, BaseException] = planned
         if asked.finish and not isinstance(planned, BaseException):
@@ -163,7 +177,8 @@ def finish_all(
                 result = asked.finish(planned)
             except Exception as error:
                 result = error
-        loop.call_soon_threadsafe(give, asked.future, result)
+        results.append(result)
+    return results
 
 
 def give(future: asyncio.Future[Result], result: Union[Result, BaseException]) -> None:
