@@ -6,13 +6,15 @@ PROGRAM is a built program, crates/lorry_plan/out/lorry_plan if it isn't named. 
 written to a temporary folder, and served by tools/serve; the clients run in four other processes,
 each with a connection of its own, and ask for random plans without reasons, one after another.
 Beside it each client runs the program for each of its requests. A row of a table is printed for
-each: requests a second, the 50th, 95th and 99th percentile in milliseconds, and the memory of the
-service at the end in MB. docs/SPEED.md says what the numbers mean."""
+each: requests a second, the 50th, 95th and 99th percentile in milliseconds, the processor
+milliseconds of each request, without those of the clients, and the memory of the service at the
+end in MB. docs/SPEED.md says what the numbers mean."""
 from __future__ import annotations
 
 import argparse
 import concurrent.futures
 import contextlib
+import dataclasses
 import functools
 import http.client
 import json
@@ -20,6 +22,7 @@ import multiprocessing
 import os
 import random
 import re
+import resource
 import subprocess
 import sys
 import tempfile
@@ -33,6 +36,17 @@ from lorry_tools.speed.service_networks import NETWORKS, Asked, Draw
 
 PROGRAM = os.path.join(TOP, "crates", "lorry_plan", "out", "lorry_plan")
 PROCESSES = 4
+COLUMNS = (
+    "Network",
+    "Clients",
+    "By",
+    "Requests a second",
+    "50th, ms",
+    "95th",
+    "99th",
+    "Processor, ms each",
+    "Memory, MB",
+)
 NAME = "network"
 
 Ask = Callable[[Asked], None]
@@ -120,25 +134,49 @@ def clients_of(make: Callable[[], Ask], draw: Draw, numbers: list[int], end: flo
         return [seconds for run in runs for seconds in run.result()]
 
 
-def measured(make: Callable[[], Ask], draw: Draw, count: int, seconds: float) -> str:
-    """Returns the numbers of a row: requests a second, and percentiles in milliseconds."""
+@dataclasses.dataclass
+class Row:
+    """How long answers took, sorted, and the processor seconds of the programs that the clients
+    ran."""
+
+    taken: list[float]
+    busy: float
+
+    def numbers(self, seconds: float, busy: float) -> str:
+        """Returns requests a second, percentiles in milliseconds, and processor milliseconds of
+        each request."""
+        count = len(self.taken)
+        places = (count * 50 // 100, count * 95 // 100, count * 99 // 100)
+        shown = " | ".join(f"{1000 * self.taken[it]:.0f}" for it in places)
+        return f"{count / seconds:.1f} | {shown} | {1000 * busy / count:.1f}"
+
+
+def measured(make: Callable[[], Ask], draw: Draw, count: int, seconds: float) -> Row:
+    """Lets some clients ask for a time."""
     context = multiprocessing.get_context("fork")
     answers = context.SimpleQueue()
     end = time.monotonic() + seconds
     shares = [list(range(it, count, PROCESSES)) for it in range(min(PROCESSES, count))]
 
     def work(numbers: list[int]) -> None:
-        answers.put(clients_of(make, draw, numbers, end))
+        taken = clients_of(make, draw, numbers, end)
+        usage = resource.getrusage(resource.RUSAGE_CHILDREN)
+        answers.put((taken, usage.ru_utime + usage.ru_stime))
 
     processes = [context.Process(target=work, args=(it,), daemon=True) for it in shares]
     for process in processes:
         process.start()
-    taken = sorted(seconds for _ in processes for seconds in answers.get())
+    found = [answers.get() for _ in processes]
     for process in processes:
         process.join()
-    places = (len(taken) * 50 // 100, len(taken) * 95 // 100, len(taken) * 99 // 100)
-    numbers = " | ".join(f"{1000 * taken[it]:.0f}" for it in places)
-    return f"{len(taken) / seconds:.1f} | {numbers}"
+    return Row(sorted(it for taken, _ in found for it in taken), sum(busy for _, busy in found))
+
+
+def busy_of(process: int) -> float:
+    """Returns the processor seconds of a process and of those that it started and that ended."""
+    with open(f"/proc/{process}/stat", encoding="ascii") as file:
+        fields = file.read().rpartition(")")[2].split()
+    return sum(map(int, fields[11:15])) / os.sysconf("SC_CLK_TCK")
 
 
 def memory_of(process: int) -> float:
@@ -150,8 +188,7 @@ def memory_of(process: int) -> float:
 def main() -> int:
     words = arguments()
     program = os.path.abspath(words.program)
-    print("| Network | Clients | By | Requests a second | 50th, ms | 95th | 99th | Memory, MB |")
-    print("|---|---|---|---|---|---|---|---|", flush=True)
+    print(f"| {' | '.join(COLUMNS)} |\n|{'---|' * len(COLUMNS)}", flush=True)
     for key, network in NETWORKS.items():
         if words.only not in (None, key):
             continue
@@ -164,8 +201,11 @@ def main() -> int:
                 by_service = functools.partial(asker_of_service, port)
                 for count in map(int, words.clients.split(",")):
                     row = f"| {network.name} | {count}"
-                    numbers = measured(by_service, network.draw, count, words.seconds)
+                    before = busy_of(process)
+                    found = measured(by_service, network.draw, count, words.seconds)
+                    numbers = found.numbers(words.seconds, busy_of(process) - before)
                     print(f"{row} | service | {numbers} | {memory_of(process):.0f} |", flush=True)
-                    numbers = measured(by_program, network.draw, count, words.seconds)
+                    found = measured(by_program, network.draw, count, words.seconds)
+                    numbers = found.numbers(words.seconds, found.busy)
                     print(f"{row} | a process each | {numbers} | |", flush=True)
     return 0
