@@ -4,23 +4,24 @@ use Rattle.std.specs.Prelude.{codes, bytes_eq, option_and_then}
 use Rattle.route_base.specs.Digits.{number_of}
 use Rattle.calendar_days.specs.Texts.{day_of_text, clock_of, minute_of_day}
 
-no_day : (text : List ℕ) → length text < 10 → day_of_text text ≡ None
+-- a text of another length than ten bytes says no day
+pub no_day : (text : List ℕ) → (length text ≡ 10 → ⊥) → day_of_text text ≡ None
 unfolding day_of_text
-no_day [] h = refl
-no_day (a ∷ []) h = refl
-no_day (a ∷ b ∷ []) h = refl
-no_day (a ∷ b ∷ c ∷ []) h = refl
-no_day (a ∷ b ∷ c ∷ d ∷ []) h = refl
-no_day (a ∷ b ∷ c ∷ d ∷ e ∷ []) h = refl
-no_day (a ∷ b ∷ c ∷ d ∷ e ∷ f ∷ []) h = refl
-no_day (a ∷ b ∷ c ∷ d ∷ e ∷ f ∷ g ∷ []) h = refl
-no_day (a ∷ b ∷ c ∷ d ∷ e ∷ f ∷ g ∷ i ∷ []) h = refl
-no_day (a ∷ b ∷ c ∷ d ∷ e ∷ f ∷ g ∷ i ∷ j ∷ []) h = refl
-no_day (a ∷ b ∷ c ∷ d ∷ e ∷ f ∷ g ∷ i ∷ j ∷ k ∷ []) h = absurd (omega arith)
-no_day (a ∷ b ∷ c ∷ d ∷ e ∷ f ∷ g ∷ i ∷ j ∷ k ∷ l ∷ text) h = absurd (omega arith)
+no_day [] other = refl
+no_day (a ∷ []) other = refl
+no_day (a ∷ b ∷ []) other = refl
+no_day (a ∷ b ∷ c ∷ []) other = refl
+no_day (a ∷ b ∷ c ∷ d ∷ []) other = refl
+no_day (a ∷ b ∷ c ∷ d ∷ e ∷ []) other = refl
+no_day (a ∷ b ∷ c ∷ d ∷ e ∷ f ∷ []) other = refl
+no_day (a ∷ b ∷ c ∷ d ∷ e ∷ f ∷ g ∷ []) other = refl
+no_day (a ∷ b ∷ c ∷ d ∷ e ∷ f ∷ g ∷ h ∷ []) other = refl
+no_day (a ∷ b ∷ c ∷ d ∷ e ∷ f ∷ g ∷ h ∷ i ∷ []) other = refl
+no_day (a ∷ b ∷ c ∷ d ∷ e ∷ f ∷ g ∷ h ∷ i ∷ j ∷ []) other = absurd (other refl)
+no_day (a ∷ b ∷ c ∷ d ∷ e ∷ f ∷ g ∷ h ∷ i ∷ j ∷ k ∷ text) other = refl
 
 pub short_no_day : (text : List ℕ) → length text < 10 → day_of_text (take 10 text) ≡ None
-short_no_day text h = let same : take 10 text ≡ text = grind arith in rw same (no_day text h)
+short_no_day text h = let same : take 10 text ≡ text = grind arith in rw same (no_day text (λ ten. omega (arith, h, ten)))
 
 -- a clock by its first six bytes and what follows them
 pub clock_by_place : (text : List ℕ) → 6 ≤ length text → clock_of text ≡

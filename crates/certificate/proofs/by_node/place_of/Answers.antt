@@ -1,5 +1,4 @@
-use Rattle.std.proofs.Common.{ltb, true, false, length, arith, rules}
-use Rattle.std.specs.List.{AllWithin}
+use Rattle.std.proofs.Common.{ltb, rules}
 use Rattle.std.proofs.lemmas.Bool.{ltb-true, ltb-false}
 use Rattle.std.proofs.lemmas.List.Sorted.{IsPartitionedBy-ltb, IsPartitionPoint-from_clause}
 use Rattle.certificate.proofs.Entries.{nodes_rise}
