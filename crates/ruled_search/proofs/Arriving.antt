@@ -1,7 +1,7 @@
 -- Steps over states that end in a state, as drives, rests, services and waits of the net.
-use Rattle.std.proofs.Common.{◌≡◌, ◌⊎◌, ⊎_elim, ℕ, ◌+◌, ◌-◌, ◌*◌, ◌/◌, ◌%◌, ◌<◌, ◌≤◌, ◌||◌, ltb, leb, Bool, true, false, Option, Some, replicate, refl, sym, ◌∙◌, ap, subst, arith}
+use Rattle.std.proofs.Common.{◌≡◌, ◌⊎◌, ⊎_elim, ℕ, ◌+◌, ◌-◌, ◌*◌, ◌/◌, ◌%◌, ◌<◌, ◌≤◌, ltb, leb, false, Option, Some, replicate, refl, sym, ◌∙◌, ap, subst, arith}
 use Rattle.std.specs.Prelude.{slice_get}
-use Rattle.std.proofs.lemmas.Bool.{ltb-false, leb-false, le-ltb, lt-leb}
+use Rattle.std.proofs.lemmas.Bool.{ltb-false, leb-false, le-ltb, lt-leb, or_parts, or_from}
 use Rattle.std.proofs.lemmas.Nat.{div-mul-add, mod-mul-add}
 use Rattle.route_base.specs.Setting.{Setting, Road}
 use Rattle.route_base.specs.Itinerary.{Position, drive, wait, Walks}
@@ -21,20 +21,12 @@ code_same v w k j one two is = (
   sym (div-mul-add k base v one) ∙ (ap (λ n. n / base) is ∙ div-mul-add j base w two),
 )
 
-neither : (a b : Bool) → (a || b) ≡ false → (a ≡ false) × (b ≡ false)
-neither false b is = (refl, is)
-neither true b is = absurd (cc)
+-- the minutes at which a service is open are those of its window
+pub within_window : (c : Service) (u : ℕ) → shut_for (Some c) u ≡ false → (c.from ≤ u) × (u < c.to)
+within_window c u is = let both = or_parts (ltb u c.from) (leb c.to u) is in (ltb-false u c.from both.0, leb-false c.to u both.1)
 
--- the window of a service is open
-in_window : (c : Service) (u : ℕ) → shut_for (Some c) u ≡ false → (c.from ≤ u) × (u < c.to)
-in_window c u is = let both = neither (ltb u c.from) (leb c.to u) is in (ltb-false u c.from both.0, leb-false c.to u both.1)
-
-both_false : (a b : Bool) → a ≡ false → b ≡ false → (a || b) ≡ false
-both_false false b one two = two
-both_false true b one two = absurd (cc)
-
-window : (c : Service) (u : ℕ) → c.from ≤ u → u < c.to → shut_for (Some c) u ≡ false
-window c u early before = both_false (ltb u c.from) (leb c.to u) (le-ltb u c.from early) (lt-leb c.to u before)
+pub opens_in : (c : Service) (u : ℕ) → c.from ≤ u → u < c.to → shut_for (Some c) u ≡ false
+opens_in c u early before = or_from (ltb u c.from) (leb c.to u) (le-ltb u c.from early) (lt-leb c.to u before)
 
 module _ (s : Setting) (r : Ruler) (v j t x : ℕ) (source : Position) where
   -- the source of a drive over an arc to state j of node v, at minute t, with cost x
@@ -147,9 +139,9 @@ module _ (s : Setting) (r : Ruler) (is_base : IsBase s r base) (origin goal depa
         let place : d.place ≡ a = sym d.number ∙ number in
         let head = code_same d.service.node v d.next j small.1 node (sym d.head ∙ sym c.move.node) in
         let last : ℕ = source.minute + d.service.minutes - 1 in
-        let first_open = in_window d.service source.minute (sym (d.shut source.minute)
+        let first_open = within_window d.service source.minute (sym (d.shut source.minute)
         ∙ c.move.is_open source.minute (omega arith) (omega (arith, some, d.minutes))) in
-        let last_open = in_window d.service last (sym (d.shut last) ∙ c.move.is_open last (omega (arith, some)) (omega (arith, some, d.minutes))) in (
+        let last_open = within_window d.service last (sym (d.shut last) ∙ c.move.is_open last (omega (arith, some)) (omega (arith, some, d.minutes))) in (
           d.service,
           ap (slice_get r.services) (sym place) ∙ d.is,
           record {
@@ -236,7 +228,7 @@ module _ (s : Setting) (r : Ruler) (is_base : IsBase s r base) (origin goal depa
                 ∙ (ap (λ o. served_by r base place u o) is ∙ ap (λ o. served_to base u c o) allowed);
             tail = ap (λ n. code base n u) at;
             is_open = λ z early before. shut_is s r base 2 place v u (omega arith) small.0 node z
-                ∙ (ap (λ o. shut_for o z) is ∙ window c z (omega (arith, early, begins)) (omega (arith, before, ends, minute)));
+                ∙ (ap (λ o. shut_for o z) is ∙ opens_in c z (omega (arith, early, begins)) (omega (arith, before, ends, minute)));
             in_time = omega (arith, late, minute);
             node = ap (λ n. code base n j) (sym at);
             minute = minute;

@@ -1,9 +1,9 @@
 -- The best positions on the way to a pair, the sources of steps to them, and why the walk of first sources is the first of all.
-use Rattle.std.proofs.Common.{◌≡◌, ◌⊎◌, inl, inr, ⊎_elim, ℕ, zero, suc, ◌+◌, ◌/◌, ◌%◌, ◌<◌, ◌≤◌, ◌*◌, ◌&&◌, eqb, Bool, true, false, Option, Some, List, [], ◌∷◌, ◌++◌, replicate, refl, sym, ◌∙◌, ap, subst, arith}
+use Rattle.std.proofs.Common.{◌≡◌, ◌⊎◌, inl, inr, ⊎_elim, ℕ, zero, suc, ◌+◌, ◌/◌, ◌%◌, ◌<◌, ◌≤◌, ◌*◌, eqb, true, false, Option, Some, List, [], ◌∷◌, ◌++◌, replicate, refl, sym, ◌∙◌, ap, subst, arith}
 use Rattle.std.specs.Prelude.{Contains, reverse}
-use Rattle.std.proofs.lemmas.Bool.{cases_lt, eqb-true}
+use Rattle.std.proofs.lemmas.Bool.{cases_lt, eqb-true, and_parts}
 use Rattle.std.proofs.lemmas.List.{reverse-reverse}
-use Rattle.std.proofs.lemmas.Nat.{div-mul-add, mod-mul-add, div-add-mod', mod_below}
+use Rattle.std.proofs.lemmas.Nat.{mod-mul-add, div-add-mod', mod_below}
 use Rattle.std.proofs.lemmas.Option.{same_Some}
 use Rattle.route_base.specs.Front.{IsNoWorse}
 use Rattle.route_base.specs.Setting.{Setting, Road}
@@ -27,10 +27,6 @@ use Rattle.ruled_search.proofs.FirstSteps.{first_parts, first_walk}
 use Rattle.ruled_search.proofs.Sourcing.{three_kinds}
 use Rattle.ruled_search.proofs.StepOrder.{alike_on, alike_reverse, alike_sym, before_alike, not_before, reverse_first, smaller_before}
 
-pub both_parts : (a b : Bool) → (a && b) ≡ true → (a ≡ true) × (b ≡ true)
-both_parts true b is = (refl, is)
-both_parts false b is = absurd (cc)
-
 -- codes with the same digits are the same
 pub same_digits : (c d : ℕ) → c % base ≡ d % base → c / base ≡ d / base → c ≡ d
 same_digits c d node state = sym (div-add-mod' c base) ∙ (ap (λ n. n * base + c % base) state ∙ (ap (λ n. d / base * base + n) node ∙ div-add-mod' d base))
@@ -47,10 +43,10 @@ module _ (s : Setting) (r : Ruler) (origin goal depart until : ℕ) (bound : ℕ
   along = are_bounds s r base origin goal depart until bound sim numbers bounds
 
   state_low : (u v : ℕ) → over.no_worse u v ≡ true → u / base ≤ v / base
-  state_low u v better = sim.low (u / base) (v / base) (both_parts (eqb (u % base) (v % base)) (r.no_worse (u / base) (v / base)) better).1
+  state_low u v better = sim.low (u / base) (v / base) (and_parts (eqb (u % base) (v % base)) (r.no_worse (u / base) (v / base)) better).1
 
   at_node : (c : ℕ) → over.goal c ≡ true → c % base ≡ goal
-  at_node c at = eqb-true (c % base) goal (both_parts (eqb (c % base) goal) (r.ends (c / base)) at).0
+  at_node c at = eqb-true (c % base) goal (and_parts (eqb (c % base) goal) (r.ends (c / base)) at).0
 
   -- a step is made from a state that is no worse too, to the same end, if that is the best
   pub into_best : (y : Step) (p q : Position) → IsBest over q → Moves over.setting until y p q → (u x : ℕ) → over.no_worse u p.node ≡ true

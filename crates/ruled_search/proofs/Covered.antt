@@ -1,10 +1,9 @@
 -- Drives over a way that are seen to be covered.
-use Rattle.std.proofs.Common.{◌≡◌, inl, ℕ, zero, suc, ◌+◌, ◌/◌, ◌%◌, ◌≤◌, ◌<◌, true, Option, Some, None, List, length, refl, sym, ◌∙◌, ap, arith}
+use Rattle.std.proofs.Common.{◌≡◌, inl, ℕ, ◌+◌, ◌/◌, ◌%◌, ◌<◌, true, Option, Some, List, refl, sym, ◌∙◌, ap, arith}
 use Rattle.std.specs.Prelude.{nat_eq, ◌&&◌}
 use Rattle.std.proofs.lemmas.Bool.{eq-eqb}
 use Rattle.std.proofs.lemmas.Nat.{div-mul-add, mod-mul-add}
-use Rattle.std.proofs.lemmas.Option.{same_Some, slice_get_within}
-use Rattle.route_base.specs.Net.{at_number}
+use Rattle.std.proofs.lemmas.Option.{same_Some}
 use Rattle.route_base.specs.Setting.{Setting, Road}
 use Rattle.route_base.specs.declared.types.Bound.{Bound}
 use Rattle.cost_functions.specs.Pieces.{value_at}
@@ -42,8 +41,3 @@ shown_covered k now c x road part node own is better known low t y q there step 
       known = record { least = end.least; is = known q.minute ∙ ap (value_at own) minute ∙ end.is; within = omega (arith, end.within, cost) };
     } in
     inl covered
-
--- a number that has an item is one of the list
-pub in_list : {A : Type 0} (xs : List A) (n : ℕ) (x : A) → at_number xs n ≡ Some x → (1 ≤ n) × (n ≤ length xs)
-in_list xs zero x at = let bad : None ≡ Some x = at in cc
-in_list xs (suc n) x at = let within = slice_get_within xs n x at in (omega arith, omega (arith, within))

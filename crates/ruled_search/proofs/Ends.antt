@@ -1,7 +1,7 @@
 -- The way back from a pair's end to the start.
-use Rattle.std.proofs.Common.{◌≡◌, ⊎_elim, replicate, ℕ, ◌/◌, ◌%◌, ◌<◌, ◌≤◌, ◌&&◌, eqb, Bool, true, false, Option, Some, List, [], ◌∷◌, ◌++◌, length, refl, sym, ◌∙◌, ap, subst, arith}
+use Rattle.std.proofs.Common.{◌≡◌, ⊎_elim, replicate, ℕ, ◌/◌, ◌%◌, ◌<◌, ◌≤◌, eqb, true, Option, Some, List, [], ◌∷◌, ◌++◌, length, refl, sym, ◌∙◌, ap, subst, arith}
 use Rattle.std.specs.Prelude.{Contains, IsNone, reverse}
-use Rattle.std.proofs.lemmas.Bool.{eqb-true, eq-eqb}
+use Rattle.std.proofs.lemmas.Bool.{eqb-true, eq-eqb, and_from, and_parts}
 use Rattle.std.proofs.lemmas.Nat.{div-mul-add, mod-mul-add, div-add-mod'}
 use Rattle.route_base.specs.Front.{IsNoWorse}
 use Rattle.route_base.specs.Itinerary.{Position, drive, wait, Walks}
@@ -12,10 +12,9 @@ use Rattle.route_base.proofs.Walking.{walk_in_time}
 use Rattle.front_transport.specs.ParetoFronts.{IsParetoFront, ArrivesBefore}
 use Rattle.node_arcs.specs.Stars.{Star}
 use Rattle.propagation.specs.Inside.Invariants.{point}
-use Rattle.state_dominance.specs.Inside.Dominance.{Task, AreBoundsAlong, IsAchievedIn, IsStart}
+use Rattle.state_dominance.specs.Inside.Dominance.{Task, IsAchievedIn, IsStart}
 use Rattle.state_dominance.specs.Inside.Product.{Ruler, code}
 use Rattle.state_dominance.proofs.Finishing.{front}
-use Rattle.state_dominance.proofs.Simulating.{is_simulation, are_bounds}
 use Rattle.ruled_states.specs.Inside.Codes.{base}
 use Rattle.ruled_states.specs.Inside.Tables.{ArePlacesOf, code_of}
 use Rattle.ruled_states.specs.declared.table.Info.{Info}
@@ -30,15 +29,12 @@ use Rattle.ruled_search.specs.declared.sources.Source.{Source}
 use Rattle.ruled_search.specs.declared.sources.Spot.{Spot}
 use Rattle.ruled_search.specs.declared.task.Task.{Task as TaskHeld}
 use Rattle.ruled_search.proofs.Backward.{end_known, leads_before, source_known, start_is}
-use Rattle.ruled_search.proofs.Best.{best_end, best_source, both_parts, first_of_pair, waits_first}
+use Rattle.ruled_search.proofs.Best.{best_end, best_source, first_of_pair, waits_first}
 use Rattle.ruled_search.proofs.FirstLegs.{IsFirstRoad, leg_first}
 use Rattle.ruled_search.proofs.FirstSteps.{first_walk}
 use Rattle.ruled_search.proofs.Numbering.{solved_numbered}
+use Rattle.ruled_search.proofs.Planned.{bounds_along, simulates}
 use Rattle.ruled_search.proofs.Tried.{IsLeastOf, if_some, least_of_all}
-
-pub both_true : (a b : Bool) → a ≡ true → b ≡ true → (a && b) ≡ true
-both_true true b one two = two
-both_true false b one two = absurd (cc)
 
 -- the spot is known and the best, and legs, the last first, tell the first steps that lead from it to the pair, at the least state of the goal
 pub record IsOnWay (k : Task) (infos : List Info) (cost : ℕ → ℕ → Option ℕ) (back : List RuledLeg) (pair : Pair) (spot : Spot) : Type 0 where
@@ -51,15 +47,9 @@ pub record IsOnWay (k : Task) (infos : List Info) (cost : ℕ → ℕ → Option
 
 module _ {R : Type 0} {ruling : R → Ruler} {task : TaskHeld R} {incoming : Star} {progress : ProgressHeld}
     (solved : IsSolved R ruling task incoming progress) where
-  bounds_along : AreBoundsAlong (task_of R ruling task)
-  bounds_along = are_bounds (setting_of task.net.now) (ruling task.ruler.now) base task.request.origin.0 task.request.goal.0 task.request.depart
-      task.request.until (state_bound (ruling task.ruler.now) task.bounds.now) solved.asked.rules solved.asked.numbers solved.asked.bound
-
   is_front : IsParetoFront IsNoWorse ArrivesBefore (IsAchievedIn (task_of R ruling task)) progress.pairs.items
   is_front = front (task_of R ruling task) (progress_of progress)
-      (is_simulation (setting_of task.net.now) (ruling task.ruler.now) base task.request.origin.0 task.request.goal.0 task.request.depart
-      task.request.until (state_bound (ruling task.ruler.now) task.bounds.now) solved.asked.rules solved.asked.numbers solved.asked.bound)
-      bounds_along solved.facts solved.done solved.asked.in_time
+      (simulates ruling task solved.asked) (bounds_along ruling task solved.asked) solved.facts solved.done solved.asked.in_time
 
   -- what is known is in time
   pub spot_in_time : (spot : Spot) → IsKnownSpot progress.table.infos (progress_of progress).cost spot.number spot.minute spot.cost spot
@@ -79,11 +69,11 @@ module _ {R : Type 0} {ruling : R → Ruler} {task : TaskHeld R} {incoming : Sta
       let small = (solved_numbered solved).small spot.number spot.info right.0.info in
       record {
         is_one = right.0;
-        goal = both_true (eqb (code_of spot.info % base) task.request.goal.0) ((ruling task.ruler.now).ends (code_of spot.info / base))
+        goal = and_from (eqb (code_of spot.info % base) task.request.goal.0) ((ruling task.ruler.now).ends (code_of spot.info / base))
             (eq-eqb (code_of spot.info % base) task.request.goal.0 (mod-mul-add spot.info.state base spot.info.node.0 small ∙ right.1))
             (ap (ruling task.ruler.now).ends (div-mul-add spot.info.state base spot.info.node.0 small) ∙ right.2);
         least = λ c at known.
-            let parts = both_parts (eqb (c % base) task.request.goal.0) ((ruling task.ruler.now).ends (c / base)) at in
+            let parts = and_parts (eqb (c % base) task.request.goal.0) ((ruling task.ruler.now).ends (c / base)) at in
             let node : c % base ≡ task.request.goal.0 = eqb-true (c % base) task.request.goal.0 parts.0 in
             let own : code base task.request.goal.0 (c / base) ≡ c = omega (arith, div-add-mod' c base, node) in
             if_some (λ (w : Spot). (k : ℕ) → (ruling task.ruler.now).ends k ≡ true
@@ -108,7 +98,7 @@ module _ {R : Type 0} {ruling : R → Ruler} {task : TaskHeld R} {incoming : Sta
   end_there pair one found none least =
       let a = solved.facts.achieved pair one in
       let known = end_known (task_of R ruling task) (progress_of progress) is_front solved.facts pair one a in
-      let parts = both_parts (eqb (a.node % base) task.request.goal.0) ((ruling task.ruler.now).ends (a.node / base)) a.goal in
+      let parts = and_parts (eqb (a.node % base) task.request.goal.0) ((ruling task.ruler.now).ends (a.node / base)) a.goal in
       let node : a.node % base ≡ task.request.goal.0 = eqb-true (a.node % base) task.request.goal.0 parts.0 in
       let own : code base task.request.goal.0 (a.node / base) ≡ a.node = omega (arith, div-add-mod' a.node base, node) in
       least.none none (a.node / base) parts.1 (ap (λ c. (progress_of progress).cost c pair.arrival) own ∙ known)
@@ -203,7 +193,7 @@ module _ {R : Type 0} {ruling : R → Ruler} {task : TaskHeld R} {incoming : Sta
     way_is_first route same legs start =
         let k = task_of R ruling task in
         let reach = solved.facts.reached (place_of spot) way.is_one.known in
-        let at = start_is k bounds_along.time (place_of spot) reach start in
+        let at = start_is k (bounds_along ruling task solved.asked).time (place_of spot) reach start in
         let first : AreFirstSteps k (progress_of progress).cost way.leads.steps k.start (point way.node pair.arrival pair.cost) =
         subst (λ (p : Position). AreFirstSteps k (progress_of progress).cost way.leads.steps p (point way.node pair.arrival pair.cost)) (sym at)
         way.leads.first in

@@ -1,8 +1,9 @@
 -- The table grows by a state of which nothing is found.
 use Rattle.std.proofs.Common.{◌≡◌, ◌⊎◌, inl, inr, ⊎_elim, ℕ, zero, suc, ◌+◌, eqb, Bool, true, false}
 use Rattle.std.proofs.Common.{Option, Some, None, List, [], ◌∷◌, ◌++◌, length, refl, sym, ◌∙◌, ap, subst, arith}
-use Rattle.std.specs.Prelude.{if◌then◌else◌, nat_eq, slice_get}
+use Rattle.std.specs.Prelude.{if◌then◌else◌, nat_eq}
 use Rattle.std.proofs.lemmas.Bool.{eqb-true}
+use Rattle.std.proofs.lemmas.Option.{slice_get_past}
 use Rattle.route_base.specs.Net.{at_number}
 use Rattle.route_base.specs.declared.types.Pair.{Pair}
 use Rattle.route_base.specs.declared.types.Run.{Run}
@@ -24,10 +25,6 @@ push_read read [] e (suc zero) same = same
 push_read read [] e (suc (suc n)) same = refl
 push_read read (x ∷ xs) e (suc zero) same = refl
 push_read read (x ∷ xs) e (suc (suc n)) same = push_read read xs e (suc n) same
-
-past_end : {A : Type 0} (xs : List A) → slice_get xs (length xs) ≡ None
-past_end [] = refl
-past_end (x ∷ xs) = past_end xs
 
 first_number : (b : Bool) → ((if b then 1 else next_number 0) ≡ 0) ⊎ ((◌≡◌ {A = ℕ} 0 0) × ((if b then 1 else next_number 0) ≡ 1))
 first_number true = inr (refl, refl)
@@ -53,7 +50,7 @@ read_grown : {A B : Type 0} (read : Option A → B) (xs : List A) (e : A) (infos
 read_grown read xs e infos i c long same = push_read read xs e (number_in (infos ++ i ∷ []) c) same ∙ ⊎_elim
     (λ (kept : number_in (infos ++ i ∷ []) c ≡ number_in infos c). ap (λ n. read (at_number xs n)) kept)
     (λ (new : (number_in infos c ≡ 0) × (number_in (infos ++ i ∷ []) c ≡ suc (length infos))).
-    ap (λ n. read (at_number xs n)) (new.1 ∙ ap (λ n. suc n) (sym long)) ∙ ap read (past_end xs) ∙ ap (λ n. read (at_number xs n)) (sym new.0))
+    ap (λ n. read (at_number xs n)) (new.1 ∙ ap (λ n. suc n) (sym long)) ∙ ap read (slice_get_past xs (length xs) (omega arith)) ∙ ap (λ n. read (at_number xs n)) (sym new.0))
     (number_grown infos i c)
 
 nothing_at : (t : ℕ) → value_at [] t ≡ None

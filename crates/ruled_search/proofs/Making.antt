@@ -5,6 +5,7 @@ use Rattle.std.specs.Option.{option_map}
 use Rattle.std.proofs.lemmas.Option.{same_Some}
 use Rattle.node_arcs.specs.Stars.{EndsAt, node_at}
 use Rattle.node_arcs.specs.declared.links.End.TheVariants.{Tail}
+use Rattle.route_base.proofs.Numbered.{number_within}
 use Rattle.route_base.specs.Net.{Net, IsGoodArc, IsGoodNet, at_number, park_at, road_of, setting_of}
 use Rattle.route_base.specs.Setting.{Road}
 use Rattle.route_base.specs.declared.limits.TheConstants.{HIGHEST_COST}
@@ -22,7 +23,6 @@ use Rattle.ruled_search.specs.declared.task.Task.{Task as TaskHeld}
 use Rattle.ruled_search.specs.declared.ways.Kind.{Kind}
 use Rattle.ruled_search.specs.declared.ways.Kind.TheVariants.{Drive, Rest, Serve}
 use Rattle.ruled_search.specs.declared.ways.Way.{Way}
-use Rattle.ruled_search.proofs.Covered.{in_list}
 use Rattle.ruled_search.proofs.Made.{made_road, drive_road, no_drive, rest_road, service_road, no_service, not_served, served_tail, node_of, state_of}
 use Rattle.ruled_search.proofs.Made.{bar_none, bar_elsewhere, bar_unbound, bar_long, bar_dear}
 
@@ -31,7 +31,7 @@ pub no_arc_leaves : (net : Net) (v a : ℕ) → EndsAt net Tail v a → at_numbe
 no_arc_leaves net v a begins none = let bad : None ≡ Some v = sym (ap (option_map (node_at Tail)) none) ∙ begins in cc
 
 pub small_arc : (net : Net) (a : ℕ) (arc : TimedArc) → IsGoodNet net → at_number net.arcs a ≡ Some arc → a < base
-small_arc net a arc good is = let n = in_list net.arcs a arc is in omega (arith, n.1, good.arcs)
+small_arc net a arc good is = let n = number_within net.arcs a arc is in omega (arith, n.1, good.arcs)
 
 pub small_tail : (net : Net) (v a : ℕ) (arc : TimedArc) → IsGoodNet net → at_number net.arcs a ≡ Some arc → IsGoodArc net arc → EndsAt net Tail v a → v < base
 small_tail net v a arc good is fine begins =

@@ -34,13 +34,6 @@ within_kept old new better p h =
     let n = better.less (point p.node p.minute h.least) h.is in
     record { least = n.least; is = n.is; within = omega (arith, n.within, h.within) }
 
-pub improves_same : (now : Progress) → Improves now now
-improves_same now = record {
-  less = λ p is. record { least = p.cost; is = is; within = omega arith };
-  cause = λ c t is. inl is;
-  pairs = λ t x h. h;
-}
-
 pub improves_append : (a b c : Progress) → Improves a b → Improves b c → Improves a c
 improves_append a b c one two = record {
   less = λ p is. within_kept b c two p (one.less p is);

@@ -3,7 +3,7 @@ use Rattle.std.proofs.Common.{◌≡◌, ⊎_elim, ℕ, ◌+◌, ◌-◌, ◌≤
 use Rattle.std.proofs.Common.{Some, None, List, [], ◌∷◌, length, refl, sym, ◌∙◌, ap, subst, arith}
 use Rattle.std.specs.Prelude.{IsTrue, ◌↔◌, nat_eq, nat_lt, nat_le, ◌||◌, slice_get, unwrap_or}
 use Rattle.std.specs.Option.{MatchOption, option_to_list}
-use Rattle.std.proofs.lemmas.Bool.{cases_lt, lt-ltb, le-ltb, le-leb, lt-leb, or_right}
+use Rattle.std.proofs.lemmas.Bool.{cases_lt, lt-ltb, le-leb, or_right}
 use Rattle.route_base.specs.Net.{Net, runs_at, runs_by, setting_of, shut_runs_at}
 use Rattle.route_base.specs.Net.{shut_by as runs_shut}
 use Rattle.route_base.specs.Runs.{any_has}
@@ -18,6 +18,7 @@ use Rattle.ruled_search.specs.declared.task.Task.{Task as TaskHeld}
 use Rattle.ruled_search.specs.declared.ways.Kind.{Kind}
 use Rattle.ruled_search.specs.declared.ways.Kind.TheVariants.{Drive, Rest, Serve}
 use Rattle.ruled_search.specs.declared.ways.Way.{Way}
+use Rattle.ruled_search.proofs.Arriving.{opens_in}
 
 -- where the road is shut in these runs
 pub starts_of : (k : Task) (x minutes : ℕ) (closed set : List Run) → ((t : ℕ) → k.setting.shut x t ≡ any_has closed t)
@@ -26,10 +27,6 @@ starts_of k x minutes closed set shut entries t = (
   λ has. let e = (entries t).0 has in (λ u low high. shut u ∙ e.free u low high, e.ends),
   λ free. (entries t).1 (record { begins = omega arith; ends = free.1; free = λ u low high. sym (shut u) ∙ free.0 u low high }),
 )
-
--- a service is open within its window
-in_window : (c : Service) (u : ℕ) → c.from ≤ u → u < c.to → shut_for (Some c) u ≡ false
-in_window c u low high = ap (λ b. b || nat_le c.to u) (le-ltb u c.from low) ∙ lt-leb c.to u high
 
 not_before : (c : Service) (u : ℕ) → shut_for (Some c) u ≡ false → c.from ≤ u
 not_before c u free = ⊎_elim
@@ -50,7 +47,7 @@ pub served_starts : (k : Task) (x minutes to : ℕ) (c : Service) (starts : List
 served_starts k x minutes to c starts some shut before until least only every t = (
   λ has.
       let w = only t has in
-      (λ u low high. shut u ∙ in_window c u (omega (arith, w.0, low)) (omega (arith, w.1, high, before)), omega (arith, w.1, until)),
+      (λ u low high. shut u ∙ opens_in c u (omega (arith, w.0, low)) (omega (arith, w.1, high, before)), omega (arith, w.1, until)),
   λ free.
       let low = not_before c t (sym (shut t) ∙ free.0 t (omega arith) (omega (arith, some))) in
       let last = not_after c (t + minutes - 1) (sym (shut (t + minutes - 1)) ∙ free.0 (t + minutes - 1) (omega (arith, some)) (omega (arith, some))) in

@@ -1,7 +1,6 @@
 -- What a turn begins with: a state with pending minutes, and a part of its costs.
 use Rattle.std.proofs.Common.{◌≡◌, ◌≤◌, ◌<◌, ◌*◌, ℕ, zero, suc, true, false, Option, Some, None, List, length, get_or, refl, ◌∙◌, arith}
-use Rattle.std.proofs.lemmas.Option.{slice_get-get_or, slice_get_within}
-use Rattle.std.specs.Prelude.{slice_get}
+use Rattle.std.proofs.lemmas.Option.{slice_get-get_or}
 use Rattle.route_base.specs.Net.{at_number}
 use Rattle.route_base.specs.declared.types.Run.{Run}
 use Rattle.route_base.proofs.Numbered.{number_within}
@@ -52,14 +51,6 @@ pub no_rest : (r : Ruler) (v k : ℕ) (o p : Option ℕ) → p ≡ None → rest
 no_rest r v k None p none = refl
 no_rest r v k (Some rest) None none = refl
 no_rest r v k (Some rest) (Some weight) none = let bad : Some weight ≡ None = none in cc
-
--- past the end of a list there is nothing
-pub past_end : {A : Type 0} (xs : List A) (i : ℕ) → length xs ≤ i → slice_get xs i ≡ None
-past_end {A} xs i past = by (slice_get xs i) refl
-  where
-    by : (o : Option A) → slice_get xs i ≡ o → slice_get xs i ≡ None
-    by None at = at
-    by (Some x) at = absurd (omega (arith, past, slice_get_within xs i x at))
 
 pub no_rest_place : (r : Ruler) (v k : ℕ) (o p : Option ℕ) → o ≡ None → rested_by r base v k o p ≡ None
 no_rest_place r v k None p none = refl

@@ -1,20 +1,15 @@
 -- A queue with more room.
-use Rattle.std.proofs.Common.{◌≡◌, ⊎_elim, ℕ, zero, suc, ◌+◌, ◌≤◌, ◌<◌, Option, Some, None, List, [], ◌∷◌, length, refl, sym, ◌∙◌, ap, arith}
-use Rattle.std.specs.Prelude.{slice_get}
+use Rattle.std.proofs.Common.{◌≡◌, ⊎_elim, ℕ, zero, suc, ◌+◌, ◌≤◌, ◌<◌, Option, Some, None, List, length, refl, sym, ◌∙◌, ap, arith}
 use Rattle.std.specs.Option.{option_flatten}
 use Rattle.std.proofs.lemmas.Bool.{cases_eq, cases_lt}
+use Rattle.std.proofs.lemmas.Option.{slice_get_past}
 use Rattle.label_queue.specs.Keys.{key_at, IsSet}
 
-beyond : {A : Type 0} (xs : List A) (n : ℕ) → length xs ≤ n → slice_get xs n ≡ None
-beyond [] n le = refl
-beyond (x ∷ xs) zero le = absurd (let bad : ⊥ = omega (arith, le) in bad)
-beyond (x ∷ xs) (suc n) le = beyond xs n (omega (arith, le))
-
--- there is no key beyond the room
+-- there is no key slice_get_past the room
 pub no_key : (keys : List (Option ℕ)) (n : ℕ) → length keys < n → key_at keys n ≡ None
 unfolding key_at
 no_key keys zero lt = refl
-no_key keys (suc n) lt = ap option_flatten (beyond keys n (omega (arith, lt)))
+no_key keys (suc n) lt = ap option_flatten (slice_get_past keys n (omega (arith, lt)))
 
 -- no node has the number 0
 pub no_node : (keys : List (Option ℕ)) → key_at keys 0 ≡ None

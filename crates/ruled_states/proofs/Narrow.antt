@@ -1,7 +1,7 @@
 -- What no better state of the node cuts is what isn't dominated, by codes.
 use Rattle.std.proofs.Common.{◌≡◌, inl, inr, ⊎_elim, ℕ, ◌*◌, ◌/◌, ◌%◌, ◌<◌, ◌≤◌, ◌&&◌, eqb, Bool, true, false, Option, Some, List, refl, sym, ◌∙◌, ap, subst, arith}
 use Rattle.std.specs.Prelude.{Contains}
-use Rattle.std.proofs.lemmas.Bool.{eqb-true, eq-eqb, cases_eq}
+use Rattle.std.proofs.lemmas.Bool.{eqb-true, eq-eqb, cases_eq, and_from}
 use Rattle.std.proofs.lemmas.Nat.{div-mul-add, mod-mul-add, div-add-mod'}
 use Rattle.route_base.specs.Setting.{Setting}
 use Rattle.route_base.specs.declared.types.Bound.{Bound}
@@ -23,10 +23,6 @@ use Rattle.ruled_states.proofs.Numbers.{number_of_code, state_at}
 two_parts : (a b : Bool) → (a && b) ≡ true → (a ≡ true) × (b ≡ true)
 two_parts true b is = (refl, is)
 two_parts false b is = absurd (cc)
-
-both_true : (a b : Bool) → a ≡ true → b ≡ true → (a && b) ≡ true
-both_true true b one two = two
-both_true false b one two = absurd (cc)
 
 module _ (s : Setting) (r : Ruler) (origin goal depart until : ℕ) (bound : ℕ → ℕ → Option Bound) (sim : IsSimulating r)
     (infos : List Info) (functions : List (List Piece)) (pending : List (List Run)) (pairs : List Pair) (small : HaveSmallNodes infos)
@@ -62,7 +58,7 @@ module _ (s : Setting) (r : Ruler) (origin goal depart until : ℕ) (bound : ℕ
       let less : p.state < k = by p.state k le at.other in
       record {
         node = code base v p.state;
-        better = both_true (eqb (code base v p.state % base) (code base v k % base)) (r.no_worse (code base v p.state / base) (code base v k / base))
+        better = and_from (eqb (code base v p.state % base) (code base v k % base)) (r.no_worse (code base v p.state / base) (code base v k / base))
             (eq-eqb (code base v p.state % base) (code base v k % base) (mod-mul-add p.state base v node ∙ sym (mod-mul-add k base v node)))
             (subst (λ n. r.no_worse n (code base v k / base) ≡ true) (sym (div-mul-add p.state base v node))
             (subst (λ n. r.no_worse p.state n ≡ true) (sym (div-mul-add k base v node)) at.better));

@@ -2,7 +2,7 @@
 use Rattle.std.proofs.Common.{◌≡◌, ℕ, suc, ◌/◌, ◌%◌, ◌≤◌, ◌<◌, ◌&&◌, ltb, eqb, Bool, true, false, Some, None, List, length, map, refl, sym, ◌∙◌, ap, subst, arith}
 use Rattle.std.specs.Prelude.{if◌then◌else◌}
 use Rattle.std.specs.Option.{option_map}
-use Rattle.std.proofs.lemmas.Bool.{eqb-true, eq-eqb, ltb-true, lt-ltb}
+use Rattle.std.proofs.lemmas.Bool.{eqb-true, eq-eqb, ltb-true, lt-ltb, and_from}
 use Rattle.std.proofs.lemmas.List.{length-map}
 use Rattle.std.proofs.lemmas.Nat.{div-mul-add, mod-mul-add, div-add-mod'}
 use Rattle.std.proofs.lemmas.Option.{same_Some}
@@ -14,10 +14,6 @@ use Rattle.state_dominance.specs.Serving.{served_limit, joint, serving}
 two_parts : (a b : Bool) → (a && b) ≡ true → (a ≡ true) × (b ≡ true)
 two_parts true b is = (refl, is)
 two_parts false b is = absurd (cc)
-
-both_true : (a b : Bool) → a ≡ true → b ≡ true → (a && b) ≡ true
-both_true true b one two = two
-both_true false b one two = absurd (cc)
 
 -- the two parts of a number
 pub joint_served : (k served : ℕ) → served < served_limit → joint k served % served_limit ≡ served
@@ -43,7 +39,7 @@ module _ (services : List Service) (r : Ruler) where
   better_state m n is = (two_parts (eqb (served m) (served n)) (r.no_worse (state m) (state n)) is).1
 
   better_by : (m n : ℕ) → served m ≡ served n → r.no_worse (state m) (state n) ≡ true → (serving services r).no_worse m n ≡ true
-  better_by m n same better = both_true (eqb (served m) (served n)) (r.no_worse (state m) (state n)) (eq-eqb (served m) (served n) same) better
+  better_by m n same better = and_from (eqb (served m) (served n)) (r.no_worse (state m) (state n)) (eq-eqb (served m) (served n) same) better
 
   -- numbers with one number of served stops
   better_joint : (j k i h : ℕ) → i < served_limit → i ≡ h → r.no_worse j k ≡ true
@@ -66,11 +62,11 @@ module _ (services : List Service) (r : Ruler) where
 
   pub serves : (n i : ℕ) → i < length services → served n ≡ i → (serving services r).serve n i ≡ Some (joint (state n) (suc i))
   serves n i less at = ap (λ b. if b then Some (joint (state n) (suc i)) else None)
-      (both_true (ltb i (length services)) (eqb (served n) i) (lt-ltb i (length services) less) (eq-eqb (served n) i at))
+      (and_from (ltb i (length services)) (eqb (served n) i) (lt-ltb i (length services) less) (eq-eqb (served n) i at))
 
   unserves : (n i : ℕ) → i < length services → served n ≡ suc i → (serving services r).unserve n i ≡ Some (joint (state n) i)
   unserves n i less at = ap (λ b. if b then Some (joint (state n) i) else None)
-      (both_true (ltb i (length services)) (eqb (served n) (suc i)) (lt-ltb i (length services) less) (eq-eqb (served n) (suc i) at))
+      (and_from (ltb i (length services)) (eqb (served n) (suc i)) (lt-ltb i (length services) less) (eq-eqb (served n) (suc i) at))
 
   pub serving_simulates : length services < served_limit → IsSimulating r → IsSimulating (serving services r)
   serving_simulates few sim = record {
@@ -97,7 +93,7 @@ module _ (services : List Service) (r : Ruler) where
         );
     ends = λ j k better is.
         let parts = two_parts (eqb (served k) (length services)) (r.ends (state k)) is in
-        both_true (eqb (served j) (length services)) (r.ends (state j))
+        and_from (eqb (served j) (length services)) (r.ends (state j))
         (eq-eqb (served j) (length services) (same_served j k better ∙ eqb-true (served k) (length services) parts.0))
         (sim.ends (state j) (state k) (better_state j k better) parts.1);
   }
@@ -110,7 +106,7 @@ module _ (services : List Service) (r : Ruler) where
   fit_state m n is = (two_parts (eqb (served m) (served n)) (r.fits (state m) (state n)) is).1
 
   fit_by : (m n : ℕ) → served m ≡ served n → r.fits (state m) (state n) ≡ true → (serving services r).fits m n ≡ true
-  fit_by m n same fits = both_true (eqb (served m) (served n)) (r.fits (state m) (state n)) (eq-eqb (served m) (served n) same) fits
+  fit_by m n same fits = and_from (eqb (served m) (served n)) (r.fits (state m) (state n)) (eq-eqb (served m) (served n) same) fits
 
   pub serving_fits : length services < served_limit → IsFitting r → IsFitting (serving services r)
   serving_fits few fit = record {

@@ -1,6 +1,6 @@
 -- The search over states is one of whose states those that are no worse may do all that others may.
-use Rattle.std.proofs.Common.{◌≡◌, ◌⊎◌, ⊎_elim, ℕ, ◌+◌, ◌*◌, ◌/◌, ◌%◌, ◌<◌, ◌≤◌, ◌&&◌, Bool, true, false, eqb, Option, Some, refl, sym, ◌∙◌, ap, subst, arith}
-use Rattle.std.proofs.lemmas.Bool.{eqb-true, eq-eqb}
+use Rattle.std.proofs.Common.{◌≡◌, ◌⊎◌, ⊎_elim, ℕ, ◌+◌, ◌*◌, ◌/◌, ◌%◌, ◌<◌, ◌≤◌, true, eqb, Option, Some, refl, sym, ◌∙◌, ap, subst, arith}
+use Rattle.std.proofs.lemmas.Bool.{eqb-true, eq-eqb, and_parts, and_from}
 use Rattle.std.proofs.lemmas.Nat.{div-mul-add, mod-mul-add, div-add-mod'}
 use Rattle.std.proofs.Math.Nat.{mul-le-mul_right}
 use Rattle.route_base.specs.Setting.{Setting, Road}
@@ -10,14 +10,6 @@ use Rattle.propagation.specs.Inside.Invariants.{point}
 use Rattle.state_dominance.specs.Inside.Dominance.{Task, IsNoWorseThan, IsSimulation, AreBoundsAlong}
 use Rattle.state_dominance.specs.Inside.Product.{Ruler, IsSimulating, IsBase, AreRuledBounds, code, driven_by, driven_to, rested_by, served_by, served_to, shut_for, road_code, product, task_over}
 use Rattle.state_dominance.proofs.Roads.{IsDriveRoad, IsRestRoad, IsServiceRoad, road_kinds, road_is, shut_is, kind_is, arc_is}
-
-both_parts : (a b : Bool) → (a && b) ≡ true → (a ≡ true) × (b ≡ true)
-both_parts true b is = (refl, is)
-both_parts false b is = absurd (cc)
-
-both_true : (a b : Bool) → a ≡ true → b ≡ true → (a && b) ≡ true
-both_true true b one two = two
-both_true false b one two = absurd (cc)
 
 -- from state u, with cost y, a drive over a road of the same kind, with the same arc, rest or service, leads to what is no worse, and costs as much
 pub record IsDrivenToo (k : Task) (base u y x : ℕ) (p q : Position) : Type 0 where
@@ -42,14 +34,14 @@ module _ (s : Setting) (r : Ruler) (base origin goal depart until : ℕ) (bound 
   state_of v k small = div-mul-add k base v small
 
   pub same_node : (u v : ℕ) → (task_over s r base origin goal depart until bound).no_worse u v ≡ true → u % base ≡ v % base
-  same_node u v is = eqb-true (u % base) (v % base) (both_parts (eqb (u % base) (v % base)) (r.no_worse (u / base) (v / base)) is).0
+  same_node u v is = eqb-true (u % base) (v % base) (and_parts (eqb (u % base) (v % base)) (r.no_worse (u / base) (v / base)) is).0
 
   better_state : (u v : ℕ) → (task_over s r base origin goal depart until bound).no_worse u v ≡ true → r.no_worse (u / base) (v / base) ≡ true
-  better_state u v is = (both_parts (eqb (u % base) (v % base)) (r.no_worse (u / base) (v / base)) is).1
+  better_state u v is = (and_parts (eqb (u % base) (v % base)) (r.no_worse (u / base) (v / base)) is).1
 
   no_worse_by : (u v : ℕ) → u % base ≡ v % base → r.no_worse (u / base) (v / base) ≡ true
       → (task_over s r base origin goal depart until bound).no_worse u v ≡ true
-  no_worse_by u v same better = both_true (eqb (u % base) (v % base)) (r.no_worse (u / base) (v / base)) (eq-eqb (u % base) (v % base) same) better
+  no_worse_by u v same better = and_from (eqb (u % base) (v % base)) (r.no_worse (u / base) (v / base)) (eq-eqb (u % base) (v % base) same) better
 
   pub code_low : (u v : ℕ) → u % base ≡ v % base → u / base ≤ v / base → u ≤ v
   code_low u v same le = omega (arith, div-add-mod' u base, div-add-mod' v base, same, mul-le-mul_right base le)
@@ -247,8 +239,8 @@ module _ (s : Setting) (r : Ruler) (base origin goal depart until : ℕ) (bound 
     on = λ u v w one two. no_worse_by u w (same_node u v one ∙ same_node v w two) (sim.on (u / base) (v / base) (w / base) (better_state u v one) (better_state v w two));
     low = λ u v is. code_low u v (same_node u v is) (sim.low (u / base) (v / base) (better_state u v is));
     goals = λ u v is at.
-        let parts = both_parts (eqb (v % base) goal) (r.ends (v / base)) at in
-        both_true (eqb (u % base) goal) (r.ends (u / base)) (ap (λ n. eqb n goal) (same_node u v is) ∙ parts.0)
+        let parts = and_parts (eqb (v % base) goal) (r.ends (v / base)) at in
+        and_from (eqb (u % base) goal) (r.ends (u / base)) (ap (λ n. eqb n goal) (same_node u v is) ∙ parts.0)
         (sim.ends (u / base) (v / base) (better_state u v is) parts.1);
     bounds = λ u v b is at. let d = bounds.falls (v % base) (u / base) (v / base) b (better_state u v is) at in
         (d.0, ap (λ n. bound n (u / base)) (same_node u v is) ∙ d.1, d.2, d.3);
@@ -266,7 +258,7 @@ module _ (s : Setting) (r : Ruler) (base origin goal depart until : ℕ) (bound 
         other)
         (road_kinds s r base a road is);
     goal = λ v at.
-        let parts = both_parts (eqb (v % base) goal) (r.ends (v / base)) at in
+        let parts = and_parts (eqb (v % base) goal) (r.ends (v / base)) at in
         ap (λ n. bound n (v / base)) (eqb-true (v % base) goal parts.0) ∙ bounds.at_goal (v / base) parts.1;
     each = λ a road h is at. ⊎_elim
         (λ (d : IsDriveRoad s r base a road).

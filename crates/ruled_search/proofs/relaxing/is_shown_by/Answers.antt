@@ -8,7 +8,8 @@ use Rattle.state_dominance.specs.Inside.Product.{code}
 use Rattle.ruled_states.specs.Inside.Codes.{base}
 use Rattle.ruled_search.specs.Inside.Tasks.{progress_of, state_bound, task_of}
 use Rattle.ruled_search.specs.Inside.Ways.{head_of, road_in, tail_of}
-use Rattle.ruled_search.proofs.Covered.{in_list, shown_covered, worse_by_code}
+use Rattle.route_base.proofs.Numbered.{number_within}
+use Rattle.ruled_search.proofs.Covered.{shown_covered, worse_by_code}
 use Rattle.ruled_search.proofs.Made.{made_road}
 use Rattle.ruled_search.proofs.Placed.{small_nodes}
 use Rattle.ruled_search.proofs.TakenOffers.{code_number}
@@ -25,7 +26,7 @@ returns g c = λ yes.
     let bound = state_bound ruler task.bounds.now in
     let shape = c.requires.shape in
     let own = c.index-own.result.now in
-    let here = in_list infos place.number c.requires.place.info c.requires.place.at in
+    let here = number_within infos place.number c.requires.place.info c.requires.place.at in
     let number = code_number infos way.head.0 place.state place.number c.requires.place
     (small_nodes task.net.now.nodes bound infos c.requires.asked.good.nodes shape.infos) shape.distinct in
     shown_covered (task_of _ g.R.Ruler.ruling task) (progress_of now) (tail_of way) (road_in way)

@@ -7,7 +7,8 @@ use Rattle.cost_functions.specs.Pieces.{value_at}
 use Rattle.state_dominance.specs.Inside.Product.{code, road_code}
 use Rattle.ruled_states.specs.Inside.Codes.{base}
 use Rattle.ruled_search.specs.Inside.Tasks.{task_of, progress_of}
-use Rattle.ruled_search.proofs.Relaxed.{improves_same, no_road, part_kept, part_less, road_less}
+use Rattle.ruled_search.proofs.Improving.{improves_same}
+use Rattle.ruled_search.proofs.Relaxed.{no_road, part_kept, part_less, road_less}
 use Rattle.ruled_search.proofs.Turning.{no_rest}
 use Rattle.ruled_search.proofs.Leaving.{no_road_by}
 use Rattle.ruled_search.proofs.turns.rest_all.Goals as goal

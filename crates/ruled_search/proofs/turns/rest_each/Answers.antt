@@ -1,13 +1,14 @@
 use Rattle.std.proofs.Common.{◌≡◌, ⊎_elim, ◌<◌, ◌≤◌, ℕ, List, length, ap, subst, arith}
 use Rattle.std.specs.Prelude.{slice_get}
 use Rattle.std.proofs.lemmas.Bool.{cases_lt}
+use Rattle.std.proofs.lemmas.Option.{slice_get_past}
 use Rattle.cost_functions.specs.Pieces.{value_at}
 use Rattle.state_dominance.specs.Inside.Product.{code, road_code}
 use Rattle.ruled_states.specs.Inside.Codes.{base}
 use Rattle.ruled_search.specs.Inside.Tasks.{task_of, progress_of, IsRoadRelaxed}
 use Rattle.ruled_search.proofs.Relaxed.{improves_append, no_road, part_kept, road_kept, way_relaxed}
 use Rattle.route_base.specs.Net.{setting_of}
-use Rattle.ruled_search.proofs.Turning.{no_rest_place, past_end}
+use Rattle.ruled_search.proofs.Turning.{no_rest_place}
 use Rattle.ruled_search.proofs.Leaving.{no_road_by}
 use Rattle.ruled_search.proofs.turns.rest_each.Goals as goal
 
@@ -56,5 +57,5 @@ returns-clause-relaxed g c = λ j small.
     (λ (past : length r.rests ≤ j). no_road (task_of _ g.R.Ruler.ruling task) (code base v state) (value_at c.args.part.now)
     (progress_of c.loop-i.progress) (road_code base 1 j v state)
     (no_road_by g.R.Ruler.ruling task v state node 1 j (omega arith) small
-    (no_rest_place r v state (slice_get r.rests j) ((setting_of task.net.now).weight v) (past_end r.rests j past))))
+    (no_rest_place r v state (slice_get r.rests j) ((setting_of task.net.now).weight v) (slice_get_past r.rests j past))))
     (cases_lt j (length r.rests))

@@ -1,12 +1,13 @@
 use Rattle.std.proofs.Common.{◌≡◌, ⊎_elim, ◌<◌, ◌≤◌, ℕ, length, subst, arith}
 use Rattle.std.specs.Prelude.{slice_get}
 use Rattle.std.proofs.lemmas.Bool.{cases_lt}
+use Rattle.std.proofs.lemmas.Option.{slice_get_past}
 use Rattle.cost_functions.specs.Pieces.{value_at}
 use Rattle.state_dominance.specs.Inside.Product.{code, road_code}
 use Rattle.ruled_states.specs.Inside.Codes.{base}
 use Rattle.ruled_search.specs.Inside.Tasks.{task_of, progress_of, IsRoadRelaxed}
 use Rattle.ruled_search.proofs.Relaxed.{improves_append, no_road, part_kept, road_kept, way_relaxed}
-use Rattle.ruled_search.proofs.Turning.{no_service_place, past_end}
+use Rattle.ruled_search.proofs.Turning.{no_service_place}
 use Rattle.ruled_search.proofs.Leaving.{no_road_by}
 use Rattle.ruled_search.proofs.turns.serve_each.Goals as goal
 
@@ -54,5 +55,5 @@ returns-clause-relaxed g c = λ j small.
     (λ (past : length r.services ≤ j). no_road (task_of _ g.R.Ruler.ruling task) (code base v state) (value_at c.args.part.now)
     (progress_of c.loop-place.progress) (road_code base 2 j v state)
     (no_road_by g.R.Ruler.ruling task v state node 2 j (omega arith) small
-    (no_service_place r j state (slice_get r.services j) (past_end r.services j past))))
+    (no_service_place r j state (slice_get r.services j) (slice_get_past r.services j past))))
     (cases_lt j (length r.services))
