@@ -1,6 +1,6 @@
 -- Trips that keep a rule are the same over settings that agree.
-use Rattle.std.proofs.Common.{◌≡◌, ℕ, Option, List, [], get_or, sym, subst}
-use Rattle.std.specs.Prelude.{All}
+use Rattle.std.proofs.Common.{◌≡◌, ◌⊎◌, ℕ, Option, List, [], get_or, sym, subst}
+use Rattle.std.specs.Prelude.{All, reverse}
 use Rattle.route_base.specs.Setting.{Setting, Road}
 use Rattle.route_base.specs.Itinerary.{Position, Step, Walks}
 use Rattle.route_base.specs.Legs.{start_of, steps_of}
@@ -11,6 +11,7 @@ use Rattle.route_base.specs.declared.types.Route.{Route}
 use Rattle.front_transport.specs.ParetoFronts.{ArrivesBefore}
 use Rattle.front_transport.proofs.SameFronts.{same_front}
 use Rattle.drive_breaks.specs.Rested.{AchievesRested, AreRightRested, IsRestedAchieved, IsRestedFrom}
+use Rattle.drive_breaks.specs.RestedOrder.{ComesRestedBefore, IsFirstRested}
 use Rattle.drive_states.specs.declared.rule.BreakRule.{BreakRule}
 
 -- of settings with the same roads, of which one has the other's walks from a request's start
@@ -39,6 +40,14 @@ module _ (s z : Setting) (r : Request) (rule : BreakRule) (road : (a : ℕ) → 
     rested = rested_too (steps_of (get_or routes k d).legs) [] legs.rested;
     apart = legs.apart;
   }
+
+  -- the first legs there, among more walks, are the first here
+  pub first_too : (routes : List Route) → All (IsFirstRested z r rule) routes → All (IsFirstRested s r rule) routes
+  first_too routes all k d inside steps walk rested =
+      let roads : z.road ≡ s.road = λ i a. sym (road a) i in
+      let legs = get_or routes k d in
+      subst (λ (w : ℕ → Option Road). (steps ≡ steps_of legs.legs) ⊎ ComesRestedBefore w rule.rest (reverse (steps_of legs.legs)) (reverse steps)) roads
+      (all k d inside steps (walks steps _ walk) (rested_too steps [] rested))
 
 -- where both have the other's walks
 module _ (s z : Setting) (r : Request) (rule : BreakRule) (road : (a : ℕ) → s.road a ≡ z.road a)

@@ -6,7 +6,7 @@ use Rattle.route_base.proofs.Lists.{same_head, same_tail}
 use Rattle.drive_breaks.specs.Rested.{driven, minutes_of, IsSinceBreak, IsSinceLastBreak, IsStretch, KeepsRule, IsRestedFrom}
 use Rattle.drive_breaks.specs.Inside.WithinRule.{IsWithinRule, IsWithinRuleFrom}
 use Rattle.drive_states.specs.declared.rule.BreakRule.{BreakRule}
-use Rattle.drive_breaks.proofs.Since.{no_drive}
+use Rattle.drive_breaks.proofs.Since.{HasSince, no_drive, within_itself}
 
 not_nil : (x : Step) (xs : List Step) → [] ≡ x ∷ xs → ⊥
 not_nil x xs is = cc
@@ -132,6 +132,11 @@ module _ (roads : ℕ → Option Road) where
         inr (last.0, last.1.since, each (driven roads last.0) (inl (last.0, last.1, refl))))
         (λ (none : (late : List Step) → IsSinceBreak rule.rest back late → ⊥). inl (each (driven roads back) (inr (none, refl))))
         (last_break rule.rest back some)
+
+  -- the stretch is no longer than what was driven since the start or some break
+  pub stretch_least : (rule : BreakRule) (back : List Step) (r x : ℕ) → HasSince roads rule back r → IsStretch roads rule.rest back x → x ≤ r
+  stretch_least rule back r x has stretch =
+      omega (arith, within_stretch (record { drive = r; rest = rule.rest }) back 0 (within_itself roads rule back r has) x stretch)
 
   module _ (rule : BreakRule) (some : 1 ≤ rule.rest) where
     -- steps that are within the rule since some break keep it

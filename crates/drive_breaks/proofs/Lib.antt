@@ -4,9 +4,12 @@ pub mod Built
 pub mod FoundBreaks
 pub mod GoodStates
 pub mod LastBreak
+pub mod OneRestedAnswer
 pub mod OverStates
 pub mod Routed
 pub mod Since
+pub mod SoleItems
 pub mod SoundBreaks
+pub mod Stretches
 pub mod Unpacked
 pub mod RestedOrders

@@ -1,5 +1,5 @@
 -- The order of itineraries that keep a break rule: of two of one pair just one comes first.
-use Rattle.std.proofs.Common.{◌≡◌, ◌⊎◌, inl, inr, ⊎_elim, ℕ, ◌+◌, ◌≤◌, ◌<◌, Option, List, [], ◌∷◌, refl, sym, ◌∙◌, ap, subst, arith}
+use Rattle.std.proofs.Common.{◌≡◌, ◌⊎◌, inl, inr, ⊎_elim, ℕ, ◌≤◌, ◌<◌, Option, List, [], ◌∷◌, refl, sym, ◌∙◌, ap, subst, arith}
 use Rattle.std.specs.Prelude.{reverse}
 use Rattle.std.proofs.lemmas.Bool.{cases_order}
 use Rattle.std.proofs.lemmas.List.{reverse-reverse}
@@ -16,11 +16,11 @@ use Rattle.drive_breaks.specs.RestedOrder.{ComesRestedBefore, IsAsDriven, IsLess
 use Rattle.drive_breaks.proofs.LastBreak.{same_stretch, some_stretch}
 
 module _ (roads : ℕ → Option Road) (rest : ℕ) where
-  never_less : (xs ys : List Step) → IsLessDriven roads rest xs ys → IsLessDriven roads rest ys xs → ⊥
+  pub never_less : (xs ys : List Step) → IsLessDriven roads rest xs ys → IsLessDriven roads rest ys xs → ⊥
   never_less xs ys h k =
       omega (arith, h.4, k.4, same_stretch roads rest xs h.0 k.1 h.2 k.3, same_stretch roads rest ys h.1 k.0 h.3 k.2)
 
-  less_or_as : (xs ys : List Step) → IsLessDriven roads rest xs ys → IsAsDriven roads rest ys xs → ⊥
+  pub less_or_as : (xs ys : List Step) → IsLessDriven roads rest xs ys → IsAsDriven roads rest ys xs → ⊥
   less_or_as xs ys h k =
       omega (arith, h.4, same_stretch roads rest xs h.0 k.0 h.2 k.2, same_stretch roads rest ys h.1 k.0 h.3 k.1)
 

@@ -115,6 +115,14 @@ module _ (roads : ℕ → Option Road) (rule : BreakRule) where
       (λ (some : (late : List Step) × IsSinceBreak rule.rest back late × (driven roads late ≡ r)). inr (some.0, some.1, omega (arith, some.2, le)))
       has
 
+  -- the minutes driven since the start or some break are within a rule that allows as many
+  pub within_itself : (back : List Step) (r : ℕ) → HasSince back r → IsWithinRule roads (record { drive = r; rest = rule.rest }) back 0
+  unfolding HasSince
+  within_itself back r has = ⊎_elim
+      (λ (all : driven roads back ≡ r). inl (omega (arith, all)))
+      (λ (some : (late : List Step) × IsSinceBreak rule.rest back late × (driven roads late ≡ r)). inr (some.0, some.1, omega (arith, some.2)))
+      has
+
   -- no more minutes than since the start and since each break
   pub record IsLeast (back : List Step) (r : ℕ) : Type 0 where
     pub all : r ≤ driven roads back

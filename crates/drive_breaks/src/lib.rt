@@ -6,9 +6,10 @@
 //! of one. `specs/StateSize` of `drive_states` says what the states of a trip are, and when there are too many. Both are the same
 //! over settings that agree (`rested_trips_agree`). The rule is about the stretch since the last break, and there is always exactly
 //! one (`one_stretch`). `specs/RestedOrder` orders the itineraries of a pair: of two just one comes before the other
-//! (`itineraries_are_ordered`). No clause says yet that a pair has the legs of the first.
+//! (`itineraries_are_ordered`), so that there is at most one answer with the first itinerary of each pair (`one_rested_answer`).
 //!
-//! `plan_rested` of `rested_tours` answers the same by the search over states, without a net of them; `plan_breaks` is the plain way.
+//! `plan_rested` of `rested_tours` answers by the search over states, without a net of them, and each of its pairs has the first itinerary;
+//! `plan_breaks` is the plain way, of which no clause says which itinerary of a pair it tells.
 //!
 //! A state is a node and the minutes driven since the last break; `drive_states` finds all states and the ways between them, or
 //! that there are too many. `states_as_net` makes a net in which each state is a node, and each drive and each break an arc; one
@@ -27,5 +28,5 @@ mod sources;
 mod states_as_net;
 
 pub use drive_states::{BreakFault, BreakRule};
-pub use laws::{itineraries_are_ordered, one_stretch, rested_trips_agree};
+pub use laws::{itineraries_are_ordered, one_rested_answer, one_stretch, rested_trips_agree};
 pub use rested_trips::plan_breaks;

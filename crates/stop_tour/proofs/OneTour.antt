@@ -18,11 +18,11 @@ use Rattle.stop_tour.specs.declared.stops.TourLeg.{TourLeg}
 use Rattle.stop_tour.specs.declared.stops.TourLeg.TheVariants.{Drive, Wait, Serve}
 use Rattle.stop_tour.specs.declared.stops.TourRoute.{TourRoute}
 
-not_before_itself : (x : TourStep) → IsTourStepBefore x x → ⊥
+pub not_before_itself : (x : TourStep) → IsTourStepBefore x x → ⊥
 not_before_itself (go x) h = no_step_before_itself x h
 not_before_itself (serve i) h = omega (arith, h)
 
-never_both_tour_steps : (x y : TourStep) → IsTourStepBefore x y → IsTourStepBefore y x → ⊥
+pub never_both_tour_steps : (x y : TourStep) → IsTourStepBefore x y → IsTourStepBefore y x → ⊥
 never_both_tour_steps (go x) (go y) h k = never_both_steps x y h k
 never_both_tour_steps (go x) (serve j) h k = k
 never_both_tour_steps (serve i) (go y) h k = h
@@ -68,7 +68,7 @@ no_wait_first (Wait k ∷ legs) first = absurd (first k refl)
 no_wait_first (Serve i ∷ legs) first = tt
 
 -- legs that are no empty waits, without neighbouring waits, are told by their steps
-same_legs : (xs ys : List TourLeg) → HasNoEmptyTourWait xs → HasNoEmptyTourWait ys → HasNoNeighbouringTourWaits xs → HasNoNeighbouringTourWaits ys
+pub same_legs : (xs ys : List TourLeg) → HasNoEmptyTourWait xs → HasNoEmptyTourWait ys → HasNoNeighbouringTourWaits xs → HasNoNeighbouringTourWaits ys
     → tour_steps_of xs ≡ tour_steps_of ys → xs ≡ ys
 same_legs [] [] some_x some_y apart_x apart_y same = refl
 same_legs [] (Drive b ∷ ys) some_x some_y apart_x apart_y same = absurd (cc)
