@@ -1,7 +1,7 @@
 -- The front over the states of rested tours is the front of rested tours.
-use Rattle.std.proofs.Common.{◌≡◌, inl, ℕ, ◌/◌, ◌%◌, ◌≤◌, ◌<◌, ◌&&◌, eqb, Bool, true, false, Option, None, Some, List, [], length, map, refl, sym, ◌∙◌, ap, subst, arith}
-use Rattle.std.specs.Prelude.{if◌then◌else◌}
-use Rattle.std.proofs.lemmas.Bool.{eqb-true, eq-eqb, lt-leb}
+use Rattle.std.proofs.Common.{◌≡◌, ℕ, ◌/◌, ◌%◌, ◌≤◌, ◌<◌, ◌&&◌, eqb, true, Option, None, Some, List, [], append-nil, length, map, refl, sym, ◌∙◌, ap, subst, arith}
+use Rattle.std.specs.Prelude.{reverse}
+use Rattle.std.proofs.lemmas.Bool.{eqb-true, eq-eqb, and_from, and_parts}
 use Rattle.std.proofs.lemmas.List.{length-map}
 use Rattle.std.proofs.lemmas.Nat.{div-mul-add, mod-mul-add}
 use Rattle.route_base.specs.Setting.{Setting}
@@ -13,8 +13,8 @@ use Rattle.route_base.specs.declared.types.Pair.{Pair}
 use Rattle.route_base.specs.declared.types.Request.{Request}
 use Rattle.front_transport.specs.ParetoFronts.{IsParetoFront, ArrivesBefore}
 use Rattle.front_transport.proofs.SameFronts.{same_front}
-use Rattle.drive_breaks.proofs.LastBreak.{rested_from, within_from}
-use Rattle.drive_breaks.proofs.Since.{HasSince, has_first, at_start, IsLeast}
+use Rattle.drive_breaks.proofs.LastBreak.{rested_from}
+use Rattle.drive_breaks.proofs.Since.{HasSince, has_first}
 use Rattle.drive_states.specs.declared.rule.BreakRule.{BreakRule}
 use Rattle.propagation.specs.Inside.Invariants.{point}
 use Rattle.state_dominance.specs.Inside.Dominance.{IsAchievedIn}
@@ -27,16 +27,10 @@ use Rattle.rested_tours.specs.Inside.TourRuler.{stop_service, tour_ruler}
 use Rattle.rested_tours.specs.RestedTours.{seen, IsRestedTour, IsRestedTourAchieved, IsRestedTourFront}
 use Rattle.rested_tours.proofs.TourWalking.{spot, same_spot}
 use Rattle.rested_tours.proofs.Reading.{reads}
-use Rattle.rested_tours.proofs.Sound.{goes_on}
-use Rattle.rested_tours.proofs.Found.{arrives}
-
-two_parts : (a b : Bool) → (a && b) ≡ true → (a ≡ true) × (b ≡ true)
-two_parts true b is = (refl, is)
-two_parts false b is = absurd (cc)
-
-both_true : (a b : Bool) → a ≡ true → b ≡ true → (a && b) ≡ true
-both_true true b one two = two
-both_true false b one two = absurd (cc)
+use Rattle.rested_tours.proofs.FoundWalks.{found_on}
+use Rattle.rested_tours.proofs.Sound.{IsAt, goes_on}
+use Rattle.rested_tours.proofs.LeastWalks.{least_walk}
+use Rattle.rested_tours.proofs.StateSteps.{IsFoundBack, IsLeastBack}
 
 -- the steps are a lawful tour with the pair, and keep the rule
 pub record RestedWalk (s : Setting) (r : Request) (stops : List Stop) (rule : BreakRule) (steps : List TourStep) (pair : Pair) : Type 0 where
@@ -58,31 +52,49 @@ module _ (s : Setting) (r : Request) (stops : List Stop) (rule : BreakRule) (bas
   first_state : code base r.origin.0 (joint 0 0) / base / served_limit ≡ 0
   first_state = ap (λ n. n / served_limit) (div-mul-add (joint 0 0) base r.origin.0 origin) ∙ joint_state 0 0 (omega arith)
 
+  -- the start of a tour, and that of a walk over states
+  at_first : IsAt s stops rule base r.until is_base no_road long few_services (point (code base r.origin.0 (joint 0 0)) r.depart 0) (tour_start r) []
+  at_first = record {
+    node = sym (mod-mul-add (joint 0 0) base r.origin.0 origin);
+    minute = refl;
+    cost = refl;
+    served = sym first_served;
+    since = subst (HasSince s.road rule []) (sym first_state) (has_first s.road rule);
+    fine = omega (arith, first_state);
+  }
+
+  -- the end of a tour, and that of a walk over states to the goal
+  at_goal : (node : ℕ) → (task_over s (tour_ruler stops rule) base r.origin.0 r.goal.0 r.depart r.until bound).goal node ≡ true → (p : Pair)
+      → spot (point (node % base) p.arrival p.cost) (node / base % served_limit) ≡ tour_end r (length stops) p
+  at_goal node goal p =
+      let at = and_parts (eqb (node % base) r.goal.0) (eqb (node / base % served_limit) count && true) goal in
+      let all = and_parts (eqb (node / base % served_limit) count) true at.1 in
+      same_spot (spot (point (node % base) p.arrival p.cost) (node / base % served_limit)) (tour_end r (length stops) p)
+      (ap (λ n. point n p.arrival p.cost) (eqb-true (node % base) r.goal.0 at.0))
+      (eqb-true (node / base % served_limit) count all.0 ∙ length-map stops stop_service)
+
   -- what is read off a walk over states to the goal is a rested tour
   pub sound_walk : (node : ℕ) → (task_over s (tour_ruler stops rule) base r.origin.0 r.goal.0 r.depart r.until bound).goal node ≡ true
       → (xs : List Step) (p : Pair) → Walks (product s (tour_ruler stops rule) base) r.until xs (point (code base r.origin.0 (joint 0 0)) r.depart 0)
       (point node p.arrival p.cost) → RestedWalk s r stops rule (reads rule.rest base xs) p
   sound_walk node goal xs p walk =
       let on = goes_on s stops rule base r.until is_base no_road long few_services xs (point (code base r.origin.0 (joint 0 0)) r.depart 0) (tour_start r)
-      (point node p.arrival p.cost) []
-      (record {
-        node = sym (mod-mul-add (joint 0 0) base r.origin.0 origin);
-        minute = refl;
-        cost = refl;
-        served = sym first_served;
-        since = subst (HasSince s.road rule []) (sym first_state) (has_first s.road rule);
-        fine = omega (arith, first_state);
-      })
-      walk in
-      let at = two_parts (eqb (node % base) r.goal.0) (eqb (node / base % served_limit) count && true) goal in
-      let all = two_parts (eqb (node / base % served_limit) count) true at.1 in
+      (point node p.arrival p.cost) [] at_first walk in
       record {
-        walk = subst (λ (w : TourPosition). TourWalks s stops r.until (reads rule.rest base xs) (tour_start r) w)
-            (same_spot (spot (point (node % base) p.arrival p.cost) (node / base % served_limit)) (tour_end r (length stops) p)
-            (ap (λ n. point n p.arrival p.cost) (eqb-true (node % base) r.goal.0 at.0))
-            (eqb-true (node / base % served_limit) count all.0 ∙ length-map stops stop_service)) on.walk;
+        walk = subst (λ (w : TourPosition). TourWalks s stops r.until (reads rule.rest base xs) (tour_start r) w) (at_goal node goal p) on.walk;
         rested = rested_from s.road rule some (map seen (reads rule.rest base xs)) [] on.rested;
       }
+
+  -- the states of such a walk, the last first
+  pub found_to_goal : (node : ℕ) → (task_over s (tour_ruler stops rule) base r.origin.0 r.goal.0 r.depart r.until bound).goal node ≡ true
+      → (xs : List Step) (p : Pair) → Walks (product s (tour_ruler stops rule) base) r.until xs (point (code base r.origin.0 (joint 0 0)) r.depart 0)
+      (point node p.arrival p.cost) → IsFoundBack s stops rule base r.until (tour_start r) (node / base) (reverse xs) (tour_end r (length stops) p)
+  found_to_goal node goal xs p walk =
+      subst (λ (w : TourPosition). IsFoundBack s stops rule base r.until (tour_start r) (node / base) (reverse xs) w) (at_goal node goal p)
+      (subst (λ (w : List Step). IsFoundBack s stops rule base r.until (tour_start r) (node / base) w
+      (spot (point (node % base) p.arrival p.cost) (node / base % served_limit))) (append-nil (reverse xs))
+      (found_on s stops rule base r.until is_base no_road long few_services (tour_start r) xs [] (point (code base r.origin.0 (joint 0 0)) r.depart 0)
+      (tour_start r) (point node p.arrival p.cost) at_first (record { served = first_served; minutes = at_first.since }, refl) walk))
 
   sound : (p : Pair) → IsAchievedIn (task_over s (tour_ruler stops rule) base r.origin.0 r.goal.0 r.depart r.until bound) p
       → IsRestedTourAchieved s r stops rule p
@@ -90,42 +102,41 @@ module _ (s : Setting) (r : Request) (stops : List Stop) (rule : BreakRule) (bas
       let tour = sound_walk can.node can.goal can.reached.0 p can.reached.1 in
       record { in_time = in_time; steps = reads rule.rest base can.reached.0; walk = tour.walk; rested = tour.rested }
 
+  -- a least walk over states to the goal tells the steps
+  pub record IsLeastToGoal (steps : List TourStep) (p : Pair) : Type 0 where
+    pub node : ℕ
+    pub goal : (task_over s (tour_ruler stops rule) base r.origin.0 r.goal.0 r.depart r.until bound).goal node ≡ true
+    pub zs : List Step
+    pub walk : Walks (product s (tour_ruler stops rule) base) r.until (reverse zs) (point (code base r.origin.0 (joint 0 0)) r.depart 0)
+        (point node p.arrival p.cost)
+    pub traced : IsLeastBack s stops rule base r.until (tour_start r) (node / base) zs (tour_end r (length stops) p)
+    pub told : reverse steps ≡ reads rule.rest base zs
+
+  -- each rested tour is told by one
+  pub least_to_goal : (steps : List TourStep) (p : Pair) → RestedWalk s r stops rule steps p → IsLeastToGoal steps p
+  least_to_goal steps p tour =
+      let least = least_walk s stops rule base r.until is_base no_road some few_services (tour_start r) steps (tour_end r (length stops) p) origin (omega arith)
+      tour.rested tour.walk in
+      let state : ℕ = joint least.r (length stops) in
+      let whole : code base r.goal.0 state / base ≡ state = div-mul-add state base r.goal.0 least.led.small in
+      record {
+        node = code base r.goal.0 state;
+        goal = and_from (eqb (code base r.goal.0 state % base) r.goal.0) (eqb (code base r.goal.0 state / base % served_limit) count && true)
+            (eq-eqb (code base r.goal.0 state % base) r.goal.0 (mod-mul-add state base r.goal.0 least.led.small))
+            (and_from (eqb (code base r.goal.0 state / base % served_limit) count) true
+            (eq-eqb (code base r.goal.0 state / base % served_limit) count
+            (ap (λ n. n % served_limit) whole ∙ joint_served least.r (length stops) few ∙ sym (length-map stops stop_service))) refl);
+        zs = least.zs;
+        walk = least.led.walk;
+        traced = subst (λ n. IsLeastBack s stops rule base r.until (tour_start r) n least.zs (tour_end r (length stops) p)) (sym whole) least.led.traced;
+        told = least.told;
+      }
+
   found : (p : Pair) → IsRestedTourAchieved s r stops rule p
       → IsAchievedIn (task_over s (tour_ruler stops rule) base r.origin.0 r.goal.0 r.depart r.until bound) p
   found p can =
-      let end = arrives s stops rule base r.until is_base no_road some few_services (point (code base r.origin.0 (joint 0 0)) r.depart 0)
-      can.steps (tour_start r) (tour_end r (length stops) p) []
-      (record {
-        k = 0;
-        minute = r.depart;
-        cost = 0;
-        xs = [];
-        walk = refl;
-        small = origin;
-        low = omega arith;
-        m = 0;
-        weight = 0;
-        ends = record { front = []; is = refl; driven = at_start };
-        rated = inl refl;
-        is_open = λ u early late. absurd (omega (arith, early, late));
-        in_time = in_time;
-        now = omega arith;
-        paid = omega arith;
-        least = subst (IsLeast s.road rule []) (sym (ap (λ b. if b then 0 else 0) (lt-leb rule.rest 0 (omega (arith, some)))))
-            (record { all = omega arith; each = λ late since. omega arith });
-      })
-      (within_from s.road rule some (map seen can.steps) [] can.rested) can.walk in
-      let state : ℕ = joint end.0 (length stops) in
-      let whole : code base r.goal.0 state / base ≡ state = div-mul-add state base r.goal.0 end.1 in
-      record {
-        node = code base r.goal.0 state;
-        goal = both_true (eqb (code base r.goal.0 state % base) r.goal.0) (eqb (code base r.goal.0 state / base % served_limit) count && true)
-            (eq-eqb (code base r.goal.0 state % base) r.goal.0 (mod-mul-add state base r.goal.0 end.1))
-            (both_true (eqb (code base r.goal.0 state / base % served_limit) count) true
-            (eq-eqb (code base r.goal.0 state / base % served_limit) count
-            (ap (λ n. n % served_limit) whole ∙ joint_served end.0 (length stops) few ∙ sym (length-map stops stop_service))) refl);
-        reached = (end.2.xs, end.2.walk);
-      }
+      let least = least_to_goal can.steps p (record { walk = can.walk; rested = can.rested }) in
+      record { node = least.node; goal = least.goal; reached = (reverse least.zs, least.walk) }
 
   pub rested_front : (pairs : List Pair)
       → IsParetoFront IsNoWorse ArrivesBefore (IsAchievedIn (task_over s (tour_ruler stops rule) base r.origin.0 r.goal.0 r.depart r.until bound)) pairs

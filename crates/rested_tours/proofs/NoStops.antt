@@ -1,10 +1,11 @@
 -- Rested tours without stops are rested trips.
-use Rattle.std.proofs.Common.{◌≡◌, ℕ, List, [], ◌∷◌, ◌++◌, map, replicate, refl, sym, ◌∙◌, ap, subst}
-use Rattle.std.specs.Prelude.{◌↔◌, All}
+use Rattle.std.proofs.Common.{◌≡◌, inl, inr, ⊎_elim, ℕ, Option, List, [], ◌∷◌, ◌++◌, map, replicate, refl, sym, ◌∙◌, ap, subst}
+use Rattle.std.specs.Prelude.{◌↔◌, All, reverse}
 use Rattle.std.specs.List.{AllZip}
 use Rattle.std.proofs.lemmas.List.{map-append}
 use Rattle.std.proofs.lemmas.List.Elements.{All-head, All-tail, All-cons, All-nil}
-use Rattle.route_base.specs.Setting.{Setting}
+use Rattle.route_base.specs.FirstItinerary.{IsStepBefore}
+use Rattle.route_base.specs.Setting.{Road, Setting}
 use Rattle.route_base.specs.Itinerary.{Step, drive, wait, Walks}
 use Rattle.route_base.specs.Front.{IsNoWorse, pairs_of}
 use Rattle.route_base.specs.Legs.{start_of, end_of, steps_of, DrivesFirst, HasNoEmptyWait, HasNoNeighbouringWaits}
@@ -17,12 +18,14 @@ use Rattle.route_base.proofs.Numbered.{no_number}
 use Rattle.front_transport.specs.ParetoFronts.{ArrivesBefore}
 use Rattle.front_transport.proofs.SameFronts.{same_front}
 use Rattle.drive_breaks.specs.Rested.{IsRestedFrom, IsRestedAchieved, IsRestedFront, AchievesRested, AreRightRested}
+use Rattle.drive_breaks.specs.RestedOrder.{ComesRestedBefore, IsAsDriven, IsFirstRested, IsLessDriven}
 use Rattle.drive_states.specs.declared.rule.BreakRule.{BreakRule}
 use Rattle.stop_tour.specs.Tours.{TourPosition, TourStep, go, serve, TourWalks, tour_start, tour_end, tour_steps_of, HasNoEmptyTourWait, StartsWithoutWait, HasNoNeighbouringTourWaits}
 use Rattle.stop_tour.specs.declared.stops.TourLeg.{TourLeg}
 use Rattle.stop_tour.specs.declared.stops.TourLeg.TheVariants.{Drive as TourDrive, Wait as TourWait, Serve as TourServe}
 use Rattle.stop_tour.specs.declared.stops.TourRoute.{TourRoute}
-use Rattle.rested_tours.specs.RestedTours.{seen, IsRestedTour, IsRestedTourAchieved, IsRestedTourFront, AchievesRestedTour, AreRightRestedTours}
+use Rattle.stop_tour.proofs.FirstOverLayers.{map_reversed}
+use Rattle.rested_tours.specs.RestedTours.{seen, IsRestedTour, IsRestedTourAchieved, IsRestedTourFront, AchievesRestedTour, AreRightRestedTours, ComesRestedTourBefore, IsFirstRestedTour}
 use Rattle.rested_tours.specs.Inside.ToldLegs.{as_tour_leg, IsNoService, IsTripOf}
 use Rattle.rested_tours.proofs.Reading.{going_waits}
 use Rattle.rested_tours.proofs.TourWalking.{goes, seen_goes, tour_parts}
@@ -87,13 +90,24 @@ tour_apart [] none = tt
 tour_apart (Drive a ∷ legs) none = tour_apart legs none
 tour_apart (Wait k ∷ legs) none = (starts_so legs none.0, tour_apart legs none.1)
 
--- one tour and its route more
-pub trips_push : (tours : List TourRoute) (routes : List Route) (tour : TourRoute) (route : Route) → AllZip IsTripOf tours routes → IsTripOf tour route
-    → AllZip IsTripOf (tours ++ tour ∷ []) (routes ++ route ∷ [])
-trips_push [] [] tour route alike one = (one, tt)
-trips_push [] (y ∷ routes) tour route alike one = absurd alike
-trips_push (x ∷ tours) [] tour route alike one = absurd alike
-trips_push (x ∷ tours) (y ∷ routes) tour route alike one = (alike.0, trips_push tours routes tour route alike.1 one)
+-- the order of tours without services is that of trips
+went_before : (roads : ℕ → Option Road) (rest : ℕ) (xs ys : List Step) → ComesRestedTourBefore roads rest (map go xs) (map go ys)
+    → ComesRestedBefore roads rest xs ys
+went_before roads rest [] ys before = absurd before
+went_before roads rest (x ∷ xs) [] before = absurd before
+went_before roads rest (x ∷ xs) (y ∷ ys) (inl less) =
+    inl (subst (λ (w : List Step). IsLessDriven roads rest (x ∷ xs) w) (seen_goes (y ∷ ys))
+    (subst (λ (w : List Step). IsLessDriven roads rest w (map seen (map go (y ∷ ys)))) (seen_goes (x ∷ xs)) less))
+went_before roads rest (x ∷ xs) (y ∷ ys) (inr (even, next)) =
+    inr (
+      subst (λ (w : List Step). IsAsDriven roads rest (x ∷ xs) w) (seen_goes (y ∷ ys))
+          (subst (λ (w : List Step). IsAsDriven roads rest w (map seen (map go (y ∷ ys)))) (seen_goes (x ∷ xs)) even),
+      ⊎_elim
+          (λ (step : IsStepBefore x y). inl step)
+          (λ (more : (go x ≡ go y) × ComesRestedTourBefore roads rest (map go xs) (map go ys)).
+          inr (ap seen more.0, went_before roads rest xs ys more.1))
+          next,
+    )
 
 module _ (s : Setting) (r : Request) (rule : BreakRule) where
   -- what the rule sees of the steps of a trip
@@ -193,3 +207,31 @@ module _ (s : Setting) (r : Request) (rule : BreakRule) where
     front = (no_stops_front (pairs_of routes)).0 (subst (IsRestedTourFront s r [] rule) (right_pairs tours routes alike) right.front);
     legs = right_legs tours routes alike right.legs;
   }
+
+  -- the first tour without stops is the first trip
+  first_trip : (tour : TourRoute) (route : Route) → IsTripOf tour route → IsFirstRestedTour s r [] rule tour → IsFirstRested s r rule route
+  first_trip tour route trip first steps walk rested =
+      let told : tour_steps_of tour.legs ≡ map go (steps_of route.legs) = ap tour_steps_of trip.legs ∙ tour_steps route.legs in
+      let turned : reverse (tour_steps_of tour.legs) ≡ map go (reverse (steps_of route.legs)) =
+      ap reverse told ∙ sym (map_reversed go (steps_of route.legs)) in
+      ⊎_elim
+      (λ (same : map go steps ≡ tour_steps_of tour.legs).
+      inl (sym (seen_goes steps) ∙ ap (map seen) (same ∙ told) ∙ seen_goes (steps_of route.legs)))
+      (λ (before : ComesRestedTourBefore s.road rule.rest (reverse (tour_steps_of tour.legs)) (reverse (map go steps))).
+      inr (went_before s.road rule.rest (reverse (steps_of route.legs)) (reverse steps)
+      (subst (λ (w : List TourStep). ComesRestedTourBefore s.road rule.rest (map go (reverse (steps_of route.legs))) w) (sym (map_reversed go steps))
+      (subst (λ (w : List TourStep). ComesRestedTourBefore s.road rule.rest w (reverse (map go steps))) turned before))))
+      (first (map go steps)
+      (subst (λ (w : Pair). TourWalks s [] r.until (map go steps) (tour_start r) (tour_end r 0 w)) trip.pair
+      (goes s [] r.until steps (start_of r) (end_of r route.pair) 0 walk))
+      (tour_rested (map go steps) steps refl rested))
+
+  -- the routes of first tours without stops are first
+  pub first_trips : (tours : List TourRoute) (routes : List Route) → AllZip IsTripOf tours routes → All (IsFirstRestedTour s r [] rule) tours
+      → All (IsFirstRested s r rule) routes
+  first_trips [] [] alike first = All-nil (IsFirstRested s r rule)
+  first_trips [] (route ∷ routes) alike first = absurd alike
+  first_trips (tour ∷ tours) [] alike first = absurd alike
+  first_trips (tour ∷ tours) (route ∷ routes) alike first =
+      All-cons (IsFirstRested s r rule) route routes (first_trip tour route alike.0 (All-head (IsFirstRestedTour s r [] rule) tour tours first))
+      (first_trips tours routes alike.1 (All-tail (IsFirstRestedTour s r [] rule) tour tours first))

@@ -1,12 +1,13 @@
 -- Walks of tours, and what the break rule sees of them.
-use Rattle.std.proofs.Common.{◌≡◌, ⊎_elim, ℕ, ◌≤◌, ◌<◌, ◌||◌, leb, ltb, Bool, true, false, Some, List, [], ◌∷◌, ◌++◌, map, refl, sym, ◌∙◌, ap, subst}
-use Rattle.std.proofs.lemmas.Bool.{le-leb, lt-leb, le-ltb, ltb-false, cases_lt}
+use Rattle.std.proofs.Common.{◌≡◌, ℕ, ◌+◌, ◌≤◌, ◌<◌, Some, List, [], ◌∷◌, ◌++◌, length, map, refl, sym, ◌∙◌, ap, subst, arith}
 use Rattle.std.proofs.lemmas.List.{map-append}
 use Rattle.route_base.specs.Setting.{Setting}
 use Rattle.route_base.specs.Itinerary.{Position, Step, Walks}
-use Rattle.stop_tour.specs.Tours.{TourPosition, TourStep, go, TourWalks}
+use Rattle.route_base.specs.Net.{at_number}
+use Rattle.route_base.proofs.Arcs.{TakesTime}
+use Rattle.route_base.proofs.Walking.{moves_later, move_in_time}
+use Rattle.stop_tour.specs.Tours.{TourPosition, TourStep, go, serve, TourMoves, TourWalks}
 use Rattle.stop_tour.specs.declared.stops.Stop.{Stop}
-use Rattle.state_dominance.specs.Inside.Product.{Service, shut_for}
 use Rattle.rested_tours.specs.RestedTours.{seen}
 
 -- a position of a tour
@@ -34,6 +35,25 @@ module _ (s : Setting) (stops : List Stop) (until : ℕ) where
   tour_parts [] ys p r walk = (p, refl, walk)
   tour_parts (x ∷ xs) ys p r walk = let more = tour_parts xs ys walk.0 r walk.2 in (more.0, (walk.0, walk.1, more.1), more.2)
 
+module _ (s : Setting) (stops : List Stop) (until : ℕ) (takes : TakesTime s)
+    (long_stops : (i : ℕ) (stop : Stop) → at_number stops i ≡ Some stop → 1 ≤ stop.service) where
+  -- each step of a tour takes time, and ends by the last minute
+  step_later : (x : TourStep) (p q : TourPosition) → TourMoves s stops until x p q → (p.at.minute < q.at.minute) × (q.at.minute ≤ until)
+  step_later (go x) p q move = (moves_later s until takes x p.at q.at move.0, move_in_time s until x p.at q.at move.0)
+  step_later (serve i) p q move = (omega (arith, move.minute, long_stops i move.stop move.is), omega (arith, move.minute, move.in_time))
+
+  -- a tour has no more steps than minutes
+  pub tour_later : (xs : List TourStep) (p q : TourPosition) → TourWalks s stops until xs p q → length xs + p.at.minute ≤ q.at.minute
+  tour_later [] p q walk = omega (arith, ap (λ (w : TourPosition). w.at.minute) walk)
+  tour_later (x ∷ xs) p q walk = omega (arith, (step_later x p walk.0 walk.1).0, tour_later xs walk.0 q walk.2)
+
+  -- and ends by the last minute
+  pub short_tour : (xs : List TourStep) (p q : TourPosition) → p.at.minute ≤ until → TourWalks s stops until xs p q → length xs + p.at.minute ≤ until
+  short_tour [] p q in_time walk = omega (arith, in_time)
+  short_tour (x ∷ xs) p q in_time walk =
+      let one = step_later x p walk.0 walk.1 in
+      omega (arith, one.0, short_tour xs walk.0 q one.1 walk.2)
+
 -- what the rule sees of steps that are no services
 pub seen_goes : (xs : List Step) → map seen (map go xs) ≡ xs
 seen_goes [] = refl
@@ -41,26 +61,3 @@ seen_goes (x ∷ xs) = ap (λ (w : List Step). x ∷ w) (seen_goes xs)
 
 pub seen_behind : (xs : List Step) (zs : List TourStep) → map seen (map go xs ++ zs) ≡ xs ++ map seen zs
 seen_behind xs zs = map-append seen (map go xs) zs ∙ ap (λ (w : List Step). w ++ map seen zs) (seen_goes xs)
-
-either_false : (a b : Bool) → (a || b) ≡ false → (a ≡ false) × (b ≡ false)
-either_false false b is = (refl, is)
-either_false true b is = absurd (cc)
-
-neither : (a b : Bool) → a ≡ false → b ≡ false → (a || b) ≡ false
-neither false b one two = two
-neither true b one two = absurd (cc)
-
-above : (a b : ℕ) → leb a b ≡ false → b < a
-above a b is = ⊎_elim
-    (λ (less : b < a). less)
-    (λ (le : a ≤ b). let bad : true ≡ false = sym (le-leb a b le) ∙ is in cc)
-    (cases_lt b a)
-
--- a minute of the window
-pub within_window : (c : Service) (t : ℕ) → shut_for (Some c) t ≡ false → (c.from ≤ t) × (t < c.to)
-within_window c t is =
-    let parts = either_false (ltb t c.from) (leb c.to t) is in
-    (ltb-false t c.from parts.0, above c.to t parts.1)
-
-pub opens_in : (c : Service) (t : ℕ) → c.from ≤ t → t < c.to → shut_for (Some c) t ≡ false
-opens_in c t from to = neither (ltb t c.from) (leb c.to t) (le-ltb t c.from from) (lt-leb c.to t to)

@@ -1,4 +1,5 @@
-// The front of the walks over the states of rested tours is that of rested tours, and without stops that of rested trips.
+// The front of the walks over the states of rested tours is that of rested tours, and without stops that of rested trips; a request has
+// one answer, which is the same over settings that agree.
 ghost use Rattle.std.specs.Prelude.{◌≡◌, ◌↔◌, ◌<◌, ◌≤◌, ◌^◌, ℕ, List, [], Option, None, Some, map, length};
 ghost use Rattle.drive_states.specs.declared.rule.BreakRule.{BreakRule};
 ghost use Rattle.front_transport.specs.ParetoFronts.{IsParetoFront, ArrivesBefore};
@@ -51,4 +52,12 @@ pub fn rested_tours_agree()
         → StandsFor s z window → IsInWindow r window
         → (routes : List TourRoute)
         → AreRightRestedTours s r stops rule routes ↔ AreRightRestedTours z r stops rule routes }
+{}
+
+/// The law that a tour under a rule has at most one right answer: two lists of right tours are one, pair by pair and leg by leg. The call
+/// does nothing.
+pub fn one_rested_tour_answer()
+    ensures { (s : Setting) (r : Request) (stops : List Stop) (rule : BreakRule)
+        → (xs ys : List TourRoute)
+        → AreRightRestedTours s r stops rule xs → AreRightRestedTours s r stops rule ys → xs ≡ ys }
 {}

@@ -5,7 +5,7 @@ ghost use Rattle.rested_tours.specs.Words.{AreRightRestedTours, stop_service};
 ghost use Rattle.ruled_states.specs.Inside.Services.{service_at};
 ghost use Rattle.route_base.specs.declared.limits.TheConstants.{LONGEST_HORIZON};
 
-use crate::routes::{Asked, tours_of};
+use crate::told_routes::told_routes;
 use drive_breaks::BreakRule;
 use route_base::{OutOfMemory, Request, TimedNet};
 use ruled_search::{plan_ruled, ruled_costs_fit};
@@ -25,8 +25,8 @@ fn service_of(stop: Stop) -> Service
     }
 }
 
-// The services of the stops.
-fn services_of(alloc: Global, stops: &[Stop]) -> Result<Vec<Service>, OutOfMemory>
+/// The services of the stops. Linear in them.
+pub fn services_of(alloc: Global, stops: &[Stop]) -> Result<Vec<Service>, OutOfMemory>
     ensures { IfOk result (λ out. map service_at out.items ≡ map stop_service stops.now) }
 {
     let mut out = Vec::with_capacity(alloc, stops.len())?;
@@ -37,8 +37,9 @@ fn services_of(alloc: Global, stops: &[Stop]) -> Result<Vec<Service>, OutOfMemor
 }
 
 /// The Pareto front of arrival and cost over all lawful tours of the stops in their order that keep the break rule, by rising arrival, each
-/// pair with the legs of one. A service counts as a drive of no minutes: it is no break, and a wait before it isn't joined with one behind
-/// it. The only error is out of memory.
+/// pair with the legs of the first of its tours: compared from the end, fewer minutes driven since the last break come first, and then the
+/// earlier step. A service counts as a drive of no minutes: it is no break, and a wait before it isn't joined with one after it. The only
+/// error is out of memory.
 ///
 /// It takes the time and memory of `plan_ruled` over the minutes driven since the last break and the number of stops that were served.
 pub fn plan_rested_tour(
@@ -69,12 +70,6 @@ pub fn plan_rested_tour(
         services: services.as_slice(),
     };
     let over = plan_ruled(alloc, net, request, &ruler)?;
-    let asked = Asked {
-        net,
-        request,
-        stops,
-        rule,
-    };
-    let tours = tours_of(alloc, asked, over.as_slice())?;
+    let tours = told_routes(alloc, rule.rest, over.as_slice())?;
     Ok(tours)
 }

@@ -1,7 +1,7 @@
 // Trips that keep a break rule.
-ghost use Rattle.std.specs.Prelude.{◌≡◌, ◌↔◌, ◌≤◌, ◌-◌, Err, IfOk, IsTrue};
+ghost use Rattle.std.specs.Prelude.{◌≡◌, ◌↔◌, ◌≤◌, ◌-◌, All, Err, IfOk, IsTrue};
 ghost use Rattle.rested_tours.specs.Words.{IsGoodRequest, setting_of, HasCheapArcs, IsGoodRule};
-ghost use Rattle.rested_tours.specs.Words.{HasTooManyStates, AreRightRested};
+ghost use Rattle.rested_tours.specs.Words.{HasTooManyStates, AreRightRested, IsFirstRested};
 ghost use Rattle.drive_states.specs.declared.rule.BreakFault.TheVariants.{TooManyStates};
 ghost use Rattle.route_base.specs.declared.limits.TheConstants.{DAY_MINUTES, LONGEST_HORIZON};
 
@@ -49,7 +49,9 @@ fn planned(
     requires horizon { request.until - request.depart ≤ LONGEST_HORIZON }
     requires rule { IsGoodRule rule }
     requires cheap { HasCheapArcs net.now }
-    ensures { IfOk result (AreRightRested (setting_of net.now) request rule) }
+    ensures right { IfOk result (AreRightRested (setting_of net.now) request rule) }
+    ensures first { IfOk result (λ routes. All (IsFirstRested (setting_of net.now) request rule)
+        routes) }
 {
     let tours = plan_rested_tour(alloc, net, request, &[], rule)?;
     let routes = routes_of(alloc, tours.as_slice())?;
@@ -57,8 +59,9 @@ fn planned(
 }
 
 /// The Pareto front of arrival and cost over all lawful itineraries that keep the break rule, by rising arrival, each pair with the
-/// legs of one. Where the origin is the goal, that is to stay. `TooManyStates` comes exactly where the states of the trip, and the
-/// drives and breaks that leave them, are more than `MOST_STATES`, whatever the goal.
+/// legs of the first of its itineraries: compared from the end, fewer minutes driven since the last break come first, and then the earlier
+/// step. Where the origin is the goal, that is to stay. `TooManyStates` comes exactly where the states of the trip, and the drives and
+/// breaks that leave them, are more than `MOST_STATES`, whatever the goal.
 ///
 /// It takes the time and memory of `has_too_many_states`, and then of `plan_ruled` over the minutes driven since the last break.
 pub fn plan_rested(
@@ -73,6 +76,8 @@ pub fn plan_rested(
     requires rule { IsGoodRule rule }
     requires cheap { HasCheapArcs net.now }
     ensures right { IfOk result (AreRightRested (setting_of net.now) request rule) }
+    ensures first { IfOk result (λ routes. All (IsFirstRested (setting_of net.now) request rule)
+        routes) }
     ensures few { IfOk result (λ routes.
         HasTooManyStates (setting_of net.now) request.origin.0 rule → ⊥) }
     ensures many { result ≡ Err TooManyStates

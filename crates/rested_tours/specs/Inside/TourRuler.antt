@@ -1,12 +1,8 @@
 -- The ruler of rested tours: its states are the minutes driven since the last break, with the number of stops that were served (source: own;
 -- no law).
-use Rattle.std.specs.Prelude.{None, List, map}
+use Rattle.std.specs.Prelude.{List, map}
 use Rattle.drive_states.specs.declared.rule.BreakRule.{BreakRule}
-use Rattle.route_base.specs.Setting.{Setting}
-use Rattle.route_base.specs.declared.types.Request.{Request}
-use Rattle.ruled_states.specs.Inside.Codes.{base}
-use Rattle.state_dominance.specs.Inside.Dominance.{Task}
-use Rattle.state_dominance.specs.Inside.Product.{Ruler, Service, task_over}
+use Rattle.state_dominance.specs.Inside.Product.{Ruler, Service}
 use Rattle.state_dominance.specs.OneRule.{one_rule}
 use Rattle.state_dominance.specs.Serving.{serving}
 use Rattle.stop_tour.specs.declared.stops.Stop.{Stop}
@@ -17,7 +13,3 @@ stop_service stop = record { node = stop.node.0; minutes = stop.service; from = 
 
 abbrev pub tour_ruler : List Stop → BreakRule → Ruler
 tour_ruler stops rule = serving (map stop_service stops) (one_rule rule.drive rule.rest)
-
--- the search for rested tours, by whatever bounds
-abbrev pub tour_task : Setting → Request → List Stop → BreakRule → Task
-tour_task s r stops rule = task_over s (tour_ruler stops rule) base r.origin.0 r.goal.0 r.depart r.until (λ v k. None)

@@ -4,7 +4,7 @@ use Rattle.std.proofs.lemmas.List.{take_all, take_more}
 use Rattle.route_base.specs.declared.types.Route.{Route}
 use Rattle.stop_tour.specs.declared.stops.TourRoute.{TourRoute}
 use Rattle.rested_tours.specs.Inside.ToldLegs.{IsTripOf}
-use Rattle.rested_tours.proofs.NoStops.{trips_push}
+use Rattle.rested_tours.proofs.ToldRoutes.{zip_push}
 use Rattle.rested_tours.proofs.trip_routes.routes_of.Goals as goal
 
 pub loop-tour-preserved : goal.loop-tour-preserved
@@ -15,7 +15,7 @@ loop-tour-preserved c =
     let item : TourRoute = get_or tours i c.tour-item.result in
     subst (λ (w : List TourRoute). AllZip IsTripOf w c.push.new.self.items) (sym (take_more tours i c.tour-item.result c.loop-tour-test.true))
     (subst (λ (w : List Route). AllZip IsTripOf (take i tours ++ item ∷ []) w) (sym grown)
-    (trips_push (take i tours) c.loop-tour.out.items item c.in_ok-route.route c.loop-tour.invariant
+    (zip_push IsTripOf (take i tours) c.loop-tour.out.items item c.in_ok-route.route c.loop-tour.invariant
     (subst (λ (w : TourRoute). IsTripOf w c.in_ok-route.route) c.tour-item.is c.in_ok-route.ensures)))
 
 pub returns : goal.returns

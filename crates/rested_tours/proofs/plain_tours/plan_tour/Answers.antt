@@ -1,0 +1,79 @@
+use Rattle.std.proofs.Common.{List, All, map, sym, ◌∙◌, ap, subst, arith}
+use Rattle.std.specs.List.{AllZip}
+use Rattle.route_base.specs.Net.{setting_of}
+use Rattle.ruled_search.specs.Routes.{IsPlanned}
+use Rattle.ruled_search.specs.declared.routes.RuledRoute.{RuledRoute}
+use Rattle.ruled_states.specs.Inside.Codes.{base}
+use Rattle.ruled_states.specs.Inside.Services.{service_at}
+use Rattle.state_dominance.specs.Inside.Product.{IsBase, Service as ServiceAt}
+use Rattle.state_dominance.specs.NoRule.{no_rule}
+use Rattle.state_dominance.specs.Serving.{serving}
+use Rattle.state_dominance.proofs.NotRuled.{small_states}
+use Rattle.rested_tours.specs.Inside.ToldRoutes.{IsTellableRoute, IsToldBy}
+use Rattle.rested_tours.proofs.Based.{cheap_roads}
+use Rattle.rested_tours.proofs.PlainTours.{are_tellable, plain_base, right_tours}
+use Rattle.rested_tours.proofs.StopsBase.{as_many}
+use Rattle.rested_tours.proofs.plain_tours.plan_tour.Goals as goal
+
+pub invariant_of-ruler : goal.invariant_of-ruler
+invariant_of-ruler c = record {
+  small = small_states;
+  few = omega (
+    arith,
+    as_many c.as_slice.result.now c.args.stops.now
+        (ap (map service_at) c.as_slice.ensures.value ∙ c.in_ok-services.ensures),
+    c.requires.count,
+  );
+}
+
+pub plan_ruled-requires-clause-fit : goal.plan_ruled-requires-clause-fit
+plan_ruled-requires-clause-fit c =
+    c.ruled_costs_fit.ensures c.args.net.now
+    (serving (map service_at c.as_slice.result.now) no_rule) base c.args.request
+    c.node_count-nodes.ensures.good (cheap_roads c.args.net.now c.requires.cheap) c.requires.in_time (omega (arith, c.requires.horizon))
+
+pub plan_ruled-requires-clause-numbers : goal.plan_ruled-requires-clause-numbers
+plan_ruled-requires-clause-numbers c =
+    let same = ap (map service_at) c.as_slice.ensures.value ∙ c.in_ok-services.ensures in
+    subst (λ (w : List ServiceAt). IsBase (setting_of c.args.net.now) (serving w no_rule) base) (sym same)
+    (plain_base c.args.net.now c.args.request c.args.stops.now
+    (record {
+      good = c.node_count-nodes.ensures.good;
+      ends = c.requires.good;
+      in_time = c.requires.in_time;
+      each_stop = c.requires.stops;
+      count = c.requires.count;
+    }))
+
+pub told_routes-requires : goal.told_routes-requires
+told_routes-requires c =
+    let same = ap (map service_at) c.as_slice.ensures.value ∙ c.in_ok-services.ensures in
+    subst (All (IsTellableRoute 1)) (sym c.as_slice-2.ensures.value)
+    (are_tellable c.args.net.now c.args.request c.args.stops.now
+    (record {
+      good = c.node_count-nodes.ensures.good;
+      ends = c.requires.good;
+      in_time = c.requires.in_time;
+      each_stop = c.requires.stops;
+      count = c.requires.count;
+    })
+    c.in_ok-over.over.items
+    (subst (λ (w : List ServiceAt). IsPlanned (setting_of c.args.net.now) (serving w no_rule) base c.args.request c.in_ok-over.over.items) same
+    c.in_ok-over.ensures.planned))
+
+pub returns : goal.returns
+returns c =
+    let same = ap (map service_at) c.as_slice.ensures.value ∙ c.in_ok-services.ensures in
+    right_tours c.args.net.now c.args.request c.args.stops.now
+    (record {
+      good = c.node_count-nodes.ensures.good;
+      ends = c.requires.good;
+      in_time = c.requires.in_time;
+      each_stop = c.requires.stops;
+      count = c.requires.count;
+    })
+    c.in_ok-over.over.items
+    (subst (λ (w : List ServiceAt). IsPlanned (setting_of c.args.net.now) (serving w no_rule) base c.args.request c.in_ok-over.over.items) same
+    c.in_ok-over.ensures.planned)
+    c.in_ok-tours.tours
+    (subst (λ (w : List RuledRoute). AllZip (IsToldBy 1) w c.in_ok-tours.tours) c.as_slice-2.ensures.value c.in_ok-tours.ensures)
