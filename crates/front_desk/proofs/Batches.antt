@@ -36,7 +36,7 @@ use Rattle.front_desk.specs.declared.plan.Planned.{Planned}
 use Rattle.front_desk.specs.Inside.Sound.{IsSound}
 use Rattle.front_desk.specs.Batch.{IsBatchReport}
 use Rattle.front_desk.proofs.OneText.{one_batch}
-use Rattle.front_desk.proofs.Sound.{one_text_sound, reads_sound, without_request_sound}
+use Rattle.front_desk.proofs.Sound.{reads_sound, without_request_sound}
 
 -- of two faults, of which the first counts
 module _ (old new : FolderState) (first second : Contents → Option BadInput) where
@@ -117,4 +117,4 @@ module _ (b : Batch) (old new : FolderState) (network : NetworkModel) (jobs : Li
 -- the meaning of the command is sound
 pub batch_sound : (b : Batch) → IsSound (batch_meaning b)
 batch_sound b = without_request_sound _
-    (one_text_sound _ (reads_sound (batch_fault b) (λ held. None) (IsBatchReport b)) (λ held after other x y. one_batch _ _ x y))
+    (reads_sound (batch_fault b) (λ held. None) (IsBatchReport b) (λ held x y. one_batch _ _ x y))

@@ -97,7 +97,7 @@ gen_sound g = record {
   stays = gen_left g;
   short = λ old. record { written = []; others = files_written g; parts = refl; held = refl };
   unread = λ nothing old new left. left;
-  one = λ _ held after other x y first second. one_summary g x y first.summary second.summary;
+  one = λ held after other x y first second. one_summary g x y first.summary second.summary;
   one_fault = λ held fault other first second. absurd first;
   one_rejection = λ held x y first second. absurd first;
   never_rejects = λ held after x y answers rejects. rejects;

@@ -113,13 +113,13 @@ module _ (k : Check) (old new : FolderState) (network : NetworkModel) (bytes : L
 -- the meaning of the command is sound
 pub check_sound : (c : Check) → IsSound (check_meaning c)
 check_sound c =
-    let judging = reads_sound (check_fault c) (check_check c) (AcceptsCertificate c) in
+    let judging = reads_sound (check_fault c) (check_check c) (AcceptsCertificate c) (λ held x y. one_check _ _ _ x y) in
     record {
       never_both = judging.never_both;
       stays = judging.stays;
       short = judging.short;
       unread = judging.unread;
-      one = λ _ held after other x y. one_check _ _ _ x y;
+      one = judging.one;
       one_fault = judging.one_fault;
       one_rejection = λ held x y. one_rejection _ _ _ x y;
       never_rejects = λ held after x y. never_rejected _ _ _ x y;

@@ -1,4 +1,4 @@
--- The status that is due, and the text of a refusal or a rejection, follow from the words and the files.
+-- The status and the text that are due follow from the words and the files.
 use Rattle.std.proofs.Common.{◌≡◌, ℕ, None, Some, Option, List, refl, sym, ◌∙◌, ap, subst}
 use Rattle.std.proofs.lemmas.Option.{none-some, same_Some}
 use Rattle.route_base.specs.Contents.{Contents}
@@ -17,7 +17,7 @@ use Rattle.front_desk.specs.Commands.{meaning_of}
 use Rattle.front_desk.specs.Inside.Sound.{IsSound}
 use Rattle.front_desk.specs.Meaning.{Meaning}
 use Rattle.front_desk.specs.Outcomes.{IsAnsweredBy, IsRejectedBy}
-use Rattle.front_desk.specs.Run.{IsCause, IsDue, IsRefused, Refuses, status_of}
+use Rattle.front_desk.specs.Run.{IsCause, IsDue, Refuses, status_of}
 use Rattle.front_desk.proofs.Meanings.{sound}
 
 -- a text of a command over these files, by its status
@@ -29,26 +29,26 @@ data Outcome (m : Meaning) (held : Contents) (x : List ℕ) : Status → Type 0 
   done : (after : Option Contents) → IsAnsweredBy m held after x → Outcome m held x Done
 
 module _ (m : Meaning) (fine : IsSound m) (held : Contents) where
-  -- a command has one status, and with each but that of an answer one text
-  one_outcome : (x y : List ℕ) (j k : Status) → Outcome m held x j → Outcome m held y k → (j ≡ k) × (IsRefused j → x ≡ y)
+  -- a command has one status and one text
+  one_outcome : (x y : List ℕ) (j k : Status) → Outcome m held x j → Outcome m held y k → (j ≡ k) × (x ≡ y)
   one_outcome x y _ _ (bad_input f is text) (bad_input g is_too text_too) =
-      (refl, λ _. text ∙ ap (λ (w : BadInput). refusal_text_of (Input w)) (same_Some f g (sym is ∙ is_too)) ∙ sym text_too)
+      (refl, text ∙ ap (λ (w : BadInput). refusal_text_of (Input w)) (same_Some f g (sym is ∙ is_too)) ∙ sym text_too)
   one_outcome x y _ _ (bad_input f is text) (bad_request g none fails text_too) = absurd (none-some f (sym none ∙ is))
   one_outcome x y _ _ (bad_input f is text) (rejected by) = absurd (none-some f (sym by.faultless ∙ is))
   one_outcome x y _ _ (bad_input f is text) (done after by) = absurd (none-some f (sym by.faultless ∙ is))
   one_outcome x y _ _ (bad_request f none fails text) (bad_input g is text_too) = absurd (none-some g (sym none ∙ is))
   one_outcome x y _ _ (bad_request f none fails text) (bad_request g none_too fails_too text_too) =
-      (refl, λ _. text ∙ ap (λ (w : RequestFault). refusal_text_of (RequestRefusal w)) (fine.one_fault held f g fails fails_too) ∙ sym text_too)
+      (refl, text ∙ ap (λ (w : RequestFault). refusal_text_of (RequestRefusal w)) (fine.one_fault held f g fails fails_too) ∙ sym text_too)
   one_outcome x y _ _ (bad_request f none fails text) (rejected by) = absurd (fine.never_both held f fails by.good)
   one_outcome x y _ _ (bad_request f none fails text) (done after by) = absurd (fine.never_both held f fails by.good)
   one_outcome x y _ _ (rejected by) (bad_input g is text_too) = absurd (none-some g (sym by.faultless ∙ is))
   one_outcome x y _ _ (rejected by) (bad_request g none fails text_too) = absurd (fine.never_both held g fails by.good)
-  one_outcome x y _ _ (rejected by) (rejected too) = (refl, λ _. fine.one_rejection held x y by.rejects too.rejects)
+  one_outcome x y _ _ (rejected by) (rejected too) = (refl, fine.one_rejection held x y by.rejects too.rejects)
   one_outcome x y _ _ (rejected by) (done after too) = absurd (fine.never_rejects held after y x too.answer by.rejects)
   one_outcome x y _ _ (done after by) (bad_input g is text_too) = absurd (none-some g (sym by.faultless ∙ is))
   one_outcome x y _ _ (done after by) (bad_request g none fails text_too) = absurd (fine.never_both held g fails by.good)
   one_outcome x y _ _ (done after by) (rejected too) = absurd (fine.never_rejects held after x y by.answer too.rejects)
-  one_outcome x y _ _ (done after by) (done other too) = (refl, λ not. absurd not)
+  one_outcome x y _ _ (done after by) (done other too) = (refl, fine.one held after other x y by.answer too.answer)
 
 -- a text of these words over these files, by its status
 data WordsOutcome (words : List (List ℕ)) (held : Contents) (x : List ℕ) (status : Status) : Type 0 where
@@ -77,18 +77,18 @@ module _ (words : List (List ℕ)) (held : Contents) where
     outcome WriteFault due = absurd due
     outcome NoMemory due = absurd due
 
-  one_for_words : (x y : List ℕ) (j k : Status) → WordsOutcome words held x j → WordsOutcome words held y k → (j ≡ k) × (IsRefused j → x ≡ y)
+  one_for_words : (x y : List ℕ) (j k : Status) → WordsOutcome words held x j → WordsOutcome words held y k → (j ≡ k) × (x ≡ y)
   one_for_words x y j k (no_command none status text) (no_command none_too status_too text_too) =
-      (status ∙ sym status_too, λ _. text ∙ sym text_too)
+      (status ∙ sym status_too, text ∙ sym text_too)
   one_for_words x y j k (no_command none status text) (of_command d is_d by) = absurd (none-some d (sym none ∙ is_d))
   one_for_words x y j k (of_command c is_c by) (no_command none status text) = absurd (none-some c (sym none ∙ is_c))
   one_for_words x y j k (of_command c is_c by) (of_command d is_d by_too) =
       one_outcome (meaning_of c) (sound c) held x y j k by
       (subst (λ (w : Command). Outcome (meaning_of w) held y k) (same_Some d c (sym is_d ∙ is_c)) by_too)
 
--- the status that is due, and with each but that of an answer the text, follow from the words and the files
+-- the status and the text that are due follow from the words and the files
 pub one_due : (words : List (List ℕ)) (held : Contents) (old new before after : FolderState) (status other : Status) (x y : List ℕ)
     → old.contents ≡ Some held → before.contents ≡ Some held → IsDue words old new status x → IsDue words before after other y
-    → (status ≡ other) × (IsRefused status → x ≡ y)
+    → (status ≡ other) × (x ≡ y)
 one_due words held old new before after status other x y is is_too first second =
     one_for_words words held x y status other (outcome words held old new is x status first) (outcome words held before after is_too y other second)

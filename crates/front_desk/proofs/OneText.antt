@@ -15,11 +15,14 @@ use Rattle.route_base.specs.declared.types.Route.{Route}
 use Rattle.route_base.specs.declared.types.Run.{Run}
 use Rattle.route_base.proofs.OneAnswer.{one_answer, one_front}
 use Rattle.minute_sets.proofs.OneList.{one_list}
+use Rattle.drive_states.specs.declared.rule.BreakRule.{BreakRule}
+use Rattle.drive_breaks.proofs.OneRestedAnswer.{one_rested_answer}
 use Rattle.latest_departure.specs.LateText.{late_text_of}
 use Rattle.latest_departure.proofs.OneLate.{one_late_answer}
 use Rattle.stop_tour.specs.TourText.{tour_text_of}
 use Rattle.stop_tour.specs.declared.stops.Stop.{Stop}
 use Rattle.stop_tour.proofs.OneTour.{one_tour_answer}
+use Rattle.rested_tours.proofs.OneRestedTour.{one_rested_tour_answer}
 use Rattle.vehicle_classes.specs.VehicleModel.{VehicleModel}
 use Rattle.network_tables.specs.NetworkModel.{NetworkModel}
 use Rattle.network_tables.specs.RoadSetting.{road_setting}
@@ -33,19 +36,23 @@ use Rattle.trip_explain.proofs.OneExplanation.{never_both}
 use Rattle.plan_report.specs.Bans.{bans_text_of}
 use Rattle.plan_report.specs.Batch.{batch_text_of}
 use Rattle.plan_report.specs.Check.{check_text_of}
+use Rattle.plan_report.specs.Plain.{plain_text_of}
 use Rattle.plan_report.specs.Reports.{report_text}
 use Rattle.plan_report.specs.Summary.{summary_text_of}
 use Rattle.plan_report.specs.declared.outcomes.Verdict3.TheVariants.{Accepted}
 use Rattle.front_words.specs.declared.bans.Bans.{Bans}
+use Rattle.front_words.specs.declared.breaks.Breaks.{Breaks}
 use Rattle.front_words.specs.declared.generate.Gen.{Gen}
 use Rattle.front_words.specs.declared.plan.Plan.{Plan}
 use Rattle.front_desk.specs.Bans.{IsBansText}
 use Rattle.front_desk.specs.Batch.{IsBatchText, IsTextAt, IsTripText, trip_of_job}
+use Rattle.front_desk.specs.Breaks.{IsBreaksText, break_rule_of}
 use Rattle.front_desk.specs.Check.{IsAccepted}
 use Rattle.front_desk.specs.Explain.{IsBetterFor, IsExplainText, IsFirstBetter}
 use Rattle.front_desk.specs.Gen.{IsSummary, drawn_trip, stated_network}
 use Rattle.front_desk.specs.Latest.{IsLateText}
 use Rattle.front_desk.specs.Plan.{IsPlanned, trip_setting}
+use Rattle.front_desk.specs.RestedTour.{IsRestedTourText}
 use Rattle.front_desk.specs.Tour.{IsTourText}
 use Rattle.front_desk.specs.Trips.{Trip, request_of, failed_check}
 use Rattle.certificate_check.proofs.Lawful.{achieved_once}
@@ -116,6 +123,17 @@ pub one_tour : (s : Setting) (request : Request) (stops : List Stop) (x y : List
     → x ≡ y
 one_tour s request stops x y first second =
     first.is_text ∙ ap tour_text_of (one_tour_answer s request stops first.routes second.routes first.right second.right) ∙ sym second.is_text
+
+pub one_rested_tour : (s : Setting) (request : Request) (stops : List Stop) (rule : BreakRule) (x y : List ℕ) → IsRestedTourText s request stops rule x
+    → IsRestedTourText s request stops rule y → x ≡ y
+one_rested_tour s request stops rule x y first second =
+    let same = one_rested_tour_answer s request stops rule first.routes second.routes first.right second.right in
+    first.is_text ∙ ap tour_text_of same ∙ sym second.is_text
+
+pub one_breaks : (s : Setting) (b : Breaks) (x y : List ℕ) → IsBreaksText s b x → IsBreaksText s b y → x ≡ y
+one_breaks s b x y first second =
+    let same = one_rested_answer s (request_of b.trip) (break_rule_of b) first.routes second.routes first.right first.first second.right second.first in
+    first.is_text ∙ ap plain_text_of same ∙ sym second.is_text
 
 module _ (network : NetworkModel) (vehicle : VehicleModel) (r : Request) (legs : List Leg) (x y : List ℕ) where
   abbrev s : Setting

@@ -13,7 +13,7 @@ use Rattle.front_desk.proofs.Ending.{kept_rises, reports}
 use Rattle.front_desk.specs.Inside.Sound.{IsSound}
 use Rattle.front_desk.specs.Bans.{IsBansReport, bans_check}
 use Rattle.front_desk.proofs.OneText.{one_bans}
-use Rattle.front_desk.proofs.Sound.{one_text_sound, reads_sound}
+use Rattle.front_desk.proofs.Sound.{reads_sound}
 
 module _ (b : Bans) (old new : FolderState) (network : NetworkModel) (faultless : IfTold old (λ held. bans_fault b held ≡ None))
     (found : IfTold old (λ held. network ≡ network_held held b.dir)) (passed : failed_bans_check network b ≡ None) where
@@ -32,4 +32,4 @@ module _ (b : Bans) (old new : FolderState) (network : NetworkModel) (faultless 
 
 -- the meaning of the command is sound
 pub bans_sound : (b : Bans) → IsSound (bans_meaning b)
-bans_sound b = one_text_sound _ (reads_sound (bans_fault b) (bans_check b) (IsBansReport b)) (λ held after other x y. one_bans _ b x y)
+bans_sound b = reads_sound (bans_fault b) (bans_check b) (IsBansReport b) (λ held x y. one_bans _ b x y)

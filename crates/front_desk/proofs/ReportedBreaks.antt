@@ -14,6 +14,7 @@ use Rattle.front_desk.specs.Plan.{trip_setting}
 use Rattle.front_desk.specs.Trips.{failed_check}
 use Rattle.front_desk.specs.declared.outcome.Report.{Report}
 use Rattle.front_desk.proofs.Ending.{kept_rises, reports}
+use Rattle.front_desk.proofs.OneText.{one_breaks}
 use Rattle.route_base.specs.Contents.{Contents}
 use Rattle.route_base.specs.declared.faults.RequestFault.{RequestFault}
 use Rattle.front_desk.specs.Inside.Sound.{IsSound}
@@ -73,7 +74,7 @@ one_fault b held fault other first second = ⊎_elim
 -- the meaning of the command is sound
 pub breaks_sound : (b : Breaks) → IsSound (breaks_meaning b)
 breaks_sound b =
-    let reading = reads_sound (breaks_fault b) (breaks_check b) (IsBreaksReport b) in
+    let reading = reads_sound (breaks_fault b) (breaks_check b) (IsBreaksReport b) (λ held x y. one_breaks _ b x y) in
     record {
       never_both = never_both b;
       stays = reading.stays;

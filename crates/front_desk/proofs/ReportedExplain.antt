@@ -18,7 +18,7 @@ use Rattle.front_desk.proofs.Ending.{kept_rises, reports}
 use Rattle.front_desk.specs.Inside.Sound.{IsSound}
 use Rattle.front_desk.specs.Explain.{IsExplainReport, explain_check}
 use Rattle.front_desk.proofs.OneText.{one_explained}
-use Rattle.front_desk.proofs.Sound.{one_text_sound, reads_sound}
+use Rattle.front_desk.proofs.Sound.{reads_sound}
 
 -- the legs of a trip that passes the checks can be explained
 pub road_request : (network : NetworkModel) (trip : Trip) → IsGoodTrip network.graph.nodes trip → IsTimed trip → IsRoadRequest network (request_of trip)
@@ -56,5 +56,4 @@ module _ (e : Explain) (old new : FolderState) (network : NetworkModel) (legs : 
 
 -- the meaning of the command is sound
 pub explain_sound : (e : Explain) → IsSound (explain_meaning e)
-explain_sound e =
-    one_text_sound _ (reads_sound (explain_fault e) (explain_check e) (IsExplainReport e)) (λ held after other x y. one_explained _ _ _ _ x y)
+explain_sound e = reads_sound (explain_fault e) (explain_check e) (IsExplainReport e) (λ held x y. one_explained _ _ _ _ x y)

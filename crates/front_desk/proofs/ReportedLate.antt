@@ -23,7 +23,7 @@ use Rattle.front_desk.proofs.Ending.{ends_at, ends_refused, ends_short, kept_ris
 use Rattle.front_desk.specs.Inside.Sound.{IsSound}
 use Rattle.front_desk.specs.Latest.{IsLateReport, latest_check}
 use Rattle.front_desk.proofs.OneText.{one_late}
-use Rattle.front_desk.proofs.Sound.{one_text_sound, reads_sound}
+use Rattle.front_desk.proofs.Sound.{reads_sound}
 
 module _ (l : Latest) (old new : FolderState) (network : NetworkModel) (faultless : IfTold old (λ held. latest_fault l held ≡ None))
     (found : IfTold old (λ held. network ≡ network_held held l.dir)) (kept : KeepsFiles old new) where
@@ -71,5 +71,4 @@ late_request network trip net is good short = record {
 
 -- the meaning of the command is sound
 pub latest_sound : (l : Latest) → IsSound (latest_meaning l)
-latest_sound l =
-    one_text_sound _ (reads_sound (latest_fault l) (latest_check l) (IsLateReport l)) (λ held after other x y. one_late _ _ x y)
+latest_sound l = reads_sound (latest_fault l) (latest_check l) (IsLateReport l) (λ held x y. one_late _ _ x y)

@@ -14,6 +14,7 @@ use Rattle.front_desk.specs.Tour.{failed_size, failed_tour_check, stops_held, to
 use Rattle.front_desk.specs.Trips.{failed_check, request_of}
 use Rattle.front_desk.specs.declared.outcome.Report.{Report}
 use Rattle.front_desk.proofs.Ending.{kept_rises, reports}
+use Rattle.front_desk.proofs.OneText.{one_rested_tour}
 use Rattle.front_desk.proofs.ReportedTours.{behind, held_there}
 use Rattle.front_desk.proofs.Sound.{reads_sound}
 
@@ -39,4 +40,4 @@ ends_rested_tour t old new network stops found stated passed faultless fits repo
 
 -- the meaning of the command is sound
 pub rested_tour_sound : (t : RestedTour) → IsSound (rested_tour_meaning t)
-rested_tour_sound t = reads_sound (tour_fault t.tour) (tour_check t.tour) (IsRestedTourReport t)
+rested_tour_sound t = reads_sound (tour_fault t.tour) (tour_check t.tour) (IsRestedTourReport t) (λ held x y. one_rested_tour _ _ _ _ x y)

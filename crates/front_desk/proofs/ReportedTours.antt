@@ -19,7 +19,7 @@ use Rattle.front_desk.proofs.Ending.{kept_rises, reports}
 use Rattle.front_desk.specs.Inside.Sound.{IsSound}
 use Rattle.front_desk.specs.Tour.{IsTourReport, tour_check}
 use Rattle.front_desk.proofs.OneText.{one_tour}
-use Rattle.front_desk.proofs.Sound.{one_text_sound, reads_sound}
+use Rattle.front_desk.proofs.Sound.{reads_sound}
 
 module _ (t : Tour) (old new : FolderState) (network : NetworkModel) (stops : List Stop)
     (found : IfTold old (λ held. network ≡ network_held held t.dir)) (stated : IfTold old (λ held. stops ≡ stops_held t held)) where
@@ -57,4 +57,4 @@ module _ (t : Tour) (old new : FolderState) (network : NetworkModel) (stops : Li
 
 -- the meaning of the command is sound
 pub tour_sound : (t : Tour) → IsSound (tour_meaning t)
-tour_sound t = one_text_sound _ (reads_sound (tour_fault t) (tour_check t) (IsTourReport t)) (λ held after other x y. one_tour _ _ _ x y)
+tour_sound t = reads_sound (tour_fault t) (tour_check t) (IsTourReport t) (λ held x y. one_tour _ _ _ x y)

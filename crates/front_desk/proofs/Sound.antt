@@ -6,7 +6,7 @@ use Rattle.route_base.specs.FolderState.{FolderState, KeepsFiles}
 use Rattle.route_base.specs.declared.faults.BadInput.{BadInput}
 use Rattle.route_base.specs.declared.faults.RequestFault.{RequestFault}
 use Rattle.front_desk.specs.Inside.Sound.{IsSound}
-use Rattle.front_desk.specs.Meaning.{Meaning, reads, with_one_text, without_request}
+use Rattle.front_desk.specs.Meaning.{Meaning, reads, without_request}
 
 pub same_state : (old : FolderState) → KeepsFiles old old
 same_state old = record { contents = refl; missing = omega arith; read_faults = omega arith; write_faults = refl }
@@ -14,44 +14,29 @@ same_state old = record { contents = refl; missing = omega arith; read_faults = 
 pub never_some : {fault : RequestFault} (check : Option RequestFault) → check ≡ Some fault → check ≡ None → ⊥
 never_some check some none = cc
 
--- a command that reads and answers
+-- a command that reads and has one answer
 pub reads_sound : (fault : Contents → Option BadInput) (check : Contents → Option RequestFault) (answers : Contents → List ℕ → Type 0)
-    → IsSound (reads fault check answers)
-reads_sound fault check answers = record {
+    → ((held : Contents) (x y : List ℕ) → answers held x → answers held y → x ≡ y) → IsSound (reads fault check answers)
+reads_sound fault check answers one = record {
   never_both = λ held failed some none. never_some (check held) some none;
   stays = λ old new due left. (λ _. left, λ _. left);
   short = same_state;
   unread = λ nothing old new left. nothing;
-  one = λ several held after other x y first second. absurd several;
+  one = λ held after other. one held;
   one_fault = λ held fault other first second. same_Some fault other (sym first ∙ second);
   one_rejection = λ held x y first second. absurd first;
   never_rejects = λ held after x y answers rejects. rejects;
 }
 
-module _ (m : Meaning) (sound : IsSound m) where
-  -- the same command, which has one answer
-  pub one_text_sound : ((held : Contents) (after other : Option Contents) (x y : List ℕ) → m.answers held after x → m.answers held other y → x ≡ y)
-      → IsSound (with_one_text m)
-  one_text_sound one = record {
-    never_both = sound.never_both;
-    stays = sound.stays;
-    short = sound.short;
-    unread = sound.unread;
-    one = λ _. one;
-    one_fault = sound.one_fault;
-    one_rejection = sound.one_rejection;
-    never_rejects = sound.never_rejects;
-  }
-
-  -- the same command, which has no request
-  pub without_request_sound : IsSound (without_request m)
-  without_request_sound = record {
-    never_both = λ held failed fails passes. fails;
-    stays = sound.stays;
-    short = sound.short;
-    unread = sound.unread;
-    one = sound.one;
-    one_fault = λ held fault other first second. absurd first;
-    one_rejection = sound.one_rejection;
-    never_rejects = sound.never_rejects;
-  }
+-- the same command, which has no request
+pub without_request_sound : (m : Meaning) → IsSound m → IsSound (without_request m)
+without_request_sound m sound = record {
+  never_both = λ held failed fails passes. fails;
+  stays = sound.stays;
+  short = sound.short;
+  unread = sound.unread;
+  one = sound.one;
+  one_fault = λ held fault other first second. absurd first;
+  one_rejection = sound.one_rejection;
+  never_rejects = sound.never_rejects;
+}

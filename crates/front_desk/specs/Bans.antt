@@ -11,7 +11,7 @@ use Rattle.network_tables.specs.NetworkModel.{NetworkModel}
 use Rattle.plan_report.specs.Bans.{bans_text_of}
 use Rattle.front_words.specs.declared.bans.Bans.{Bans}
 use Rattle.network_folder.specs.ReadingOrder.{first_folder_fault, network_held}
-use Rattle.front_desk.specs.Meaning.{Meaning, reads, with_one_text}
+use Rattle.front_desk.specs.Meaning.{Meaning, reads}
 use Rattle.front_desk.specs.Trips.{is_vehicle, is_node, failed_time, vehicle_named}
 
 -- the first check that the words fail over a network
@@ -50,4 +50,4 @@ bans_check b held = failed_bans_check (network_held held b.dir) b
 
 -- the meaning of `bans`
 abbrev pub bans_meaning : Bans → Meaning
-bans_meaning b = with_one_text (reads (bans_fault b) (bans_check b) (IsBansReport b))
+bans_meaning b = reads (bans_fault b) (bans_check b) (IsBansReport b)

@@ -22,7 +22,7 @@ use Rattle.front_words.specs.declared.batch.Batch.{Batch}
 use Rattle.network_folder.specs.Files.{bytes_at}
 use Rattle.front_desk.specs.Plan.{trip_setting}
 use Rattle.network_folder.specs.ReadingOrder.{jobs_file, first_fault_with, network_held}
-use Rattle.front_desk.specs.Meaning.{Meaning, reads, with_one_text, without_request}
+use Rattle.front_desk.specs.Meaning.{Meaning, reads, without_request}
 use Rattle.front_desk.specs.Trips.{Trip, failed_check, request_of}
 
 -- the bytes of the table of jobs
@@ -77,4 +77,4 @@ IsBatchReport b held text = IsBatchText (network_held held b.dir) (jobs_held b h
 
 -- the meaning of `batch`: each of its jobs has a request, whose refusal is the text of the job
 abbrev pub batch_meaning : Batch → Meaning
-batch_meaning b = without_request (with_one_text (reads (batch_fault b) (λ held. None) (IsBatchReport b)))
+batch_meaning b = without_request (reads (batch_fault b) (λ held. None) (IsBatchReport b))

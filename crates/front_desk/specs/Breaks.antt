@@ -1,5 +1,5 @@
 -- The report of the command that plans a trip with driver breaks (source: own).
-use Rattle.std.specs.Prelude.{◌≡◌, ◌⊎◌, ℕ, Option, Some, None, List}
+use Rattle.std.specs.Prelude.{◌≡◌, ◌⊎◌, ℕ, Option, Some, None, List, All}
 use Rattle.route_base.specs.Contents.{Contents}
 use Rattle.route_base.specs.Setting.{Setting}
 use Rattle.route_base.specs.declared.faults.BadInput.{BadInput}
@@ -7,6 +7,7 @@ use Rattle.route_base.specs.declared.faults.RequestFault.{RequestFault}
 use Rattle.route_base.specs.declared.faults.RequestFault.TheVariants.{TooManyStates}
 use Rattle.route_base.specs.declared.types.Route.{Route}
 use Rattle.drive_breaks.specs.Rested.{AreRightRested}
+use Rattle.drive_breaks.specs.RestedOrder.{IsFirstRested}
 use Rattle.drive_states.specs.StateSize.{HasTooManyStates}
 use Rattle.drive_states.specs.declared.rule.BreakRule.{BreakRule}
 use Rattle.plan_report.specs.Plain.{plain_text_of}
@@ -24,10 +25,11 @@ break_rule_of b = record { drive = b.drive; rest = b.rest }
 abbrev pub breaks_setting : Breaks → Contents → Setting
 breaks_setting b held = trip_setting (network_held held b.dir) b.trip
 
--- the text reports right routes that keep the rule, their Pareto front with legs for each pair, in plain lines
+-- the text reports right routes that keep the rule, their Pareto front with the first legs of each pair, in plain lines
 pub record IsBreaksText (s : Setting) (b : Breaks) (text : List ℕ) : Type 0 where
   pub routes : List Route
   pub right : AreRightRested s (request_of b.trip) (break_rule_of b) routes
+  pub first : All (IsFirstRested s (request_of b.trip) (break_rule_of b)) routes
   pub is_text : text ≡ plain_text_of routes
 
 -- the text reports them over the folder's network
@@ -61,7 +63,7 @@ pub record ExceedsStates (b : Breaks) (held : Contents) (fault : RequestFault) :
 abbrev pub FailsBreaks : Breaks → Contents → RequestFault → Type 0
 FailsBreaks b held fault = (breaks_check b held ≡ Some fault) ⊎ ExceedsStates b held fault
 
--- the meaning of `breaks`, which may print any itinerary of a pair
+-- the meaning of `breaks`
 abbrev pub breaks_meaning : Breaks → Meaning
 breaks_meaning b = record (reads (breaks_fault b) (breaks_check b) (IsBreaksReport b)) {
   passes = PassesBreaks b;

@@ -16,7 +16,7 @@ use Rattle.front_words.specs.declared.plan.Plan.{Plan}
 use Rattle.network_folder.specs.Files.{bytes_at}
 use Rattle.front_desk.specs.Plan.{trip_setting}
 use Rattle.network_folder.specs.ReadingOrder.{certificate_file, first_fault_with, network_held}
-use Rattle.front_desk.specs.Meaning.{Meaning, reads, with_one_text}
+use Rattle.front_desk.specs.Meaning.{Meaning, reads}
 use Rattle.front_desk.specs.Trips.{failed_check, request_of}
 
 -- the first fault of a check's files, of which the certificate is read last
@@ -81,7 +81,7 @@ pub record HasGoodCertificate (c : Check) (held : Contents) : Type 0 where
 
 -- the meaning of `check`, which may reject the certificate
 abbrev pub check_meaning : Check → Meaning
-check_meaning c = record (with_one_text (reads (check_fault c) (check_check c) (AcceptsCertificate c))) {
+check_meaning c = record (reads (check_fault c) (check_check c) (AcceptsCertificate c)) {
   judges = ⊤;
   rejects = RejectsCertificate c;
 }

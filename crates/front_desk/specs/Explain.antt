@@ -23,7 +23,7 @@ use Rattle.trip_explain.specs.declared.explanation.Explanation.TheVariants.{Lawf
 use Rattle.front_words.specs.declared.explain.Explain.{Explain}
 use Rattle.network_folder.specs.Files.{bytes_at}
 use Rattle.network_folder.specs.ReadingOrder.{itinerary_file, first_fault_with, network_held}
-use Rattle.front_desk.specs.Meaning.{Meaning, reads, with_one_text}
+use Rattle.front_desk.specs.Meaning.{Meaning, reads}
 use Rattle.front_desk.specs.Trips.{failed_check, request_of, vehicle_named}
 
 -- the bytes of the itinerary's file
@@ -77,4 +77,4 @@ IsExplainReport e held text =
 
 -- the meaning of `explain`
 abbrev pub explain_meaning : Explain → Meaning
-explain_meaning e = with_one_text (reads (explain_fault e) (explain_check e) (IsExplainReport e))
+explain_meaning e = reads (explain_fault e) (explain_check e) (IsExplainReport e)

@@ -77,7 +77,6 @@ gen_meaning g = record {
   passes = λ held. ⊤;
   fails = λ held failed. ⊥;
   answers = IsGenReport g;
-  one_text = ⊤;
   judges = ⊥;
   rejects = λ held text. ⊥;
   reads_nothing = ⊤;

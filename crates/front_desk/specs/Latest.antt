@@ -10,7 +10,7 @@ use Rattle.latest_departure.specs.LateText.{late_text_of}
 use Rattle.latest_departure.specs.declared.routes.LateRoute.{LateRoute}
 use Rattle.front_words.specs.declared.latest.Latest.{Latest}
 use Rattle.network_folder.specs.ReadingOrder.{first_folder_fault, network_held}
-use Rattle.front_desk.specs.Meaning.{Meaning, reads, with_one_text}
+use Rattle.front_desk.specs.Meaning.{Meaning, reads}
 use Rattle.front_desk.specs.Plan.{trip_setting}
 use Rattle.front_desk.specs.Trips.{failed_check_within, request_of}
 use Rattle.front_desk.specs.declared.latest.TheConstants.{LONGEST_LATE_HORIZON}
@@ -35,4 +35,4 @@ latest_check l held = failed_check_within LONGEST_LATE_HORIZON (network_held hel
 
 -- the meaning of `latest`
 abbrev pub latest_meaning : Latest → Meaning
-latest_meaning l = with_one_text (reads (latest_fault l) (latest_check l) (IsLateReport l))
+latest_meaning l = reads (latest_fault l) (latest_check l) (IsLateReport l)

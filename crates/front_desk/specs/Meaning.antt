@@ -18,8 +18,6 @@ pub record Meaning : Type 1 where
   pub fails : Contents → RequestFault → Type 0
   -- the text that it prints where it is done, and what it has written into the folder
   pub answers : Contents → Option Contents → List ℕ → Type 0
-  -- it prints no other text over the same files
-  pub one_text : Type 0
   -- it judges a file, which it may reject
   pub judges : Type 0
   -- the text that it prints where it rejects the file that it judges
@@ -31,7 +29,7 @@ pub record Meaning : Type 1 where
   -- the state in which it leaves the folder, by its status
   pub leaves : FolderState → FolderState → Status → Type 0
 
--- a command that reads files, checks its request and prints an answer: it leaves all files as they are. It may have several answers
+-- a command that reads files, checks its request and prints an answer: it leaves all files as they are
 abbrev pub reads : (Contents → Option BadInput) → (Contents → Option RequestFault) → (Contents → List ℕ → Type 0) → Meaning
 reads fault check answers = record {
   fault = fault;
@@ -39,17 +37,12 @@ reads fault check answers = record {
   passes = λ held. check held ≡ None;
   fails = λ held failed. check held ≡ Some failed;
   answers = λ held after text. answers held text;
-  one_text = ⊥;
   judges = ⊥;
   rejects = λ held text. ⊥;
   reads_nothing = ⊥;
   writes = ⊥;
   leaves = λ old new status. KeepsFiles old new;
 }
-
--- the same meaning, of a command that has one answer
-abbrev pub with_one_text : Meaning → Meaning
-with_one_text m = record m { one_text = ⊤ }
 
 -- the same meaning, of a command that has no request, whose checks it could fail
 abbrev pub without_request : Meaning → Meaning

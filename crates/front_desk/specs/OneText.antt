@@ -1,4 +1,4 @@
--- The commands whose text follows from the files and the words (source: own).
+-- The text of a command, which follows from the files and the words (source: own).
 use Rattle.std.specs.Prelude.{ℕ, List, Option}
 use Rattle.route_base.specs.Contents.{Contents}
 use Rattle.route_base.specs.Setting.{Setting}
@@ -7,10 +7,6 @@ use Rattle.route_base.specs.declared.types.Route.{Route}
 use Rattle.front_words.specs.declared.commands.Invocation.{Invocation as Command}
 use Rattle.front_desk.specs.Commands.{meaning_of}
 use Rattle.front_desk.specs.Plan.{HoldsCertificate}
-
--- the command prints no other text over the same files; `breaks` may print any itinerary of a pair
-abbrev pub TellsOneText : Command → Type 0
-TellsOneText command = (meaning_of command).one_text
 
 -- the text that the command prints where it is done, and what it has written into the folder
 abbrev pub Answers : Command → Contents → Option Contents → List ℕ → Type 0

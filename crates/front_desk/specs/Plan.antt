@@ -22,7 +22,7 @@ use Rattle.plan_report.specs.Reports.{report_text}
 use Rattle.front_words.specs.declared.plan.Plan.{Plan}
 use Rattle.network_folder.specs.Files.{IfTold, path_of}
 use Rattle.network_folder.specs.ReadingOrder.{first_folder_fault, network_held}
-use Rattle.front_desk.specs.Meaning.{Meaning, reads, with_one_text}
+use Rattle.front_desk.specs.Meaning.{Meaning, reads}
 use Rattle.front_desk.specs.Trips.{Trip, failed_check, request_of, vehicle_named}
 
 -- the bytes are the text of a good and tight certificate with just these routes, and no more than `check` reads
@@ -108,7 +108,7 @@ LeavesPlan p (Some name) old new status = LeavesCertificate p name old new statu
 
 -- the meaning of `plan`
 abbrev pub plan_meaning : Plan → Meaning
-plan_meaning p = record (with_one_text (reads (plan_fault p) (plan_check p) (λ held text. ⊤))) {
+plan_meaning p = record (reads (plan_fault p) (plan_check p) (λ held text. ⊤)) {
   answers = IsPlanReport p;
   writes = PlanWrites p.certificate;
   leaves = LeavesPlan p p.certificate;

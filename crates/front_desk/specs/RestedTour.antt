@@ -19,7 +19,7 @@ use Rattle.front_desk.specs.Trips.{request_of}
 abbrev pub tour_rule_of : RestedTour → BreakRule
 tour_rule_of t = record { drive = t.drive; rest = t.rest }
 
--- the text reports right tours of these stops that keep the rule, their Pareto front with legs for each pair
+-- the text reports right tours of these stops that keep the rule, their Pareto front with the first legs of each pair
 pub record IsRestedTourText (s : Setting) (request : Request) (stops : List Stop) (rule : BreakRule) (text : List ℕ) : Type 0 where
   pub routes : List TourRoute
   pub right : AreRightRestedTours s request stops rule routes
@@ -30,6 +30,6 @@ abbrev pub IsRestedTourReport : RestedTour → Contents → List ℕ → Type 0
 IsRestedTourReport t held text =
     IsRestedTourText (trip_setting (network_held held t.tour.dir) t.tour.trip) (request_of t.tour.trip) (stops_held t.tour held) (tour_rule_of t) text
 
--- the meaning of `tour` under a break rule, which reads and checks what it does without one, and may print any tour of a pair
+-- the meaning of `tour` under a break rule, which reads and checks what it does without one
 abbrev pub rested_tour_meaning : RestedTour → Meaning
 rested_tour_meaning t = reads (tour_fault t.tour) (tour_check t.tour) (IsRestedTourReport t)

@@ -21,7 +21,7 @@ use Rattle.front_words.specs.declared.tour.Tour.{Tour}
 use Rattle.front_words.specs.declared.commands.Trip.{Trip}
 use Rattle.network_folder.specs.Files.{bytes_at}
 use Rattle.network_folder.specs.ReadingOrder.{stops_file, first_fault_with, network_held}
-use Rattle.front_desk.specs.Meaning.{Meaning, reads, with_one_text}
+use Rattle.front_desk.specs.Meaning.{Meaning, reads}
 use Rattle.front_desk.specs.Plan.{trip_setting}
 use Rattle.front_desk.specs.Trips.{failed_check, request_of}
 
@@ -65,4 +65,4 @@ IsTourReport t held text = IsTourText (trip_setting (network_held held t.dir) t.
 
 -- the meaning of `tour`
 abbrev pub tour_meaning : Tour → Meaning
-tour_meaning t = with_one_text (reads (tour_fault t) (tour_check t) (IsTourReport t))
+tour_meaning t = reads (tour_fault t) (tour_check t) (IsTourReport t)

@@ -3,8 +3,8 @@ ghost use Rattle.std.specs.Prelude.{◌≡◌, ◌↔◌, ℕ, List, Option, Som
 ghost use Rattle.front_desk.specs.Batch.{IsBatchReport, IsJobText};
 ghost use Rattle.front_desk.specs.Check.{HasGoodCertificate, check_of_plan};
 ghost use Rattle.front_desk.specs.Explain.{IsExplainText};
-ghost use Rattle.front_desk.specs.OneText.{Answers, TellsOneText, routes_certified};
-ghost use Rattle.front_desk.specs.Run.{IsDue, IsRefused};
+ghost use Rattle.front_desk.specs.OneText.{Answers, routes_certified};
+ghost use Rattle.front_desk.specs.Run.{IsDue};
 ghost use Rattle.front_desk.specs.Trips.{IsGoodTrip, Trip, request_of};
 ghost use Rattle.front_words.specs.declared.batch.Batch.{Batch};
 ghost use Rattle.front_words.specs.declared.commands.Invocation.{Invocation as Command};
@@ -107,19 +107,19 @@ pub fn explanations_are_exact()
         → text ≡ explanation_text (Unlawful leg minute why) None }
 {}
 
-/// The law of one text: over the same files, all commands but `breaks` print no other text where they are done; words have no other
-/// status, unless reading, writing or memory fails, and no other line of a refusal or a rejection; a job of a batch has no other text;
-/// batches of the same table of jobs print one text, whatever the number of workers; and the certificates that plans of the same words
-/// write have the same routes. So another run, and another version that meets `run`, print the same, byte for byte. The call does nothing.
+/// The law of one text: over the same files, a command prints no other text where it is done; words have no other status and no other text,
+/// be it an answer, a refusal or a rejection, unless reading, writing or memory fails; a job of a batch has no other text; batches of the
+/// same table of jobs print one text, whatever the number of workers; and the certificates that plans of the same words write have the same
+/// routes. So another run, and another version that meets `run`, print the same, byte for byte. The call does nothing.
 pub fn one_text()
     ensures command { (command : Command) (held : Contents) (after other : Option Contents)
-        → (x y : List ℕ) → TellsOneText command
+        → (x y : List ℕ)
         → Answers command held after x → Answers command held other y → x ≡ y }
-    ensures refusals { (words : List (List ℕ)) (held : Contents)
+    ensures words { (words : List (List ℕ)) (held : Contents)
         → (old new before after : FolderState) (status other : Status) (x y : List ℕ)
         → old.contents ≡ Some held → before.contents ≡ Some held
         → IsDue words old new status x → IsDue words before after other y
-        → (status ≡ other) × (IsRefused status → x ≡ y) }
+        → (status ≡ other) × (x ≡ y) }
     ensures job { (network : NetworkModel) (job : Job) (x y : List ℕ)
         → IsJobText network job x → IsJobText network job y → x ≡ y }
     ensures workers { (batch other : Batch) (held : Contents) (x y : List ℕ)

@@ -12,11 +12,10 @@
 //! The law of `run` is in `specs/`. `Run` says which text is due with each status and what a run promises by its status, over `Meaning` (what
 //! any command means), `Outcomes` (how a command is answered, refused or stopped, by its meaning), `Commands` (the meaning of each command, one
 //! line a command), `Trips` (the first check that fails), and `Plan`, `Check`, `Bans`, `Latest`, `Batch`, `Gen`, `Tour`, `RestedTour`, `Breaks` and
-//! `Explain`,
-//! each of which ends with the meaning of its command; `OneText` says what one text over the same files is; the files are those of
-//! `network_folder`. It is proved on `run`; each other call answers exactly as its definition says, a command's by one clause, `Ends`. `Inside`
-//! is no law: it has how a command ends, and the facts that the functions hand to one another. `Words` passes the names of all these on to the
-//! contracts.
+//! `Explain`, each of which ends with the meaning of its command; `OneText` has the text of a command, which is one over the same files; the
+//! files are those of `network_folder`. It is proved on `run`; each other call answers exactly as its definition says, a command's by one
+//! clause, `Ends`. `Inside` is no law: it has how a command ends, and the facts that the functions hand to one another. `Words` passes the
+//! names of all these on to the contracts.
 #![tactic(auto)]
 
 mod bans;

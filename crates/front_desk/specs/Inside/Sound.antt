@@ -20,9 +20,8 @@ pub record IsSound (m : Meaning) : Type 0 where
   pub short : (old : FolderState) → m.leaves old old NoMemory
   -- a command that reads no file never ends at a failed read
   pub unread : m.reads_nothing → (old new : FolderState) → m.leaves old new ReadFault → ⊥
-  -- a command that is said to have one text has one
-  pub one : m.one_text → (held : Contents) (after other : Option Contents) (x y : List ℕ) → m.answers held after x → m.answers held other y
-      → x ≡ y
+  -- a command prints no other text over the same files
+  pub one : (held : Contents) (after other : Option Contents) (x y : List ℕ) → m.answers held after x → m.answers held other y → x ≡ y
   -- just one check is the first that a request fails
   pub one_fault : (held : Contents) (fault other : RequestFault) → m.fails held fault → m.fails held other → fault ≡ other
   -- a file is rejected by one text

@@ -16,6 +16,8 @@ returns-clause-text c = λ network net breaks text is right.
       routes = right.routes;
       right = (c.rested_trips_agree.ensures.right (setting_of net) (trip_setting network breaks.trip) window request (break_rule_of breaks)
           is.stands within right.routes).0 right.right;
+      first = (c.rested_trips_agree.ensures.first (setting_of net) (trip_setting network breaks.trip) window request (break_rule_of breaks)
+          is.stands within right.routes).0 right.first;
       is_text = right.is_text;
     }
 

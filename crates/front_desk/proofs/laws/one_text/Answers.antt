@@ -13,10 +13,10 @@ use Rattle.front_desk.proofs.OneText.{one_batch, one_trip}
 use Rattle.front_desk.proofs.laws.one_text.Goals as goal
 
 pub returns-clause-command : goal.returns-clause-command
-returns-clause-command c = λ command held after other x y tells first second. (sound command).one tells held after other x y first second
+returns-clause-command c = λ command held after other x y first second. (sound command).one held after other x y first second
 
-pub returns-clause-refusals : goal.returns-clause-refusals
-returns-clause-refusals c = λ words held old new before after status other x y is is_too first second.
+pub returns-clause-words : goal.returns-clause-words
+returns-clause-words c = λ words held old new before after status other x y is is_too first second.
     one_due words held old new before after status other x y is is_too first second
 
 pub returns-clause-job : goal.returns-clause-job
