@@ -4,6 +4,7 @@ ghost use Rattle.std.specs.Prelude.{◌≡◌, ◌≤◌, ◌<◌, ◌+◌, ◌-
 use super::engines::random_nets::Random;
 use label_queue::{BucketQueue, LabelQueue};
 use route_base::{NodeId, OutOfMemory};
+use std::alloc::Global;
 use std::test::Fail;
 
 const SEED: u64 = 1969;
@@ -14,18 +15,33 @@ const NODES: u32 = 30;
 
 const SPAN: usize = 20;
 
+// Whether node 2 has the key 4 and node 4 none, and the queue gives node 2, then node 1 with the key 9, and then nothing.
+fn gives_two(queue: &mut LabelQueue) -> bool {
+    queue.key_of(NodeId(2)) == Some(4)
+        && queue.key_of(NodeId(4)).is_none()
+        && queue.take_least() == Some((NodeId(2), 4))
+        && queue.take_least() == Some((NodeId(1), 9))
+        && queue.take_least().is_none()
+}
+
 #[test]
 fn takes_the_least_key_first(rt: HostRuntime) -> Result<(), Fail> {
     let mut queue = LabelQueue::new(rt.alloc(), 3)?;
     queue.put(NodeId(2), 9);
     queue.put(NodeId(1), 9);
     queue.lower(NodeId(2), 4);
-    assert_eq!(rt; queue.key_of(NodeId(2)), Some(4));
-    assert_eq!(rt; queue.key_of(NodeId(4)), None);
-    assert_eq!(rt; queue.take_least(), Some((NodeId(2), 4)));
-    assert_eq!(rt; queue.take_least(), Some((NodeId(1), 9)));
-    assert_eq!(rt; queue.take_least(), None);
+    assert!(rt; gives_two(&mut queue));
     Ok(())
+}
+
+// Whether the queue gives a node for each key from 1 to 40, and then nothing.
+fn gives_by_keys(queue: &mut LabelQueue) -> bool {
+    for key in 1..41u32 {
+        if queue.take_least() != Some((NodeId(key * 10 % 41), key as u64)) {
+            return false;
+        }
+    }
+    queue.take_least().is_none()
 }
 
 #[test]
@@ -36,14 +52,33 @@ fn takes_many_nodes_in_order(rt: HostRuntime) -> Result<(), Fail> {
         // 37 times 10 is 1 more than 9 times 41
         set_key(&mut queue, NodeId(v), (v * 37 % 41) as u64);
     }
-    for key in 1..41u32 {
-        assert_eq!(rt;
-            queue.take_least(),
-            Some((NodeId(key * 10 % 41), key as u64))
-        );
-    }
-    assert_eq!(rt; queue.take_least(), None);
+    assert!(rt; gives_by_keys(&mut queue));
     Ok(())
+}
+
+// Whether the queue gives the nodes from 1 to 40 in this order, each with the key 7.
+fn gives_in_order(queue: &mut LabelQueue) -> bool
+    ensures { length queue.new ≡ length queue.old }
+{
+    for v in 1..41u32 {
+        if queue.take_least() != Some((NodeId(v), 7)) {
+            return false;
+        }
+    }
+    true
+}
+
+// Whether the queue gives node 5 again, once it has a key.
+fn gives_again(queue: &mut LabelQueue) -> bool
+    requires { 5 ≤ length queue.old }
+{
+    set_key(queue, NodeId(5), 8);
+    queue.take_least() == Some((NodeId(5), 8))
+}
+
+// Whether a queue of no nodes gives nothing.
+fn gives_nothing(alloc: Global) -> Result<bool, OutOfMemory> {
+    Ok(LabelQueue::new(alloc, 0)?.take_least().is_none())
 }
 
 #[test]
@@ -52,12 +87,8 @@ fn takes_nodes_of_equal_keys_in_order(rt: HostRuntime) -> Result<(), Fail> {
     for v in 1..41u32 {
         set_key(&mut queue, NodeId(41 - v), 7);
     }
-    for v in 1..41u32 {
-        assert_eq!(rt; queue.take_least(), Some((NodeId(v), 7)));
-    }
-    set_key(&mut queue, NodeId(5), 8);
-    assert_eq!(rt; queue.take_least(), Some((NodeId(5), 8)));
-    assert_eq!(rt; LabelQueue::new(rt.alloc(), 0)?.take_least(), None);
+    assert!(rt; gives_in_order(&mut queue) && gives_again(&mut queue));
+    assert!(rt; gives_nothing(rt.alloc()) == Ok(true));
     Ok(())
 }
 

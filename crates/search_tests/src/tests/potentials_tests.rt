@@ -5,6 +5,7 @@ use node_arcs::NodeArcs;
 use potentials::{cap_for_minutes, has_proportional_costs, to_goal, to_goal_over, to_goal_within};
 use route_base::{Bound, Bounds, Cost, NodeId, OutOfMemory, TimedArc, TimedNet};
 use std::alloc::Global;
+use std::process::Abort;
 
 fn arc(tail: u32, head: u32, minutes: u64, cost: Cost) -> TimedArc
     ensures { result ≡ record {
@@ -57,18 +58,19 @@ fn are_bounds(bounds: &Bounds, cost: Cost, least_from_1: Cost) -> bool {
 // are still those over node 2.
 const COSTS: &[(Cost, Cost)] = &[(60_000, 120_000), (400_000, 300_000)];
 
+// Whether the bounds are these, from the net alone and over arcs in order.
+fn finds_bounds<R: Abort + AllocGlobal>(rt: &R, cost: Cost, least_from_1: Cost) -> bool {
+    let net = net_with(rt.alloc(), cost.min(1_000_000)).expect(rt, "memory");
+    let bounds = to_goal(rt.alloc(), &net, NodeId(3)).expect(rt, "memory");
+    let incoming = NodeArcs::incoming(rt.alloc(), &net).expect(rt, "memory");
+    let again = to_goal_over(rt.alloc(), &net, &incoming, NodeId(3)).expect(rt, "memory");
+    are_bounds(&bounds, cost, least_from_1) && are_bounds(&again, cost, least_from_1)
+}
+
 #[test]
 fn finds_least_minutes_and_costs(rt: HostRuntime) {
     for (cost, least_from_1) in COSTS {
-        let net = net_with(rt.alloc(), (*cost).min(1_000_000)).expect(&rt, "memory");
-        let bounds = to_goal(rt.alloc(), &net, NodeId(3)).expect(&rt, "memory");
-        assert!(rt; are_bounds(&bounds, *cost, *least_from_1), "{cost}");
-        let incoming = NodeArcs::incoming(rt.alloc(), &net).expect(&rt, "memory");
-        let again = to_goal_over(rt.alloc(), &net, &incoming, NodeId(3)).expect(&rt, "memory");
-        assert!(rt;
-            are_bounds(&again, *cost, *least_from_1),
-            "{cost}, over arcs in order"
-        );
+        assert!(rt; finds_bounds(&rt, *cost, *least_from_1), "{cost}");
     }
 }
 
@@ -79,50 +81,68 @@ const CAPPED_COSTS: &[(Cost, Cost, Cost)] = &[
     (400_000, 200_000, 200_000),
 ];
 
+// Whether the bounds under the cap are these: of the far node, of the near one, of the goal, and of the node without a way.
+fn are_capped(bounds: &Bounds, most_cost: Cost, least_from_2: Cost) -> bool {
+    let far = bound(100, most_cost);
+    bounds.get(NodeId(1)) == far
+        && bounds.get(NodeId(2)) == bound(60, least_from_2)
+        && bounds.get(NodeId(3)) == bound(0, 0)
+        && bounds.get(NodeId(4)) == far
+}
+
+// Whether they are found.
+fn finds_capped<R: Abort + AllocGlobal>(
+    rt: &R,
+    cost: Cost,
+    most_cost: Cost,
+    least_from_2: Cost,
+) -> bool {
+    let net = net_with(rt.alloc(), cost.min(1_000_000)).expect(rt, "memory");
+    let incoming = NodeArcs::incoming(rt.alloc(), &net).expect(rt, "memory");
+    let proportional = has_proportional_costs(&net);
+    let most = cap_for_minutes(proportional, 100);
+    let bounds = to_goal_within(rt.alloc(), &net, &incoming, proportional, NodeId(3), most).expect(
+        rt, "memory",
+    );
+    are_capped(&bounds, most_cost, least_from_2)
+}
+
 #[test]
 fn ends_at_a_cap(rt: HostRuntime) {
     for (cost, most_cost, least_from_2) in CAPPED_COSTS {
-        let net = net_with(rt.alloc(), (*cost).min(1_000_000)).expect(&rt, "memory");
-        let incoming = NodeArcs::incoming(rt.alloc(), &net).expect(&rt, "memory");
-        let proportional = has_proportional_costs(&net);
-        let most = cap_for_minutes(proportional, 100);
-        let bounds = to_goal_within(
-            rt.alloc(),
-            &net,
-            &incoming,
-            proportional,
-            NodeId(3),
-            most,
-        ).expect(&rt, "memory");
-        let far = bound(100, *most_cost);
-        assert!(rt; bounds.get(NodeId(1)) == far, "{cost}, far node");
         assert!(rt;
-            bounds.get(NodeId(2)) == bound(60, *least_from_2),
-            "{cost}, near node"
+            finds_capped(&rt, *cost, *most_cost, *least_from_2),
+            "{cost}"
         );
-        assert!(rt; bounds.get(NodeId(3)) == bound(0, 0), "{cost}, goal");
-        assert!(rt; bounds.get(NodeId(4)) == far, "{cost}, node without a way");
     }
 }
 
 // A cap above every sum: the bounds of 1, 2 and 3 are the least ones, and the node without a way has the cap.
+const HIGH_CAP: Bound = Bound {
+    minutes: u64::MAX,
+    cost: 1_000_000,
+};
+
+// Whether the bounds below the high cap are these.
+fn are_below_cap(bounds: &Bounds, cost: Cost, least_from_1: Cost) -> bool {
+    bounds.get(NodeId(1)) == bound(120, least_from_1)
+        && bounds.get(NodeId(2)) == bound(60, cost)
+        && bounds.get(NodeId(4)) == Some(HIGH_CAP)
+}
+
+// Whether they are found.
+fn finds_below_cap<R: Abort + AllocGlobal>(rt: &R, cost: Cost, least_from_1: Cost) -> bool {
+    let net = net_with(rt.alloc(), cost.min(1_000_000)).expect(rt, "memory");
+    let incoming = NodeArcs::incoming(rt.alloc(), &net).expect(rt, "memory");
+    let bounds = to_goal_within(rt.alloc(), &net, &incoming, false, NodeId(3), HIGH_CAP).expect(
+        rt, "memory",
+    );
+    are_below_cap(&bounds, cost, least_from_1)
+}
+
 #[test]
 fn finds_least_bounds_below_a_high_cap(rt: HostRuntime) {
-    let most = Bound {
-        minutes: u64::MAX,
-        cost: 1_000_000,
-    };
     for (cost, least_from_1) in COSTS {
-        let net = net_with(rt.alloc(), (*cost).min(1_000_000)).expect(&rt, "memory");
-        let incoming = NodeArcs::incoming(rt.alloc(), &net).expect(&rt, "memory");
-        let bounds = to_goal_within(rt.alloc(), &net, &incoming, false, NodeId(3), most).expect(
-            &rt, "memory",
-        );
-        assert!(rt;
-            bounds.get(NodeId(1)) == bound(120, *least_from_1),
-            "{cost}"
-        );
-        assert!(rt; bounds.get(NodeId(2)) == bound(60, *cost), "{cost}");
-        assert!(rt; bounds.get(NodeId(4)) == Some(most), "{cost}");
+        assert!(rt; finds_below_cap(&rt, *cost, *least_from_1), "{cost}");
     }
 }

@@ -9,7 +9,7 @@ use drive_breaks::{BreakFault, BreakRule, plan_breaks};
 use itinerary_unpack::FunctionEngine;
 use latest_departure::{LateRoutes, latest};
 use plain_search::TableEngine;
-use rested_tours::plan_rested;
+use rested_tours::{plan_rested, plan_rested_tour, plan_tour};
 use route_base::limits::{DAY_MINUTES, LONGEST_HORIZON};
 use route_base::{OutOfMemory, Request, Routes, TimedNet};
 use std::alloc::Global;
@@ -111,4 +111,31 @@ pub fn breaks_over(
         Err(BreakFault::TooManyStates) => Ok(None),
         Err(BreakFault::OutOfMemory) => Err(OutOfMemory),
     }
+}
+
+/// What `plan_tour` answers, or `plan_rested_tour` where there is a rule; `None` where the lists aren't those of a small well-formed net, the
+/// request or a stop isn't one over it, or a number of the rule is out of range.
+pub fn state_tour_over(
+    alloc: Global,
+    lists: NetLists<'_>,
+    request: Request,
+    stops: &[Stop],
+    rule: Option<BreakRule>,
+) -> Result<Option<TourRoutes>, OutOfMemory> {
+    let net = net_of(alloc, lists)?;
+    if !is_whole(&net, lists) || !is_over(&net, request) || !are_good_stops(&net, stops) {
+        return Ok(None);
+    }
+    if stops.len() > 3 {
+        return Ok(None);
+    }
+    let Some(rule) = rule else {
+        let routes = plan_tour(alloc, &net, request, stops)?;
+        return Ok(Some(routes));
+    };
+    if rule.drive > DAY_MINUTES || rule.rest < 1 || rule.rest > DAY_MINUTES {
+        return Ok(None);
+    }
+    let routes = plan_rested_tour(alloc, &net, request, stops, rule)?;
+    Ok(Some(routes))
 }

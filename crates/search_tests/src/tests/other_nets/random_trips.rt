@@ -1,7 +1,7 @@
 // Random nets: the planners against the slow search.
 ghost use Rattle.std.specs.Prelude.{◌≤◌};
 
-use super::calls::{breaks_over, latest_over, tour_over};
+use super::calls::{breaks_over, latest_over, state_tour_over, tour_over};
 use super::slow_search::{Terms, slow_front};
 use crate::tests::engines::nets::NetLists;
 use crate::tests::engines::random_nets::{Case, LISTS, Random, random_case};
@@ -156,6 +156,24 @@ fn serves_stops(alloc: Global, case: &Case, stops: &[Stop]) -> Result<Option<usi
     Ok(Some(wants.len()))
 }
 
+// Whether the tours over states are those of the slow search, without a rule or under one; and how many there are.
+fn serves_over_states(
+    alloc: Global,
+    case: &Case,
+    stops: &[Stop],
+    rule: Option<BreakRule>,
+) -> Result<Option<usize>, OutOfMemory> {
+    let lists = lists_of(case);
+    let wants = slow_front(alloc, Terms { lists, stops, rule }, case.request)?;
+    let Some(routes) = state_tour_over(alloc, lists, case.request, stops, rule)? else {
+        return Ok(None);
+    };
+    if !are_tours(routes.as_slice(), stops.len(), &wants) {
+        return Ok(None);
+    }
+    Ok(Some(wants.len()))
+}
+
 // Up to three stops.
 fn random_stops(alloc: Global, random: &mut Random, nodes: u32) -> Result<Vec<Stop>, OutOfMemory>
     requires { 1 ≤ nodes }
@@ -186,6 +204,7 @@ struct Found {
     late: usize,
     rested: usize,
     tours: usize,
+    rested_tours: usize,
 }
 
 impl Found {
@@ -194,6 +213,7 @@ impl Found {
             late: self.late.saturating_add(more.late),
             rested: self.rested.saturating_add(more.rested),
             tours: self.tours.saturating_add(more.tours),
+            rested_tours: self.rested_tours.saturating_add(more.rested_tours),
         }
     }
 }
@@ -212,10 +232,17 @@ fn trips_of(alloc: Global, random: &mut Random) -> Result<Option<Found>, OutOfMe
     let Some(tours) = serves_stops(alloc, &case, &stops)? else {
         return Ok(None);
     };
+    if serves_over_states(alloc, &case, &stops, None)? != Some(tours) {
+        return Ok(None);
+    }
+    let Some(rested_tours) = serves_over_states(alloc, &case, &stops, Some(rule))? else {
+        return Ok(None);
+    };
     Ok(Some(Found {
         late,
         rested,
         tours,
+        rested_tours,
     }))
 }
 
@@ -227,6 +254,7 @@ fn agree_with_a_slow_search(rt: HostRuntime) -> Result<(), Fail> {
         late: 0,
         rested: 0,
         tours: 0,
+        rested_tours: 0,
     };
     for net in 0..NETS {
         let trips = trips_of(rt.alloc(), &mut random)?;
@@ -239,7 +267,10 @@ fn agree_with_a_slow_search(rt: HostRuntime) -> Result<(), Fail> {
     let late = found.late;
     let rested = found.rested;
     let tours = found.tours;
-    println!(rt; "{late} departures, {rested} trips with breaks, {tours} tours")?;
-    assert!(rt; late > 50 && rested > 50 && tours > 20);
+    let rested_tours = found.rested_tours;
+    println!(rt;
+        "{late} departures, {rested} trips with breaks, {tours} tours, {rested_tours} with breaks"
+    )?;
+    assert!(rt; late > 50 && rested > 50 && tours > 20 && rested_tours > 10);
     Ok(())
 }

@@ -3,6 +3,3 @@ use Rattle.search_tests.proofs.tests.label_queue_tests.takes_nodes_of_equal_keys
 
 abbrev pub invariant-loop-v : goal.invariant-loop-v
 invariant-loop-v g l = length l.queue ≡ 40
-
-abbrev pub invariant-loop-v-2 : goal.invariant-loop-v-2
-invariant-loop-v-2 g l = length l.queue ≡ 40
