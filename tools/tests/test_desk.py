@@ -9,6 +9,7 @@ import glob
 import importlib.util
 import json
 import os
+import random
 import re
 import shutil
 import signal
@@ -57,6 +58,8 @@ def missing():
 beside.say_what_is_skipped("test_desk")
 PYTHON = python_of_service()
 MISSING = missing()
+from lorry_tools.second import random_folder
+
 if not MISSING:
     from selenium import webdriver
     from selenium.common.exceptions import StaleElementReferenceException
@@ -342,6 +345,41 @@ class Browser:
                 file.write(base64.b64decode(shot["data"]))
 
 
+# Causes as the service tells them, beside those of random trips.
+CAUSES = [
+    "with-breaks: there is a trip without breaks, and none that keeps the breaks",
+    "stop-out-of-time: stop 2, Balzers, can't be served in its window; without a window it is served from Tue 7 Jul 07:00 on at the earliest",
+    "stop-out-of-time: stop 1, Inn, Ost, can't be served in its window, nor at any other time of the trip, after the stops before it",
+    "the-way-back: all stops can be served, but then there is no way to the goal in time",
+    "horizon-in-ban: the last arrival is in a ban, Haupt & Sohn (arc 5) from Mon 6 Jul 22:00 until Tue 7 Jul 05:00 (closures.csv 3), which is on the quickest "
+    "way; the first arrival is Tue 7 Jul 05:26, 26 min after the last arrival",
+    "closed-for-good: each of the 4 roads from the 12 nodes that can be reached from Yard (node 3) is closed to any lorry for the next 60 d: arc 5 (rules.csv 2: "
+    "area:li hgv); Weg (arc 6), which takes 2 h and is never open for so long; arc 7; and 1 more",
+    "closed-for-good: even with parking everywhere there is no trip within 60 days, so on every way a road is never open for long enough; which one it is was "
+    "not found, as that takes more runs of bans (--most-bans)",
+    "departure-in-ban: each of the 2 roads that lead on in time is closed when the trip begins, arc 1 until Tue 7 Jul 05:00 (rules.csv 2, clause 1: area:li "
+    "hgv:conditional); node 1 has hours outside which a lorry may not wait there, Mo-Fr 08:00-12:00; Sa off (parking.csv 2); with parking there it leaves at "
+    "Tue 7 Jul 05:00 and arrives at Wed 8 Jul 06:00 +01:00",
+    "no-parking: with parking everywhere it arrives at Tue 7 Jul 05:00 and waits at node 2 (parking.csv 4) from Mon 6 Jul 05:00 to Mon 6 Jul 06:00; Inn (node 3) "
+    "(not in parking.csv) from Mon 6 Jul 07:00 to Mon 6 Jul 08:00; and 2 more places",
+]
+
+
+def causes_of_random_trips(count):
+    """Returns the causes of random trips that have no option, with times in UTC."""
+    found, seed = [], 0
+    while len(found) < count:
+        seed += 1
+        with tempfile.TemporaryDirectory(prefix="desk-") as folder:
+            command, *words = random_folder.draw_trip(random.Random(seed), "plan", folder)
+            if "--form" in words or len(words) != 6 or not words[2].isdigit():
+                continue
+            done, printed, _ = beside.run("why_empty", *words, "--program", beside.PROGRAM)
+            if done in (0, 1) and not printed.startswith("pairs"):
+                found += [it.replace("UNTIL", "the last arrival") for it in printed.splitlines()]
+    return found
+
+
 def thirty_roads(folder):
     """Writes thirty roads side by side."""
     place = os.path.join(folder, "thirty")
@@ -542,6 +580,13 @@ class Days(unittest.TestCase):
         self.assertIn("for the window of stop 1", desk.text("tr.wait"))
         self.assertEqual(desk.text(".mark"), "A\n1\n2\nB")
         self.check_keyboard(desk, "wide-tour")
+        self.assertNotIn("With breaks", desk.text("#found"))
+        desk.tab_to("breaks")
+        desk.keys(" ")
+        desk.press("plan")
+        desk.until_text("#found", "With breaks of 45 min after 4 h 30 min of driving at most.")
+        self.assertEqual((desk.address_words()["breaks"], desk.text("tr.serve td:nth-child(2)")), (["yes"], "stop 1, Balzers\nstop 2, Schaan"))
+        self.check(desk, "wide-tour-breaks")
         desk.press("Remove stop 2")
         desk.press("Remove stop 1")
         self.assertEqual(desk.focused(), "add-stop")
@@ -593,6 +638,22 @@ class Days(unittest.TestCase):
         self.assertEqual(desk.address_words()["language"], ["en"])
         desk.touch("#clear")
         self.assertEqual((desk.value("from"), desk.text("#said")), ("", "No trip has been planned yet."))
+
+    def test_details_of_causes_in_german(self):
+        """What the service tells of a cause is German too, whatever the cause is: each sentence is known, and no English word is left."""
+        desk = self.browser.become("de-DE", WIDE)
+        desk.open(YARD_TO_BALZERS.replace("2026-07-10T21%3A45", "2026-07-11T22%3A00") + "&by=2026-07-12T22%3A00")
+        desk.until_text("#found", "Die späteste Ankunft liegt in einem Fahrverbot. die späteste Ankunft liegt in einem Fahrverbot, Landstrasse (Straße 1345) "
+                                  "bis Mo. 13. Juli 05:00 (rules.csv, Zeile 2, Klausel 1: area:li hgv:conditional); dort muss noch gefahren werden; "
+                                  "die erste Ankunft ist Mo. 13. Juli 05:26, 7 Std. 26 Min. nach der spätesten Ankunft")
+        self.check(desk, "wide-german-cause")
+        said = [it.partition(": ")[2] for it in CAUSES + causes_of_random_trips(20 if SHORT else 300)]
+        translate = "const done = arguments[1]; import('./desk/detail_words.js').then((it) => done(arguments[0].map(it.sentencesIn)))"
+        found = desk.driver.execute_async_script(translate, said)
+        for english, german in zip(said, found):
+            self.assertIsNotNone(german, english)
+            self.assertNotRegex(german, r"\b(the|is|are|from|until|which|with|and|arc|node|row|clause|any|lorry)(?=[ ,;]|$)", english)
+            self.assertEqual(re.findall(r"\d\d:\d\d|\b\w+\.csv", german), re.findall(r"\d\d:\d\d|\b\w+\.csv", english))
 
     def test_a_folder_without_coordinates(self):
         desk = self.browser.become("en-US", NARROW)

@@ -27,6 +27,7 @@ from lorry_tools.folder import Folder
 from lorry_tools.instants import instant_text, minute_of
 from lorry_tools.places import Places, distance
 from lorry_tools.problems import Problem
+from lorry_tools.program import BreakRule
 from lorry_tools.rules import Streets, clause_text
 from lorry_tools.second import trip_answers, trip_network
 from lorry_tools.trips.answer import Answer, Step
@@ -187,10 +188,27 @@ class InWords(TripTest):
             ({"within": "0"}, "is no number of days"),
             ({"by": "2026-09-07 08:00"}, "the trip may take 62.0833 days: expected are at most 60"),
             ({"latest": True, "breaks": True, "by": "2026-07-08 08:00"}, "--latest and --breaks can't be asked for together"),
+            ({"drive": "270"}, "--drive is for breaks: expected is --breaks beside it"),
+            ({"rest": "45"}, "--rest is for breaks: expected is --breaks beside it"),
+            ({"breaks": True, "drive": "0"}, "--drive '0': expected are from 1 to 1440 minutes, such as 270 or '4 h 30 min'"),
+            ({"breaks": True, "rest": "25 h"}, "--rest '25 h': expected are from 1 to 1440 minutes, such as 45 or '45 min'"),
+            ({"breaks": True, "rest": "soon"}, "--rest 'soon': expected are from 1 to 1440 minutes"),
         ):
             with self.assertRaises(Problem) as caught:
                 self.asked(**more)
             self.assertIn(said, str(caught.exception))
+
+    def test_rules_for_breaks(self):
+        for more, rule in (
+            ({}, None),
+            ({"breaks": True}, BreakRule(270, 45)),
+            ({"breaks": True, "drive": "4 h"}, BreakRule(240, 45)),
+            ({"breaks": True, "drive": "300", "rest": "1 h 5 min"}, BreakRule(300, 65)),
+        ):
+            request = self.asked(**more)
+            self.assertEqual((request.command, request.rule), ("breaks" if rule else "plan", rule))
+            request = self.asked("Inn, 30 min", **more)
+            self.assertEqual((request.command, request.rule), ("tour", rule))
 
 
 class Ways(TripTest):
@@ -317,6 +335,30 @@ Option 2
         self.assertIn("with-breaks: there is a trip without breaks", self.trip(*words, "--breaks", "--within", "0.3"))
 
     @beside.needs_program
+    def test_a_tour_with_breaks(self):
+        """Behind Mill, which is 2 h 30 min away, come 4 h more."""
+        words = ["depot", "far", "--lorry", "truck", "--leave", "2026-07-07 06:00", "--stop", "Mill, 20 min"]
+        self.assertIn("Warning: option 1: up to 6 h 30 min of driving without a break of 45 minutes", self.trip(*words))
+        text = self.trip(*words, "--breaks")
+        self.assertIn("\nwith breaks of 45 minutes after 4 h 30 min of driving\n", text)
+        self.assertIn("1       Tue 7 Jul 13:35  412.500  261.5  6 h 30 min  45 min   20 min\n", text)
+        self.assertIn("wait    Mill (5), 45 min, costs 22.500\n                             for a driver's break\n", text)
+        self.assertNotIn("Warning", text)
+        found = self.json(*words, "--breaks", "--drive", "6 h 30 min", "--rest", "30")
+        self.assertEqual((found["command"], found["breaks"]), ("tour", {"drive_minutes": 390, "rest_minutes": 30}))
+        self.assertEqual([it["waiting_minutes"] for it in found["options"]], [0])
+        self.assertRegex(found["warnings"][0], r"6 h 30 min of driving .* \(Regulation \(EC\) 561/2006, Article 7\)$")
+        # A wait for a window is a break too, and of both it is told; what of it needn't be one is in the depot, which costs nothing.
+        words[-1] = "Mill, 20 min, 09:30-10:30"
+        parts = self.json(*words, "--breaks")["options"][-1]["parts"]
+        waits = [(it["from"]["name"], it["minutes"], [reason["kind"] for reason in it["for"]]) for it in parts if it["kind"] == "wait"]
+        self.assertEqual(waits, [("Depot", 15, ["price", "break", "window"]), ("Mill", 45, ["break", "window"])])
+        words[-1] = "Mill, 20 min"
+        self.assertIn("with-breaks: there is a trip without breaks", self.trip(*words, "--breaks", "--within", "0.3"))
+        words[-1] = "Mill, 20 min, 06:30-07:00"
+        self.assertIn("stop-out-of-time: stop 1, Mill, can't be served in its window", self.trip(*words, "--breaks"))
+
+    @beside.needs_program
     def test_more_than_nine_hours(self):
         """Three more hours behind Far: 9 h 30 min, with breaks of 45 minutes that are no rests."""
         self.write(graph=graph(8, *ARCS, (6, 8, 180)), parking=FILES["parking"] + "6,inn\n")
@@ -391,6 +433,7 @@ Option 2
             ["depot", "market", "--lorry", "truck", "--leave", "2026-07-10 20:30"],
             ["depot", "far", "--lorry", "truck", "--leave", "2026-07-07 06:00", "--breaks"],
             ["depot", "depot", "--lorry", "truck", "--leave", "2026-07-07 06:00", "--stop", "Inn, 30 min, 08:00-09:00"],
+            ["depot", "far", "--lorry", "truck", "--leave", "2026-07-07 06:00", "--stop", "Mill, 20 min", "--breaks", "--drive", "240"],
             ["depot", "market", "--lorry", "truck", "--latest", "--by", "2026-07-11 12:00"],
         ):
             found = self.json(*words)

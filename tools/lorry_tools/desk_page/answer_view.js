@@ -3,10 +3,12 @@
 
 import { arcsWaitedFor, drawnBars, legendOfBars } from "./bars.js";
 import { coloursOf } from "./colours.js";
+import { detailWords } from "./detail_words.js";
 import { button, byId, element, saveFile, shape } from "./elements.js";
 import { legsTable } from "./legs.js";
 import { counted, hasText, text } from "./texts.js";
-import { cost, kilometres, moment, momentOfYear, placeName, span } from "./writing.js";
+import { cost, kilometres, moment, momentOfYear } from "./writing.js";
+import { placeName, span, spanIn } from "./writing.js";
 
 const MOST_ASKED = 400; // arcs whose closed times are asked for at once
 const MOST_OPEN = 8; // options whose cards and bars don't scroll
@@ -53,7 +55,7 @@ export class AnswerView {
     this.closed = closed;
     this.chosen = chosen;
     byId("said").textContent = headline(answer);
-    const parts = [element("p", {}, facts(answer)), ...notices(answer)];
+    const parts = [element("p", {}, facts(answer)), ...ruleKept(answer), ...notices(answer)];
     if (answer.options.length) {
       this.figure = element("div", { class: "days", ...this.scrolling() });
       this.legs = element("div", { class: "wide" });
@@ -193,6 +195,15 @@ function facts(answer) {
   });
 }
 
+/** Says which rule for breaks was kept, if one was. */
+function ruleKept({ breaks }) {
+  if (!breaks) {
+    return [];
+  }
+  const values = { rest: span(breaks.rest_minutes), drive: span(breaks.drive_minutes) };
+  return [element("p", {}, text("breaks_kept", values))];
+}
+
 function optionFacts(option, late) {
   const shown = [
     ["fact_leaves", late ? moment(option.departure) : ""],
@@ -238,13 +249,6 @@ function warningWords(words) {
   return text(`warning_${pause}_${said === options && !/,/.test(said) ? "one" : "other"}`, values);
 }
 
-/** Returns a span of the service, such as `9 h 30 min`, in the language of the page. */
-function spanIn(words) {
-  const units = { d: 1440, h: 60, min: 1 };
-  const parts = [...words.matchAll(/(\d+) (d|h|min)/g)];
-  return span(parts.reduce((sum, [, count, unit]) => sum + Number(count) * units[unit], 0));
-}
-
 function certificateNotice({ name, accepted, number, text: content }) {
   const words = accepted
     ? counted("certificate_accepted", number)
@@ -258,7 +262,7 @@ function causes(answer) {
   const lines = answer.causes.map((it) => {
     const [, name, rest] = /^([a-z-]+): (.*)$/s.exec(it) ?? [null, "", it];
     const known = hasText(`cause_${name}`) ? text(`cause_${name}`) : name;
-    return element("li", {}, element("strong", {}, known), " ", words(rest));
+    return element("li", {}, element("strong", {}, known), " ", detailWords(rest));
   });
   return element(
     "div",
@@ -266,10 +270,6 @@ function causes(answer) {
     element("h3", {}, text("causes")),
     lines.length ? element("ul", {}, lines) : text("causes_none"),
   );
-}
-
-function words(said) {
-  return element("span", { lang: "en", class: "words" }, said);
 }
 
 function commands(answer) {

@@ -11,6 +11,7 @@ export function emptyRequest() {
     lorry: "",
     leave: "",
     by: "",
+    breaks: false, // of a trip with stops; without any it is a question of its own
     certificate: false,
     over: [], // of another way: a street's name, or the arcs of one road
     option: 1,
@@ -39,6 +40,7 @@ export function queryOf(request) {
   put("lorry", request.lorry);
   put("leave", request.leave);
   put("by", request.by);
+  put("breaks", request.breaks && request.stops.length ? "yes" : "");
   put("certificate", request.certificate ? "yes" : "");
   request.over.forEach((road) => put("over", roadText(road)));
   put("option", request.option > 1 ? String(request.option) : "");
@@ -60,6 +62,7 @@ export function requestIn(query) {
     lorry: word("lorry"),
     leave: word("leave"),
     by: word("by"),
+    breaks: word("breaks") === "yes",
     certificate: word("certificate") === "yes",
     over: words.getAll("over").map(roadIn),
     option: Number(word("option")) || 1,
@@ -109,7 +112,7 @@ export function bodyOf(request) {
     return { ...tripOf(request), certificate: request.certificate };
   }
   return question === "tour"
-    ? { ...tripOf(request), stops: request.stops.map(stopBody) }
+    ? { ...tripOf(request), stops: request.stops.map(stopBody), breaks: request.breaks }
     : tripOf(request);
 }
 

@@ -3,6 +3,7 @@
 export const LANGUAGES = ["en", "de"];
 
 let texts = {};
+let ofService = {}; // the texts in English, in which the service speaks
 let chosen = "en";
 let plurals = new Intl.PluralRules("en");
 
@@ -20,13 +21,26 @@ export function languageOfBrowser() {
 /** Loads the texts of a language, and writes them into the page. */
 export async function useLanguage(wanted) {
   const found = LANGUAGES.includes(wanted) ? wanted : languageOfBrowser();
-  const answer = await fetch(`desk/texts/${found}.json`);
-  texts = await answer.json();
+  texts = await textsOf(found);
+  ofService = found === "en" ? texts : await textsOf("en");
   chosen = found;
   plurals = new Intl.PluralRules(found);
   document.documentElement.lang = found;
   document.title = text("title");
   writeTexts(document);
+}
+
+async function textsOf(wanted) {
+  return (await fetch(`desk/texts/${wanted}.json`)).json();
+}
+
+/** Returns a text in English, with the names of its values in braces. */
+export function english(key) {
+  return ofService[key];
+}
+
+export function textNames() {
+  return Object.keys(ofService);
 }
 
 /** Writes the texts that the elements below this one name. */

@@ -48,6 +48,7 @@ export class TripForm {
       lorry: byId("lorry").value,
       leave: this.time("leave"),
       by: this.time("by"),
+      breaks: byId("breaks").checked,
       certificate: byId("certificate").checked,
     };
   }
@@ -60,6 +61,7 @@ export class TripForm {
     byId("lorry").value = request.lorry;
     this.setTime("leave", request.leave);
     this.setTime("by", request.by);
+    byId("breaks").checked = request.breaks;
     byId("certificate").checked = request.certificate;
     this.changed();
   }
@@ -121,6 +123,7 @@ export class TripForm {
     }
     const asked = this.form.elements.ask.value;
     byId("question-hint").hidden = !hasStops;
+    byId("breaks-part").hidden = !hasStops;
     byId("certificate-part").hidden = hasStops || asked !== "plan";
     setText(byId("leave-label"), asked === "latest" ? "leave_at_the_earliest" : "leave");
     setText(byId("by-label"), asked === "latest" ? "by_needed" : "by");

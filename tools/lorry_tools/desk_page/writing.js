@@ -72,6 +72,13 @@ export function span(minutes) {
   return said.join(" ") || `0 ${text("unit_minute")}`;
 }
 
+/** Returns a span of the service, such as `9 h 30 min`, in the language of the page. */
+export function spanIn(words) {
+  const units = { d: 1440, h: 60, min: 1 };
+  const parts = [...words.matchAll(/(\d+) (d|h|min)/g)];
+  return span(parts.reduce((sum, [, count, unit]) => sum + Number(count) * units[unit], 0));
+}
+
 function decimal(value, digits) {
   const place = language() === "en" ? "en-GB" : language();
   const digitsOf = { minimumFractionDigits: digits, maximumFractionDigits: digits };

@@ -15,6 +15,8 @@ from lorry_tools.places import Places
 from lorry_tools.problems import Problem
 from lorry_tools.trips.answer import Answer
 from lorry_tools.trips.request import (
+    BREAK,
+    DRIVE_TO_BREAK,
     ONE_DAY,
     TOUR,
     Request,
@@ -34,7 +36,7 @@ MOST_ARCS = 400
 
 CLOCK = re.compile(r"\d\d?:\d\d", re.ASCII)
 # (the words of tools/trip, which are fields here)
-OPTION = re.compile(r"--(leave|by|within|lorry|zone|why)\b")
+OPTION = re.compile(r"--(leave|by|within|lorry|zone|why|breaks|drive|rest)\b")
 ENDS = re.compile(r"\A(FROM|TO)\b")
 
 
@@ -44,8 +46,8 @@ class Arc(ConstrainedInt):
     strict, ge, le = True, 1, (1 << 32) - 1
 
 
-class ServiceMinutes(ConstrainedInt):
-    """The minutes of the service of a stop."""
+class MinutesOfDay(ConstrainedInt):
+    """Minutes of a day at most: those of a service, of driving and of a break."""
 
     strict, ge, le = True, 1, DAY
 
@@ -134,13 +136,30 @@ class LatestBody(TripBody):
         return words
 
 
-class BreaksBody(TripBody):
-    """A trip with breaks of 45 minutes after 4.5 hours of driving."""
+class RuleBody(TripBody):
+    """A trip that may have to keep a rule for breaks."""
+
+    drive: Optional[MinutesOfDay] = Field(
+        None,
+        description=f"the most minutes of driving since the last break; usual {DRIVE_TO_BREAK}",
+    )
+    rest: Optional[MinutesOfDay] = Field(
+        None, description=f"the least minutes of a break; usual {BREAK}"
+    )
 
     def words(self) -> Words:
         words = super().words()
-        words.breaks = True
+        words.breaks = self.keeps_rule()
+        words.drive = None if self.drive is None else str(self.drive)
+        words.rest = None if self.rest is None else str(self.rest)
         return words
+
+    def keeps_rule(self) -> bool:
+        return True
+
+
+class BreaksBody(RuleBody):
+    """A trip with breaks, usually of 45 minutes after 4.5 hours of driving."""
 
 
 class StopBody(Body):
@@ -149,7 +168,7 @@ class StopBody(Body):
     place: Union[StrictInt, StrictStr] = Field(
         description="a name, coordinates, or the number of a node", max_length=MOST_LETTERS
     )
-    minutes: ServiceMinutes = Field(description="the minutes of service")
+    minutes: MinutesOfDay = Field(description="the minutes of service")
     window_from: Optional[StrictStr] = Field(
         None,
         description="when the window of the service begins: a time, or an hour such as `08:00`, "
@@ -191,12 +210,16 @@ class StopBody(Body):
         return start, read_time(ends[1], clocks, f"{what}: window_to")
 
 
-class TourBody(TripBody):
-    """A trip that serves stops in their order."""
+class TourBody(RuleBody):
+    """A trip that serves stops in their order, with breaks if wanted."""
 
     stops: List[StopBody] = Field(
         description="the stops, in their order", min_items=1, max_items=MOST_STOPS
     )
+    breaks: StrictBool = Field(False, description="whether a rule for breaks is kept")
+
+    def keeps_rule(self) -> bool:
+        return self.breaks
 
     def request(self, places: Places) -> Request:
         request = super().request(places)

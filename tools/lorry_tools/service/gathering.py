@@ -1,8 +1,9 @@
 """Plans that are asked for at about the same time are planned together, by one batch.
 
-A plan that comes alone is planned at once. Otherwise it waits a few milliseconds for others, and
-longer only while two batches over its folder are at work, or one that has far more plans than there
-are waiting. Where a batch fails, each of its plans is planned by itself."""
+A plan that comes alone is planned at once. Otherwise it waits some milliseconds for others, so that
+those who were answered together, and ask again, are planned together again. It waits longer only
+while two batches over its folder are at work, or one that has far more plans than there are
+waiting. Where a batch fails, each of its plans is planned by itself."""
 from __future__ import annotations
 
 import asyncio
@@ -26,6 +27,8 @@ from lorry_tools.trips.answer import trip_of
 from lorry_tools.trips.request import Request
 
 BATCHES_AT_ONCE = 2  # over one folder: while one searches the other one reads
+LONGEST_WAIT = 0.05  # seconds that a plan waits for others while another batch may begin
+PART_OF_BATCH = 20  # such a wait is up to this part of the time that the last batch took
 
 Planned = Union[list[Pair], RefusedTrip]
 # What is made of a plan where it was planned, and what a request gets.
@@ -48,17 +51,23 @@ class Line:
 
     def __init__(self) -> None:
         self.waiting: Deque[Asked] = collections.deque()
-        self.at_work = 0
-        self.rows = 0  # the plans of those
+        self.at_work: list[int] = []  # how many plans each of those has
         self.has_timer = False
-        self.last = 0.0  # when the last plan came
+        self.last = 0.0  # when a plan came, or a batch was answered, for the last time
+        self.took = 0.0  # the seconds of the last batch
 
     def may_begin(self) -> bool:
         """Whether a batch of those that wait is worth its reading of the folder."""
-        many = 2 * len(self.waiting) >= self.rows
-        return bool(self.waiting) and (
-            not self.at_work or (self.at_work < BATCHES_AT_ONCE and many)
-        )
+        if not self.waiting or len(self.at_work) >= BATCHES_AT_ONCE:
+            return False
+        return not self.at_work or 4 * len(self.waiting) >= 3 * max(self.at_work)
+
+    def rows(self) -> int:
+        """Returns how many of those that wait the next batch takes. Beside another batch it is at
+        most half of all plans, so that the two become alike, and one reads while the other plans.
+        """
+        waiting, at_work = len(self.waiting), sum(self.at_work)
+        return min(waiting, (waiting + at_work + 1) // 2) if at_work else waiting
 
 
 class Gatherer:
@@ -80,24 +89,31 @@ class Gatherer:
         line = self.lines.setdefault(copy, Line())
         asked = Asked(request, deadline, loop.create_future(), finish)
         line.waiting.append(asked)
-        if not line.has_timer:
-            line.has_timer = True
-            wait = self.limits.gather_ms / 1000
-            is_alone = line.at_work == 0 and loop.time() - line.last > wait
-            loop.call_later(0 if is_alone else wait, self.begin, copy, line)
+        is_alone = not line.at_work and loop.time() - line.last > self.wait_of(line)
+        self.begin_soon(copy, line, 0.0 if is_alone else self.wait_of(line))
         line.last = loop.time()
         return await asked.future
+
+    def wait_of(self, line: Line) -> float:
+        """Returns the seconds that a plan waits for others: where batches take long, those who were
+        answered together need more of them to ask again."""
+        usual = self.limits.gather_ms / 1000
+        return max(usual, min(LONGEST_WAIT, line.took / PART_OF_BATCH)) if usual else 0.0
+
+    def begin_soon(self, copy: Copy, line: Line, wait: float) -> None:
+        if line.waiting and not line.has_timer:
+            line.has_timer = True
+            asyncio.get_running_loop().call_later(wait, self.begin, copy, line)
 
     def begin(self, copy: Copy, line: Line) -> None:
         """Starts a batch of those that wait, unless enough are at work: their ends start it."""
         line.has_timer = False
         while line.may_begin():
-            most = min(len(line.waiting), self.limits.batch_rows)
+            most = min(line.rows(), self.limits.batch_rows)
             batch = [line.waiting.popleft() for _ in range(most)]
             batch = [it for it in batch if not it.future.done()]
             if batch:
-                line.at_work += 1
-                line.rows += len(batch)
+                line.at_work.append(len(batch))
                 task = asyncio.get_running_loop().create_task(self.work(copy, line, batch))
                 self._tasks.add(task)
                 task.add_done_callback(self._tasks.discard)
@@ -106,16 +122,11 @@ class Gatherer:
         loop = asyncio.get_running_loop()
         copy.take()
         failed: BaseException = Stopping()
+        begun = loop.time()
         try:
             self.batches, self.plans = self.batches + 1, self.plans + len(batch)
             number = next(self._numbers)
-            try:
-                plan = loop.run_in_executor(self.pool, self.plan_batch, copy, batch, number)
-                found = await plan
-            finally:
-                line.at_work -= 1
-                line.rows -= len(batch)
-                self.begin(copy, line)
+            found = await loop.run_in_executor(self.pool, self.plan_batch, copy, batch, number)
             # All are answered together, so that those who ask again do so together.
             results = await loop.run_in_executor(self.pool, finish_all, batch, found)
             for asked, result in zip(batch, results):
@@ -125,6 +136,10 @@ class Gatherer:
         finally:
             for asked in batch:
                 give(asked.future, failed)  # (to those that have no result yet)
+            line.at_work.remove(len(batch))
+            line.last = loop.time()
+            line.took = line.last - begun
+            self.begin_soon(copy, line, self.wait_of(line))
             copy.release()
 
     def plan_batch(
@@ -134,11 +149,11 @@ class Gatherer:
         deadline = max(it.deadline for it in batch)
         program = LimitedProgram(copy.folder, self.runs, deadline)
         name = f"jobs-{number}.csv"
-        path = copy.folder.file(name)
+        path = copy.plans.file(name)
         try:
             with open(path, "w", encoding="ascii") as file:
                 file.write("\n".join([*JOBS.headers, *(row_of(it.request) for it in batch), ""]))
-            found = program.batch(copy.folder.path, name, self.limits.runs)
+            found = program.batch(copy.plans.path, name, self.limits.runs)
             if len(found) == len(batch):
                 return list(found)
         except Stopping as problem:

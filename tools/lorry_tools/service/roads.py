@@ -1,9 +1,9 @@
 """The roads of a folder as GeoJSON, by the boxes of a map."""
 from __future__ import annotations
 
+import array
 import math
-import threading
-from typing import Any, NamedTuple, Optional
+from typing import Any, NamedTuple, Optional, Sequence
 
 from lorry_tools.graph import Graph
 from lorry_tools.places import Places
@@ -20,25 +20,43 @@ class Box(NamedTuple):
     east: float
     north: float
 
-
-class Road(NamedTuple):
-    """A road between two nodes: its first arc, and that of the other direction, if any."""
-
-    arc: int
-    back: int
-    weight: int  # metres, or minutes where these aren't known
+    def has(self, other: Box) -> bool:
+        """Whether another box is within this one."""
+        return (
+            self.west <= other.west
+            and self.south <= other.south
+            and self.east >= other.east
+            and self.north >= other.north
+        )
 
 
 class RoadMap:
-    """The roads of a folder, those of both directions once, in the cells of a grid."""
+    """The roads of a folder, those of both directions once and by the first arc of both, in the
+    cells of a grid. Of two roads the longer one comes first; of roads of which no metres are known,
+    the one that takes longer."""
 
     def __init__(self, places: Places, streets: Streets):
         self.places, self.streets = places, streets
         self.graph: Graph = places.folder.graph()
-        self._cells: Optional[dict[tuple[int, int], list[Road]]] = None
-        self._size = 1.0
-        self._lock = threading.Lock()
+        self.lons, self.lats = self._positions()
         self.bounds = self._bounds()
+        # By arcs: the one of the other direction, or 0, and the place in the order of roads.
+        self.backs = array.array("L", [0]) * (len(self.graph) + 1)
+        self.rank = self.backs[:]
+        self.order = self._order(self._join())
+        for place, arc in enumerate(self.order):
+            self.rank[arc] = place
+        self._size = self._cell_size()
+        self._cells = self._fill()
+
+    def _positions(self) -> tuple[array.array[float], array.array[float]]:
+        """Returns the longitude and the latitude of each node; NaN where they aren't known."""
+        unknown = array.array("d", [math.nan]) * (self.graph.nodes + 1)
+        lons, lats = unknown[:], unknown[:]
+        for node, place in self.places.known.items():
+            if place.lon is not None and place.lat is not None:
+                lons[node], lats[node] = place.lon, place.lat
+        return lons, lats
 
     def _bounds(self) -> Optional[Box]:
         known = [it for it in self.places.known.values() if it.lat is not None]
@@ -48,108 +66,107 @@ class RoadMap:
 
     def collection(self, box: Optional[Box], most: int) -> dict[str, Any]:
         """Returns the roads that touch a box, or all, as a FeatureCollection; of more than MOST the
-        longest ones."""
+        first ones."""
         roads = self.within(box)
-        chosen = sorted(roads, key=lambda it: (-it.weight, it.arc))[:most]
         return {
             "type": "FeatureCollection",
-            "features": [self.feature(it) for it in sorted(chosen)],
-            "left_out": len(roads) - len(chosen),
+            "features": [self.feature(it) for it in sorted(roads[:most])],
+            "left_out": max(0, len(roads) - most),
         }
 
-    def within(self, box: Optional[Box]) -> list[Road]:
-        cells, bounds = self.cells(), self.bounds
+    def within(self, box: Optional[Box]) -> Sequence[int]:
+        """Returns the roads that touch a box, or all, in their order."""
+        bounds = self.bounds
         if bounds is None:
             return []
-        if box is None:
-            return list({it.arc: it for roads in cells.values() for it in roads}.values())
+        if box is None or box.has(bounds):
+            return self.order
         left, low = self.cell(max(box.west, bounds.west), max(box.south, bounds.south))
         right, high = self.cell(min(box.east, bounds.east), min(box.north, bounds.north))
-        found: dict[int, Road] = {}
+        found: set[int] = set()
         for column in range(left, right + 1):
             for row in range(low, high + 1):
-                for road in cells.get((column, row), ()):
-                    if road.arc not in found and self.touches(road, box):
-                        found[road.arc] = road
-        return list(found.values())
+                found.update(self._cells.get((column, row), ()))
+        return sorted((it for it in found if self.touches(it, box)), key=self.rank.__getitem__)
 
-    def cells(self) -> dict[tuple[int, int], list[Road]]:
-        with self._lock:
-            if self._cells is None:
-                self._cells = self._fill()
-            return self._cells
-
-    def _fill(self) -> dict[tuple[int, int], list[Road]]:
-        bounds = self.bounds
-        cells: dict[tuple[int, int], list[Road]] = {}
-        if bounds is None:
-            return cells
-        known = self.places.known.items()
-        points = {node: self.point(node) for node, it in known if it.lat is not None}
-        roads = self.roads(points)
-        across = max(bounds.east - bounds.west, bounds.north - bounds.south, 1e-6)
-        self._size = across / max(1.0, math.sqrt(len(roads) / A_CELL_HAS))
-        cell_at = {node: self.cell(*point) for node, point in points.items()}
-        for road in roads:
-            tail, head, _ = self.graph.ends(road.arc)
-            (left, low), (right, high) = cell_at[tail], cell_at[head]
-            if (left, low) == (right, high):
-                cells.setdefault((left, low), []).append(road)
+    def _join(self) -> list[int]:
+        """Returns the first arcs of the roads whose ends have coordinates, and joins the arcs of
+        both directions."""
+        metres, names, lons = self.streets.metres, self.streets.names, self.lons
+        waiting: dict[tuple[int, int, int, str], int] = {}
+        found: list[int] = []
+        ends = zip(self.graph.tails, self.graph.heads, self.graph.minutes)
+        for arc, (tail, head, minutes) in enumerate(ends, 1):
+            if math.isnan(lons[tail]) or math.isnan(lons[head]):
                 continue
-            for column in range(min(left, right), max(left, right) + 1):
-                for row in range(min(low, high), max(low, high) + 1):
-                    cells.setdefault((column, row), []).append(road)
+            weight, name = metres.get(arc, minutes), names.get(arc, "")
+            other = waiting.pop((head, tail, weight, name), 0)
+            if other:
+                self.backs[other] = arc
+            else:
+                waiting[tail, head, weight, name] = arc
+                found.append(arc)
+        return found
+
+    def _order(self, roads: list[int]) -> array.array[int]:
+        metres, minutes = self.streets.metres, self.graph.minutes
+
+        def weight(arc: int) -> int:
+            return metres.get(arc, minutes[arc - 1])
+
+        return array.array("L", sorted(roads, key=weight, reverse=True))
+
+    def _cell_size(self) -> float:
+        bounds = self.bounds
+        if bounds is None:
+            return 1.0
+        across = max(bounds.east - bounds.west, bounds.north - bounds.south, 1e-6)
+        return across / max(1.0, math.sqrt(len(self.order) / A_CELL_HAS))
+
+    def _fill(self) -> dict[tuple[int, int], array.array[int]]:
+        lons, lats, size, floor = self.lons, self.lats, self._size, math.floor
+        tails, heads = self.graph.tails, self.graph.heads
+        cells: dict[tuple[int, int], array.array[int]] = {}
+        for arc in self.order:
+            tail, head = tails[arc - 1], heads[arc - 1]
+            column, row = floor(lons[tail] / size), floor(lats[tail] / size)
+            right, high = floor(lons[head] / size), floor(lats[head] / size)
+            for x in range(min(column, right), max(column, right) + 1):
+                for y in range(min(row, high), max(row, high) + 1):
+                    cell = cells.get((x, y))
+                    if cell is None:
+                        cell = cells[x, y] = array.array("L")
+                    cell.append(arc)
         return cells
 
     def cell(self, lon: float, lat: float) -> tuple[int, int]:
         return math.floor(lon / self._size), math.floor(lat / self._size)
 
-    def roads(self, points: dict[int, tuple[float, float]]) -> list[Road]:
-        """Returns the roads whose ends have coordinates."""
-        metres, names = self.streets.metres, self.streets.names
-        waiting: dict[tuple[int, int, int, str], int] = {}
-        backs: dict[int, int] = {}
-        weights: dict[int, int] = {}
-        ends = zip(self.graph.tails, self.graph.heads, self.graph.minutes)
-        for arc, (tail, head, minutes) in enumerate(ends, 1):
-            if tail not in points or head not in points:
-                continue
-            weight, name = metres.get(arc, minutes), names.get(arc, "")
-            other = waiting.pop((head, tail, weight, name), 0)
-            if other:
-                backs[other] = arc
-            else:
-                waiting[tail, head, weight, name] = arc
-                backs[arc], weights[arc] = 0, weight
-        return [Road(arc, back, weights[arc]) for arc, back in backs.items()]
-
     def point(self, node: int) -> tuple[float, float]:
-        place = self.places.at(node)
-        return place.lon or 0.0, place.lat or 0.0
+        return self.lons[node], self.lats[node]
 
-    def box_of(self, road: Road) -> Box:
-        tail, head, _ = self.graph.ends(road.arc)
+    def touches(self, arc: int, box: Box) -> bool:
+        tail, head, _ = self.graph.ends(arc)
         (x, y), (other_x, other_y) = self.point(tail), self.point(head)
-        return Box(min(x, other_x), min(y, other_y), max(x, other_x), max(y, other_y))
-
-    def touches(self, road: Road, box: Box) -> bool:
-        own = self.box_of(road)
         return (
-            own.west <= box.east
-            and own.east >= box.west
-            and own.south <= box.north
-            and own.north >= box.south
+            min(x, other_x) <= box.east
+            and max(x, other_x) >= box.west
+            and min(y, other_y) <= box.north
+            and max(y, other_y) >= box.south
         )
 
-    def feature(self, road: Road) -> dict[str, Any]:
-        tail, head, minutes = self.graph.ends(road.arc)
+    def feature(self, arc: int) -> dict[str, Any]:
+        tail, head, minutes = self.graph.ends(arc)
+        back = self.backs[arc]
         properties = {
-            "arcs": [road.arc, road.back] if road.back else [road.arc],
-            "street": self.streets.names.get(road.arc),
-            "metres": self.streets.metres.get(road.arc),
+            "arcs": [arc, back] if back else [arc],
+            "street": self.streets.names.get(arc),
+            "metres": self.streets.metres.get(arc),
             "minutes": minutes,
             "from": tail,
             "to": head,
         }
-        line = {"type": "LineString", "coordinates": [self.point(tail), self.point(head)]}
+        shape = self.places.folder.shapes().line(arc)
+        ends = [self.point(tail), self.point(head)]
+        line = {"type": "LineString", "coordinates": shape or ends}
         return {"type": "Feature", "geometry": line, "properties": properties}

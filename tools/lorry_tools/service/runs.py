@@ -2,8 +2,8 @@
 from __future__ import annotations
 
 import dataclasses
+import errno
 import os
-import resource
 import selectors
 import signal
 import subprocess
@@ -20,6 +20,9 @@ from lorry_tools.service.ways import Ways
 from lorry_tools.trips.shown import ITINERARY, WORK, NotedProgram, lines_of
 
 NO_MEMORY = 6  # docs/COMMANDS.md: the status where memory is out
+# The shell limits the memory, and then becomes the program: no run begins without its limit.
+WITH_LIMIT = ("/bin/sh", "-c", 'ulimit -v "$0" && exec "$@"')
+NOT_RUN = (126, 127)  # the statuses of a shell that can't run a program, and of a loader
 CHUNK = 1 << 18
 
 
@@ -60,7 +63,6 @@ class Runs:
             process = self._start(words)
             self._open.add(process)
         try:
-            limit_memory(process.pid, self.limits.memory_mb * MEBIBYTE)
             text = self._text_of(process, deadline)
             status = process.wait(max(0.1, deadline - time.monotonic()))
         except subprocess.TimeoutExpired:
@@ -75,12 +77,16 @@ class Runs:
                 process.stdout.close()
         if status < 0 and is_stopped:
             raise Stopping()
+        if status in NOT_RUN and not os.access(self.path, os.X_OK):
+            number = errno.EACCES if os.path.exists(self.path) else errno.ENOENT
+            raise Missing(f"the program can't be run: {os.strerror(number)}")
         return status, text
 
     def _start(self, words: list[str]) -> subprocess.Popen[bytes]:
+        kibibytes = self.limits.memory_mb * MEBIBYTE // 1024
         try:
             return subprocess.Popen(
-                [self.path, *words],
+                [*WITH_LIMIT, str(kibibytes), self.path, *words],
                 stdin=subprocess.DEVNULL,
                 stdout=subprocess.PIPE,
                 stderr=subprocess.DEVNULL,
@@ -108,13 +114,6 @@ class Runs:
                 size += len(chunk)
                 if size > most:
                     raise Unavailable(f"the answer is larger than {self.limits.answer_mb} MB")
-
-
-def limit_memory(process: int, most: int) -> None:
-    try:
-        resource.prlimit(process, resource.RLIMIT_AS, (most, most))
-    except (ProcessLookupError, PermissionError):
-        pass  # (it has ended already)
 
 
 def end(process: subprocess.Popen[bytes]) -> None:

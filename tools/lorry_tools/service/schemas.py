@@ -116,7 +116,7 @@ OTHERS: dict[str, Value] = {
         "A road: one arc, or both where it is driven in two directions.",
         type={"const": "Feature"},
         geometry=record(
-            "A straight line between two nodes.",
+            "Its shape where the folder has one, or a straight line between its nodes.",
             type={"const": "LineString"},
             coordinates={**listed(named("position")), "minItems": 2},
         ),

@@ -10,14 +10,12 @@ from lorry_tools.folder import Folder
 from lorry_tools.instants import instant_text, minute_of
 from lorry_tools.places import Places
 from lorry_tools.problems import Problem
-from lorry_tools.program import Trip
+from lorry_tools.program import BreakRule, Trip
 from lorry_tools.rules import Streets
 from lorry_tools.trips.answer import Answer, Judged, options_of, trip_of
 from lorry_tools.trips.reasons import Reasons
 from lorry_tools.trips.request import (
-    BREAK,
     BREAKS,
-    DRIVE_TO_BREAK,
     LATEST,
     PLAN,
     TOUR,
@@ -60,7 +58,7 @@ def answer_to(
 def take_pairs(answer: Answer, pairs: list[Pair]) -> None:
     """Adds the options of the program's pairs, and warnings."""
     answer.options = options_of(answer, pairs)
-    answer.warnings = warnings_of(answer.options, answer.request.command)
+    answer.warnings = warnings_of(answer.options, answer.request.rule is not None)
 
 
 def take_reasons(answer: Answer, program: NotedProgram) -> None:
@@ -92,14 +90,20 @@ def pairs_of(answer: Answer, program: NotedProgram, certificate: Optional[str]) 
     request, trip = answer.request, trip_of(answer.folder, answer.request)
     if request.command == LATEST:
         return program.latest(trip)
-    if request.command == BREAKS:
-        return program.breaks(trip, DRIVE_TO_BREAK, BREAK)
     if request.command == TOUR:
-        return tour_of(answer, program, request.stops, trip.goal)
+        return tour_of(answer, program, request.stops, trip.goal, request.rule)
+    if request.rule:
+        return program.breaks(trip, request.rule)
     return program.plan(trip, certificate)
 
 
-def tour_of(answer: Answer, program: NotedProgram, stops: list[Stop], goal: int) -> list[Pair]:
+def tour_of(
+    answer: Answer,
+    program: NotedProgram,
+    stops: list[Stop],
+    goal: int,
+    rule: Optional[BreakRule] = None,
+) -> list[Pair]:
     """Returns the pairs of a tour over some stops to a node."""
     rows = [
         f"{stop.place.node},{stop.service},{instant_text(stop.start)},{instant_text(stop.end)}"
@@ -110,7 +114,7 @@ def tour_of(answer: Answer, program: NotedProgram, stops: list[Stop], goal: int)
     trip = Trip(
         program.work(), request.vehicle, request.origin.node, goal, request.depart, request.until
     )
-    return program.tour(trip, name)
+    return program.tour(trip, name, rule)
 
 
 # Why there is no option.
@@ -119,14 +123,22 @@ def tour_of(answer: Answer, program: NotedProgram, stops: list[Stop], goal: int)
 def causes_of(answer: Answer, program: NotedProgram) -> list[str]:
     """Returns why a trip has no option, as far as it is found."""
     request = answer.request
+    trip = trip_of(answer.folder, request)
+    if request.rule and without_breaks(answer, program):
+        return ["with-breaks: there is a trip without breaks, and none that keeps the breaks"]
     if request.command == TOUR:
         return tour_causes(answer, program)
-    trip = trip_of(answer.folder, request)
-    if request.command == BREAKS and program.plan(trip):
-        return ["with-breaks: there is a trip without breaks, and none that keeps the breaks"]
     program.note(" ".join(["tools/why_empty", *trip.words()]))
     lines = Case(program.unnoted(), answer.folder, trip).causes()
     return [in_words(answer, line) for line in lines]
+
+
+def without_breaks(answer: Answer, program: NotedProgram) -> list[Pair]:
+    """Returns the pairs of a trip or a tour without its rule for breaks."""
+    request = answer.request
+    if request.command == BREAKS:
+        return program.plan(trip_of(answer.folder, request))
+    return tour_of(answer, program, request.stops, request.goal.node)
 
 
 def in_words(answer: Answer, line: str) -> str:

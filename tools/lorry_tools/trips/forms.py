@@ -75,6 +75,8 @@ class Forms:
                 }
                 for number, stop in enumerate(request.stops, 1)
             ],
+            "breaks": request.rule
+            and {"drive_minutes": request.rule.drive, "rest_minutes": request.rule.rest},
             "options": [self.option(it) for it in answer.options],
             "causes": answer.causes,
             "warnings": answer.warnings,

@@ -16,6 +16,7 @@ jinja2."""
 from __future__ import annotations
 
 import argparse
+import json
 import sys
 
 from lorry_tools.folder import Folder
@@ -23,7 +24,7 @@ from lorry_tools.places import Places
 from lorry_tools.problems import Problem
 from lorry_tools.program import Program
 from lorry_tools.running import write_as_utf8
-from lorry_tools.trips import forms, picture
+from lorry_tools.trips import forms, geometry, picture
 from lorry_tools.trips.answer import Answer
 from lorry_tools.trips.ask import answer_to
 from lorry_tools.trips.many import main_of_table
@@ -53,7 +54,13 @@ def read_words() -> argparse.Namespace:
         help="a stop, such as 'Vaduz, 20 min, 08:00-12:00', with or without a window; several are "
         "served in their order",
     )
-    add("--breaks", action="store_true", help="breaks of 45 minutes after 4.5 hours of driving")
+    add(
+        "--breaks",
+        action="store_true",
+        help="breaks of 45 minutes after 4.5 hours of driving, also of a trip with stops",
+    )
+    add("--drive", metavar="MINUTES", help="the most driving since the last break (270)")
+    add("--rest", metavar="MINUTES", help="the least of a break (45)")
     add(
         "--why",
         metavar="'STREET, STREET, ..'",
@@ -64,6 +71,13 @@ def read_words() -> argparse.Namespace:
     form = parser.add_mutually_exclusive_group()
     form.add_argument("--json", action="store_true", help="the answer by trip.schema.json")
     form.add_argument("--csv", action="store_true", help="a row for each part of each option")
+    form.add_argument(
+        "--gpx", action="store_true", help="the options as tracks with the time at each point"
+    )
+    form.add_argument(
+        "--geojson", action="store_true", help="a line or a point for each leg of each option"
+    )
+    add("--option", metavar="N", type=int, help="this option alone, with --gpx and --geojson")
     add("--show", action="store_true", help="add the commands of the program that were run")
     add("--picture", action="store_true", help="draw the options as a page, and open it")
     add("--out", metavar="FILE", default="trip.html", help="where the page is (trip.html)")
@@ -99,6 +113,8 @@ def main() -> int:
         words.within,
         words.latest,
         words.breaks,
+        words.drive,
+        words.rest,
         words.stop,
     )
     request = read_request(folder, places, asked)
@@ -114,8 +130,16 @@ def main() -> int:
 
 
 def print_answer(answer: Answer, words: argparse.Namespace) -> None:
+    if words.option is not None:
+        if not 1 <= words.option <= len(answer.options):
+            raise Problem(f"--option {words.option}: the answer has {len(answer.options)} options")
+        answer.options = [it for it in answer.options if it.number == words.option]
     if words.json:
         print(forms.json_text(answer))
+    elif words.gpx:
+        sys.stdout.write(geometry.gpx_text(answer))
+    elif words.geojson:
+        print(json.dumps(geometry.timed_geojson(answer), ensure_ascii=False))
     elif words.csv:
         if answer.why:
             raise Problem("--csv has options, and --why has none: expected is --json")

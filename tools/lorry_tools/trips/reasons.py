@@ -12,8 +12,8 @@ from lorry_tools.answers import DRIVE, SERVE, WAIT, Leg, Unlawful
 from lorry_tools.program import Refused, Trip
 from lorry_tools.rules import cause_of
 from lorry_tools.trips.answer import Answer, Option, Part, Step, WaitReason
-from lorry_tools.trips.request import BREAK, BREAKS
 from lorry_tools.trips.shown import NotedProgram
+from lorry_tools.trips.warnings import longest_drive
 
 # Beyond so many questions no further wait is explained.
 MOST_ASKED = 200
@@ -44,8 +44,8 @@ class Reasons:
             last = dataclasses.replace(last, until=last.minute + 1)
             first = self.ask(wait, drives, wait.start) or last
             return [last] if first.cause == last.cause else [first, last]
-        if self.answer.request.command == BREAKS and wait.end - wait.start >= BREAK:
-            return [WaitReason("break", wait.end)]
+        if self.is_break(option, index):
+            return [WaitReason("break", wait.end), *self.window_that_opens(after)]
         if not self.has_explain or len(self.asked) >= MOST_ASKED:
             return [WaitReason("unknown", wait.end)]
         if after and after.kind == SERVE:
@@ -53,6 +53,22 @@ class Reasons:
         if after and after.kind == WAIT:
             return [self.moved(wait, drives, after), *self.later_reasons(option, after)]
         return [WaitReason("unknown", wait.end)]
+
+    def is_break(self, option: Option, index: int) -> bool:
+        """Whether too much would be driven since the last break without a wait."""
+        rule, wait = self.answer.request.rule, option.steps[index]
+        if rule is None or wait.end - wait.start < rule.rest:
+            return False
+        others = [*option.steps[:index], *option.steps[index + 1 :]]
+        return longest_drive(others, rule.rest) > rule.drive
+
+    def window_that_opens(self, after: Optional[Step]) -> list[WaitReason]:
+        """Returns the window of the next leg, where that is a service as its window opens."""
+        if after is None or after.kind != SERVE:
+            return []
+        if self.answer.request.stops[after.number - 1].start != after.start:
+            return []
+        return [WaitReason("window", after.start, node=after.tail, stop=after.number)]
 
     def moved(self, wait: Step, drives: list[Step], after: Step) -> WaitReason:
         """Why a lorry waits here and not at its next place to wait."""

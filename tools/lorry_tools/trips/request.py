@@ -8,9 +8,10 @@ from typing import Optional
 
 from lorry_tools.clocks import Clock, local_of, read_time
 from lorry_tools.folder import Folder, Row
-from lorry_tools.instants import DAY, LONGEST_HORIZON
+from lorry_tools.instants import DAY, LONGEST_HORIZON, span_text
 from lorry_tools.places import Place, Places
 from lorry_tools.problems import Problem
+from lorry_tools.program import BreakRule
 
 PLAN, LATEST, TOUR, BREAKS = "plan", "latest", "tour", "breaks"
 
@@ -65,6 +66,7 @@ class Request:
     depart: int
     until: int
     stops: list[Stop]
+    rule: Optional[BreakRule] = None  # of a trip or a tour with breaks
 
 
 @dataclasses.dataclass
@@ -79,6 +81,8 @@ class Words:
     within: Optional[str] = None
     latest: bool = False
     breaks: bool = False
+    drive: Optional[str] = None
+    rest: Optional[str] = None
     stops: list[str] = dataclasses.field(default_factory=list)
 
 
@@ -90,23 +94,45 @@ def read_request(folder: Folder, places: Places, words: Words) -> Request:
     vehicle = read_vehicle(folder, words.vehicle)
     depart, until = read_times(places, origin, goal, words)
     stops = [read_stop(places, text, depart, until) for text in words.stops]
-    return Request(command, vehicle, origin, goal, depart, until, stops)
+    return Request(command, vehicle, origin, goal, depart, until, stops, read_rule(words))
 
 
 def command_of(words: Words) -> str:
-    asked = [
-        (command, option)
-        for command, option, given in (
-            (LATEST, "--latest", words.latest),
-            (TOUR, "--stop", bool(words.stops)),
-            (BREAKS, "--breaks", words.breaks),
-        )
-        if given
-    ]
-    if len(asked) > 1:
-        options = " and ".join(option for _, option in asked)
+    given = ((words.stops, "--stop"), (words.breaks, "--breaks"))
+    others = [option for is_given, option in given if is_given]
+    if words.latest and others:
+        options = " and ".join(["--latest", *others])
         raise Problem(f"{options} can't be asked for together: the program has no such command")
-    return asked[0][0] if asked else PLAN
+    if words.latest:
+        return LATEST
+    if words.stops:
+        return TOUR
+    return BREAKS if words.breaks else PLAN
+
+
+def read_rule(words: Words) -> Optional[BreakRule]:
+    """Returns the rule for breaks that is to be kept, if any."""
+    if words.breaks:
+        drive = read_minutes(words.drive, DRIVE_TO_BREAK, "--drive")
+        return BreakRule(drive, read_minutes(words.rest, BREAK, "--rest"))
+    for option, given in (("--drive", words.drive), ("--rest", words.rest)):
+        if given is not None:
+            raise Problem(f"{option} is for breaks: expected is --breaks beside it")
+    return None
+
+
+def read_minutes(text: Optional[str], usual: int, option: str) -> int:
+    """Returns the minutes of a number, or of a text such as `4 h 30 min`."""
+    if text is None:
+        return usual
+    plain = re.fullmatch(r"\d{1,4}", text.strip(), re.ASCII)
+    minutes = int(plain[0]) if plain else read_span(text)
+    if not 1 <= minutes <= DAY:
+        raise Problem(
+            f"{option} {text!r}: expected are from 1 to {DAY} minutes, such as {usual} or "
+            f"{span_text(usual)!r}"
+        )
+    return minutes
 
 
 def lorries(folder: Folder) -> list[str]:

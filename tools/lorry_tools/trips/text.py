@@ -6,7 +6,7 @@ from lorry_tools.clocks import local_text
 from lorry_tools.instants import cost_text, span_text
 from lorry_tools.places import Place, distance_text
 from lorry_tools.trips.answer import Answer, Option, Part, WaitReason, Why
-from lorry_tools.trips.request import ANY, BREAK, BREAKS, DRIVE_TO_BREAK, LATEST
+from lorry_tools.trips.request import ANY, LATEST
 from lorry_tools.trips.why import REASONS
 
 
@@ -80,10 +80,9 @@ class Text:
             )
             where = self.asked_place(stop.place)
             lines.append(f"stop {number}: {where}, {span_text(stop.service)}, {window}")
-        if request.command == BREAKS:
-            lines.append(
-                f"with breaks of {BREAK} minutes after {span_text(DRIVE_TO_BREAK)} of driving"
-            )
+        if request.rule:
+            drive = span_text(request.rule.drive)
+            lines.append(f"with breaks of {request.rule.rest} minutes after {drive} of driving")
         return lines
 
     def table(self) -> list[str]:

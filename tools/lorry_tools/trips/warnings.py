@@ -4,7 +4,7 @@ from __future__ import annotations
 from lorry_tools.answers import DRIVE, WAIT
 from lorry_tools.instants import span_text
 from lorry_tools.trips.answer import Option, Step
-from lorry_tools.trips.request import BREAK, BREAKS, DRIVE_A_DAY, DRIVE_TO_BREAK, REST
+from lorry_tools.trips.request import BREAK, DRIVE_A_DAY, DRIVE_TO_BREAK, REST
 
 
 def longest_drive(steps: list[Step], pause: int) -> int:
@@ -19,17 +19,18 @@ def longest_drive(steps: list[Step], pause: int) -> int:
     return most
 
 
-def warnings_of(options: list[Option], command: str) -> list[str]:
-    """Returns what one driver may not do, with the options of which it is true."""
+def warnings_of(options: list[Option], has_rule: bool) -> list[str]:
+    """Returns what one driver may not do, with the options of which it is true; HAS_RULE tells
+    whether a rule for breaks was kept."""
     found = []
     without_break = {it.number: longest_drive(it.steps, BREAK) for it in options}
     over = [number for number, minutes in without_break.items() if minutes > DRIVE_TO_BREAK]
-    if over and command != BREAKS:
+    if over:
         most = span_text(max(without_break[it] for it in over))
         found.append(
             f"{named(over)}: up to {most} of driving without a break of {BREAK} minutes; one "
-            f"driver may drive {span_text(DRIVE_TO_BREAK)} (Regulation (EC) 561/2006, Article 7): "
-            "--breaks plans breaks"
+            f"driver may drive {span_text(DRIVE_TO_BREAK)} (Regulation (EC) 561/2006, Article 7)"
+            + ("" if has_rule else ": --breaks plans breaks")
         )
     without_rest = {it.number: longest_drive(it.steps, REST) for it in options}
     over = [number for number, minutes in without_rest.items() if minutes > DRIVE_A_DAY]
