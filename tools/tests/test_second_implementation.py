@@ -156,6 +156,24 @@ class Trips(beside.FolderTest):
             due.wrong_legs((MIDNIGHT + 240, 180_000), [("wait", 120), ("drive", 1), ("drive", 2)]), "a stretch is too long"
         )
 
+    def test_the_first_itinerary_with_breaks(self):
+        """Two ways of 120 minutes, whose second roads are closed from 01:00 to 01:30, so that half an hour is waited at node 1, or, on the way by node 4,
+        there. The way by node 2 has the smaller last road; that by node 4 drove 60 minutes since its break, and not 120."""
+        roads = graph(4, (1, 2, 60), (2, 3, 60), (1, 4, 60), (4, 3, 60))
+        closed = "2020-07-04T01:00Z,2020-07-04T01:30Z"
+        files = {"rules": "scope,key,value\n", "closures": f"arc,from,to\n2,{closed}\n4,{closed}\n"}
+        parking = {"ratings": "rating,weight\nyard,1\n", "parking": "node,rating\n1,yard\n4,yard\n", "tolls": "arc,toll\n"}
+        self.write(graph=roads, **{**FILES, **files, **parking})
+        pair = (MIDNIGHT + 150, 150_000)
+        by_2, by_4 = [("wait", 30), ("drive", 1), ("drive", 2)], [("drive", 3), ("wait", 30), ("drive", 4)]
+        parted = [("wait", 1), ("drive", 3), ("wait", 29), ("drive", 4)]
+        plan, breaks = self.due("plan"), self.due("breaks", "--drive", "120", "--rest", "30")
+        self.assertEqual((plan.pairs, breaks.pairs), ([pair], [pair]))
+        self.assertIsNone(plan.wrong_legs(pair, by_2))
+        self.assertIsNone(breaks.wrong_legs(pair, by_4))
+        for legs in (by_2, parted):
+            self.assertEqual(breaks.wrong_legs(pair, legs), f"the first itinerary has {by_4}")
+
     def test_a_tour_with_breaks(self):
         """With 60 minutes of driving a break of 30 is due at node 2, before or after the service. One waits at node 1 until 01:00 for 30, serves and rests
         from 02:00 to 03:00, which costs 60, and arrives at 04:00: 210 with both roads. A break that the service parts is none."""
@@ -165,8 +183,9 @@ class Trips(beside.FolderTest):
         self.assertEqual(due.pairs, [(MIDNIGHT + 240, 210_000)])
         best = [("wait", 60), ("drive", 1), ("serve", 1), ("wait", 30), ("drive", 2)]
         self.assertIsNone(due.wrong_legs((MIDNIGHT + 240, 210_000), best))
+        # A break before the service is as good, but a wait comes before a service.
         before = [("wait", 60), ("drive", 1), ("wait", 30), ("serve", 1), ("drive", 2)]
-        self.assertIsNone(due.wrong_legs((MIDNIGHT + 240, 210_000), before))
+        self.assertEqual(due.wrong_legs((MIDNIGHT + 240, 210_000), before), f"the first itinerary has {best}")
         parted = [("wait", 60), ("drive", 1), ("wait", 15), ("serve", 1), ("wait", 15), ("drive", 2)]
         self.assertEqual(due.wrong_legs((MIDNIGHT + 240, 210_000), parted), "a stretch is too long")
         alone = self.due("tour", "stops.csv", "--rest=30")

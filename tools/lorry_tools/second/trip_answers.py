@@ -40,8 +40,9 @@ from lorry_tools.second.trip_network import (
 State = TypeVar("State", bound=Hashable)
 # An arrival, or a departure of `latest`, and a cost in thousandths.
 Pair = tuple[int, int]
-# Kinds and values.
-Legs = list[tuple[str, int]]
+# A kind and a value.
+Leg = tuple[str, int]
+Legs = list[Leg]
 Route = tuple[Pair, Legs]
 # A node, the minutes of service, and the window.
 Stop = tuple[int, int, int, int]
@@ -53,8 +54,14 @@ TourCosts = dict[int, dict[Served, int]]
 # stops served.
 Driven = tuple[int, int, int, int]
 PlainSteps = Callable[[int, int], list[tuple[int, int, int]]]
+# From a state and a minute: each step, and the state, the minute and the cost that it leads to.
+RestedSteps = Callable[[Driven, int], Iterable[tuple[Leg, Driven, int, int]]]
+RestedCosts = dict[int, dict[Driven, int]]
 
 COMMANDS = ["plan", "latest", "tour", "breaks", "explain"]
+
+# Of two tours that differ in a step, the one whose step is of the earlier kind comes first.
+STEP_ORDER = ["wait", "drive", "serve"]
 
 DONE, USAGE, BAD_INPUT, READ_FAULT, BAD_REQUEST = 0, 2, 3, 4, 7
 
@@ -494,24 +501,40 @@ def may_serve(stop: Stop, node: int, minute: int, until: int) -> bool:
     return node == at and begin <= minute and minute + service <= end and minute + service <= until
 
 
-def rested_front(roads: Roads, request: Request, stops: Stops = ()) -> list[Pair]:
-    """The front of the tours that keep the rule, and, without stops, of such trips. The
-    neighbouring waits so far don't matter after a break; a service ends them, and is no driving."""
+def rested_steps(roads: Roads, request: Request, stops: Stops) -> RestedSteps:
+    """The lawful steps of a tour that keeps the rule, with the states and minutes that they lead to
+    and their costs. The neighbouring waits so far don't matter after a break; a service ends them,
+    and is no driving."""
 
-    def steps(state: Driven, minute: int) -> Iterator[tuple[Driven, int, int]]:
+    def steps(state: Driven, minute: int) -> Iterator[tuple[Leg, Driven, int, int]]:
         node, driven, waits, served = state
         if roads.may_wait(node, minute, request.until):
             rested = driven == 0 or waits + 1 == request.rest
             after = (node, 0, 0, served) if rested else (node, driven, waits + 1, served)
-            yield after, 1, roads.price(node)
+            yield ("wait", 1), after, minute + 1, roads.price(node)
         for arc in roads.drives(node, minute, request.until):
-            stretch = driven + roads.minutes(arc)
+            stretch, end = driven + roads.minutes(arc), minute + roads.minutes(arc)
             if stretch <= request.drive:
-                yield (roads.head(arc), stretch, 0, served), roads.minutes(arc), roads.cost(arc)
+                yield ("drive", arc), (roads.head(arc), stretch, 0, served), end, roads.cost(arc)
         if served < len(stops) and may_serve(stops[served], node, minute, request.until):
-            yield (node, driven, 0, served + 1), stops[served][1], 0
+            end = minute + stops[served][1]
+            yield ("serve", served + 1), (node, driven, 0, served + 1), end, 0
 
-    costs = least_costs((request.origin, 0, 0, 0), request.depart, steps)
+    return steps
+
+
+def rested_costs(request: Request, steps: RestedSteps) -> RestedCosts:
+    """The least costs of all tours that keep the rule, and, without stops, of such trips."""
+    return least_costs(
+        (request.origin, 0, 0, 0),
+        request.depart,
+        lambda state, minute: (
+            (after, end - minute, cost) for _, after, end, cost in steps(state, minute)
+        ),
+    )
+
+
+def rested_front(request: Request, costs: RestedCosts, stops: Stops = ()) -> list[Pair]:
     return front_of(
         [
             (minute, cost)
@@ -520,6 +543,34 @@ def rested_front(roads: Roads, request: Request, stops: Stops = ()) -> list[Pair
             if (node, served) == (request.goal, len(stops))
         ]
     )
+
+
+def first_rested_legs(
+    request: Request, costs: RestedCosts, steps: RestedSteps, pair: Pair, stops: Stops = ()
+) -> Legs:
+    """The legs of the first tour of the pair of the front, from the end backwards. `ends` are the
+    states from which the legs told so far end the tour: those with the fewest minutes driven since
+    the last break count, and of the steps to them the first."""
+    before: dict[tuple[int, Driven], list[tuple[Leg, Driven, int]]] = {}
+    for begin, at in costs.items():
+        for state, least in at.items():
+            for step, after, end, cost in steps(state, begin):
+                if costs[end][after] == least + cost:
+                    before.setdefault((end, after), []).append((step, state, begin))
+    minute, told = pair[0], []
+    ends = {
+        state
+        for state, cost in costs[minute].items()
+        if (state[0], state[3], cost) == (request.goal, len(stops), pair[1])
+    }
+    while minute > request.depart:
+        driven = min(state[1] for state in ends)
+        ways = [way for state in ends if state[1] == driven for way in before[minute, state]]
+        first = min((way[0] for way in ways), key=lambda step: (STEP_ORDER.index(step[0]), step[1]))
+        ends = {state for step, state, _ in ways if step == first}
+        minute = next(begin for step, _, begin in ways if step == first)
+        told.append(first)
+    return legs_of_steps(told[::-1])
 
 
 def breaks_size(roads: Roads, request: Request) -> int:
@@ -765,11 +816,15 @@ def tour_due(roads: Roads, request: Request, stops: Stops) -> Due:
 
 
 def rested_due(roads: Roads, request: Request, stops: Stops = ()) -> Due:
-    return Due(
-        DONE,
-        pairs=rested_front(roads, request, stops),
-        wrong_legs=lambda pair, legs: wrong_route(roads, request, pair, legs, stops),
-    )
+    steps = rested_steps(roads, request, stops)
+    costs = rested_costs(request, steps)
+
+    def wrong_legs(pair: Pair, legs: Legs) -> Optional[str]:
+        return wrong_route(roads, request, pair, legs, stops) or not_first(
+            legs, first_rested_legs(request, costs, steps, pair, stops)
+        )
+
+    return Due(DONE, pairs=rested_front(request, costs, stops), wrong_legs=wrong_legs)
 
 
 def breaks_due(roads: Roads, request: Request) -> Due:

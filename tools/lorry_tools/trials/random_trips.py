@@ -8,8 +8,7 @@
 For each of plan, latest, tour, breaks and explain it draws N folders, 1,000 if N isn't given, and a
 trip over each, and runs PROGRAM. The answer is worked out minute by minute from the definitions
 (tools/lorry_tools/second). Pairs, explanations and refusals have to be equal; printed legs are
-followed step by step, and have to be lawful and those of their pair, those of plan and latest, and
-of tour without a rule, of its first itinerary.
+followed step by step, and have to be lawful and those of their pair's first itinerary.
 
 The seed is printed first; the folder of a number depends on the seed, the command and the number
 alone, and --first begins at a later number. Counts by command come at the end. Where an answer
