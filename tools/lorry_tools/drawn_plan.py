@@ -14,6 +14,7 @@ from lorry_tools.problems import Unreadable
 from lorry_tools.program import Program
 from lorry_tools.rules import Streets
 from lorry_tools.running import Progress
+from lorry_tools.tracks import Lines
 
 # Closed minutes: the first one, the first one after them, and the roads.
 Closed = tuple[int, int, set[int]]
@@ -77,6 +78,7 @@ class Trip:
         self.places: dict[int, tuple[float, float]] = {}  # of nodes
         self.names: dict[int, str] = {}
         self.roads: dict[int, str] = {}
+        self.metres: dict[int, int] = {}  # of roads
         self.credit = ""
 
     def take_folder(self, words: list[str], pairs: list[JsonPair]) -> None:
@@ -136,7 +138,8 @@ class Trip:
                 self.places[node] = place
             if node and (row["name"] or row["town"]):
                 self.names[node] = row["name"] or row["town"]
-        self.roads = Streets(folder).names
+        streets = Streets(folder)
+        self.roads, self.metres = streets.names, streets.metres
 
     def take_bans(self, program: Program, most: int) -> None:
         """Asks when the roads of the routes are closed, once for those that are closed alike."""
@@ -170,6 +173,20 @@ class Trip:
     def last(self) -> int:
         until = self.asked.until if self.asked else 0
         return max((it.arrival for it in self.routes), default=until)
+
+    def kilometres(self, legs: Iterable[Leg]) -> str:
+        """Returns the length of drives in words; nothing where the folder lacks one of them."""
+        arcs = [it.arc for it in legs]
+        if not arcs or not all(arc in self.metres for arc in arcs):
+            return ""
+        return f"{sum(self.metres[arc] for arc in arcs) / 1000:.1f} km"
+
+    def line_of(self, route: Route) -> list[tuple[float, float]]:
+        """Returns the points of a route, by the shapes of its roads."""
+        if self.asked is None:
+            return []
+        lines = Lines(self.asked.folder.shapes(), self.places.get)
+        return lines.drive((it.arc, it.tail, it.head) for it in route.drives())
 
     def name_of(self, node: int, before: str = "node ") -> str:
         return f"{self.names[node]} ({node})" if node in self.names else f"{before}{node}"

@@ -49,3 +49,5 @@ STOPS = Table("stops", ("node,service,from,to",), "a stop of a tour")
 # Tables that only the tools read.
 NODES = "nodes.csv"
 WAYS = "ways.csv"
+SHAPES = "shapes.csv"
+BESIDE = (NODES, WAYS, SHAPES)

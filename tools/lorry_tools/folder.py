@@ -12,9 +12,10 @@ import sys
 import tempfile
 from typing import Callable, Hashable, Iterable, Iterator, Mapping, Optional
 
-from lorry_tools.files import GRAPH, NETWORK
+from lorry_tools.files import GRAPH, NETWORK, SHAPES
 from lorry_tools.graph import Graph, read_graph
 from lorry_tools.problems import Unreadable
+from lorry_tools.shapes import Shapes
 
 csv.field_size_limit(1 << 28)
 
@@ -48,6 +49,7 @@ class Folder:
         self._graph: Optional[Graph] = None
         self._areas: Optional[tuple[dict[Optional[int], str], str]] = None
         self._weights: Optional[dict[int, str]] = None
+        self._shapes: Optional[Shapes] = None
 
     def file(self, name: str) -> str:
         return os.path.join(self.path, name)
@@ -96,6 +98,11 @@ class Folder:
         if self._graph is None:
             self._graph = read_graph(self.file(GRAPH))
         return self._graph
+
+    def shapes(self) -> Shapes:
+        if self._shapes is None:
+            self._shapes = Shapes(self.file(SHAPES))
+        return self._shapes
 
     def areas_of_arcs(self) -> tuple[dict[Optional[int], str], str]:
         """Returns the area of each arc that has a row, and the first area, in which all others

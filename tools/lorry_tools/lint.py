@@ -36,7 +36,7 @@ import re
 from typing import Optional, Sequence
 
 from lorry_tools import rule_texts
-from lorry_tools.files import JOBS, NETWORK, NODES, STOPS, TABLES, WAYS
+from lorry_tools.files import BESIDE, JOBS, NETWORK, STOPS, TABLES
 from lorry_tools.folder import Folder, Row, number_of
 from lorry_tools.instants import minute_of, moment_of
 from lorry_tools.problems import Unreadable
@@ -533,8 +533,8 @@ class Lint:
     # Files.
 
     def look_at_files(self) -> None:
-        known = [*NETWORK, NODES, WAYS]
-        meant = [*NETWORK, *(it for it in (NODES, WAYS) if not self.folder.has(it))]
+        known = [*NETWORK, *BESIDE]
+        meant = [*NETWORK, *(it for it in BESIDE if not self.folder.has(it))]
         headers = {header: table.name for table in TABLES for header in table.headers}
         for name in sorted(os.listdir(self.folder.path)):
             if name in known or not self.folder.has(name):

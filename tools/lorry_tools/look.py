@@ -26,6 +26,7 @@ from lorry_tools.instants import cost_text, span_text
 from lorry_tools.panels import bars_panel, front_panel, lanes_panel, map_panel
 from lorry_tools.problems import Unreadable
 from lorry_tools.program import Program
+from lorry_tools.route import written
 from lorry_tools.running import write_as_utf8
 from lorry_tools.templates import rendered
 
@@ -172,9 +173,10 @@ def html_file(trip: Trip) -> str:
 def option_of(trip: Trip, asked: Asked, route: Route) -> PageOption:
     driven, waited = (sum(it.minutes for it in legs) for legs in (route.drives(), route.waits()))
     waits = f"{span_text(waited)} of waiting" if waited else "no waiting"
+    length = trip.kilometres(route.drives())
     line = (
         f"arrives {moment_text(route.arrival)} UTC, costs {cost_text(route.cost)}: "
-        f"{span_text(driven)} of driving, {waits}"
+        f"{span_text(driven)} of driving{f' over {length}' if length else ''}, {waits}"
     )
     rows = joined_legs(trip, route)
     shown = [row_of(trip, name, legs) for name, legs in rows[:MOST_ROWS]]
@@ -211,7 +213,9 @@ def row_of(trip: Trip, name: Optional[str], legs: list[Leg]) -> TableRow:
     arcs = "arc " if len(legs) == 1 else "arcs "
     arcs += shortened(", ".join(str(it.arc) for it in legs), 12, 260)
     where = f"{trip.name_of(first.tail, '')} → {trip.name_of(last.head, '')}"
-    return TableRow(start, f"drive {name}, {arcs}" if name else f"drive {arcs}", where, takes)
+    length = trip.kilometres(legs)
+    what = f"drive {name}, {arcs}" if name else f"drive {arcs}"
+    return TableRow(start, f"{what}, {length}" if length else what, where, takes)
 
 
 def output_name(options: argparse.Namespace) -> str:
@@ -222,7 +226,9 @@ def output_name(options: argparse.Namespace) -> str:
             "--out says where a plan from the standard input is drawn; --out - is the standard "
             "output"
         )
-    return os.path.splitext(str(options.plan))[0] + (".svg" if options.svg else ".html")
+    forms = {".svg": options.svg, ".gpx": options.gpx, ".geojson": options.geojson}
+    ending = next((it for it, is_chosen in forms.items() if is_chosen), ".html")
+    return os.path.splitext(str(options.plan))[0] + ending
 
 
 def read_words() -> argparse.Namespace:
@@ -236,7 +242,10 @@ def read_words() -> argparse.Namespace:
         metavar=("DIR", "VEHICLE", "FROM", "TO", "DEPART", "UNTIL"),
         help="the words of the plan",
     )
-    parser.add_argument("--svg", action="store_true", help="draw an SVG file in place of a page")
+    form = parser.add_mutually_exclusive_group()
+    form.add_argument("--svg", action="store_true", help="draw an SVG file in place of a page")
+    form.add_argument("--gpx", action="store_true", help="write what tools/route writes, as GPX")
+    form.add_argument("--geojson", action="store_true", help="the same as GeoJSON")
     parser.add_argument("--out", metavar="FILE", help="the file to write; - is the standard output")
     parser.add_argument(
         "--no-bans", action="store_true", help="draw no closed minutes, and run nothing"
@@ -269,9 +278,12 @@ def main() -> int:
     trip = Trip(os.path.basename(name), pairs)
     if options.trip:
         trip.take_folder(options.trip, pairs)
-        if trip.routes and not options.no_bans:
+        if trip.routes and not (options.no_bans or options.gpx or options.geojson):
             trip.take_bans(Program(options.program), options.most_bans)
-    write_page(svg_file(trip) if options.svg else html_file(trip), out)
+    if options.gpx or options.geojson:
+        write_page(written(trip, options.geojson), out)
+    else:
+        write_page(svg_file(trip) if options.svg else html_file(trip), out)
     return 0
 
 

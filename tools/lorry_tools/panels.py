@@ -102,8 +102,8 @@ def front_panel(trip: Trip, width: float, height: float) -> Drawing:
 
 
 def map_panel(trip: Trip, asked: Asked, width: float, height: float) -> Optional[Drawing]:
-    """The routes between the coordinates of nodes, as straight lines; None where these are not
-    known."""
+    """The routes by the shapes of their roads, or straight between the coordinates of nodes; None
+    where these are not known."""
     used = {it for route in trip.routes for leg in route.legs for it in (leg.tail, leg.head)} | {
         asked.origin,
         asked.goal,
@@ -111,6 +111,8 @@ def map_panel(trip: Trip, asked: Asked, width: float, height: float) -> Optional
     known = [trip.places[it] for it in used if it in trip.places]
     if len(known) < 2:
         return None
+    shapes = [trip.line_of(it) for it in trip.routes]
+    known += [point for shape in shapes for point in shape]
     panel = Drawing(width, height, "A sketch of the routes by the coordinates of their nodes")
     panel.text(0, 14, "Where they go", "bold", 14)
     top, bottom = 26, height - 2
@@ -133,8 +135,7 @@ def map_panel(trip: Trip, asked: Asked, width: float, height: float) -> Optional
     labels = Labels(panel, 2, top + 2, width - 2, bottom - 22)
     lines = []
     for k, route in enumerate(trip.routes):
-        nodes = [asked.origin, *(leg.head for leg in route.drives())]
-        lines.append([at(trip.places[it]) for it in nodes if it in trip.places])
+        lines.append([at(it) for it in shapes[k]])
         few = len(trip.routes) <= 8
         thick = 3 + 2.4 * (len(trip.routes) - 1 - k) if few else 2.5
         tip = (

@@ -80,6 +80,17 @@ class Trip:
         return [self.folder, self.vehicle, str(self.origin), str(self.goal), *times]
 
 
+@dataclasses.dataclass(frozen=True)
+class BreakRule:
+    """At most so many minutes of driving since the last break, which has so many at least."""
+
+    drive: int
+    rest: int
+
+    def words(self) -> list[str]:
+        return ["--drive", str(self.drive), "--rest", str(self.rest)]
+
+
 class Program:
     """The program, which is run anew for each question."""
 
@@ -115,12 +126,13 @@ class Program:
     def latest(self, trip: Trip) -> list[Pair]:
         return answers.read_plain(self.answer(["latest", *trip.words()]).splitlines())
 
-    def tour(self, trip: Trip, stops: str) -> list[Pair]:
-        return answers.read_plain(self.answer(["tour", *trip.words(), stops]).splitlines())
+    def tour(self, trip: Trip, stops: str, rule: Optional[BreakRule] = None) -> list[Pair]:
+        words = ["tour", *trip.words(), stops, *(rule.words() if rule else [])]
+        return answers.read_plain(self.answer(words).splitlines())
 
-    def breaks(self, trip: Trip, drive: int, rest: int) -> list[Pair]:
-        limits = ["--drive", str(drive), "--rest", str(rest)]
-        return answers.read_plain(self.answer(["breaks", *trip.words(), *limits]).splitlines())
+    def breaks(self, trip: Trip, rule: BreakRule) -> list[Pair]:
+        words = ["breaks", *trip.words(), *rule.words()]
+        return answers.read_plain(self.answer(words).splitlines())
 
     def explain(self, trip: Trip, itinerary: str) -> Union[Lawful, Unlawful]:
         return answers.read_explanation(self.answer(["explain", *trip.words(), itinerary]))

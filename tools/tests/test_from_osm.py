@@ -8,8 +8,10 @@ skipped where these aren't there. The last line says how many passed, and why ot
 import argparse
 import csv
 import itertools
+import json
 import os
 import random
+import re
 import subprocess
 import sys
 import tempfile
@@ -25,6 +27,7 @@ sys.path[:0] = [TOOLS, TESTS]
 import small_extract
 from lorry_tools.conversion import access, holiday_rows, notation, tags, zone_rows
 from lorry_tools.conversion.access import CLOSED, DESTINATION, NO, OPEN, YES
+from lorry_tools.shapes import Shapes, decoded, with_times
 
 
 def python_with(package):
@@ -37,7 +40,7 @@ def python_with(package):
 
 # The gate's short form tries less.
 SHORT = os.environ.get("LORRY_PLAN_TESTS") == "short"
-OSMIUM, HOLIDAYS = python_with("osmium"), python_with("holidays")
+OSMIUM, HOLIDAYS = python_with("osmium, numpy"), python_with("holidays")
 needs_osmium = unittest.skipUnless(OSMIUM, "python3-pyosmium is missing")
 needs_holidays = unittest.skipUnless(HOLIDAYS, "python3-holidays is missing")
 LAWS = """country,key,value
@@ -52,6 +55,38 @@ def run(python, *words, check=True):
     if check and done.returncode:
         raise AssertionError(f"{' '.join(words)}: {done.stderr[-2000:]}")
     return done
+
+
+class Polylines(unittest.TestCase):
+    def test_the_example_of_the_format(self):
+        # Google's own example has five decimals.
+        self.assertEqual(decoded(b"_p~iF~ps|U_ulLnnqC_mqNvxq`@"), [(-12.02, 3.85), (-12.095, 4.07), (-12.6453, 4.3252)])
+        self.assertEqual(decoded(b"_p~i F"), [])
+        self.assertEqual(decoded(b""), [])
+
+    def test_times_by_distance(self):
+        timed = list(with_times([(0.0, 0.0), (0.0, 1.0), (0.0, 4.0)], 10, 14))
+        self.assertEqual([round(second) for _, second in timed], [600, 660, 840])
+
+    @needs_osmium
+    def test_what_is_written_is_read(self):
+        script = (
+            "import array, sys; sys.path.insert(0, sys.argv[1])\n"
+            "from lorry_tools.conversion import shapes\n"
+            "import random\n"
+            "draws = random.Random(1)\n"
+            "xs = array.array('i', [draws.randint(-1800000000, 1800000000) for _ in range(500)])\n"
+            "ys = array.array('i', [draws.randint(-900000000, 900000000) for _ in range(500)])\n"
+            "parts = [[range(k, k + 5), range(k + 4, k - 1, -1)] for k in range(0, 490, 7)]\n"
+            "shapes.AT_ONCE = 30\n"
+            "shapes.write(sys.argv[2], xs, ys, ((k, it) for k, it in enumerate(parts)))\n"
+            "for it in parts: print([((xs[k] + 5) // 10, (ys[k] + 5) // 10) for k in [*it[0], *it[1][1:]]])\n"
+        )
+        with tempfile.TemporaryDirectory() as folder:
+            done = run(OSMIUM, "-c", script, TOOLS, folder)
+            found = Shapes(os.path.join(folder, "shapes.csv"))
+            for arc, line in enumerate(done.stdout.splitlines(), 1):
+                self.assertEqual([(round(lon * 1e6), round(lat * 1e6)) for lon, lat in found.line(arc)], [tuple(it) for it in json.loads(line.replace("(", "[").replace(")", "]"))])
 
 
 class Notation(unittest.TestCase):
@@ -463,6 +498,223 @@ class Folders(unittest.TestCase):
         for text in ("hours can't be read", "--any-parking", "parking for smaller vehicles"):
             self.assertIn(text, done.stdout)
 
+    def test_shapes_lead_along_the_ways(self):
+        nodes, ways = self.square()
+        bent = [(8, 52.505, 13.425, {}), (9, 52.495, 13.415, {})]
+        ways[0] = (1, [1, 9, 8, 2], ways[0][2])
+        folder, _ = self.convert(small_extract.text_of(nodes + bent, ways + [(9, [1, 3], {"highway": "primary"})]), *self.law(), "--coarse", "0")
+        rows = table(folder, "shapes.csv")
+        arc = next(row["arc"] for row in table(folder, "ways.csv") if row["osm_way"] == "1;2")
+        self.assertEqual(len(rows), 6)
+        self.assertEqual(rows[int(arc) - 1]["arc"], arc)
+        found = Shapes(os.path.join(folder, "shapes.csv"))
+        line = [(13.4, 52.5), (13.415, 52.495), (13.425, 52.505), (13.43, 52.5), (13.43, 52.52)]
+        self.assertEqual(found.line(int(arc)), line)
+        self.assertEqual([found.line(it)[:1] for it in (0, 7, 10**9)], [[], [], []])
+        back = next(row["arc"] for row in table(folder, "ways.csv") if row["osm_way"] == "2;1")
+        self.assertEqual(found.line(int(back)), line[::-1])
+        length = next(row["metres"] for row in table(folder, "ways.csv") if row["arc"] == arc)
+        self.assertEqual(rows[int(arc) - 1]["metres"], length)
+
+    def star(self, *restrictions):
+        """Roads from a crossing, node 1, to nodes 2 to 5, which a ring joins, with turn restrictions."""
+        nodes = [(1, 52.5, 13.4, {}), (2, 52.52, 13.4, {}), (3, 52.5, 13.43, {}), (4, 52.48, 13.4, {}), (5, 52.5, 13.37, {})]
+        ways = [(number, [1, number], {"highway": "primary"}) for number in (2, 3, 4, 5)]
+        ways += [(10 + number, [number, number % 4 + 2], {"highway": "secondary"}) for number in (2, 3, 4, 5)]
+        relations = [
+            (number, [("way", first, "from"), ("node", 1, "via"), ("way", last, "to")], {"type": "restriction", **tags})
+            for number, (first, last, tags) in enumerate(restrictions, 1)
+        ]
+        return small_extract.text_of(nodes, ways, relations)
+
+    def turns(self, *restrictions, coarse="0"):
+        """The turns over the crossing, each two ways, with the rules of the arc after it, and what was printed."""
+        folder, done = self.convert(self.star(*restrictions), "--country", "de", "--no-holidays", "--coarse", coarse)
+        at = {row["node"] for row in table(folder, "nodes.csv") if row["osm_node"] == "1"}
+        with open(os.path.join(folder, "graph.gr"), encoding="ascii") as file:
+            arcs = [line.split()[1:3] for line in file if line.startswith("a ")]
+        ways = [row["osm_way"].split(";") for row in table(folder, "ways.csv")]
+        areas = {int(row["arc"]): row["area"] for row in table(folder, "roads.csv")}
+        first = table(folder, "areas.csv")[0]["area"]
+        rules = {}
+        for row in table(folder, "rules.csv"):
+            rules.setdefault(row["scope"], {})[row["key"]] = row["value"]
+        found = {
+            (before[-1], after[0]): rules.get("area:" + areas.get(arc, first), {})
+            for (_, head), before in zip(arcs, ways)
+            for arc, ((tail, _), after) in enumerate(zip(arcs, ways), 1)
+            if head == tail and head in at
+        }
+        for arc, over in enumerate(ways, 1):
+            inside = [it for it in zip(over, over[1:]) if all(len(way) == 1 for way in it)]
+            found.update((it, rules.get("area:" + areas.get(arc, first), {})) for it in inside)
+        return found, done.stdout
+
+    def test_turn_restrictions(self):
+        free, _ = self.turns()
+        self.assertEqual(len(free), 16)
+        found, _ = self.turns(("2", "3", {"restriction": "no_left_turn"}))
+        self.assertEqual(set(free) - set(found), {("2", "3")})
+        found, _ = self.turns(("2", "4", {"restriction": "only_straight_on"}))
+        self.assertEqual(set(free) - set(found), {("2", "2"), ("2", "3"), ("2", "5")})
+        found, _ = self.turns(("2", "4", {"restriction": "only_straight_on"}), ("2", "3", {"restriction": "only_left_turn"}))
+        self.assertEqual(set(free) - set(found), {("2", "2"), ("2", "5")})
+        found, _ = self.turns(("2", "2", {"restriction": "no_u_turn"}), ("5", "3", {"type": "restriction:hgv", "restriction": "no_straight_on"}))
+        self.assertEqual(set(free) - set(found), {("2", "2")})
+        self.assertEqual(found["5", "3"], {"hgv": "no"})
+        self.assertEqual(found["5", "4"], {})
+
+    def test_turn_restrictions_of_some_vehicles_and_hours(self):
+        hours = {"restriction:conditional": "no_left_turn @ (Mo-Fr 07:00-09:00)", "except": "bus;bicycle"}
+        found, text = self.turns(("2", "3", hours), ("3", "4", {"restriction": "no_left_turn", "except": "hgv"}))
+        self.assertEqual(len(found), 16)
+        ban = "no @ (Mo-Fr 07:00-09:00)"
+        self.assertEqual(found["2", "3"], {"hgv:conditional": ban, "goods:conditional": ban})
+        self.assertEqual(found["3", "4"], {"goods": "no", "bus": "no"})
+        self.assertIn("2 turn restrictions\n", text)
+
+    def test_turn_restrictions_that_are_left_out(self):
+        nodes = [("way", 2, "from"), ("way", 3, "via"), ("way", 13, "to")]
+        text = self.star(("2", "3", {"restriction:motorcar": "no_left_turn"}), ("2", "99", {"restriction": "no_left_turn"}), ("2", "3", {"restriction": "odd"}))
+        text = text.replace("</osm>", small_extract.element("relation", 9, {}, small_extract.member_lines(nodes) + ['<tag k="type" v="restriction"/>']) + "</osm>")
+        _, done = self.convert(text, "--country", "de", "--no-holidays", "--coarse", "0")
+        for words in ("aren't about lorries", "of roads that aren't taken", "a turn restriction that isn't known", "over ways in place of a node"):
+            self.assertIn(words, done.stdout)
+
+    def test_a_coarse_network_obeys_turn_restrictions(self):
+        found, _ = self.turns(("2", "4", {"restriction": "only_straight_on"}), coarse="60")
+        self.assertLessEqual({it for it in found if it[0] == "2"}, {("2", "4")})
+
+    def test_ferries(self):
+        nodes, ways = self.square({"hgv": "no"}, {"access": "no"})
+        sea = [(8, 52.55, 13.4, {}), (9, 52.56, 13.4, {})]
+        ways += [
+            (30, [4, 8], {"route": "ferry", "motor_vehicle": "yes", "duration": "00:30", "hgv:conditional": "no @ (weight>20)"}),
+            (31, [8, 3], {"highway": "primary"}),
+            (32, [4, 9], {"route": "ferry", "motor_vehicle": "yes"}),
+            (33, [4, 9], {"route": "ferry", "duration": "10"}),
+        ]
+        text = small_extract.text_of(nodes + sea, ways)
+        folder, done = self.convert(text, *self.law(), "--coarse", "0")
+        seconds = {row["osm_way"]: int(row["seconds"]) for row in table(folder, "ways.csv")}
+        ferry = next(way for way in seconds if "30" in way.split(";"))
+        self.assertEqual(ferry, "30")
+        self.assertEqual(seconds["30"], 1800)
+        rules = {(row["scope"], row["key"]): row["value"] for row in table(folder, "rules.csv")}
+        self.assertEqual({value for (scope, _), value in rules.items() if "ferry" in scope}, {"no @ (weight>20)"})
+        self.assertEqual({row["zone"] for row in table(folder, "areas.csv")}, {"Europe-Berlin"})
+        for words in ("without a duration", "don't say that they take lorries"):
+            self.assertIn(words, done.stdout)
+        _, done = self.convert(text, *self.law(), "--coarse", "0", "--ferries", "out")
+        self.assertIn("--ferries out", done.stdout)
+
+    def test_durations(self):
+        for text, minutes in [("25", 25), ("00:25", 25), ("1:30:00", 90), ("PT1H30M", 90), ("P1DT2H", 1560), ("soon", None), ("0", None), ("", None), ("99999", None)]:
+            self.assertEqual(tags.duration_of(text), minutes, text)
+
+    def seconds(self, highway, *options, **tags):
+        """The seconds of the first road of the square, on which the second one follows."""
+        nodes, ways = self.square()
+        ways[0] = (1, [1, 2], {"highway": highway, **tags})
+        folder, _ = self.convert(small_extract.text_of(nodes, ways + [(9, [1, 3], {"highway": "primary"}), (8, [2, 4], {"highway": "primary"})]), *self.law(), "--coarse", "0", *options)
+        return sorted(int(row["seconds"]) for row in table(folder, "ways.csv") if row["osm_way"] == "1")
+
+    def test_speeds_by_class_of_vehicles(self):
+        length = 2030.8
+        for highway, words, kmh in [
+            ("trunk", ["--country", "de"], 60),  # the limit of lorries on roads that are no motorways
+            ("trunk", ["--country", "ch", "--no-holidays"], 75),
+            ("trunk", ["--country", "de", "--vehicle-class", "goods"], 95),
+            ("motorway", ["--country", "de", "--speed", "motorway=100"], 80),
+            ("motorway", ["--country", "fr", "--no-holidays", "--speed", "motorway=100"], 90),
+            ("motorway", ["--country", "de", "--vehicle-class", "bus"], 95),
+        ]:
+            found = self.seconds(highway, *words, oneway="no")
+            self.assertEqual(len(found), 2)
+            self.assertAlmostEqual(found[0], length / kmh * 3.6, delta=1, msg=(highway, words))
+        self.assertAlmostEqual(self.seconds("trunk", "--vehicle-class", "goods", **{"maxspeed:goods": "50", "maxspeed:hgv": "20"})[0], length / 50 * 3.6, delta=1)
+
+    def test_night_speeds(self):
+        found = self.seconds("primary", "--night-speed", "de=30")
+        for one, kmh in zip(found, (60, 60, 30, 30)):
+            self.assertAlmostEqual(one, 2030.8 / kmh * 3.6, delta=1)
+        folder = os.path.join(self.kept.name, "made")
+        arcs = {int(row["seconds"]): row["arc"] for row in table(folder, "ways.csv") if row["osm_way"] == "1"}
+        areas = {row["arc"]: row["area"] for row in table(folder, "roads.csv")}
+        values = [row["value"] for row in table(folder, "rules.csv") if row["scope"] == "area:" + areas.get(arcs[found[0]], "") and row["key"].startswith("hgv")]
+        first = table(folder, "areas.csv")[0]["area"]
+        ban = "22:00-05:00 AND weight>7.5"
+        of_area = {area: [row["value"] for row in table(folder, "rules.csv") if row["scope"] == f"area:{area}"] for area in {first, *areas.values()}}
+        self.assertTrue(any(ban in value for value in of_area[areas.get(arcs[found[0]], first)]), values)
+        self.assertFalse(any(ban in value for value in of_area[areas.get(arcs[found[-1]], first)]))
+        self.assertEqual(len(self.seconds("primary", "--night-speed", "at=30")), 2)
+        nodes, ways = self.square()
+        _, done = self.convert(small_extract.text_of(nodes, ways), *self.law(), "--night-speed", "de=slow", check=False)
+        self.assertIn("--night-speed", done.stderr)
+
+    def test_a_polygon_cuts_the_extract(self):
+        nodes, pairs = small_extract.grid(6)
+        roads = [(number, list(pair), {"highway": "primary"}) for number, pair in enumerate(pairs, 1)]
+        roads.append((99, [1, 2, 3, 4, 5, 6], {"highway": "primary"}))  # leaves the polygon for a while
+        whole = [("w", 13.39, 52.49), ("e", 13.5, 52.49), ("e", 13.5, 52.6), ("w", 13.39, 52.6)]
+        hole = [(13.4072 + 0.0072 * k, lat) for k, lat in ((0, 52.499), (3, 52.499), (3, 52.5065), (0, 52.5065))]
+        lines = ["name", "1", *(f"  {lon} {lat}" for _, lon, lat in whole), "END", "!2", *(f"  {lon - 0.001} {lat}" for lon, lat in hole), "END", "END", ""]
+        area = self.write("part.poly", "\n".join(lines))
+        text = small_extract.text_of(nodes, roads)
+        folder, _ = self.convert(text, *self.law(), "--coarse", "0", "--polygon", area)
+        found = {int(row["osm_node"]) for row in table(folder, "nodes.csv")}
+        inside = {number for number, lat, lon, _ in nodes if not (13.4062 < lon < 13.4278 and lat < 52.5065)}
+        self.assertLessEqual(found, inside)
+        self.assertGreater(len(found), 20)
+        metres = [int(row["metres"]) for row in table(folder, "ways.csv") if "99" in row["osm_way"].split(";")]
+        self.assertLess(max(metres), 2500)
+        for bad in ("name\n1\n 1 2\nEND\nEND\n", "name\n1\n 1 2\n 2 3\n 3 3\n", "name\n", "name\n1\n one two\nEND\n"):
+            _, done = self.convert(text, *self.law(), "--polygon", self.write("bad.poly", bad), check=False)
+            self.assertEqual(done.returncode, 1)
+            self.assertIn("bad.poly", done.stderr.splitlines()[-1])
+
+    def test_a_folder_that_would_be_too_large_is_refused_after_reading(self):
+        nodes, pairs = small_extract.grid(30)
+        # Each third line of the grid is larger than the others.
+        lines = [(one - 1) // 30 if other == one + 1 else (one - 1) % 30 for one, other in pairs]
+        kinds = ["residential" if line % 3 else "primary" for line in lines]
+        roads = [(number, list(pair), {"highway": kinds[number - 1]}) for number, pair in enumerate(pairs, 1)]
+        path = self.write("grid.osm", small_extract.text_of(nodes, roads))
+        script = (
+            "import sys; sys.argv[0] = sys.argv.pop(1); sys.path[:0] = [sys.argv.pop(1)]; from lorry_tools.conversion import estimate, tables\n"
+            "estimate.FEWEST_WAYS, estimate.SAMPLES, estimate.SAMPLED_WAYS, estimate.SMALL_PART = 100, 2, 900, 2\n"
+            "tables.MOST_NODES, tables.MOST_ARCS = int(sys.argv.pop(1)), 100000\n"
+            "exec(compile(open(sys.argv[0]).read(), sys.argv[0], 'exec'))"
+        )
+        words = [f"{TOOLS}/from_osm", TOOLS]
+        own = [path, os.path.join(self.kept.name, "large"), "--years", "2026", "2026", *self.law(), "--coarse", "60"]
+        done = run(OSMIUM, "-c", script, *words, "100000", *own)
+        rows = table(own[1], "nodes.csv")
+        said = re.search(r"the folder will have about ([\d,]+) nodes and ([\d,]+) arcs", done.stderr)
+        for text, count in zip(said.groups(), (len(rows), len(table(own[1], "ways.csv")))):
+            self.assertTrue(0.6 < int(text.replace(",", "")) / count < 1.3, (text, count))
+        done = run(OSMIUM, "-c", script, *words, str(len(rows) // 2), *own, check=False)
+        self.assertEqual(done.returncode, 1)
+        last = done.stderr.splitlines()[-1]
+        self.assertRegex(last, r"the folder would have about .* --coarse \d+ would fit, with about")
+        self.assertIn("--roads unclassified would fit", last)
+        self.assertNotIn("strongly connected", done.stderr)
+
+    def test_several_processes_make_the_same_folder(self):
+        path = self.write("drawn.osm", small_extract.drawn(2, 8))
+        script = (
+            "import sys; sys.argv[0] = sys.argv.pop(1); sys.path[:0] = [sys.argv.pop(1)]; from lorry_tools.conversion import coarse\n"
+            "coarse.FEWEST_FOR_PROCESSES, coarse.CHUNK = 2, 3\n"
+            "exec(compile(open(sys.argv[0]).read(), sys.argv[0], 'exec'))"
+        )
+        made = []
+        for processes in ("1", "2"):
+            folder = os.path.join(self.kept.name, f"by{processes}")
+            own = [path, folder, "--years", "2026", "2026", *self.law(), "--coarse", "60", "--processes", processes]
+            run(OSMIUM, "-c", script, f"{TOOLS}/from_osm", TOOLS, *own)
+            made.append({name: open(os.path.join(folder, name), "rb").read() for name in sorted(os.listdir(folder))})
+        self.assertEqual(*made)
+
     def test_tolls(self):
         nodes, ways = self.square({"toll": "yes"})
         text = small_extract.text_of(nodes, ways)
@@ -528,10 +780,11 @@ class Folders(unittest.TestCase):
         ]
         drawn = [(2, "90", False), (3, "0", True)] if SHORT else [(1, "0", False), (2, "90", False), (3, "0", True)]
         for seed, coarse, few_areas in drawn:
+            night = ["--night-speed", "de=40"] if seed == 2 else []
             roads = self.write(f"{seed}.osm", small_extract.drawn(seed, 6))
             folder = os.path.join(self.kept.name, f"drawn{seed}")
             script = most + [f"{TOOLS}/from_osm", TOOLS] if few_areas else [f"{TOOLS}/from_osm"]
-            run(OSMIUM, *script, roads, folder, "--years", "2026", "2026", "--coarse", coarse, *self.law())
+            run(OSMIUM, *script, roads, folder, "--years", "2026", "2026", "--coarse", coarse, *night, *self.law())
             if few_areas:
                 self.assertEqual(len(table(folder, "areas.csv")), 9)
             done = run(
@@ -545,6 +798,8 @@ class Folders(unittest.TestCase):
                 "2026-10-02",
                 "--days",
                 "3",
+                *(["--fine"] if coarse == "0" else []),
+                *night,
                 "--arcs",
                 "2" if SHORT else "6",
                 "--trips",

@@ -205,7 +205,7 @@ class Debian(Packages):
 class Tools(Packages):
     """The package of the tools."""
 
-    COMMANDS = [f"lorry-plan-{it}" for it in ("batch-over-machines", "examples", "from-osm", "holidays", "lint", "look", "trip", "why-empty", "zones")] + ["lorry-serve"]
+    COMMANDS = [f"lorry-plan-{it}" for it in ("batch-over-machines", "examples", "from-osm", "holidays", "laws", "lint", "look", "route", "trip", "why-empty", "zones")] + ["lorry-serve"]
 
     def unpacked(self):
         (path,) = self.made("--only", "tools")

@@ -7,7 +7,9 @@ from __future__ import annotations
 
 import collections
 import math
-from typing import Iterable, Mapping, Optional
+from typing import Any, Iterable, Mapping, Optional
+
+import numpy
 
 Line = list[tuple[int, int]]
 Cell = tuple[int, int]
@@ -17,6 +19,8 @@ Cell = tuple[int, int]
 CELL = 100_000
 # How many cells away a border is looked for.
 MOST_RINGS = 200
+# Pairs of a place and an edge that are looked at at once.
+AT_ONCE = 1_000_000
 
 
 def cells_of_ring(column: int, row: int, ring: int) -> list[Cell]:
@@ -65,6 +69,29 @@ class Border:
                 inside = not inside
         return inside
 
+    def contain(self, xs: Any, ys: Any) -> Any:
+        """Which of many places are inside, as arrays."""
+        west, south, east, north = self.box
+        found = numpy.zeros(len(xs), dtype=bool)
+        boxed = (xs >= west) & (xs <= east) & (ys >= south) & (ys <= north)
+        rows = ys // CELL
+        for row in numpy.unique(rows[boxed]).tolist():
+            edges = numpy.array(self.edges.get(row, []), dtype=float).reshape(-1, 4)
+            own = numpy.flatnonzero(boxed & (rows == row))
+            for part in numpy.array_split(own, len(own) * len(edges) // AT_ONCE + 1):
+                found[part] = parities(edges, xs[part], ys[part])
+        return found
+
+
+def parities(edges: Any, xs: Any, ys: Any) -> Any:
+    """Whether a line to the east from each place crosses an odd number of edges."""
+    x, y = xs[:, None], ys[:, None]
+    x1, y1, x2, y2 = edges.T
+    level = y2 == y1
+    slope = numpy.where(level, 0.0, (x2 - x1) / numpy.where(level, 1.0, y2 - y1))
+    crossed = ((y1 > y) != (y2 > y)) & (x < slope * (y - y1) + x1)
+    return crossed.sum(axis=1) % 2 == 1
+
 
 class Borders:
     def __init__(
@@ -75,10 +102,10 @@ class Borders:
     ) -> None:
         """Borders are pairs of a code and the numbers of ways; ways have their coordinates, or None
         where the extract hasn't them."""
-        members: dict[str, list[int]] = collections.defaultdict(list)
-        for code, numbers in borders:
+        members: dict[str, dict[int, None]] = collections.defaultdict(dict)
+        for code, own in borders:
             if subdivisions or "-" not in code:
-                members[code] += [number for number in numbers if number not in members[code]]
+                members[code].update(dict.fromkeys(own))
         self.closed: list[Border] = []
         self.cells: set[Cell] = set()
         opened: dict[str, set[int]] = {}
@@ -106,7 +133,6 @@ class Borders:
                 for x, y in line:
                     self.sides[x // CELL, y // CELL].append((x, y, codes[0]))
         self.opened = sorted(opened)
-        self.known: dict[Cell, tuple[Optional[str], bool]] = {}
         self.near: collections.Counter[Optional[str]] = collections.Counter()
 
     def codes(self) -> list[str]:
@@ -139,15 +165,31 @@ class Borders:
                         best, code = distance, other_code
         return code
 
-    def country(self, x: int, y: int) -> Optional[str]:
-        """The code of a place, or None. A place that no closed border has is counted."""
-        cell = (x // CELL, y // CELL)
-        if cell in self.cells:
-            found = self.find(x, y)
-        else:
-            if cell not in self.known:
-                self.known[cell] = self.find(x, y)
-            found = self.known[cell]
-        if not found[1]:
-            self.near[found[0]] += 1
-        return found[0]
+    def countries(self, xs: Any, ys: Any) -> list[Optional[str]]:
+        """The codes of many places, given as arrays; places that no closed border has are
+        counted."""
+        width = 1 << 20
+        cells = (xs // CELL + width // 2) * width + ys // CELL + width // 2
+        names, firsts, back, counts = numpy.unique(
+            cells, return_index=True, return_inverse=True, return_counts=True
+        )
+        is_plain = numpy.zeros(len(names), dtype=bool)
+        codes: list[Optional[str]] = [None] * len(names)
+        for number, first in enumerate(firsts.tolist()):
+            x, y = int(xs[first]), int(ys[first])
+            if (x // CELL, y // CELL) not in self.cells:
+                is_plain[number] = True
+                codes[number], is_sure = self.find(x, y)
+                if not is_sure:
+                    self.near[codes[number]] += int(counts[number])
+        found = [codes[it] for it in back.tolist()]
+        left = numpy.flatnonzero(~is_plain[back])
+        for border in self.closed:
+            inside = border.contain(xs[left], ys[left])
+            for at in left[inside].tolist():
+                found[at] = border.code
+            left = left[~inside]
+        for at in left.tolist():
+            found[at] = self.nearest(int(xs[at]), int(ys[at]))
+            self.near[found[at]] += 1
+        return found

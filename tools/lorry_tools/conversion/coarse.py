@@ -10,63 +10,149 @@ over the roads too: a road that is closed for a while closes the whole arc for t
 from __future__ import annotations
 
 import heapq
-import itertools
-from typing import AbstractSet, Callable, Iterable, Optional
+import math
+import multiprocessing
+from typing import AbstractSet, Any, Callable, Collection, Iterable, Iterator, Optional, Sequence
 
+import numpy
+
+from lorry_tools.conversion.contraction import NO_RULES, Contraction, Links, Star
 from lorry_tools.conversion.roads import Arc
 
-# The arcs of each node.
-Star = list[list[Arc]]
+# A way between kept nodes: the places of its arcs, and its rules.
+Way = tuple[list[int], frozenset[int]]
+# The ways of a node, and whether some were given up.
+Ways = tuple[list[Way], bool]
 
 # A way over this many kept junctions is no longer followed to see whether it is better than another
-# one: then an arc may be kept for nothing.
-MOST_KEPT = 2
-# The most ways to a junction that are followed at once, by their rules and tolls.
-MOST_WAYS = 12
+# one: then an arc may be looked at for nothing.
+MOST_KEPT = 1
+# The most ways to a junction that are followed at once, by their rules and tolls; and in a graph
+# from which junctions were taken out.
+MOST_WAYS, FEW_WAYS = 12, 3
 
-NO_RULES: frozenset[int] = frozenset()
+FREE = (NO_RULES, 0.0)
+FOR_EVER = 1 << 60
+# The bits of a label's number in the queue, and the kinds of labels at one millisecond.
+BITS = 32
+MOST_LABELS = (1 << BITS) - 1
+KINDS = MOST_KEPT + 1
+# From how many kept junctions on several processes are worth it, and how many one takes at once.
+FEWEST_FOR_PROCESSES, CHUNK = 500, 50
 
 
 class Stars:
     """The arcs that leave each node, and that come into it."""
 
-    def __init__(self, count: int, arcs: Iterable[Arc]) -> None:
+    def __init__(self, count: int, arcs: Sequence[Arc]) -> None:
+        self.arcs = arcs
         self.out: Star = [[] for _ in range(count)]
         self.into: Star = [[] for _ in range(count)]
-        for arc in arcs:
-            self.out[arc.tail].append(arc)
-            self.into[arc.head].append(arc)
+        for place, arc in enumerate(arcs):
+            if arc.rules or arc.toll:
+                place = -1 - place
+            self.out[arc.tail].append((arc.time, arc.head, place))
+            self.into[arc.head].append((arc.time, arc.tail, place))
+
+    def speed(self, node: int) -> float:
+        """The metres a millisecond of the fastest arc at a node."""
+        arcs = self.arcs
+        around = self.out[node] + self.into[node]
+        return max(
+            (arcs[it if it >= 0 else -1 - it].length / time for time, _, it in around), default=0
+        )
 
 
-def reached(start: int, star: Star, end_of: Callable[[Arc], int], most: int) -> dict[int, int]:
+def reached(start: int, star: Star, most: int) -> dict[int, int]:
     """The nodes within so many milliseconds of a node."""
     best, queue = {start: 0}, [(0, start)]
+    push, pop = heapq.heappush, heapq.heappop
     while queue:
-        time, node = heapq.heappop(queue)
+        time, node = pop(queue)
         if time > best[node]:
             continue
-        for arc in star[node]:
-            head, later = end_of(arc), time + arc.time
-            if later <= most and later < best.get(head, most + 1):
-                best[head] = later
-                heapq.heappush(queue, (later, head))
+        for step, other, _ in star[node]:
+            later = time + step
+            if later <= most and later < best.get(other, most + 1):
+                best[other] = later
+                push(queue, (later, other))
     return best
+
+
+def nearest(start: int, stars: Stars, nodes: AbstractSet[int], most: int) -> Optional[int]:
+    """The one of some nodes that is nearest to a node there and back, whichever takes longer; None
+    where none is within so many milliseconds in either direction."""
+    for reach in (most // 8, most // 4, most // 2, most):
+        near, back = (reached(start, it, reach) for it in (stars.out, stars.into))
+        if reach < most:
+            ends = [(max(near[it], back[it]), it) for it in near.keys() & back.keys() & nodes]
+        else:
+            ends = [
+                (max(near.get(it, FOR_EVER), back.get(it, FOR_EVER)), it)
+                for it in (near.keys() | back.keys()) & nodes
+            ]
+        if ends:
+            return min(ends)[1]
+    return None
+
+
+class Distances:
+    """The least times from some nodes to all others, over arrays of arcs: the nodes that a round
+    brought nearer are looked at together, those of the next few arcs' time first."""
+
+    # How many arcs of middling time are looked at before farther nodes.
+    AHEAD = 4
+
+    def __init__(self, count: int, tails: Any, heads: Any, times: Any) -> None:
+        order = numpy.argsort(tails, kind="stable")
+        self.count, self.heads, self.times = count, heads[order], times[order]
+        self.firsts = numpy.searchsorted(tails[order], numpy.arange(count + 1))
+        self.step = self.AHEAD * int(times.mean()) + 1
+
+    def __call__(self, starts: Sequence[int]) -> Any:
+        """A row of times by node for each start, FOR_EVER for nodes that can't be reached."""
+        best = numpy.full(len(starts) * self.count, FOR_EVER, dtype=numpy.int64)
+        left = numpy.arange(len(starts)) * self.count + numpy.array(starts)
+        best[left] = 0
+        while len(left):
+            times = best[left]
+            is_near = times < times.min() + self.step
+            heads, times = self.nearer(best, left[is_near], times[is_near])
+            # Of several times of a node the last one that is assigned stays: the least.
+            order = numpy.argsort(-times)
+            best[heads[order]] = times[order]
+            left = numpy.unique(numpy.concatenate((left[~is_near], heads)))
+        return best.reshape(len(starts), self.count)
+
+    def nearer(self, best: Any, at: Any, times: Any) -> tuple[Any, Any]:
+        """The places in `best` to which arcs from some places come earlier, with the times."""
+        nodes = at % self.count
+        firsts = self.firsts[nodes]
+        counts = self.firsts[nodes + 1] - firsts
+        ends = numpy.cumsum(counts)
+        arcs = numpy.repeat(firsts - ends + counts, counts) + numpy.arange(ends[-1])
+        heads = numpy.repeat(at - nodes, counts) + self.heads[arcs]
+        later = numpy.repeat(times, counts) + self.times[arcs]
+        is_nearer = later < best[heads]
+        return heads[is_nearer], later[is_nearer]
+
+
+def distances(count: int, arcs: Sequence[Arc], times: Iterable[int]) -> Distances:
+    ends = ([arc.tail for arc in arcs], [arc.head for arc in arcs], list(times))
+    return Distances(count, *(numpy.array(it, dtype=numpy.int64) for it in ends))
 
 
 def kept_junctions(
     nodes: Iterable[int],
     stars: Stars,
-    fixed: AbstractSet[int],
-    unfit: AbstractSet[int],
+    fixed: Collection[int],
+    unfit: Collection[int],
     gap: int,
-    progress: Callable[[str], None],
+    progress: Callable[[int, int], None],
 ) -> set[int]:
     """The nodes that are kept: the fixed ones, and then those that none before is within the gap
     of, in either direction."""
-    fastest: dict[int, float] = {}
-    for node in nodes:
-        around = stars.out[node] + stars.into[node]
-        fastest[node] = max((arc.length / arc.time for arc in around), default=0)
+    fastest = {node: stars.speed(node) for node in nodes}
     order = sorted(
         nodes,
         key=lambda node: (node not in fixed, node in unfit, -round(fastest[node] * 3600), node),
@@ -74,102 +160,132 @@ def kept_junctions(
     kept: set[int] = set()
     covered: set[int] = set()
     for count, node in enumerate(order, 1):
-        if count % 50_000 == 0:
-            progress(f"{count:,} of {len(order):,} junctions looked at")
+        progress(count, len(order))
         if node in covered and node not in fixed:
             continue
         kept.add(node)
-        covered.update(reached(node, stars.out, lambda arc: arc.head, gap))
-        covered.update(reached(node, stars.into, lambda arc: arc.tail, gap))
+        covered.update(reached(node, stars.out, gap))
+        covered.update(reached(node, stars.into, gap))
     return kept
 
 
-class Label:
-    """A way from the start to a node."""
-
-    __slots__ = ("node", "time", "rules", "toll", "hops", "arc", "before")
-
-    def __init__(
-        self,
-        node: int,
-        time: int,
-        rules: frozenset[int],
-        toll: float,
-        hops: int,
-        arc: Optional[Arc],
-        before: Optional[Label],
-    ) -> None:
-        self.node, self.time, self.rules, self.toll = node, time, rules, toll
-        self.hops, self.arc, self.before = hops, arc, before
+class Unsure(Exception):
+    """A graph from which junctions were taken out doesn't tell which of two ways comes first."""
 
 
-def is_beaten(label: Label, others: Iterable[Label]) -> bool:
-    """Whether one of the ways, none of which takes longer, has no rule that this one hasn't, and no
-    higher toll."""
-    for other in others:
-        if other.toll <= label.toll and other.rules <= label.rules:
+def ways_from(
+    start: int, out: Star, links: Links, kept: Collection[int], is_whole: bool = True
+) -> Ways:
+    """The ways from a kept junction to others without a kept one between, that no way beats, and
+    whether some were given up. Raises Unsure where the graph isn't whole, and two ways take as long
+    or a junction has several.
+
+    A way is beaten by one that takes no longer, and has neither a rule that it hasn't nor a higher
+    toll. Of ways that take as long, those with kept junctions come first, and then those that were
+    met first: so a number says the place of a label in the queue. It is the milliseconds, then
+    whether the way may still pass a kept junction, and then the number of the label."""
+    all_rules, all_tolls = links.rules, links.tolls
+    push, pop = heapq.heappush, heapq.heappop
+    # The labels: their nodes, links and the labels before them; and some labels' rules and tolls.
+    nodes, places, before = [start], [0], [0]
+    ruled: dict[int, tuple[frozenset[int], float]] = {}
+    settled: dict[int, list[tuple[frozenset[int], float]]] = {}
+    # The least number of a label without rules and toll at a node: it beats all later ones. And the
+    # last number of a label that may still pass a kept junction.
+    least: dict[int, int] = {start: 0}
+    last: dict[int, int] = {}
+    found: list[Way] = []
+    gave_up = False
+    most = MOST_WAYS if is_whole else FEW_WAYS
+    fresh = MOST_KEPT
+    queue = [fresh << BITS]
+    direct = 1
+    while queue and direct:
+        number = pop(queue)
+        label = number & MOST_LABELS
+        number >>= BITS
+        time, left = divmod(number, KINDS)
+        node = nodes[label]
+        if left == fresh:
+            direct -= 1
+            if not is_whole:
+                if last.get(node) == number:
+                    raise Unsure
+                last[node] = number
+        rules, toll = ruled.get(label, FREE)
+        others = settled.get(node)
+        if others is None:
+            settled[node] = [(rules, toll)]
+        elif beaten(others, rules, toll):
+            continue
+        elif len(others) >= most:
+            if not is_whole:
+                raise Unsure
+            gave_up = True
+            continue
+        else:
+            others.append((rules, toll))
+        if label and node in kept:
+            if left == fresh:
+                found.append((links.arcs_of(path_of(label, places, before)), rules))
+            left -= 1
+            if left < 0:
+                continue
+        is_free = label not in ruled
+        for step, head, place in out[node]:
+            later = (time + step) * KINDS + left
+            known = least.get(head, FOR_EVER)
+            if later >= known:
+                if later == known and left == fresh and not is_whole:
+                    raise Unsure
+                continue
+            if is_free and place >= 0:
+                least[head] = later
+            else:
+                if head == start:
+                    continue
+                if place < 0:
+                    place = -1 - place
+                own_rules, own_toll = rules | all_rules[place], toll + all_tolls[place]
+                if head in settled and beaten(settled[head], own_rules, own_toll):
+                    continue
+                ruled[len(nodes)] = own_rules, own_toll
+            push(queue, later << BITS | len(nodes))
+            nodes.append(head)
+            places.append(place)
+            before.append(label)
+            direct += left == fresh
+    return found, gave_up
+
+
+def beaten(
+    others: Iterable[tuple[frozenset[int], float]], rules: frozenset[int], toll: float
+) -> bool:
+    """Whether one of the others has no further rules and no higher toll."""
+    for other, other_toll in others:
+        if other_toll <= toll and other <= rules:
             return True
     return False
 
 
-def ways_from(start: int, stars: Stars, kept: AbstractSet[int]) -> tuple[list[Label], bool]:
-    """The ways from a kept junction to others without a kept one between, that no way beats, and
-    whether some were given up."""
-    settled: dict[int, list[Label]] = {}
-    found: list[Label] = []
-    gave_up = False
-    tie = itertools.count()
-    queue = [(0, 0, next(tie), Label(start, 0, NO_RULES, 0.0, 0, None, None))]
-    direct = 1
-    while queue and direct:
-        _, _, _, label = heapq.heappop(queue)
-        direct -= label.hops == 0
-        others = settled.setdefault(label.node, [])
-        if is_beaten(label, others):
-            continue
-        if len(others) >= MOST_WAYS:
-            gave_up = True
-            continue
-        others.append(label)
-        hops = label.hops
-        if label.node in kept and label.before is not None:
-            if hops == 0:
-                found.append(label)
-            hops += 1
-            if hops > MOST_KEPT:
-                continue
-        for arc in stars.out[label.node]:
-            if arc.head == start:
-                continue
-            rules = (
-                label.rules | {arc.rules}
-                if arc.rules and arc.rules not in label.rules
-                else label.rules
-            )
-            later = Label(
-                arc.head, label.time + arc.time, rules, label.toll + arc.toll, hops, arc, label
-            )
-            if is_beaten(later, settled.get(arc.head, ())):
-                continue
-            heapq.heappush(queue, (later.time, -hops, next(tie), later))
-            direct += hops == 0
-    return found, gave_up
+def path_of(label: int, places: Sequence[int], before: Sequence[int]) -> list[int]:
+    """The links of a label, in their order."""
+    path: list[int] = []
+    while label:
+        path.append(places[label])
+        label = before[label]
+    path.reverse()
+    return path
 
 
-def arc_of(label: Label) -> Arc:
-    """The arc that stands for a way."""
-    arcs: list[Arc] = []
-    while label.before is not None and label.arc is not None:
-        arcs.append(label.arc)
-        label = label.before
-    arcs.reverse()
+def arc_of(arcs: Sequence[Arc], rules: frozenset[int]) -> Arc:
+    """The arc that stands for a way over some arcs."""
     names: dict[str, float] = {}
-    ways: list[int] = []
+    pieces: list[int] = []
     for arc in arcs:
         names[arc.name] = names.get(arc.name, 0) + arc.length
-        ways += [way for way in arc.ways if not ways or ways[-1] != way]
+        pieces += arc.pieces
     name = max(names, key=lambda it: (it != "", names[it]))
-    rules = frozenset(arc.rules for arc in arcs if arc.rules)
     return Arc(
         arcs[0].tail,
         arcs[-1].head,
@@ -178,7 +294,7 @@ def arc_of(label: Label) -> Arc:
         rules,
         sum(arc.toll for arc in arcs),
         arcs[0].area,
-        tuple(ways),
+        tuple(pieces),
         name,
     )
 
@@ -188,59 +304,122 @@ def minutes(arc: Arc) -> int:
     return max(1, (arc.time + 30_000) // 60_000)
 
 
-def without_detours(arcs: Iterable[Arc], count: int, kept: AbstractSet[int]) -> list[Arc]:
-    """Leaves out arcs that others replace, with the same rules or fewer, within a tenth and ten
-    seconds, from short to long."""
-    out: Star = [[] for _ in range(count)]
+class Detours:
+    """Arcs, which are added from short to long, and whether others replace a further one."""
+
+    def __init__(self, xs: Sequence[int], ys: Sequence[int], arcs: Sequence[Arc]) -> None:
+        self.xs, self.ys = xs, ys
+        # The fastest arc bounds how far a way may lead away from its end.
+        self.fastest = max((arc.length / arc.time for arc in arcs), default=1.0)
+        self.out: dict[int, list[tuple[int, int, frozenset[int], float]]] = {}
+
+    def add(self, arc: Arc) -> None:
+        self.out.setdefault(arc.tail, []).append((arc.time, arc.head, arc.rules, arc.toll))
+
+    def replace(self, arc: Arc) -> bool:
+        """Whether some arcs replace one, with the same rules or fewer, within a tenth and ten
+        seconds."""
+        most = arc.time + arc.time // 10 + 10_000
+        rules, toll, goal, out = arc.rules, arc.toll, arc.head, self.out
+        best, queue = {arc.tail: 0}, [(0.0, 0, arc.tail)]
+        push, pop, hypot = heapq.heappush, heapq.heappop, math.hypot
+        xs, ys = self.xs, self.ys
+        x, y = xs[goal], ys[goal]
+        wide = math.cos(math.radians(y / 1e7))
+        # Milliseconds for each unit of a coordinate; a little less, as the globe is no plane.
+        pace = 0.0111194927 / self.fastest * 0.99
+        while queue:
+            _, time, node = pop(queue)
+            if time > best[node]:
+                continue
+            # From short to long, as they were added.
+            for step, head, own, own_toll in out.get(node, ()):
+                later = time + step
+                if later > most:
+                    break
+                if later < best.get(head, FOR_EVER) and own_toll <= toll and own <= rules:
+                    if head == goal:
+                        return True
+                    left = hypot((xs[head] - x) * wide, ys[head] - y) * pace
+                    if later + left <= most:
+                        best[head] = later
+                        push(queue, (later + left, later, head))
+        return False
+
+
+def without_detours(
+    arcs: Sequence[Arc],
+    xs: Sequence[int],
+    ys: Sequence[int],
+    progress: Callable[[int, int], None],
+) -> list[Arc]:
+    """Leaves out arcs that others replace, from short to long."""
+    detours = Detours(xs, ys, arcs)
     found: list[Arc] = []
-    for arc in sorted(arcs, key=lambda arc: (arc.time, len(arc.rules), arc.tail, arc.head)):
-        if not is_replaced(arc, out):
-            out[arc.tail].append(arc)
+    order = sorted(arcs, key=lambda arc: (arc.time, len(arc.rules), arc.tail, arc.head))
+    for count, arc in enumerate(order, 1):
+        progress(count, len(order))
+        if not detours.replace(arc):
+            detours.add(arc)
             found.append(arc)
     return found
 
 
-def is_replaced(arc: Arc, out: Star) -> bool:
-    most = arc.time + arc.time // 10 + 10_000
-    best, queue = {arc.tail: 0}, [(0, arc.tail)]
-    while queue:
-        time, node = heapq.heappop(queue)
-        if node == arc.head:
-            return True
-        if time > best[node]:
-            continue
-        for other in out[node]:
-            later = time + other.time
-            if (
-                later <= most
-                and later < best.get(other.head, most + 1)
-                and other.rules <= arc.rules
-                and other.toll <= arc.toll
-            ):
-                best[other.head] = later
-                heapq.heappush(queue, (later, other.head))
-    return False
-
-
 def coarse(
-    arcs: list[Arc],
-    count: int,
-    fixed: AbstractSet[int],
-    unfit: AbstractSet[int],
+    stars: Stars,
+    fixed: Collection[int],
+    unfit: Collection[int],
     gap: int,
-    progress: Callable[[str], None],
+    progress: Callable[[str], Callable[[int, int], None]],
+    processes: int = 1,
 ) -> tuple[list[Arc], set[int], int]:
     """The coarse arcs, the nodes that are kept, and the number of those from which ways were given
-    up."""
-    stars = Stars(count, arcs)
+    up. Several processes find the same ways."""
+    arcs = stars.arcs
     nodes = sorted({arc.tail for arc in arcs})
-    kept = kept_junctions(nodes, stars, fixed, unfit, gap, progress)
+    kept = kept_junctions(nodes, stars, fixed, unfit, gap, progress("junctions looked at"))
     found: list[Arc] = []
     gave_up = 0
-    for number, node in enumerate(sorted(kept), 1):
-        if number % 5_000 == 0:
-            progress(f"ways from {number:,} of {len(kept):,} kept junctions")
-        labels, partly = ways_from(node, stars, kept)
+    said = progress("kept junctions whose ways are found")
+    search = Search(stars, kept)
+    for number, (ways, partly) in enumerate(search.all(sorted(kept), processes), 1):
+        said(number, len(kept))
         gave_up += partly
-        found += [arc_of(label) for label in labels]
+        found += [arc_of([arcs[it] for it in way], rules) for way, rules in ways]
     return found, kept, gave_up
+
+
+class Search:
+    """The ways from kept junctions, found by one process or several."""
+
+    # What a process that is forked inherits.
+    inherited: Optional[Search] = None
+
+    def __init__(self, stars: Stars, kept: Collection[int]) -> None:
+        self.stars, self.kept = stars, kept
+        self.links = Links(stars.arcs)
+        self.few = Contraction(len(stars.out), stars.arcs, self.links, kept).star()
+
+    def ways(self, node: int) -> Ways:
+        try:
+            return ways_from(node, self.few, self.links, self.kept, False)
+        except Unsure:
+            return ways_from(node, self.stars.out, self.links, self.kept)
+
+    def all(self, nodes: list[int], processes: int) -> Iterator[Ways]:
+        """Yields the ways from each node, in the order of the nodes."""
+        if processes < 2 or len(nodes) < FEWEST_FOR_PROCESSES:
+            yield from map(self.ways, nodes)
+            return
+        Search.inherited = self
+        try:
+            with multiprocessing.get_context("fork").Pool(processes) as pool:
+                yield from pool.imap(inherited_ways, nodes, CHUNK)
+        finally:
+            Search.inherited = None
+
+
+def inherited_ways(node: int) -> Ways:
+    if Search.inherited is None:
+        raise RuntimeError("nothing was inherited")
+    return Search.inherited.ways(node)

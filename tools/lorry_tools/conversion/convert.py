@@ -3,53 +3,41 @@ from __future__ import annotations
 
 import argparse
 import csv
-import heapq
 import os
 import re
 import statistics
 import sys
-from typing import AbstractSet, Callable, Mapping, Optional, Sequence
+import time
+from typing import AbstractSet, Callable, Iterable, Mapping, Optional, Sequence
 
 from lorry_tools.conversion import (
     access,
     borders,
     coarse,
+    estimate,
     extract,
     holiday_rows,
+    law_sections,
+    polygon,
     roads,
+    shapes,
     sites,
+    speeds,
     tables,
     tags as road_tags,
+    turns,
     zone_rows,
 )
 from lorry_tools.conversion.access import Lists
 from lorry_tools.conversion.notation import Unread
 from lorry_tools.conversion.report import Report
 from lorry_tools.conversion.roads import Arc
+from lorry_tools.laws import table as laws
+from lorry_tools.laws.table import Tables
 
-# Kilometres an hour of a lorry by the class of a road, with its junctions; maxspeed lowers them.
-SPEEDS = {
-    "motorway": 80,
-    "motorway_link": 50,
-    "trunk": 75,
-    "trunk_link": 45,
-    "primary": 60,
-    "primary_link": 40,
-    "secondary": 55,
-    "secondary_link": 40,
-    "tertiary": 45,
-    "tertiary_link": 35,
-    "unclassified": 35,
-    "road": 30,
-    "residential": 25,
-    "living_street": 7,
-    "service": 12,
-    "pedestrian": 7,
-    "track": 10,
-}
 # From how many junctions trips are measured, fewer where there are many arcs, and the shortest trip
 # that counts, in milliseconds.
-MOST_SOURCES, LEAST_SOURCES, MEASURED_ARCS, SHORTEST = 24, 4, 1_000_000, 300_000
+MOST_SOURCES, LEAST_SOURCES, MEASURED_ARCS, SHORTEST = 24, 4, 300_000, 300_000
 
 
 class Stop(Exception):
@@ -65,6 +53,16 @@ def read_table(path: str, header: str) -> list[list[str]]:
     if not rows or rows[0] != header.split(","):
         raise Stop(f"{path} doesn't begin with the header {header}")
     return [row for row in rows[1:] if row]
+
+
+def law_tables(word: Optional[str]) -> Optional[Tables]:
+    """The law tables that `--laws` names: those of the tools or of a folder, or one by itself; None
+    for a file of another form."""
+    if word == "tables":
+        return laws.read()
+    if word and os.path.isdir(word):
+        return laws.read(word)
+    return Tables(laws.read_file(word)) if word and laws.is_table(word) else None
 
 
 def read_laws(path: str) -> dict[str, Lists]:
@@ -95,14 +93,14 @@ def read_holidays(path: str) -> dict[str, list[tuple[str, str]]]:
 
 def speeds_of(options: argparse.Namespace) -> dict[str, int]:
     """The speeds of the classes that are taken."""
-    found = dict(SPEEDS)
+    found = dict(speeds.BY_CLASS[options.vehicle_class])
     for word in options.speed:
         name, _, number = word.partition("=")
         if name not in found or not re.match(r"\d+$", number) or not 1 <= int(number) <= 130:
             raise Stop(f"--speed {word}: not a class of roads and kilometres an hour")
         found[name] = int(number)
     if options.roads:
-        names = list(SPEEDS)
+        names = list(found)
         last = names.index(options.roads)
         last += last + 1 < len(names) and names[last + 1] == options.roads + "_link"
         found = {name: found[name] for name in names[: last + 1]}
@@ -127,20 +125,32 @@ class Conversion:
     def __init__(self, options: argparse.Namespace, progress: Callable[[str], None]) -> None:
         self.options, self.progress = options, progress
         self.report = Report()
-        self.laws = read_laws(options.laws) if options.laws else {}
+        self.tables = law_tables(options.laws)
+        self.laws = read_laws(options.laws) if options.laws and not self.tables else {}
         self.days = read_holidays(options.holidays) if options.holidays else {}
         self.speeds = speeds_of(options)
+        try:
+            self.nights = speeds.nights_of(options.night_speed)
+        except ValueError as error:
+            raise Stop(str(error)) from None
         self.depots = depots_of(options)
         school = any(kind == "SH" for rows in self.days.values() for kind, _ in rows)
         self.reading = road_tags.Reading(
             options.unread, options.motorcar, school, options.years[0], self.speeds
         )
+        self.reading.mode = options.vehicle_class
+
+    def counted(self, what: str) -> Callable[[int, int], None]:
+        """What tells, from time to time, how far a step is, and how long the rest takes."""
+        return Counted(what, self.progress)
 
     def run(self) -> Report:
         self.read()
+        self.estimate()
         self.find_countries()
         self.make_network()
         self.make_coarse()
+        self.make_nights()
         self.number()
         self.write()
         return self.report
@@ -153,12 +163,20 @@ class Conversion:
         try:
             self.extract = extract.read(
                 options.extract,
-                extract.Choice(self.speeds, options.tracks),
+                extract.Choice(
+                    self.speeds,
+                    options.tracks,
+                    options.ferries == "driving",
+                    polygon.read(options.polygon).contains if options.polygon else None,
+                    self.tables.refs() if self.tables else set(),
+                ),
                 not options.borders,
                 self.progress,
             )
         except RuntimeError as error:
             raise Stop(f"{options.extract}: {error}") from None
+        except polygon.NoPolygon as error:
+            raise Stop(f"{options.polygon}: {error}") from None
         found = self.extract
         if not found.ways:
             outside = found.counts["drivable ways of less than two nodes"]
@@ -185,16 +203,9 @@ class Conversion:
                 report.add("left out", what, "", count=found.counts[what])
         for reason, count in found.classes.items():
             report.add("left out", "roads of classes that aren't taken", reason, count=count)
-        for kind, count in found.turns.items():
-            report.add(
-                "left out",
-                "turn restrictions: a graph of nodes can't say them",
-                kind,
-                f"relation {found.turn_examples[kind]}",
-                count,
-            )
-        for name in found.ferries:
-            report.add("left out", "ferries and trains for vehicles", name)
+        for reason, names in found.ferries.items():
+            for name in names:
+                report.add("left out", reason, name)
         for kind, count in found.toll_points.items():
             report.add(
                 "left out", "points of a toll, whose prices aren't in the map", kind, count=count
@@ -206,6 +217,25 @@ class Conversion:
                 key,
                 count=count,
             )
+
+    def estimate(self) -> None:
+        """Stops where the folder would be far too large."""
+        if len(self.extract.ways) < estimate.FEWEST_WAYS:
+            return
+        gap, most = self.options.coarse, estimate.Size(tables.MOST_NODES, tables.MOST_ARCS)
+        self.progress("estimating the size of the folder ..")
+        estimated = estimate.Estimate(self.extract, self.reading, list(self.speeds))
+        size = estimated.size(gap)
+        self.progress(f"the folder will have {size.text()}")
+        self.report.number("size of the folder, as estimated after reading", size.text())
+        if size.fits(most, tables.SURELY):
+            return
+        found = estimate.advice(estimated, gap, most, self.progress)
+        words = "; ".join(f"{word} would fit, with {it.text()}" for word, it in found)
+        raise Stop(
+            f"the folder would have {size.text()}, and lorry_plan reads {most.nodes:,} nodes and"
+            f" {most.arcs:,} arcs: {words or 'take a part of the extract, by --polygon'}"
+        )
 
     # Countries
 
@@ -220,6 +250,8 @@ class Conversion:
         if self.country and not re.match(r"[a-z0-9_][a-z0-9_-]{0,40}$", self.country):
             raise Stop(f"--country {options.country}: not a code such as de or de-by")
         self.borders = borders.Borders(given, ways, options.subdivisions)
+        # Their lines are no longer needed.
+        self.extract.border_ways = {}
         codes = self.borders.codes()
         report.number(
             "borders",
@@ -234,16 +266,40 @@ class Conversion:
             )
         self.default_area = self.country or ("home" if not codes else "other")
         use = codes and not (len(codes) == 1 and not self.borders.closed)
-        self.area_of = self.borders.country if use else None
+        self.areas_of = self.borders.countries if use else None
         if codes and not use and not self.country:
             self.default_area = codes[0]
+        self.read_law_tables(dict.fromkeys([*codes, self.default_area]))
+
+    def read_law_tables(self, codes: Iterable[str]) -> None:
+        """Takes the laws of these countries and regions from the tables, and says what whoever
+        uses them has to look at."""
+        first, last = self.options.years
+        self.law_of: Optional[roads.LawOf] = None
+        self.law_changes: AbstractSet[int] = set()
+        if not self.tables:
+            return
+        known = [code for code in codes if self.tables.knows(code)]
+        self.laws = {code: self.tables.lists(code, first, last) for code in known}
+        sections = law_sections.SectionLaws(self.tables, known, first, last)
+        sections.locate(self.extract, self.report)
+        self.law_of = sections.lists if sections.rows else None
+        self.law_changes = sections.changes
+        if self.reading.school_holidays and any(map(self.tables.speaks_of_eves, known)):
+            self.reading.school_holidays = False
+            self.report.add(
+                "warning", "school holidays of signs aren't read, as SH are the eves of a law", ""
+            )
+        for code in known:
+            for what, example in self.tables.warnings(code, first, last):
+                self.report.add("warning", what, example)
 
     # The network
 
     def make_network(self) -> None:
         options, report, found = self.options, self.report, self.extract
         self.rules = roads.Rules()
-        way_rules = roads.WayRules(self.reading, self.rules, report)
+        way_rules = self.way_rules = roads.WayRules(self.reading, self.rules, report, self.law_of)
         self.progress(f"{len(found.ways):,} drivable ways read")
         self.sites = list(self.depots)
         for tags, number, refs, x, y in found.parking:
@@ -253,10 +309,16 @@ class Conversion:
             if site:
                 self.sites.append(site)
         keys = sites.nearest_refs(found, way_rules.is_usable, self.sites)
+        restricted = turns.read(found, self.reading, report)
+        keys |= restricted.keys() | self.law_changes
         self.network = roads.build(
-            found, way_rules, keys, self.area_of, self.default_area, self.progress
+            found, way_rules, keys, self.areas_of, self.default_area, self.progress
         )
-        network, arcs = self.network, self.network.arcs
+        network = self.network
+        expansion = turns.Expansion(network, self.rules, restricted)
+        arcs, self.split = expansion.arcs(network.arcs), expansion.split
+        if self.split:
+            report.number("nodes of junctions with turn restrictions", f"{len(self.split):,}")
         report.number("arcs before anything is left out", f"{len(arcs):,}")
         self.progress(f"{len(arcs):,} arcs; the largest strongly connected part ..")
         nodes = roads.largest_component(len(network.refs), arcs)
@@ -266,7 +328,7 @@ class Conversion:
                 "left out",
                 "arcs outside the largest strongly connected part",
                 arc.name or "without a name",
-                f"way {found.ways[arc.ways[0]].number}",
+                f"way {found.ways[network.ways(arc)[0]].number}",
             )
         arcs = roads.within(arcs, nodes)
         if not arcs:
@@ -310,9 +372,16 @@ class Conversion:
             site.node for site in self.sites if site.rating in sites.EXACT
         }
         unfit = {network.number[ref] for ref in self.extract.barriers if ref in network.number}
+        unfit |= self.split
         count = len(network.refs)
+        stars = coarse.Stars(count, self.arcs)
         made, kept, gave_up = coarse.coarse(
-            self.arcs, count, fixed, unfit, options.coarse * 1000, self.progress
+            stars,
+            fixed,
+            unfit,
+            options.coarse * 1000,
+            self.counted,
+            options.processes,
         )
         self.progress(
             f"{len(kept):,} junctions kept, {len(made):,} ways between them; leaving out what"
@@ -336,27 +405,22 @@ class Conversion:
                 "",
                 count=gave_up,
             )
-        arcs = coarse.without_detours(usable, count, kept)
+        arcs = coarse.without_detours(
+            usable, network.xs, network.ys, self.counted("ways compared with others")
+        )
         nodes = roads.largest_component(count, arcs)
         self.arcs = roads.within(arcs, nodes)
         if not self.arcs:
             raise Stop("nothing is left of so coarse a network: take fewer seconds by --coarse")
-        self.move_sites(nodes)
+        self.move_sites(nodes, stars)
 
-    def move_sites(self, nodes: AbstractSet[int]) -> None:
+    def move_sites(self, nodes: AbstractSet[int], stars: coarse.Stars) -> None:
         """Parking that isn't at a kept junction moves to the nearest one by driving time."""
-        stars = coarse.Stars(len(self.network.refs), self.fine_arcs)
         gap = self.options.coarse * 1000
         for site in self.sites:
             if site.node not in nodes:
-                near = coarse.reached(site.node, stars.out, lambda arc: arc.head, 2 * gap)
-                back = coarse.reached(site.node, stars.into, lambda arc: arc.tail, 2 * gap)
-                both = [
-                    (max(near.get(node, 1 << 60), back.get(node, 1 << 60)), node)
-                    for node in set(near) | set(back)
-                    if node in nodes
-                ]
-                site.node = min(both)[1] if both else sites.NOWHERE
+                near = coarse.nearest(site.node, stars, nodes, 2 * gap)
+                site.node = sites.NOWHERE if near is None else near
                 if site.node == sites.NOWHERE:
                     self.report.add(
                         "left out",
@@ -371,6 +435,45 @@ class Conversion:
                     )
         self.sites = [site for site in self.sites if site.node != sites.NOWHERE]
 
+    # Nights
+
+    def make_nights(self) -> None:
+        """Lays a slower arc beside each one that takes longer by night, which is then closed to
+        heavy lorries."""
+        if not self.nights:
+            return
+        number = self.rules.of(speeds.night_lists())
+        found: list[Arc] = []
+        for arc in self.arcs:
+            night = self.nights.get(arc.area.split("-")[0])
+            slow = self.night_time(arc, night) if night else arc.time
+            if slow // 1000 > arc.time // 1000:
+                twin = arc.as_slow_as(slow)
+                if coarse.minutes(twin) > coarse.minutes(arc):
+                    found.append(twin)
+                    arc.rules = self.with_rule(arc, number)
+        self.arcs += found
+        if found:
+            self.report.number("slower arcs for the night", f"{len(found):,}")
+
+    def with_rule(self, arc: Arc, number: int) -> roads.RulesOf:
+        if isinstance(arc.rules, frozenset):
+            return arc.rules | {number}
+        return self.rules.both(arc.rules, number)
+
+    def night_time(self, arc: Arc, night: int) -> int:
+        """The milliseconds of an arc's pieces, none faster than so many kilometres an hour."""
+        time = 0
+        for piece in arc.pieces:
+            places = self.network.piece_places(piece)
+            way = self.extract.ways[self.network.way_of_piece(piece)]
+            forward, backward, _ = self.way_rules.known(way)[0]
+            speed = (forward if piece >= 0 else backward)[1]
+            speed = min(speed, self.way_rules.most(arc.area, way), night / 3.6)
+            length = roads.length_of(self.extract, min(places), max(places))
+            time += max(1, round(length / speed * 1000))
+        return time
+
     # Numbers and tables
 
     def number(self) -> None:
@@ -378,7 +481,12 @@ class Conversion:
         self.nodes = sorted({arc.tail for arc in self.arcs}, key=lambda node: network.refs[node])
         self.number_of = {node: number for number, node in enumerate(self.nodes, 1)}
         self.arcs.sort(
-            key=lambda arc: (self.number_of[arc.tail], self.number_of[arc.head], arc.time, arc.ways)
+            key=lambda arc: (
+                self.number_of[arc.tail],
+                self.number_of[arc.head],
+                arc.time,
+                network.ways(arc),
+            )
         )
         self.of_arc: list[int] = [
             self.rules.all(arc.rules) if isinstance(arc.rules, frozenset) else arc.rules
@@ -462,6 +570,12 @@ class Conversion:
         self.write_tolls(folder)
         names = self.names(park)
         tables.write_roads(folder, self.extract, self.network, self.nodes, self.arcs, names)
+        shapes.write(
+            folder,
+            self.extract.xs,
+            self.extract.ys,
+            ((round(arc.length), self.network.places(arc)) for arc in self.arcs),
+        )
         if not os.path.exists(os.path.join(folder, "vehicles.csv")):
             with open(
                 os.path.join(folder, "vehicles.csv"), "w", encoding="ascii", newline=""
@@ -479,6 +593,7 @@ class Conversion:
             file.write(report.text())
 
     def zone(self, country: str, middle: Sequence[float]) -> str:
+        country = roads.country_of(country)
         if country in ("home", "other") and country not in self.given_zones():
             return "UTC"
         zone = tables.zone_of(country, self.given_zones(), middle, self.report)
@@ -499,7 +614,8 @@ class Conversion:
 
     def check_laws(self, areas: tables.Areas) -> None:
         for country in dict.fromkeys(areas.countries.values()):
-            if areas.law(country) == areas.all_open:
+            has_none = areas.law(country) == areas.all_open and country not in self.laws
+            if has_none and not country.endswith(roads.FERRY_AREA):
                 self.report.add(
                     "warning",
                     "no law: in this country only the roads' own signs are obeyed (--laws)",
@@ -515,9 +631,11 @@ class Conversion:
             set(areas.countries.values()) if any("PH" in text for text in hours) else set()
         )
         for country in dict.fromkeys(areas.countries.values()):
-            rows = self.days.get(country) or self.days.get(country.split("-")[0])
+            named = roads.country_of(country)
+            rows = self.days.get(named) or self.days.get(named.split("-")[0])
+            rows = self.law_days(named, rows)
             if rows is None and not self.options.no_holidays:
-                code, _, part = country.upper().partition("-")
+                code, _, part = named.upper().partition("-")
                 try:
                     rows = (
                         [
@@ -550,6 +668,20 @@ class Conversion:
                 " lorry_plan reads: take fewer --years"
             )
         return found
+
+    def law_days(
+        self, country: str, given: Optional[list[tuple[str, str]]]
+    ) -> Optional[list[tuple[str, str]]]:
+        """The days of a country: those that are given, otherwise those of its law table, if it has
+        one."""
+        tables = self.tables
+        if not tables or not tables.knows(country):
+            return given
+        if given is None:
+            return tables.days(country, *self.options.years)
+        if tables.speaks_of_eves(country) and not any(kind == "SH" for kind, _ in given):
+            raise Stop(f"the law of {country} speaks of eves, SH, and --holidays has none there")
+        return given
 
     def write_tolls(self, folder: str) -> None:
         length = sum(arc.toll for arc in self.arcs) / 1000
@@ -652,30 +784,37 @@ class Conversion:
         self.progress("measuring trips ..")
         sources = max(LEAST_SOURCES, min(MOST_SOURCES, MEASURED_ARCS // len(self.fine_arcs)))
         step = max(1, len(self.nodes) // sources)
-        fine = coarse.Stars(len(self.network.refs), self.fine_arcs).out
-        rough = coarse.Stars(len(self.network.refs), self.arcs).out
-        found = []
-        for source in self.nodes[step // 2 :: step][:sources]:
-            exact = times(source, fine, lambda arc: arc.time)
-            whole = times(source, rough, lambda arc: coarse.minutes(arc) * 60_000)
-            found += [whole[node] / exact[node] for node in whole if exact.get(node, 0) >= SHORTEST]
+        count = len(self.network.refs)
+        fine = coarse.distances(count, self.fine_arcs, (arc.time for arc in self.fine_arcs))
+        minutes = (coarse.minutes(arc) * 60_000 for arc in self.arcs)
+        rough = coarse.distances(count, self.arcs, minutes)
+        found: list[float] = []
+        starts = self.nodes[step // 2 :: step][:sources]
+        for exact, whole in zip(fine(starts), rough(starts)):
+            counts = (whole < coarse.FOR_EVER) & (exact >= SHORTEST) & (exact < coarse.FOR_EVER)
+            found += (whole[counts] / exact[counts]).tolist()
         found.sort()
         return [found[int(len(found) * share)] for share in (0.5, 0.05, 0.95)] if found else None
 
 
-def times(source: int, star: coarse.Star, time_of: Callable[[Arc], int]) -> dict[int, int]:
-    best, queue, done = {source: 0}, [(0, source)], set()
-    while queue:
-        time, node = heapq.heappop(queue)
-        if node in done:
-            continue
-        done.add(node)
-        for arc in star[node]:
-            later = time + time_of(arc)
-            if later < best.get(arc.head, 1 << 60):
-                best[arc.head] = later
-                heapq.heappush(queue, (later, arc.head))
-    return best
+class Counted:
+    """Tells every few seconds how far a step is, and how long the rest takes at this pace."""
+
+    EACH, SECONDS = 256, 10
+
+    def __init__(self, what: str, progress: Callable[[str], None]) -> None:
+        self.what, self.progress = what, progress
+        self.start = self.said = time.monotonic()
+
+    def __call__(self, done: int, whole: int) -> None:
+        if done % self.EACH:
+            return
+        now = time.monotonic()
+        if now - self.said >= self.SECONDS:
+            self.said = now
+            left = (now - self.start) * (whole - done) / done
+            words = f"{left / 60:.0f} min" if left >= 90 else f"{left:.0f} s"
+            self.progress(f"{done:,} of {whole:,} {self.what}; {words} left of this step")
 
 
 def say(text: str) -> None:

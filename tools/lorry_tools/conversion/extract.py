@@ -8,13 +8,14 @@ import array
 import collections
 import re
 import sys
-from typing import Any, Callable, Mapping, Optional
+from typing import AbstractSet, Any, Callable, Mapping, Optional
 
 import osmium
 
 from lorry_tools.conversion import tags as road_tags
 from lorry_tools.conversion.borders import Line
 from lorry_tools.conversion.tags import Tags
+from lorry_tools.laws.section import refs_in
 
 TagPairs = tuple[tuple[str, str], ...]
 # Tags, the number of the object, its nodes, and its place.
@@ -86,6 +87,11 @@ PARKING_TAGS = (
     "goods",
 )
 LET_IN = {"yes", "designated", "permissive", "destination", "delivery", "official"}
+# The keys that say that motor vehicles of our classes are let in.
+DRIVEN = ("access", "vehicle", "motor_vehicle", "goods", "hgv", "bus")
+FERRIES = ("ferry", "shuttle_train")
+# Keys that say what a way is.
+OWN_KEYS = ("highway", "junction", "route", "duration", "motorroad")
 
 
 def is_parking(tags: Tags) -> bool:
@@ -119,6 +125,25 @@ class Way:
         self.number, self.tags, self.name, self.first, self.last = number, tags, name, first, last
 
 
+class Restriction:
+    """A turn restriction: its number, tags, ways in, nodes and ways out, and whether it has ways
+    between them."""
+
+    __slots__ = ("number", "tags", "ways_in", "nodes", "ways_out", "has_ways_between")
+
+    def __init__(
+        self,
+        number: int,
+        tags: Tags,
+        ways_in: list[int],
+        nodes: list[int],
+        ways_out: list[int],
+        has_ways_between: bool,
+    ) -> None:
+        self.number, self.tags, self.ways_in, self.nodes = number, tags, ways_in, nodes
+        self.ways_out, self.has_ways_between = ways_out, has_ways_between
+
+
 class Extract:
     """What was read."""
 
@@ -131,15 +156,34 @@ class Extract:
         # Relevant tags are kept once for all ways that have the same.
         self.tags: dict[TagPairs, TagPairs] = {}
         self.barriers: dict[int, Tags] = {}
+        # The names of the junctions of motorways, at their nodes.
+        self.exits: dict[int, str] = {}
         self.parking: list[Parking] = []
         self.places: list[tuple[int, str, int, int]] = []
         # Borders: the code and the ways of each; the ways with their coordinates.
         self.borders: list[tuple[str, list[int]]] = []
         self.border_ways: dict[int, Optional[Line]] = {}
-        self.turns: collections.Counter[str] = collections.Counter()
-        self.turn_examples: dict[str, int] = {}
-        self.ferries: list[str] = []
+        self.restrictions: list[Restriction] = []
+        # Ferries that aren't taken, by the reason.
+        self.ferries: dict[str, list[str]] = collections.defaultdict(list)
         self.toll_points: collections.Counter[str] = collections.Counter()
+
+
+def restriction_of(relation: Any, kind: str, tags: Tags) -> Restriction:
+    own = {key: tags[key] for key in tags if key.startswith("restriction") or key == "except"}
+    mode = kind[len("restriction") :]
+    if mode and "restriction" in own:
+        # An older form: the type says which vehicles it is about.
+        own["restriction" + mode] = own.pop("restriction")
+    members = [(it.role, it.type, it.ref) for it in relation.members]
+    return Restriction(
+        relation.id,
+        own,
+        [ref for role, one, ref in members if role == "from" and one == "w"],
+        [ref for role, one, ref in members if role == "via" and one == "n"],
+        [ref for role, one, ref in members if role == "to" and one == "w"],
+        any(role == "via" and one == "w" for role, one, _ in members),
+    )
 
 
 class Relations(osmium.SimpleHandler):
@@ -153,9 +197,7 @@ class Relations(osmium.SimpleHandler):
         tags = {tag.k: tag.v for tag in relation.tags}
         kind = tags.get("type", "")
         if kind.startswith("restriction"):
-            what = next((tags[key] for key in tags if key.startswith("restriction")), "")
-            self.found.turns[what] += 1
-            self.found.turn_examples.setdefault(what, relation.id)
+            self.found.restrictions.append(restriction_of(relation, kind, tags))
         elif (
             self.wants_borders
             and tags.get("boundary") == "administrative"
@@ -211,6 +253,8 @@ class NodesAndWays(osmium.SimpleHandler):
             found.barriers[node.id] = {
                 key: tags[key] for key in tags if key == "barrier" or road_tags.is_relevant(key)
             }
+        if tags.get("highway") == "motorway_junction" and "name" in tags:
+            found.exits[node.id] = tags["name"]
         if tags.get("barrier") == "toll_booth" or tags.get("highway") == "toll_gantry":
             found.toll_points[tags.get("barrier") or tags["highway"]] += 1
         if is_parking(tags):
@@ -261,35 +305,60 @@ class NodesAndWays(osmium.SimpleHandler):
         ):
             found.border_ways[way.id] = [(it.x, it.y) for it in way.nodes if it.x != NO_PLACE]
             found.borders.append((country, [way.id]))
-        if tags.get("route") in ("ferry", "shuttle_train"):
-            found.ferries.append(f"{tags['route']} {tags.get('name', '')} (way {way.id})")
+        if tags.get("route") in FERRIES and not highway:
+            self.ferry(way, tags)
         if highway:
             self.road(way, highway, tags)
 
+    def ferry(self, way: Any, tags: Tags) -> None:
+        """Takes a ferry for motor vehicles whose duration is known."""
+        what = f"{tags['route']} {tags.get('name', '')} (way {way.id})"
+        if not self.choice.ferries:
+            self.found.ferries["ferries and trains for vehicles (--ferries out)"].append(what)
+        elif not any(tags.get(key) in LET_IN or f"{key}:conditional" in tags for key in DRIVEN):
+            self.found.ferries["ferries that don't say that they take lorries"].append(what)
+        elif road_tags.duration_of(tags.get("duration", "")) is None:
+            self.found.ferries["ferries and trains for vehicles without a duration"].append(what)
+        else:
+            self.line(way, tags)
+
     def road(self, way: Any, highway: str, tags: Tags) -> None:
-        found = self.found
         reason = self.choice.leaves_out(highway, tags)
         if reason:
-            found.classes[reason] += 1
-            return
+            self.found.classes[reason] += 1
+        else:
+            self.line(way, tags)
+
+    def line(self, way: Any, tags: Tags) -> None:
+        """Takes a way with its nodes and its relevant tags."""
+        found = self.found
         first = len(found.refs)
         outside = 0
+        parts: list[tuple[int, int]] = []
+        inside = self.choice.inside
         for node in way.nodes:
-            if node.x == NO_PLACE:
+            place = node.location
+            x, y = place.x, place.y
+            if x == NO_PLACE:
                 outside += 1
                 continue
+            if inside and not inside(x, y):
+                first = self.end_part(first, parts)
+                continue
             found.refs.append(node.ref)
-            found.xs.append(node.x)
-            found.ys.append(node.y)
+            found.xs.append(x)
+            found.ys.append(y)
+        self.end_part(first, parts)
         if outside:
             found.counts["drivable ways with nodes outside the extract"] += 1
-        if len(found.refs) - first < 2:
-            del found.refs[first:], found.xs[first:], found.ys[first:]
+        if not parts:
             found.counts["drivable ways of less than two nodes"] += 1
             return
         pairs = []
         for key in tags:
-            if key in ("highway", "junction") or road_tags.is_relevant(key):
+            if key in OWN_KEYS or road_tags.is_relevant(key):
+                pairs.append((key, tags[key]))
+            elif key == "ref" and self.choice.refs and self.choice.refs & refs_in(tags[key]):
                 pairs.append((key, tags[key]))
             else:
                 found.other_keys[key] += 1
@@ -297,7 +366,16 @@ class NodesAndWays(osmium.SimpleHandler):
         kept = found.tags.setdefault(kept, kept)
         name = sys.intern(" ".join(tags[key] for key in ("ref", "name") if key in tags))
         found.counts["drivable ways"] += 1
-        found.ways.append(Way(way.id, kept, name, first, len(found.refs)))
+        found.ways += [Way(way.id, kept, name, first, last) for first, last in parts]
+
+    def end_part(self, first: int, parts: list[tuple[int, int]]) -> int:
+        """Ends a part of a way that begins at a place of the arrays, and returns the next place."""
+        found = self.found
+        if len(found.refs) - first > 1:
+            parts.append((first, len(found.refs)))
+        else:
+            del found.refs[first:], found.xs[first:], found.ys[first:]
+        return len(found.refs)
 
 
 def parking_of(tags: Tags, number: int, nodes: list[tuple[int, int, int]]) -> Parking:
@@ -313,10 +391,19 @@ def parking_of(tags: Tags, number: int, nodes: list[tuple[int, int, int]]) -> Pa
 
 
 class Choice:
-    """Which classes of roads are taken."""
+    """Which roads are taken: their classes, tracks and ferries, and places; None takes all. And of
+    which numbers roads keep theirs."""
 
-    def __init__(self, speeds: Mapping[str, int], tracks: bool) -> None:
-        self.speeds, self.tracks = speeds, tracks
+    def __init__(
+        self,
+        speeds: Mapping[str, int],
+        tracks: bool,
+        ferries: bool = False,
+        inside: Optional[Callable[[int, int], bool]] = None,
+        refs: AbstractSet[str] = frozenset(),
+    ) -> None:
+        self.speeds, self.tracks, self.ferries, self.inside = speeds, tracks, ferries, inside
+        self.refs = refs
 
     def leaves_out(self, highway: str, tags: Tags) -> Optional[str]:
         """Why a road isn't taken; None where it is."""
@@ -327,8 +414,7 @@ class Choice:
         if highway == "track" and not self.tracks and tags.get("hgv") not in LET_IN:
             return "highway=track without hgv=yes"
         if highway == "pedestrian":
-            keys = ("access", "vehicle", "motor_vehicle", "goods", "hgv", "bus")
-            if not any(tags.get(key) in LET_IN or f"{key}:conditional" in tags for key in keys):
+            if not any(tags.get(key) in LET_IN or f"{key}:conditional" in tags for key in DRIVEN):
                 return "highway=pedestrian without motor vehicles"
         if tags.get("service") == "emergency_access":
             return "service=emergency_access"

@@ -3,10 +3,10 @@
     tools/from_osm [options] EXTRACT DIR
 
 EXTRACT is a file that pyosmium reads: .osm.pbf, .osm, .osm.bz2. DIR gets graph.gr, the tables,
-nodes.csv and ways.csv with the places and names of nodes and arcs, and report.txt, which says what
-was read, changed, closed and left out. Tables of an earlier run are replaced, but vehicles.csv and
-ratings.csv stay as they are. docs/REAL_ROADS.md has an example, and says what the folder isn't good
-for."""
+nodes.csv and ways.csv with the places and names of nodes and arcs, shapes.csv with the way of each
+arc over the map, and report.txt, which says what was read, changed, closed and left out. Tables of
+an earlier run are replaced, but vehicles.csv and ratings.csv stay as they are. docs/REAL_ROADS.md
+has an example, and says what the folder isn't good for."""
 from __future__ import annotations
 
 import argparse
@@ -15,9 +15,9 @@ import os
 from lorry_tools.conversion import holiday_rows
 from lorry_tools.problems import Problem
 
-OSMIUM = (
-    "pyosmium is missing: apt-get install python3-pyosmium, and run this by the system's own "
-    "Python, /usr/bin/python3"
+MISSING = (
+    "pyosmium or numpy is missing: apt-get install python3-pyosmium python3-numpy, and run this by "
+    "the system's own Python, /usr/bin/python3"
 )
 
 
@@ -44,6 +44,18 @@ def parser() -> argparse.ArgumentParser:
         help="the least class of roads that is taken, such as tertiary; all, if it isn't given",
     )
     add(
+        "--processes",
+        type=int,
+        default=1,
+        metavar="N",
+        help="how many processes look for ways between kept junctions (1); the folder is the same",
+    )
+    add(
+        "--polygon",
+        metavar="FILE",
+        help="take only roads within a polygon, in the form of Osmosis (.poly)",
+    )
+    add(
         "--country",
         metavar="CODE",
         help="the country, such as de or de-by, of roads outside the borders of the extract",
@@ -66,7 +78,11 @@ def parser() -> argparse.ArgumentParser:
     add(
         "--laws",
         metavar="FILE",
-        help="a table `country,key,value` of bans that hold on all roads of a country",
+        help=(
+            "a table `country,key,value` of bans that hold on all roads of a country; or a law"
+            " table, or a folder of them; or the word `tables`, for those of the tools, which are"
+            " to be checked"
+        ),
     )
     add(
         "--holidays",
@@ -115,11 +131,36 @@ def parser() -> argparse.ArgumentParser:
     )
     add("--tracks", action="store_true", help="take tracks too")
     add(
+        "--ferries",
+        choices=("driving", "out"),
+        default="driving",
+        help="whether ferries that have a duration are roads, or left out; timetables aren't read",
+    )
+    add(
         "--speed",
         action="append",
         default=[],
         metavar="CLASS=KMH",
-        help="the speed of lorries on a class of roads",
+        help="the speed on a class of roads",
+    )
+    add(
+        "--vehicle-class",
+        choices=("hgv", "goods", "bus"),
+        default="hgv",
+        help=(
+            "whose minutes the folder has: those of lorries (the default), which drive at most 80"
+            " km/h, or as fast as their country lets them; of vans, or of coaches"
+        ),
+    )
+    add(
+        "--night-speed",
+        action="append",
+        default=[],
+        metavar="CODE=KMH",
+        help=(
+            "a speed of lorries over 7.5 tonnes from 22:00 to 05:00 in a country, such as at=60: by"
+            " a slower arc beside each faster one, which is closed to them then"
+        ),
     )
     add(
         "--unread",
@@ -137,15 +178,18 @@ def main() -> int:
     words = parser()
     options = words.parse_args()
     try:
+        import numpy  # noqa: F401
         import osmium  # noqa: F401
     except ImportError:
-        raise Problem(OSMIUM, 1) from None
-    from lorry_tools.conversion import convert, tables, zone_rows
+        raise Problem(MISSING, 1) from None
+    from lorry_tools.conversion import convert, speeds, tables, zone_rows
 
-    if options.roads and options.roads not in convert.SPEEDS:
-        words.error("--roads is one of " + ", ".join(convert.SPEEDS))
+    if options.roads and options.roads not in speeds.LORRIES:
+        words.error("--roads is one of " + ", ".join(speeds.LORRIES))
     if not 0 <= options.coarse <= 3600 or not 0 <= options.toll_per_km <= 100:
         words.error("--coarse is from 0 to 3600, and --toll-per-km from 0 to 100")
+    if not 1 <= options.processes <= 64:
+        words.error("--processes is from 1 to 64")
     if not 1972 <= options.years[0] <= options.years[1] <= zone_rows.LAST_YEAR - 1:
         words.error(f"years go from 1972 to {zone_rows.LAST_YEAR - 1}, the first one first")
     if not os.path.exists(options.extract):

@@ -2,8 +2,11 @@
 from __future__ import annotations
 
 import collections
+import math
 import re
-from typing import Callable, Collection, Iterable, Optional
+from typing import Any, Callable, Collection, Iterable, Optional
+
+import numpy
 
 from lorry_tools.conversion import notation, tags as road_tags
 from lorry_tools.conversion.extract import Extract, Way
@@ -13,6 +16,8 @@ from lorry_tools.conversion.roads import Network, metres
 from lorry_tools.conversion.tags import Tags
 
 CELL = 100_000
+# More rows and columns of cells than the globe has.
+WIDEST = 1 << 20
 # The farthest node that is taken, in metres.
 MOST_TO_PARKING, MOST_TO_DEPOT, MOST_TO_TOWN = 300, 1000, 2000
 # Ratings, the best first, each with an invented price of a minute's wait.
@@ -158,34 +163,57 @@ def cells_around(x: int, y: int, reach: int = 1) -> list[tuple[int, int]]:
     ]
 
 
+def code_of(cells: Any) -> Any:
+    """The number of a cell, or of many, given as arrays."""
+    return (cells[0] + WIDEST // 2) * WIDEST + cells[1] + WIDEST // 2
+
+
 def nearest_refs(
     extract: Extract, usable: Callable[[Way], bool], sites: Iterable[Site]
 ) -> set[int]:
     """The node of a usable way that is nearest to each site, so that the network has it."""
-    wanted = {cell for site in sites for cell in cells_around(site.x, site.y)}
-    grid: dict[tuple[int, int], list[int]] = collections.defaultdict(list)
-    if wanted:
-        for way in extract.ways:
-            if usable(way):
-                for at in range(way.first, way.last):
-                    cell = (extract.xs[at] // CELL, extract.ys[at] // CELL)
-                    if cell in wanted:
-                        grid[cell].append(at)
+    wanted = {code_of(cell) for site in sites for cell in cells_around(site.x, site.y)}
+    if not wanted:
+        return set()
+    is_usable = numpy.zeros(len(extract.refs), dtype=bool)
+    for way in extract.ways:
+        if usable(way):
+            is_usable[way.first : way.last] = True
+    at = numpy.flatnonzero(is_usable)
+    xs, ys = (numpy.frombuffer(it, dtype=numpy.intc) for it in (extract.xs, extract.ys))
+    refs = numpy.frombuffer(extract.refs, dtype=numpy.int64)
+    codes = code_of((xs[at].astype(numpy.int64) // CELL, ys[at].astype(numpy.int64) // CELL))
+    near_some = numpy.isin(codes, numpy.fromiter(wanted, dtype=numpy.int64))
+    at, codes = at[near_some], codes[near_some]
+    order = numpy.argsort(codes, kind="stable")
+    at, codes = at[order], codes[order]
+    names, starts = numpy.unique(codes, return_index=True)
+    grid = dict(zip(names.tolist(), numpy.split(at, starts[1:])))
     found: set[int] = set()
     for site in sites:
-        near = [at for cell in cells_around(site.x, site.y) for at in grid[cell]]
-        if near:
-            at = min(
-                near,
-                key=lambda at: (
-                    metres(site.x, site.y, extract.xs[at], extract.ys[at]),
-                    extract.refs[at],
-                ),
+        cells = [code_of(cell) for cell in cells_around(site.x, site.y)]
+        parts = [grid[code] for code in cells if code in grid]
+        if parts:
+            near = numpy.concatenate(parts)
+            wide = math.cos(math.radians(site.y / 1e7))
+            away = ((xs[near] - float(site.x)) * wide) ** 2 + (ys[near] - float(site.y)) ** 2
+            # The circle of latitude hardly matters so near by, but where it does, it decides.
+            found.add(
+                extract.refs[nearest_place(site, near[away <= away.min() * 1.01 + 1], extract)]
             )
-            found.add(extract.refs[at])
-            own = [at for at in near if extract.refs[at] in site.refs]
-            if own:
-                found.add(extract.refs[own[0]])
+            own = near[numpy.isin(refs[near], numpy.array(list(site.refs), dtype=numpy.int64))]
+            if len(own):
+                found.add(int(refs[own[0]]))
+    return found
+
+
+def nearest_place(site: Site, near: Any, extract: Extract) -> int:
+    """The nearest of some places of the extract's arrays; of several the one whose node has the
+    least number."""
+    xs, ys, places = extract.xs, extract.ys, near.tolist()
+    found: int = min(
+        places, key=lambda at: (metres(site.x, site.y, xs[at], ys[at]), extract.refs[at])
+    )
     return found
 
 

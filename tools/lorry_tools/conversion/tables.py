@@ -11,7 +11,7 @@ from lorry_tools.conversion import access, coarse, sites, zone_rows
 from lorry_tools.conversion.access import OPEN, Lists
 from lorry_tools.conversion.extract import Extract
 from lorry_tools.conversion.report import Report
-from lorry_tools.conversion.roads import Arc, Network
+from lorry_tools.conversion.roads import FERRY_AREA, Arc, Network
 
 # The limits of docs/LIMITS.md.
 MOST_NODES, MOST_ARCS, MOST_AREAS, MOST_RULES, LONGEST_DRIVE = (
@@ -21,12 +21,15 @@ MOST_NODES, MOST_ARCS, MOST_AREAS, MOST_RULES, LONGEST_DRIVE = (
     20_000,
     10_080,
 )
+# A folder that is estimated to be larger than this share of the limits is refused before it is
+# made: estimates are too low rather than too high.
+SURELY = 1.0
 MAP_LICENCE = (
     "(c) OpenStreetMap contributors, Open Database License (ODbL) 1.0,"
     " https://www.openstreetmap.org/copyright"
 )
 # Tags that say nothing about who is let in.
-PLAIN_TAGS = ("highway", "junction", "toll")
+PLAIN_TAGS = ("highway", "junction", "toll", "ref", "route", "duration", "motorroad")
 
 VEHICLES = """name,class,weight_kg,axleload_kg,height_cm,width_cm,length_cm,axles,purpose,flags
 van35,goods,3500,2000,280,220,650,2,through,
@@ -78,6 +81,8 @@ class Areas:
         self.by_arc = 0
 
     def law(self, country: str) -> Lists:
+        if country.endswith(FERRY_AREA):
+            return self.all_open
         return self.laws.get(country) or self.laws.get(country.split("-")[0]) or self.all_open
 
     def divide(self, arcs: list[Arc], lists_of: Callable[[Arc], Lists]) -> int:
@@ -194,10 +199,10 @@ def check_sizes(count: int, arcs: list[Arc], rows: Sized) -> None:
         )
 
 
-def tags_of(extract: Extract, arc: Arc) -> str:
+def tags_of(extract: Extract, network: Network, arc: Arc) -> str:
     """The tags of an arc's roads that may be behind its rules, each once."""
     found: dict[str, bool] = {}
-    for number in arc.ways:
+    for number in network.ways(arc):
         for key, value in extract.ways[number].tags:
             if (
                 key not in PLAIN_TAGS
@@ -239,11 +244,11 @@ def write_roads(
         (
             (
                 number,
-                ";".join(str(extract.ways[way].number) for way in dict.fromkeys(arc.ways)),
+                ";".join(str(extract.ways[way].number) for way in network.ways(arc)),
                 arc.name,
                 round(arc.length),
                 round(arc.time / 1000),
-                tags_of(extract, arc),
+                tags_of(extract, network, arc),
             )
             for number, arc in enumerate(arcs, 1)
         ),

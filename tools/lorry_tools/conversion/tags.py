@@ -180,6 +180,26 @@ TONNES = {
 METRES = {"": 1, "m": 1, "cm": 0.01, "ft": 0.3048, "in": 0.0254}
 
 
+# The longest duration of a ferry, in minutes: as long as an arc may be.
+LONGEST_FERRY = 10_080
+
+
+def duration_of(text: str) -> Optional[int]:
+    """The minutes of a duration: `25`, `00:25`, `1:30:00`, or of ISO 8601 such as PT1H30M; None
+    where it isn't one."""
+    text = text.strip()
+    iso = re.match(r"P(?:(\d+)D)?(?:T(?:(\d+)H)?(?:(\d+)M)?(?:\d+S)?)?$", text)
+    clock = re.match(r"(\d{1,3}):(\d\d)(?::\d\d)?$", text)
+    if iso:
+        days, hours, minutes = (int(it or 0) for it in iso.groups())
+        found = (days * 24 + hours) * 60 + minutes
+    elif clock:
+        found = int(clock[1]) * 60 + int(clock[2])
+    else:
+        found = int(text) if re.match(r"\d{1,5}$", text) else 0
+    return found if 0 < found <= LONGEST_FERRY else None
+
+
 def trimmed(number: float, decimals: int) -> str:
     """A number rounded down to so many decimals, as text."""
     scaled = int(number * 10**decimals + 1e-6)
@@ -244,7 +264,9 @@ class Reading:
         school_holidays: bool = False,
         first_year: int = 0,
         speeds: Optional[Mapping[str, int]] = None,
+        law_flags: Iterable[str] = (),
     ) -> None:
+        self.known_flags = FLAGS.union(law_flags)
         self.unread, self.motorcar, self.school_holidays, self.first_year = (
             unread,
             motorcar,
@@ -254,6 +276,8 @@ class Reading:
         self.speeds = speeds or {}
         self.notes = Notes()
         self.flags: set[str] = set()
+        # The class of vehicles whose minutes are wanted.
+        self.mode = "hgv"
 
     def changed(self, key: str) -> Changed:
         return lambda what, example: self.notes.add("changed", what, f"{key}={example}")
@@ -308,7 +332,7 @@ class Reading:
         if re.match(r"(destination|delivery)$", text):
             return ["delivery"]
         if notation.FLAG.match(text):
-            if text not in FLAGS:
+            if text not in self.known_flags:
                 raise Unread("a word that isn't known in a condition")
             return [text]
         comparison = COMPARISON.match(text)
@@ -600,7 +624,7 @@ class Reading:
             and (base in LIMITS or base == "oneway")
             or plain
             in ("hazmat:adr_tunnel_code", "hazmat:tunnel_code", "toll", "toll:hgv", "maxstay")
-            or plain in ("maxspeed", "maxspeed:hgv")
+            or plain in ("maxspeed", f"maxspeed:{self.mode}")
             and not key.endswith(":conditional")
         )
 
@@ -640,7 +664,8 @@ class Reading:
     def speed(self, tags: Tags, way: str) -> float:
         """Kilometres an hour: that of the class, or what maxspeed says where that is less."""
         found = self.speeds[tags["highway"]]
-        for key in (f"maxspeed:hgv:{way}", "maxspeed:hgv", f"maxspeed:{way}", "maxspeed"):
+        own = f"maxspeed:{self.mode}"
+        for key in (f"{own}:{way}", own, f"maxspeed:{way}", "maxspeed"):
             if key in tags:
                 text = tags[key].strip().lower()
                 number = re.match(r"(\d+(?:\.\d+)?)\s*(km/h|kmh|kph|mph)?$", text)
@@ -674,9 +699,9 @@ def is_relevant(key: str) -> bool:
     return bool(WATCHED.search(key)) or key.startswith("maxspeed")
 
 
-def law_lists(rows: Iterable[tuple[str, str]]) -> Lists:
+def law_lists(rows: Iterable[tuple[str, str]], flags: Iterable[str] = ()) -> Lists:
     """The lists of a country's law, from rows of keys and values in lorry_plan's own words; raises
-    Unread where one isn't of that form."""
+    Unread where one isn't of that form. Laws may have further flags."""
     tags: Tags = {}
     for key, value in rows:
         base = key[: -len(":conditional")] if key.endswith(":conditional") else key
@@ -685,7 +710,7 @@ def law_lists(rows: Iterable[tuple[str, str]]) -> Lists:
         tags[key] = (
             tags[key] + "; " + value if key in tags and key.endswith(":conditional") else value
         )
-    strict = Reading("close", school_holidays=True)
+    strict = Reading("close", school_holidays=True, law_flags=flags)
     lists = strict.by_access(tags, "forward", OPEN)
     for kind, what, example in strict.notes.said:
         if kind in ("closed", "left out"):

@@ -20,20 +20,22 @@ SCRIPTS = {
     "trip": "lorry_tools/trips/main.py",
     "serve": "lorry_tools/service/main.py",
     "look": "lorry_tools/look.py",
+    "route": "lorry_tools/route.py",
     "why_empty": "lorry_tools/why_empty.py",
     "lint": "lorry_tools/lint.py",
     "batch_over_machines": "lorry_tools/batches/main.py",
     "from_osm": "lorry_tools/conversion/main.py",
     "zones": "lorry_tools/conversion/zones.py",
     "holidays": "lorry_tools/conversion/holidays_table.py",
+    "laws": "lorry_tools/laws/main.py",
     "examples": "lorry_tools/examples.py",
 }
-KEPT = (".py", ".json", ".typed", ".html", ".css", ".js", ".svg", ".sh", ".txt", ".md", ".1")
+KEPT = tuple(".py .json .typed .html .css .js .svg .sh .txt .md .csv .1".split())
 NOT_PACKED = ("packages", "proving", "second", "speed", "trials")  # of the library
 
 DEPENDS = "lorry-plan, python3 (>= 3.9), python3-jinja2"
 RECOMMENDS = "libjs-leaflet, python3-fastapi, python3-uvicorn"
-SUGGESTS = "parallel, python3-holidays, python3-pyosmium, rsync, tzdata"
+SUGGESTS = "parallel, python3-holidays, python3-numpy, python3-pyosmium, rsync, tzdata"
 DESCRIPTION = """trips in people's words, and other tools beside lorry_plan
  Names of places, local times and streets in place of numbers; a desk in the
  browser and a service over HTTP; pages of plans; why a plan is empty; what a

@@ -1,0 +1,184 @@
+"""How large the folder of an extract will be, by samples of its roads.
+
+Each sample has the ways that are nearest to a drawn one. What the conversion makes of its inner
+part, for each junction there, is what it makes of all."""
+from __future__ import annotations
+
+import copy
+import math
+import random
+from typing import Callable, Iterable, Iterator, NamedTuple, Optional
+
+import numpy
+
+from lorry_tools.conversion import access, coarse, roads
+from lorry_tools.conversion.extract import Extract, Way
+from lorry_tools.conversion.report import Report
+from lorry_tools.conversion.tags import Notes, Reading
+
+# Smaller extracts aren't looked at: no folder of so few ways is too large.
+FEWEST_WAYS = 60_000
+SAMPLES, SAMPLED_WAYS = 10, 2_000
+# The inner part of a sample has one in so many of its ways.
+INNER = 2
+# A strongly connected part of fewer nodes is left out.
+SMALL_PART, MOST_PARTS = 30, 6
+# Seconds of --coarse, and classes of --roads, that are tried where a folder would be too large.
+GAPS = (60, 90, 120, 180, 240, 300, 450, 600, 900)
+CLASSES = ("residential", "unclassified", "tertiary", "secondary", "primary", "trunk", "motorway")
+# What fits has no more than this share of the limits, as estimates are too low.
+SHARE = 0.7
+
+
+class Size(NamedTuple):
+    nodes: int
+    arcs: int
+
+    def fits(self, most: Size, share: float = 1.0) -> bool:
+        return self.nodes <= most.nodes * share and self.arcs <= most.arcs * share
+
+    def text(self) -> str:
+        return f"about {rounded(self.nodes):,} nodes and {rounded(self.arcs):,} arcs"
+
+
+def rounded(number: int) -> int:
+    """A number with two digits that matter."""
+    unit: int = 10 ** max(0, len(str(number)) - 2)
+    return number // unit * unit
+
+
+class Sample(NamedTuple):
+    """Ways around a place, and the square of the inner part's radius, in units of coordinates."""
+
+    ways: list[Way]
+    x: int
+    y: int
+    radius: float
+
+    def has(self, x: int, y: int) -> bool:
+        wide = math.cos(math.radians(self.y / 1e7))
+        return ((x - self.x) * wide) ** 2 + (y - self.y) ** 2 <= self.radius
+
+
+class Estimate:
+    """The sizes of folders of an extract."""
+
+    def __init__(self, extract: Extract, reading: Reading, names: list[str]) -> None:
+        self.extract, self.names = extract, names
+        self.reading = copy.copy(reading)
+        self.reading.notes, self.reading.flags = Notes(), set()
+        self.samples = list(self.draw())
+
+    def draw(self) -> Iterator[Sample]:
+        ways = self.extract.ways
+        firsts = numpy.array([way.first for way in ways])
+        xs = numpy.frombuffer(self.extract.xs, dtype=numpy.intc)[firsts].astype(float)
+        ys = numpy.frombuffer(self.extract.ys, dtype=numpy.intc)[firsts].astype(float)
+        draws = random.Random(1)
+        for _ in range(SAMPLES):
+            at = draws.randrange(len(ways))
+            wide = numpy.cos(numpy.radians(ys[at] / 1e7))
+            away = ((xs - xs[at]) * wide) ** 2 + (ys - ys[at]) ** 2
+            count = min(SAMPLED_WAYS, len(ways)) - 1
+            inner = count // INNER
+            nearest = numpy.argpartition(away, [inner, count])
+            around = [ways[it] for it in sorted(nearest[: count + 1].tolist())]
+            yield Sample(around, int(xs[at]), int(ys[at]), float(away[nearest[inner]]))
+
+    def size(self, gap: int, least: Optional[str] = None) -> Size:
+        """The size of a folder with a junction in so many seconds, of all classes that are taken,
+        or of those down to one."""
+        taken = self.names if least is None else self.names[: self.names.index(least) + 1]
+        junctions = nodes = arcs = 0
+        for sample in self.samples:
+            ways = [way for way in sample.ways if dict(way.tags).get("highway", taken[0]) in taken]
+            if len(ways) > 1:
+                count, size = self.converted(part_of(self.extract, ways), sample, gap)
+                junctions, nodes, arcs = junctions + count, nodes + size.nodes, arcs + size.arcs
+        if not junctions:
+            return Size(0, 0)
+        refs: Iterable[int] = self.extract.refs
+        if least is not None:
+            own = [it for it in self.extract.ways if dict(it.tags).get("highway") in taken]
+            refs = part_of(self.extract, own).refs
+        whole = len(roads.junctions(refs)) / junctions
+        return Size(round(nodes * whole), round(arcs * whole))
+
+    def converted(self, part: Extract, sample: Sample, gap: int) -> tuple[int, Size]:
+        """The junctions of the inner part of a sample, and the size of what is made of them."""
+        rules = roads.Rules()
+        way_rules = roads.WayRules(self.reading, rules, Report())
+        network = roads.build(part, way_rules, set(), None, "", quiet)
+        count = len(network.refs)
+        arcs = connected(count, network.arcs)
+        arcs = roads.without_continuations(count, arcs, set())
+        if gap and arcs:
+            made, _, _ = coarse.coarse(
+                coarse.Stars(count, arcs), set(), set(), gap * 1000, lambda _: ignore
+            )
+            usable = [it for it in made if not access.is_shut(rules.lists[rules.all(it.rules)])]
+            arcs = coarse.without_detours(usable, network.xs, network.ys, ignore)
+
+        def is_inner(node: int) -> bool:
+            return sample.has(network.xs[node], network.ys[node])
+
+        known = (network.number[it] for it in roads.junctions(part.refs) if it in network.number)
+        tails = [arc.tail for arc in arcs if is_inner(arc.tail)]
+        return sum(map(is_inner, known)), Size(len(set(tails)), len(tails))
+
+
+def connected(count: int, arcs: list[roads.Arc]) -> list[roads.Arc]:
+    """The arcs of the strongly connected parts that aren't small: roads outside the sample may
+    connect them."""
+    found: list[roads.Arc] = []
+    for _ in range(MOST_PARTS):
+        nodes = roads.largest_component(count, arcs)
+        if len(nodes) < SMALL_PART:
+            break
+        found += roads.within(arcs, nodes)
+        arcs = [arc for arc in arcs if arc.tail not in nodes and arc.head not in nodes]
+    return found
+
+
+def part_of(extract: Extract, ways: list[Way]) -> Extract:
+    """An extract of some ways."""
+    part = Extract()
+    part.barriers = extract.barriers
+    for way in ways:
+        first = len(part.refs)
+        part.refs.extend(extract.refs[way.first : way.last])
+        part.xs.extend(extract.xs[way.first : way.last])
+        part.ys.extend(extract.ys[way.first : way.last])
+        part.ways.append(Way(way.number, way.tags, way.name, first, len(part.refs)))
+    return part
+
+
+def quiet(text: str) -> None:
+    """Says nothing."""
+
+
+def ignore(done: int, whole: int) -> None:
+    """Says nothing."""
+
+
+def advice(
+    estimate: Estimate, gap: int, most: Size, say: Callable[[str], None]
+) -> list[tuple[str, Size]]:
+    """The options with which a folder would fit, each with its size: a larger gap, and fewer
+    classes of roads."""
+    found = []
+    for other in GAPS:
+        if other > gap:
+            say(f"trying --coarse {other} ..")
+            size = estimate.size(other)
+            if size.fits(most, SHARE):
+                found.append((f"--coarse {other}", size))
+                break
+    names = [it for it in CLASSES if it in estimate.names]
+    for least in names[1:] if names and names[0] == estimate.names[-1] else names:
+        say(f"trying --roads {least} ..")
+        size = estimate.size(gap, least)
+        if size.nodes and size.fits(most, SHARE):
+            found.append((f"--roads {least}", size))
+            break
+    return found
