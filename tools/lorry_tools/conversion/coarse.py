@@ -16,9 +16,13 @@ from typing import AbstractSet, Any, Callable, Collection, Iterable, Iterator, O
 
 import numpy
 
-from lorry_tools.conversion.contraction import NO_RULES, Contraction, Links, Star
 from lorry_tools.conversion.roads import Arc
 
+# What leaves a node, or comes into it: the milliseconds, the other node, and the place of the arc
+# in the list of arcs, or -1 - place for an arc with rules or a toll. These are tuples since
+# searches look at them millions of times.
+Link = tuple[int, int, int]
+Star = list[list[Link]]
 # A way between kept nodes: the places of its arcs, and its rules.
 Way = tuple[list[int], frozenset[int]]
 # The ways of a node, and whether some were given up.
@@ -27,10 +31,10 @@ Ways = tuple[list[Way], bool]
 # A way over this many kept junctions is no longer followed to see whether it is better than another
 # one: then an arc may be looked at for nothing.
 MOST_KEPT = 1
-# The most ways to a junction that are followed at once, by their rules and tolls; and in a graph
-# from which junctions were taken out.
-MOST_WAYS, FEW_WAYS = 12, 3
+# The most ways to a junction that are followed at once, by their rules and tolls.
+MOST_WAYS = 12
 
+NO_RULES: frozenset[int] = frozenset()
 FREE = (NO_RULES, 0.0)
 FOR_EVER = 1 << 60
 # The bits of a label's number in the queue, and the kinds of labels at one millisecond.
@@ -169,34 +173,24 @@ def kept_junctions(
     return kept
 
 
-class Unsure(Exception):
-    """A graph from which junctions were taken out doesn't tell which of two ways comes first."""
-
-
-def ways_from(
-    start: int, out: Star, links: Links, kept: Collection[int], is_whole: bool = True
-) -> Ways:
+def ways_from(start: int, stars: Stars, kept: Collection[int]) -> Ways:
     """The ways from a kept junction to others without a kept one between, that no way beats, and
-    whether some were given up. Raises Unsure where the graph isn't whole, and two ways take as long
-    or a junction has several.
+    whether some were given up.
 
     A way is beaten by one that takes no longer, and has neither a rule that it hasn't nor a higher
     toll. Of ways that take as long, those with kept junctions come first, and then those that were
     met first: so a number says the place of a label in the queue. It is the milliseconds, then
     whether the way may still pass a kept junction, and then the number of the label."""
-    all_rules, all_tolls = links.rules, links.tolls
+    arcs, out = stars.arcs, stars.out
     push, pop = heapq.heappush, heapq.heappop
-    # The labels: their nodes, links and the labels before them; and some labels' rules and tolls.
+    # The labels: their nodes, arcs, the labels before them, rules and metres with a toll.
     nodes, places, before = [start], [0], [0]
     ruled: dict[int, tuple[frozenset[int], float]] = {}
     settled: dict[int, list[tuple[frozenset[int], float]]] = {}
-    # The least number of a label without rules and toll at a node: it beats all later ones. And the
-    # last number of a label that may still pass a kept junction.
+    # The least number of a label without rules and toll at a node: it beats all later ones.
     least: dict[int, int] = {start: 0}
-    last: dict[int, int] = {}
     found: list[Way] = []
     gave_up = False
-    most = MOST_WAYS if is_whole else FEW_WAYS
     fresh = MOST_KEPT
     queue = [fresh << BITS]
     direct = 1
@@ -205,56 +199,52 @@ def ways_from(
         label = number & MOST_LABELS
         number >>= BITS
         time, left = divmod(number, KINDS)
+        direct -= left == fresh
         node = nodes[label]
-        if left == fresh:
-            direct -= 1
-            if not is_whole:
-                if last.get(node) == number:
-                    raise Unsure
-                last[node] = number
         rules, toll = ruled.get(label, FREE)
         others = settled.get(node)
         if others is None:
-            settled[node] = [(rules, toll)]
-        elif beaten(others, rules, toll):
-            continue
-        elif len(others) >= most:
-            if not is_whole:
-                raise Unsure
-            gave_up = True
-            continue
+            others = settled[node] = []
+        for other, other_toll in others:
+            if other_toll <= toll and other <= rules:
+                break
         else:
+            if len(others) >= MOST_WAYS:
+                gave_up = True
+                continue
             others.append((rules, toll))
-        if label and node in kept:
-            if left == fresh:
-                found.append((links.arcs_of(path_of(label, places, before)), rules))
-            left -= 1
-            if left < 0:
-                continue
-        is_free = label not in ruled
-        for step, head, place in out[node]:
-            later = (time + step) * KINDS + left
-            known = least.get(head, FOR_EVER)
-            if later >= known:
-                if later == known and left == fresh and not is_whole:
-                    raise Unsure
-                continue
-            if is_free and place >= 0:
-                least[head] = later
-            else:
-                if head == start:
+            if label and node in kept:
+                if left == fresh:
+                    found.append((path_of(label, places, before), rules))
+                left -= 1
+                if left < 0:
                     continue
-                if place < 0:
-                    place = -1 - place
-                own_rules, own_toll = rules | all_rules[place], toll + all_tolls[place]
-                if head in settled and beaten(settled[head], own_rules, own_toll):
+            is_free = label not in ruled
+            for step, head, place in out[node]:
+                later = (time + step) * KINDS + left
+                if later >= least.get(head, FOR_EVER):
                     continue
-                ruled[len(nodes)] = own_rules, own_toll
-            push(queue, later << BITS | len(nodes))
-            nodes.append(head)
-            places.append(place)
-            before.append(label)
-            direct += left == fresh
+                if is_free and place >= 0:
+                    if head in settled and beaten(settled[head], NO_RULES, 0.0):
+                        continue
+                    least[head] = later
+                else:
+                    if head == start:
+                        continue
+                    if place < 0:
+                        place = -1 - place
+                    arc = arcs[place]
+                    own = arc.rules
+                    own_rules = rules | {own} if own and own not in rules else rules
+                    own_toll = toll + arc.toll
+                    if head in settled and beaten(settled[head], own_rules, own_toll):
+                        continue
+                    ruled[len(nodes)] = own_rules, own_toll
+                push(queue, later << BITS | len(nodes))
+                nodes.append(head)
+                places.append(place)
+                before.append(label)
+                direct += left == fresh
     return found, gave_up
 
 
@@ -269,7 +259,7 @@ def beaten(
 
 
 def path_of(label: int, places: Sequence[int], before: Sequence[int]) -> list[int]:
-    """The links of a label, in their order."""
+    """The places of the arcs of a label, in their order."""
     path: list[int] = []
     while label:
         path.append(places[label])
@@ -397,14 +387,9 @@ class Search:
 
     def __init__(self, stars: Stars, kept: Collection[int]) -> None:
         self.stars, self.kept = stars, kept
-        self.links = Links(stars.arcs)
-        self.few = Contraction(len(stars.out), stars.arcs, self.links, kept).star()
 
     def ways(self, node: int) -> Ways:
-        try:
-            return ways_from(node, self.few, self.links, self.kept, False)
-        except Unsure:
-            return ways_from(node, self.stars.out, self.links, self.kept)
+        return ways_from(node, self.stars, self.kept)
 
     def all(self, nodes: list[int], processes: int) -> Iterator[Ways]:
         """Yields the ways from each node, in the order of the nodes."""
