@@ -1097,6 +1097,7 @@ def limit_trips(folder: str) -> Iterator[tuple[str, list[str]]]:
             "--rest",
             "1",
         ]
+    write(folder, "parking.csv", "node,rating\n")
     write(folder, "graph.gr", graph_text(10, [(1, 1, 10_080)] * 10))
     for text in ("drive 1\n" * 2_097_152, "drive 1\n" * 2_097_151 + "drive 10\n"):
         write(folder, ITINERARY, text)
