@@ -14,11 +14,10 @@ from typing import Iterable, Iterator
 
 from lorry_tools.files import NETWORK
 from lorry_tools.folder import Folder, link_files, number_of, zones_of_areas
+from lorry_tools.lint import is_access_key
 
 MOST_AREAS = 1_000  # docs/LIMITS.md
 CONDITIONAL = ":conditional"
-WORDS = ("access", "vehicle", "motor_vehicle", "hgv", "hgv_articulated", "goods", "bus")
-KEYS = {*WORDS, *(it + CONDITIONAL for it in WORDS)}
 CHANGED = ("areas.csv", "roads.csv", "rules.csv", "holidays.csv")
 
 Rules = dict[str, str]  # by their keys
@@ -31,9 +30,9 @@ def write_tables(folder: Folder, place: str) -> bool:
     by_arc: dict[int, Rules] = {}
     for row in folder.table("rules.csv"):
         kind, _, name = row["scope"].partition(":")
-        if row["key"] in KEYS and kind == "arc":
+        if is_access_key(row["key"]) and kind == "arc":
             by_arc.setdefault(number_of(name) or 0, {})[row["key"]] = row["value"]
-        elif row["key"] in KEYS:
+        elif is_access_key(row["key"]):
             by_area.setdefault(name, {})[row["key"]] = row["value"]
     zones = zones_of_areas(folder)
     areas, first = folder.areas_of_arcs()
