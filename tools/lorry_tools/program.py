@@ -82,7 +82,7 @@ class Trip:
 
 @dataclasses.dataclass(frozen=True)
 class BreakRule:
-    """At most so many minutes of driving since the last break, which has so many at least."""
+    """At most DRIVE minutes of driving since the last break; a break has at least REST minutes."""
 
     drive: int
     rest: int

@@ -462,7 +462,7 @@ class Conversion:
         return self.rules.both(arc.rules, number)
 
     def night_time(self, arc: Arc, night: int) -> int:
-        """The milliseconds of an arc's pieces, none faster than so many kilometres an hour."""
+        """The milliseconds of an arc's pieces, none faster than NIGHT kilometres an hour."""
         time = 0
         for piece in arc.pieces:
             places = self.network.piece_places(piece)

@@ -19,7 +19,7 @@ from lorry_tools.conversion.tags import Notes, Reading
 # Smaller extracts aren't looked at: no folder of so few ways is too large.
 FEWEST_WAYS = 60_000
 SAMPLES, SAMPLED_WAYS = 10, 2_000
-# The inner part of a sample has one in so many of its ways.
+# The inner part of a sample has one of this number of its ways.
 INNER = 2
 # A strongly connected part of fewer nodes is left out.
 SMALL_PART, MOST_PARTS = 30, 6
@@ -86,7 +86,7 @@ class Estimate:
             yield Sample(around, int(xs[at]), int(ys[at]), float(away[nearest[inner]]))
 
     def size(self, gap: int, least: Optional[str] = None) -> Size:
-        """The size of a folder with a junction in so many seconds, of all classes that are taken,
+        """The size of a folder with a junction each GAP seconds, of all classes that are taken,
         or of those down to one."""
         taken = self.names if least is None else self.names[: self.names.index(least) + 1]
         junctions = nodes = arcs = 0

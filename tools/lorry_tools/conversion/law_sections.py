@@ -17,7 +17,7 @@ from lorry_tools.conversion.roads import Step, metres
 from lorry_tools.laws.section import Box, Section, junction_name, refs_in
 from lorry_tools.laws.table import Tables, joined
 
-# The other carriageway is taken up to so many times the shortest way, and so many metres more.
+# The other carriageway is taken up to this multiple of the shortest way, and these metres more.
 LONGER, METRES = 1.1, 3_000
 
 # From a node over a step to another one, with the metres.

@@ -8,7 +8,7 @@ from lorry_tools.trips.request import BREAK, DRIVE_A_DAY, DRIVE_TO_BREAK, REST
 
 
 def longest_drive(steps: list[Step], pause: int) -> int:
-    """Returns the most minutes of driving without a wait of so many minutes."""
+    """Returns the most minutes of driving without a wait of PAUSE minutes."""
     most = driven = 0
     for step in steps:
         if step.kind == DRIVE:
