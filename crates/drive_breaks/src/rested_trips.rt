@@ -129,6 +129,8 @@ fn explored_from(
 /// drives and breaks that leave them, are more than `MOST_STATES`, whatever the goal.
 ///
 /// It takes the time and memory of a net with a node for each state and an arc for each drive and break, and of a search over it.
+///
+/// For other callers: the program plans such trips by `plan_rested` of `rested_tours`.
 pub fn plan_breaks<E: FrontSearch>(
     alloc: Global,
     engine: &E,

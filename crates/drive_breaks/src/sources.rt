@@ -4,9 +4,9 @@ ghost use Rattle.drive_breaks.specs.Words.{unpacked, IsSourced, IsSourcedRoute, 
 ghost use Rattle.drive_breaks.specs.Words.{IsTidy, steps_of, steps_of_leg};
 ghost use Rattle.route_base.specs.declared.types.Leg.TheVariants.{Wait};
 
-use front_transport::push_leg;
 use route_base::{Leg, Legs, OutOfMemory, Route};
 use std::alloc::Global;
+use tidy_legs::push_leg;
 
 // The leg of the net for a leg over states.
 fn source_of(sources: &[Leg], leg: Leg) -> Leg

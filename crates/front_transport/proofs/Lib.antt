@@ -5,5 +5,4 @@ pub mod OneFront
 pub mod PairOrder
 pub mod Places
 pub mod SameFronts
-pub mod Tidying
 pub mod Transport

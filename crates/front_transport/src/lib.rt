@@ -9,17 +9,14 @@
 //! costs over such nets fit.
 //!
 //! `specs/Inside` is no law. A front is carried along a correspondence between what is achieved here and there (`Carrying`); that
-//! the image of a front is a front is proved in `proofs/Transport`, for all types, so no clause can state it. `Tidiness` is what
-//! `push_leg` keeps, which puts legs together; `plain_search` uses it, too. `proofs/` also has common lemmas on nets that grow at
-//! the end of their lists (`Places`, `ListPlaces`, `NetParts`), and on walks (`Growing`).
+//! the image of a front is a front is proved in `proofs/Transport`, for all types, so no clause can state it. `proofs/` also has
+//! common lemmas on nets that grow at the end of their lists (`Places`, `ListPlaces`, `NetParts`), and on walks (`Growing`).
 #![tactic(auto)]
 
 mod closed_lists;
 mod laws;
-mod legs;
 mod limits;
 
 pub use closed_lists::copied_lists;
 pub use laws::fronts_are_pareto_fronts;
-pub use legs::push_leg;
 pub use limits::MOST_STATES;

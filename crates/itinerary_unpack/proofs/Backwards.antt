@@ -1,16 +1,13 @@
 -- Back from a pair to the start, over falling minutes.
-use Rattle.std.proofs.Common.{◌≡◌, ⊎_elim, ℕ, ◌+◌, ◌≤◌, ◌<◌, Option, Some, None, List, [], ◌∷◌, ◌++◌, length, replicate, refl, sym, ◌∙◌, ap, subst}
-use Rattle.std.proofs.Common.{arith, append_assoc}
-use Rattle.std.specs.Prelude.{Contains, reverse, unwrap_or}
+use Rattle.std.proofs.Common.{◌≡◌, ⊎_elim, ℕ, ◌≤◌, ◌<◌, Option, Some, None, List, [], ◌∷◌, ◌++◌, length, refl, sym, ◌∙◌, ap, subst}
+use Rattle.std.proofs.Common.{arith}
+use Rattle.std.specs.Prelude.{Contains, unwrap_or}
 use Rattle.std.proofs.lemmas.Bool.{cases_lt}
-use Rattle.std.proofs.lemmas.List.{reverse-append, replicate-append-replicate}
 use Rattle.route_base.specs.Setting.{Setting}
-use Rattle.route_base.specs.Itinerary.{Position, Step, wait, Walks}
-use Rattle.route_base.specs.Legs.{steps_of, steps_of_leg, start_of, end_of, CostsFit, IsReachable}
+use Rattle.route_base.specs.Itinerary.{Position, Step, Walks}
+use Rattle.route_base.specs.Legs.{steps_of_leg, start_of, end_of, CostsFit, IsReachable}
 use Rattle.route_base.specs.Net.{Net, setting_of, at_number}
 use Rattle.route_base.specs.declared.limits.TheConstants.{HIGHEST_COST}
-use Rattle.route_base.specs.declared.types.Leg.{Leg}
-use Rattle.route_base.specs.declared.types.Leg.TheVariants.{Wait}
 use Rattle.route_base.specs.declared.types.Pair.{Pair}
 use Rattle.route_base.specs.declared.types.Request.{Request}
 use Rattle.route_base.proofs.Walking.{along, moves_later}
@@ -110,15 +107,3 @@ module _ (net : Net) (r : Request) (found : Finding) (good : IsFoundFor net r fo
       (has_source (setting_of net) r pair (takes_time net good.good) (cost_at found.functions) ways_to (point v t x) steps
       (good.justified.reachable (point v t x) at)
       (subst (λ n. Walks (setting_of net) r.until steps (point v t n) (end_of r pair)) e leads.leads.walk))
-
--- a wait that joins the one behind it
-pub steps_join : (old new front : List Leg) (k m : ℕ) → old ≡ front ++ Wait k ∷ [] → new ≡ front ++ Wait (k + m) ∷ []
-    → steps_of (reverse new) ≡ steps_of_leg (Wait m) ++ steps_of (reverse old)
-steps_join old new front k m was now =
-    let rest : List Step = steps_of (reverse front) in
-    let sum : k + m ≡ m + k = omega arith in
-    ap (λ w. steps_of (reverse w)) now ∙ (ap steps_of (reverse-append front (Wait (k + m) ∷ []))
-    ∙ (ap (λ n. replicate n wait ++ rest) sum
-    ∙ (ap (λ (w : List Step). w ++ rest) (sym (replicate-append-replicate m k wait))
-    ∙ (append_assoc (replicate m wait) (replicate k wait) rest
-    ∙ ap (λ (w : List Step). replicate m wait ++ w) (sym (ap (λ w. steps_of (reverse w)) was ∙ ap steps_of (reverse-append front (Wait k ∷ []))))))))

@@ -8,19 +8,20 @@ ghost use Rattle.route_base.specs.FirstItinerary.{IsFirst};
 ghost use Rattle.node_arcs.specs.Stars.{AreIncoming};
 ghost use Rattle.itinerary_unpack.specs.Answered.{IsAnswered};
 ghost use Rattle.itinerary_unpack.specs.Inside.Requests.{IsSolved, setting_in};
-ghost use Rattle.itinerary_unpack.specs.Inside.Ways.{IsTidyBack};
+ghost use Rattle.tidy_legs.specs.Words.{IsTidy};
 
-use crate::legs::push_before;
 use crate::solved::Solved;
 use crate::sources::source_of;
 use node_arcs::NodeArcs;
 use propagation::Found;
 use route_base::{Leg, Legs, OutOfMemory, Pair, Request, TimedNet};
 use std::alloc::Global;
+use tidy_legs::push_leg;
 
 /// The legs of pair k, counted from 0, in the order of travel: lawful ones without neighbouring waits, and the first of the pair's
 /// itineraries. Takes two binary searches for each arc that comes into the end of a drive, a few more for each drive and for each
 /// piece that a wait goes over, and memory for the arcs by node.
+/// For other callers: the program has all legs by `routes_of`, over arcs that are put in order once.
 pub fn unpack(
     alloc: Global,
     net: &TimedNet,
@@ -73,7 +74,7 @@ pub fn unpack_over(
 fn legs_back(alloc: Global, solved: Solved<'_>, pair: Pair) -> Result<Vec<Leg>, OutOfMemory>
     requires solved { IsSolved solved }
     requires one { Contains solved.found.now.pairs pair }
-    ensures tidy { IfOk result (λ legs. IsTidyBack legs.items) }
+    ensures tidy { IfOk result (λ legs. IsTidy (reverse legs.items)) }
     ensures walk { IfOk result (λ legs. Walks (setting_in solved.entry) solved.entry.request.until
         (steps_of (reverse legs.items)) (start_of solved.entry.request) (end_of solved.entry.request pair)) }
     ensures first { IfOk result (λ legs. IsFirst (setting_in solved.entry) solved.entry.request
@@ -85,7 +86,7 @@ fn legs_back(alloc: Global, solved: Solved<'_>, pair: Pair) -> Result<Vec<Leg>, 
     'back: while node.0 != solved.request.origin.0 || minute != solved.request.depart {
         let cost = solved.found.function(node).at(minute).unwrap_or(0);
         let source = source_of(solved, node, minute, cost);
-        push_before(&mut legs, source.leg)?;
+        push_leg(&mut legs, source.leg)?;
         node = source.node;
         minute = source.minute;
     }

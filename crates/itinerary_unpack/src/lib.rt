@@ -16,7 +16,6 @@
 mod back;
 mod engine;
 mod laws;
-mod legs;
 mod routes;
 mod shared_arcs;
 mod solved;

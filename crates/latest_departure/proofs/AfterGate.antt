@@ -6,7 +6,7 @@ use Rattle.route_base.specs.declared.types.Leg.{Leg}
 use Rattle.route_base.specs.declared.types.Leg.TheVariants.{Drive, Wait}
 use Rattle.latest_departure.specs.Inside.Mirror.{after_gate}
 use Rattle.latest_departure.proofs.Gate.{beyond}
-use Rattle.latest_departure.proofs.TurnedLegs.{apart_tail}
+use Rattle.tidy_legs.proofs.TurnedLegs.{apart_tail}
 
 pub waits_beyond : (k : ℕ) (ys : List Step) → beyond (replicate k wait ++ ys) ≡ beyond ys
 waits_beyond zero ys = refl

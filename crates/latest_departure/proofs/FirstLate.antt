@@ -10,7 +10,7 @@ use Rattle.route_base.proofs.Logic.{map_some}
 use Rattle.route_base.proofs.Numbered.{number_within}
 use Rattle.latest_departure.specs.Inside.Mirror.{GoesOnBefore}
 use Rattle.latest_departure.specs.LateFront.{IsListedBefore}
-use Rattle.latest_departure.proofs.TurnedLegs.{waits_reversed}
+use Rattle.tidy_legs.proofs.TurnedLegs.{waits_reversed}
 
 -- waits and a drive before other steps, in the other order
 pub behind_others : (k a : ℕ) (xs : List Step) → reverse (replicate k wait ++ drive a ∷ xs) ≡ reverse xs ++ drive a ∷ replicate k wait

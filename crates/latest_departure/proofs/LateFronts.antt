@@ -28,7 +28,7 @@ use Rattle.front_transport.specs.ParetoFronts.{ArrivesBefore}
 use Rattle.route_base.proofs.Costs.{fits}
 use Rattle.front_transport.proofs.PairOrder.{no_worse_order}
 use Rattle.front_transport.proofs.Transport.{carried}
-use Rattle.latest_departure.proofs.TurnedLegs.{steps_reversed, no_empty_reversed, apart_reversed}
+use Rattle.tidy_legs.proofs.TurnedLegs.{steps_reversed, no_empty_reversed, apart_reversed}
 use Rattle.latest_departure.specs.LateFront.{LatePair, request_from, pair_at, IsLateAchieved, IsLateNoWorse, DepartsAfter, IsLateFront, late_pair_of}
 use Rattle.latest_departure.specs.LateFront.{AchievesLate, AreRightLate, IsFirstLate, IsListedBefore}
 use Rattle.latest_departure.specs.Inside.Mirror.{GoesOnBefore, behind_last, mirrored, mirrored_request, after_gate, late_of, own_legs_of}

@@ -8,5 +8,4 @@ pub mod MirroredRuns
 pub mod OneLate
 pub mod OwnLegs
 pub mod OwnWalks
-pub mod TurnedLegs
 pub mod TurnedWalks

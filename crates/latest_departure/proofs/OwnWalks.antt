@@ -22,7 +22,7 @@ use Rattle.route_base.proofs.Walking.{walk-append, walk_grows, walk_parts}
 use Rattle.latest_departure.specs.Inside.Mirror.{behind_last, free_to_in}
 use Rattle.latest_departure.proofs.MirroredNet.{z, back, head_inner}
 use Rattle.latest_departure.proofs.OwnLegs.{at_goal}
-use Rattle.latest_departure.proofs.TurnedLegs.{apart_tail}
+use Rattle.tidy_legs.proofs.TurnedLegs.{apart_tail}
 use Rattle.latest_departure.proofs.TurnedWalks.{turned_road}
 
 if_zero : {A : Type 0} (n : ℕ) (a b : A) → (if n == 0 then Some a else None) ≡ Some b → (n ≡ 0) × (a ≡ b)

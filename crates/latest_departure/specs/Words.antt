@@ -1,6 +1,5 @@
 -- The words of the crate's clauses, from its own specs and from the crates below (source: own).
 pub use Rattle.route_base.specs.Net.{IsGoodRequest, setting_of}
-pub use Rattle.line_texts.specs.Words.{plain_leg_text}
 pub use Rattle.front_transport.specs.CheapArcs.{HasCheapArcs}
 pub use Rattle.latest_departure.specs.LateFront.{AreRightLate}
 pub use Rattle.latest_departure.specs.LateText.{late_route_text, late_text_of}

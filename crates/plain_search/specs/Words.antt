@@ -11,4 +11,4 @@ pub use Rattle.plain_search.specs.Inside.Costs.{none, at, value_of, IsKnownCost,
 pub use Rattle.plain_search.specs.Inside.Predecessors.{LeadsTo, IsSingle}
 pub use Rattle.plain_search.specs.Inside.Routes.{IsRouteAt}
 pub use Rattle.plain_search.specs.Inside.Soundness.{IsAsked, IsSoundTable, IsFinalTable, HasSoundLabel, IsNode, IsMinute}
-pub use Rattle.front_transport.specs.Inside.Tidiness.{IsTidy}
+pub use Rattle.tidy_legs.specs.Tidiness.{IsTidy}

@@ -2,9 +2,9 @@
 ghost use Rattle.std.specs.Prelude.{◌≡◌, ◌<◌, ◌^◌, length, reverse, All, IfOk};
 ghost use Rattle.plain_search.specs.Words.{steps_of, IsSingle, IsTidy};
 
-use front_transport::push_leg;
 use route_base::Leg;
 use std::alloc::{AllocError, Global};
+use tidy_legs::push_leg;
 
 /// Reverses single-step legs and merges neighbouring waits. Linear in their number.
 pub fn tidied(alloc: Global, back: &[Leg]) -> Result<Vec<Leg>, AllocError>

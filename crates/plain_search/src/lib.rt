@@ -8,7 +8,7 @@
 //! Each step of an itinerary takes time, so the minutes are taken in order, and a minute's labels are final when it is
 //! processed. `search` holds a request over a net with its forward and backward star (`node_arcs`); `forward` relaxes all
 //! steps from all minutes; `engine` reads the front from the goal's column of the table (`cost_table`); `reconstruct` finds
-//! the first itinerary of each pair backwards, and `legs` puts its steps together (`push_leg` of `front_transport`);
+//! the first itinerary of each pair backwards, and `legs` puts its steps together (`push_leg` of `tidy_legs`);
 //! `node_points` reads all columns.
 //!
 //! `specs/Inside` is no law. It has the three facts that the proof keeps (`Costs`): each label but the first comes by a lawful

@@ -1,61 +1,39 @@
 // Writes tours as plain lines.
-ghost use Rattle.std.specs.Prelude.{◌≡◌, ◌++◌, OnOk, IfOk, flat_map};
-ghost use Rattle.stop_tour.specs.Words.{tour_leg_text, tour_route_text, tour_text_of};
-ghost use Rattle.stop_tour.specs.declared.stops.TourLeg.TheVariants.{Serve};
+ghost use Rattle.std.specs.Prelude.{◌≡◌, IfOk};
+ghost use Rattle.stop_tour.specs.Words.{tour_text_of};
 
 use crate::{TourLeg, TourRoute, TourRoutes};
-use line_texts::{push_field, push_plain_leg, push_text, push_thousandths};
+use line_texts::{push_field, push_text};
 use route_base::{Leg, OutOfMemory};
+use route_lines::{PlainLines, plain_routes, push_each, push_route_line};
 use std::alloc::Global;
 
-// Appends the line of a service.
-fn push_service(out: &mut Vec<u8>, stop: u32) -> Result<(), OutOfMemory>
-    ensures { OnOk result (out.new.items ≡ out.old.items ++ tour_leg_text (Serve stop)) }
-{
-    push_field(out, "serve ", stop as u64)?;
-    push_text(out, "\n")
-}
+impl PlainLines for TourLeg {
+    ghost use Rattle.stop_tour.specs.Words.{tour_leg_text};
 
-// Appends the line of a leg.
-fn push_leg(out: &mut Vec<u8>, leg: TourLeg) -> Result<(), OutOfMemory>
-    ensures { OnOk result (out.new.items ≡ out.old.items ++ tour_leg_text leg) }
-{
-    match leg {
-        TourLeg::Drive(arc) => push_plain_leg(out, Leg::Drive(arc)),
-        TourLeg::Wait(minutes) => push_plain_leg(out, Leg::Wait(minutes)),
-        TourLeg::Serve(stop) => push_service(out, stop),
+    ghost lines = { tour_leg_text };
+
+    fn push_lines(&self, out: &mut Vec<u8>) -> Result<(), OutOfMemory> {
+        match *self {
+            TourLeg::Drive(arc) => Leg::Drive(arc).push_lines(out),
+            TourLeg::Wait(minutes) => Leg::Wait(minutes).push_lines(out),
+            TourLeg::Serve(stop) => {
+                push_field(out, "serve ", stop as u64)?;
+                push_text(out, "\n")
+            }
+        }
     }
 }
 
-// Appends the lines of legs.
-fn push_legs(out: &mut Vec<u8>, legs: &[TourLeg]) -> Result<(), OutOfMemory>
-    ensures { OnOk result (out.new.items ≡ out.old.items ++ flat_map tour_leg_text legs.now) }
-{
-    for leg in legs {
-        push_leg(out, *leg)?;
-    }
-    Ok(())
-}
+impl PlainLines for TourRoute {
+    ghost use Rattle.stop_tour.specs.Words.{tour_route_text};
 
-// Appends the line of a tour, and then those of its legs.
-fn push_route(out: &mut Vec<u8>, route: &TourRoute) -> Result<(), OutOfMemory>
-    ensures { OnOk result (out.new.items ≡ out.old.items ++ tour_route_text route.now) }
-{
-    push_field(out, "pair ", route.pair.arrival)?;
-    push_text(out, " ")?;
-    push_thousandths(out, route.pair.cost)?;
-    push_text(out, "\n")?;
-    push_legs(out, route.legs.as_slice())
-}
+    ghost lines = { tour_route_text };
 
-// Appends the lines of tours.
-fn push_routes(out: &mut Vec<u8>, routes: &[TourRoute]) -> Result<(), OutOfMemory>
-    ensures { OnOk result (out.new.items ≡ out.old.items ++ flat_map tour_route_text routes.now) }
-{
-    for route in routes {
-        push_route(out, route)?;
+    fn push_lines(&self, out: &mut Vec<u8>) -> Result<(), OutOfMemory> {
+        push_route_line(out, "pair ", self.pair.arrival, self.pair.cost)?;
+        push_each(out, self.legs.as_slice())
     }
-    Ok(())
 }
 
 /// The report in plain lines: the number of pairs, then each pair with its legs, arrivals in Unix minutes and costs with three
@@ -63,9 +41,5 @@ fn push_routes(out: &mut Vec<u8>, routes: &[TourRoute]) -> Result<(), OutOfMemor
 pub fn tour_text(alloc: Global, routes: &TourRoutes) -> Result<Vec<u8>, OutOfMemory>
     ensures { IfOk result (λ text. text.items ≡ tour_text_of routes.now) }
 {
-    let mut out = Vec::new(alloc);
-    push_field(&mut out, "pairs ", routes.len() as u64)?;
-    push_text(&mut out, "\n")?;
-    push_routes(&mut out, routes.as_slice())?;
-    Ok(out)
+    plain_routes(alloc, routes.as_slice())
 }

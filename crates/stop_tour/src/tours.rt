@@ -120,6 +120,8 @@ fn tours_over<E: BoundedSearch>(
 /// It takes the time and memory of one net with its closed runs for each number of served stops, and of a search over all of them. A
 /// layer is searched only until its last minute from which the other stops can be served within their windows. The engine finds bounds
 /// of its own over all layers, and those of `tour_with`, which spares that, are made and dropped.
+///
+/// For other callers: the program plans tours by `tour_with`.
 pub fn tour<E: FrontSearch>(
     alloc: Global,
     engine: &E,

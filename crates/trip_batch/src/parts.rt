@@ -64,6 +64,7 @@ pub fn run_parts<R: Threads + Sync, P: PartPlanner, G: Gate>(
 
 /// Right texts of all jobs of the planner, in their order, planned on `workers` workers at once, each with one part of consecutive
 /// jobs. It takes the time of the longest part and the memory of the texts, beside what the parts take at once.
+/// For other callers: the program plans a batch by `run_in_order`.
 pub fn run_in_parts<R: Threads + Sync, P: PartPlanner, G: Gate>(
     rt: &R,
     planner: &P,
@@ -80,6 +81,7 @@ pub fn run_in_parts<R: Threads + Sync, P: PartPlanner, G: Gate>(
 
 /// Right texts of all jobs of the planner, in their order, planned on `workers` workers at once. It takes the time of the longest part
 /// and the memory of the texts.
+/// For other callers: the program plans a batch by `run_in_order`.
 pub fn run_batch<R: Threads + Sync, P: JobPlanner, G: Gate>(
     rt: &R,
     alloc: Global,

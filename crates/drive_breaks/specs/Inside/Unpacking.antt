@@ -8,7 +8,7 @@ use Rattle.route_base.specs.declared.types.Leg.{Leg}
 use Rattle.route_base.specs.declared.types.Leg.TheVariants.{Drive, Wait}
 use Rattle.route_base.specs.declared.types.Request.{Request}
 use Rattle.route_base.specs.declared.types.Route.{Route}
-use Rattle.front_transport.specs.Inside.Tidiness.{IsTidy}
+use Rattle.tidy_legs.specs.Tidiness.{IsTidy}
 use Rattle.drive_breaks.specs.Rested.{IsRestedFrom}
 use Rattle.drive_states.specs.declared.rule.BreakRule.{BreakRule}
 

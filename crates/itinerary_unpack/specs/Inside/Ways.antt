@@ -1,9 +1,7 @@
 -- The legs of an itinerary that are found so far, the last first (source: own; no law).
-use Rattle.std.specs.Prelude.{◌≡◌, ℕ, Option, Some, List, reverse}
+use Rattle.std.specs.Prelude.{◌≡◌, ℕ, Option, Some, List}
 use Rattle.route_base.specs.Setting.{Setting}
 use Rattle.route_base.specs.Itinerary.{Step}
-use Rattle.route_base.specs.Legs.{HasNoEmptyWait, HasNoNeighbouringWaits}
-use Rattle.route_base.specs.declared.types.Leg.{Leg}
 use Rattle.route_base.specs.declared.types.Pair.{Pair}
 use Rattle.route_base.specs.declared.types.Request.{Request}
 use Rattle.route_base.specs.StepsBack.{LeadsFirst}
@@ -14,8 +12,3 @@ pub record LeadsToPair (s : Setting) (r : Request) (cost : ℕ → ℕ → Optio
   pub here : ℕ
   pub known : cost v t ≡ Some here
   pub leads : LeadsFirst s r pair (point v t here) steps
-
--- in the order of travel no leg is an empty wait, and no two waits are neighbours
-pub record IsTidyBack (legs : List Leg) : Type 0 where
-  pub no_empty_wait : HasNoEmptyWait (reverse legs)
-  pub no_neighbours : HasNoNeighbouringWaits (reverse legs)

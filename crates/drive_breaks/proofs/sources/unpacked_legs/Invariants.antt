@@ -1,6 +1,6 @@
 use Rattle.std.proofs.Common.{◌≡◌, take}
 use Rattle.route_base.specs.Legs.{steps_of}
-use Rattle.front_transport.specs.Inside.Tidiness.{IsTidy}
+use Rattle.tidy_legs.specs.Tidiness.{IsTidy}
 use Rattle.drive_breaks.specs.Inside.Unpacking.{unpacked}
 use Rattle.drive_breaks.proofs.sources.unpacked_legs.Given as goal
 

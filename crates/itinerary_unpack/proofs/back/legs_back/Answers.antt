@@ -7,8 +7,10 @@ use Rattle.route_base.proofs.Arcs.{takes_time}
 use Rattle.route_base.specs.StepsBack.{LeadsFirst}
 use Rattle.route_base.proofs.GoingBack.{is_first}
 use Rattle.propagation.specs.Inside.Invariants.{point}
+use Rattle.tidy_legs.specs.Tidiness.{IsTidy}
+use Rattle.tidy_legs.proofs.TurnedLegs.{tidy_reversed, steps_before, length_reversed}
 use Rattle.itinerary_unpack.specs.Inside.Requests.{setting_in, solved_cost}
-use Rattle.itinerary_unpack.specs.Inside.Ways.{LeadsToPair, IsTidyBack}
+use Rattle.itinerary_unpack.specs.Inside.Ways.{LeadsToPair}
 use Rattle.itinerary_unpack.proofs.Backwards.{ways_to, at_pair, leads_from_start, comes_by_step, leads_before, node_within, read_known}
 use Rattle.itinerary_unpack.proofs.back.legs_back.Goals as goal
 use Rattle.itinerary_unpack.proofs.back.legs_back.Goals.{then-node-solved, else-node-solved+then-minute-solved}
@@ -27,7 +29,7 @@ back-init c =
       low = solved.ends.goal.0;
       high = solved.ends.goal.1;
       size = subst (λ (w : List Leg). length (steps_of (reverse w)) + c.args.pair.arrival ≤ r.until) none (omega (arith, tight.2));
-      tidy = subst IsTidyBack none (record { no_empty_wait = tt; no_neighbours = tt });
+      tidy = subst IsTidy none (record { no_empty_wait = tt; no_neighbours = tt });
       leads = subst (λ (w : List Leg). LeadsToPair s r cost c.args.pair r.goal.0 c.args.pair.arrival (steps_of (reverse w))) none start;
     }
 
@@ -46,6 +48,18 @@ source_of-source-requires-clause-comes c =
     comes_by_step c.args.solved.net.now c.args.solved.request found solved.found c.args.pair c.requires.one
     c.back.node.0 c.back.minute c.unwrap_or-cost.result (steps_of (reverse c.back.legs.items)) leads known later
 
+pub push_leg-requires-clause-room : goal.push_leg-requires-clause-room
+push_leg-requires-clause-room c = record {
+  tidy = c.back.invariant.tidy;
+  short = omega (
+    arith,
+    length_reversed c.back.legs.items,
+    c.back.invariant.size,
+    c.source_of-source.ensures.comes.short,
+    c.requires.solved.ends.until,
+  );
+}
+
 pub back-preserved : goal.back-preserved
 back-preserved c =
     let r = c.args.solved.request in
@@ -59,7 +73,7 @@ back-preserved c =
     let leads = c.back.invariant.leads in
     let known = read_known found.functions c.back.node.0 c.back.minute leads.here c.function.result.now c.at.result c.unwrap_or-cost.result
     c.function.ensures c.at.ensures c.unwrap_or-cost.ensures leads.known in
-    let steps = c.in_ok-push_before.ensures.steps in
+    let steps = steps_before c.back.legs.items c.push_leg.new.legs.items from.leg c.in_ok-push_leg.ensures.steps in
     let within = node_within found.functions from.node.0 from.minute comes.before comes.known in
     record {
       low = within.0;
@@ -71,7 +85,7 @@ back-preserved c =
         comes.short,
         c.back.invariant.size,
       );
-      tidy = c.in_ok-push_before.ensures.tidy;
+      tidy = c.in_ok-push_leg.ensures.tidy;
       leads = subst (λ (w : List Step). LeadsToPair s r cost c.args.pair from.node.0 from.minute w) (sym steps)
           (leads_before s r cost c.args.pair c.back.node.0 c.back.minute c.unwrap_or-cost.result
           (steps_of (reverse c.back.legs.items)) from (takes_time net solved.found.good)
@@ -90,6 +104,9 @@ from_start c =
     leads_from_start c.args.solved.net.now r c.args.solved.found.now solved.found c.args.pair c.requires.one steps
     (subst (λ n. LeadsToPair s r cost c.args.pair n r.depart steps) c.if-node-solved.false
     (subst (λ n. LeadsToPair s r cost c.args.pair c.back.node.0 n steps) c.if-minute-solved.false c.back.invariant.leads))
+
+pub returns-clause-tidy : goal.returns-clause-tidy
+returns-clause-tidy c = tidy_reversed c.back.legs.items c.back.invariant.tidy
 
 pub returns-clause-walk : goal.returns-clause-walk
 returns-clause-walk c = (from_start c).walk

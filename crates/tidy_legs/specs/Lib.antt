@@ -1,0 +1,2 @@
+pub mod Tidiness
+pub mod Words
