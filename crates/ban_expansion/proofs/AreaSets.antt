@@ -30,25 +30,25 @@ one_more (suc n) = ap (λ (l : List (Option (List Run))). None ∷ l) (one_more 
 pub none_more : (n : ℕ) → none_yet n ++ None ∷ [] ≡ none_yet (n + 1)
 none_more n = one_more n ∙ ap none_yet (sym (add-one n))
 
-module _ (net : NetworkModel) (vehicle : VehicleModel) (window : Run) where
-  pub none_barred : (sets : List (Option (List Run))) (areas : ℕ) → sets ≡ none_yet areas → length net.areas ≡ areas
-      → AreBarred net vehicle window sets
+module _ (network : NetworkModel) (vehicle : VehicleModel) (window : Run) where
+  pub none_barred : (sets : List (Option (List Run))) (areas : ℕ) → sets ≡ none_yet areas → length network.areas ≡ areas
+      → AreBarred network vehicle window sets
   none_barred sets areas is size = record {
     areas = ap (λ (l : List (Option (List Run))). length l) is ∙ length-replicate areas None ∙ sym size;
     each = λ area held a at plain. absurd (nothing_there areas area held (sym (ap (λ (l : List (Option (List Run))). slice_get l area) is) ∙ at));
   }
 
-  pub learned : (sets : List (Option (List Run))) (area first : ℕ) (new : List Run) → AreBarred net vehicle window sets → IsPlainIn net area first
-      → HasThose window (λ t. not (is_let_in net vehicle first t)) new → AreBarred net vehicle window (set sets area (Some new))
+  pub learned : (sets : List (Option (List Run))) (area first : ℕ) (new : List Run) → AreBarred network vehicle window sets → IsPlainIn network area first
+      → HasThose window (λ t. not (is_let_in network vehicle first t)) new → AreBarred network vehicle window (set sets area (Some new))
   learned sets area first new was plain has = record {
     areas = length-set sets area (Some new) ∙ was.areas;
     each = λ other held a at plain_a.
-        got_set (HasThose window (λ t. not (is_let_in net vehicle a t)) held) sets area (Some new) other (Some held) at
+        got_set (HasThose window (λ t. not (is_let_in network vehicle a t)) held) sets area (Some new) other (Some held) at
         (λ same equal.
         let is : new ≡ held = cc in
-        let here : IsPlainIn net area a = subst (λ (n : ℕ). IsPlainIn net n a) (sym same) plain_a in
-        subst (λ (h : List Run). HasThose window (λ t. not (is_let_in net vehicle a t)) h) is
-        (λ t. has t ∙ ap (λ b. has_minute t window && not b) (let_in_same net vehicle area first a t plain here)))
+        let here : IsPlainIn network area a = subst (λ (n : ℕ). IsPlainIn network n a) (sym same) plain_a in
+        subst (λ (h : List Run). HasThose window (λ t. not (is_let_in network vehicle a t)) h) is
+        (λ t. has t ∙ ap (λ b. has_minute t window && not b) (let_in_same network vehicle area first a t plain here)))
         (λ before. was.each other held a before plain_a);
   }
 

@@ -12,21 +12,21 @@ pub record GroupsModel : Type 0 where
 
 -- an arc of the network
 abbrev pub IsArc : NetworkModel → ArcId → Type 0
-IsArc net a = (1 ≤ a.0) × (a.0 ≤ length net.graph.arcs)
+IsArc network a = (1 ≤ a.0) × (a.0 ≤ length network.graph.arcs)
 
 -- the group has a first arc, and the arc is closed to each vehicle at exactly the minutes at which that one is
-pub record IsInGroup (net : NetworkModel) (firsts : List ArcId) (a group : ℕ) : Type 0 where
+pub record IsInGroup (network : NetworkModel) (firsts : List ArcId) (a group : ℕ) : Type 0 where
   pub first : ArcId
   pub there : slice_get firsts group ≡ Some first
-  pub alike : (vehicle : VehicleModel) (t : ℕ) → is_closed net vehicle a t ≡ is_closed net vehicle first.0 t
+  pub alike : (vehicle : VehicleModel) (t : ℕ) → is_closed network vehicle a t ≡ is_closed network vehicle first.0 t
 
 -- each of the first `count` arcs is in its group; there are no more groups than these arcs, and first arcs are arcs of the network
-pub record AreGroupsOf (net : NetworkModel) (count : ℕ) (all : GroupsModel) : Type 0 where
+pub record AreGroupsOf (network : NetworkModel) (count : ℕ) (all : GroupsModel) : Type 0 where
   pub counted : length all.groups ≡ count
   pub few : length all.firsts ≤ count
-  pub arcs : All (IsArc net) all.firsts
-  pub each : (k group : ℕ) → slice_get all.groups k ≡ Some group → IsInGroup net all.firsts (k + 1) group
+  pub arcs : All (IsArc network) all.firsts
+  pub each : (k group : ℕ) → slice_get all.groups k ≡ Some group → IsInGroup network all.firsts (k + 1) group
 
 -- all arcs of the network are in groups
 abbrev pub AreGroups : NetworkModel → GroupsModel → Type 0
-AreGroups net all = AreGroupsOf net (length net.graph.arcs) all
+AreGroups network all = AreGroupsOf network (length network.graph.arcs) all

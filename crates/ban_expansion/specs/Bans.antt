@@ -19,10 +19,10 @@ HasThose window passes set = (t : ℕ) → any_has set t ≡ (has_minute t windo
 
 -- at exactly those minutes of the window at which its arc is closed to the vehicle, and at no minute outside it, each road is shut; and
 -- waiting at each node that has a weight, where it is shut by the road setting
-pub record IsShutWithin (net : NetworkModel) (vehicle : VehicleModel) (window : Run) (s : Setting) : Type 0 where
-  pub roads : (a t : ℕ) → IsSome (s.road a) → s.shut a t ≡ (has_minute t window && is_closed net vehicle a t)
+pub record IsShutWithin (network : NetworkModel) (vehicle : VehicleModel) (window : Run) (s : Setting) : Type 0 where
+  pub roads : (a t : ℕ) → IsSome (s.road a) → s.shut a t ≡ (has_minute t window && is_closed network vehicle a t)
   pub waits : (v t : ℕ) → IsSome (s.weight v)
-      → s.wait_shut v t ≡ (has_minute t window && (road_setting net vehicle).wait_shut v t)
+      → s.wait_shut v t ≡ (has_minute t window && (road_setting network vehicle).wait_shut v t)
 
 -- no road costs more than the dearest minute for each of its minutes
 abbrev pub HasNoDearMinute : Setting → Type 0
@@ -30,9 +30,9 @@ HasNoDearMinute s = (a : ℕ) (road : Road) → s.road a ≡ Some road → road.
 
 -- the setting stands for the road setting within the window, is shut at exactly the minutes of the window at which that is, and has no
 -- dear minute
-pub record IsNetFor (net : NetworkModel) (vehicle : VehicleModel) (window : Run) (s : Setting) : Type 0 where
-  pub stands : StandsFor s (road_setting net vehicle) window
-  pub exact : IsShutWithin net vehicle window s
+pub record IsNetFor (network : NetworkModel) (vehicle : VehicleModel) (window : Run) (s : Setting) : Type 0 where
+  pub stands : StandsFor s (road_setting network vehicle) window
+  pub exact : IsShutWithin network vehicle window s
   pub cheap : HasNoDearMinute s
 
 -- whether a trip of this purpose is barred once an access is given, where it was barred before or not

@@ -4,9 +4,9 @@ pub use Rattle.route_base.specs.Runs.{any_has, has_minute, AreRuns}
 pub use Rattle.route_base.specs.Time.{IsInstant}
 pub use Rattle.dimacs_reader.specs.GraphModel.{IsGoodGraph}
 pub use Rattle.vehicle_classes.specs.VehicleModel.{VehicleModel}
-pub use Rattle.conditional_rules.specs.Decisions.{decision, last_given}
+pub use Rattle.conditional_rules.specs.Decisions.{last_given}
 pub use Rattle.covered_minutes.specs.Coverage.{IsWindow}
-pub use Rattle.network_tables.specs.Access.{access_at, area_at, given_at, is_closed, is_let_in, is_open_by, is_park_open, places_of_key}
+pub use Rattle.network_tables.specs.Access.{area_at, given_at, is_closed, is_let_in, is_open_by, is_park_open, places_of_key}
 pub use Rattle.network_tables.specs.NetworkModel.{NetworkModel, closures_of, park_of}
 pub use Rattle.network_tables.specs.Parks.{HasTimetable, IsTimedIn}
 pub use Rattle.ban_expansion.specs.ArcGroups.{AreGroups, IsArc, IsInGroup}

@@ -23,8 +23,8 @@ impl AreaBans {
     /// Nothing is known yet of this number of areas. Linear in it, in time and memory.
     pub fn new(alloc: Global, areas: usize) -> Result<AreaBans, OutOfMemory>
         ensures { IfOk result (λ bans.
-            (net : NetworkModel) (vehicle : VehicleModel) (window : Run) →
-            length net.areas ≡ areas → AreBarred net vehicle window bans.sets.items) }
+            (network : NetworkModel) (vehicle : VehicleModel) (window : Run) →
+            length network.areas ≡ areas → AreBarred network vehicle window bans.sets.items) }
     {
         let mut sets = Vec::with_capacity(alloc, areas)?;
         for area in 0..areas {

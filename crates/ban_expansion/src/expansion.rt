@@ -122,6 +122,7 @@ pub fn expand_groups(
 ///
 /// It takes the time and memory of `group_arcs` and then of `expand_groups`; where many nets of one network are made, call these,
 /// and the first once.
+/// For other callers: the program calls those two.
 pub fn expand_plain(
     alloc: Global,
     network: &Network,

@@ -228,9 +228,9 @@ impl Grouping {
 /// digests, so where arcs that differ have one digest there may be more groups than that; and where no arc has rules of its own, each
 /// arc with one or two closures has a group of its own, whose set is made about as soon as an arc like it is found.
 ///
-/// Where some arc has rules of its own, it takes fourteen look-ups of rules for an arc, and some more for an arc that has closures or
-/// rules of its own; else it looks up none. It is linear on average in areas, arcs, the closures of single arcs, and the bytes of the
-/// canonical texts of their conditional values, in time; in memory in areas and arcs, and in two of these texts.
+/// If some arc has rules of its own, it takes fourteen tests of flags for an arc, and look-ups for those that have some. It is linear on
+/// average in areas, arcs, the closures of single arcs, and the bytes of the canonical texts of their conditional values, in time; in
+/// memory in areas and arcs, and in two of these texts.
 pub fn group_arcs(alloc: Global, network: &Network) -> Result<ArcGroups, OutOfMemory>
     ensures { IfOk result (AreGroups network.now) }
 {

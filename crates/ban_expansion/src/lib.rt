@@ -2,8 +2,8 @@
 //! over which trips of the vehicle are planned.
 //!
 //! The law of closed arcs is in `network_tables`: `Access` says which access an arc gives a vehicle at an instant, and when it is
-//! closed to it. `closed_at` meets it for one instant, `closed_set` for all minutes of a window at once, and `expand_plain` makes
-//! a net of all arcs that stands for `road_setting` within the window.
+//! closed to it. `closed_at` of `road_access`, passed on here, meets it for one instant, `closed_set` for all minutes of a window at
+//! once, and `expand_plain` makes a net of all arcs that stands for `road_setting` within the window.
 //!
 //! Arcs of one area with the same closures and the same rules of their own, or none of these, share a set; but where no arc of the
 //! network has rules of its own, an arc with one or two closures has a set to itself. Arcs of one area without rules of their own share
@@ -25,7 +25,6 @@
 //! `covered_minutes`. `Inside` says how arcs are grouped and timed.
 #![tactic(auto)]
 
-mod access;
 mod arc_comparison;
 mod arc_digests;
 mod arc_groups;
@@ -40,11 +39,11 @@ mod layers;
 mod shut_lists;
 mod threads;
 
-pub use access::closed_at;
 pub use arc_groups::ArcGroups;
 pub use closed_sets::closed_set;
 pub use expansion::{expand, expand_groups, expand_plain};
 pub use grouping::group_arcs;
 pub use laws::last_of_all;
 pub use layers::{Layer, closed_by, common, overlaid};
+pub use road_access::closed_at;
 pub use shut_lists::wait_open_at;

@@ -14,6 +14,7 @@ use std::alloc::Global;
 /// Whether the node is rated and waiting there is open at the instant: it has no hours, or they cover what the clocks of its row's
 /// area show. The clock is read in time logarithmic in the zone's rows, and `covers` is linear in the rules of the hours. It takes no
 /// memory.
+/// For other callers: the program has the minutes of a whole window at once, by `expand_groups`.
 pub fn wait_open_at(network: &Network, v: NodeId, t: Minute) -> bool
     requires { IsInstant t }
     ensures { result ≡ is_park_open network.now (park_of network.now v.0) t }

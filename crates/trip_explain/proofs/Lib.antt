@@ -1,4 +1,3 @@
-pub mod RulingAccess
 pub mod StuckSteps
 pub mod OneExplanation
 pub mod Dominating
@@ -7,6 +6,4 @@ pub mod FirstMinutes
 pub mod OnlyReason
 pub mod OnlyExplanation
 pub mod ItineraryLines
-pub mod SteadyHours
-pub mod SteadyClauses
-pub mod SteadyRulings
+pub mod QuietMinutes

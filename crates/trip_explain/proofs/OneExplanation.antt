@@ -1,5 +1,5 @@
 -- Legs that are unlawful somewhere achieve no pair.
-use Rattle.std.proofs.Common.{◌≡◌, ℕ, zero, suc, ◌+◌, true, false, Some, None, List, [], ◌∷◌, ◌++◌, inl, inr, length, take, slice_get}
+use Rattle.std.proofs.Common.{◌≡◌, ℕ, zero, suc, true, false, Some, None, List, [], ◌∷◌, ◌++◌, inl, inr, length, take, slice_get}
 use Rattle.std.proofs.Common.{sym, ◌∙◌, ap, subst, append_assoc, arith}
 use Rattle.std.proofs.lemmas.List.{take_all}
 use Rattle.route_base.specs.Setting.{Setting, Road}
@@ -39,34 +39,34 @@ legs_split (x ∷ xs) (suc i) leg there =
     )
 
 -- a step for which there is a reason can't be made
-pub no_move : (net : NetworkModel) (vehicle : VehicleModel) (until : ℕ) (p q : Position) (x : Step) (t : ℕ) (why : Why)
-    → IsBarred net vehicle until p x t why → Moves (road_setting net vehicle) until x p q → ⊥
-no_move net vehicle until p q (drive a) t why (elsewhere (inl none)) move =
+pub no_move : (network : NetworkModel) (vehicle : VehicleModel) (until : ℕ) (p q : Position) (x : Step) (t : ℕ) (why : Why)
+    → IsBarred network vehicle until p x t why → Moves (road_setting network vehicle) until x p q → ⊥
+no_move network vehicle until p q (drive a) t why (elsewhere (inl none)) move =
     let bad : None ≡ Some move.road = sym none ∙ move.is in cc
-no_move net vehicle until p q (drive a) t why (elsewhere (inr (road, is, differs))) move =
-    let same : road ≡ move.road = some_same ((road_setting net vehicle).road a) road move.road is move.is in
+no_move network vehicle until p q (drive a) t why (elsewhere (inr (road, is, differs))) move =
+    let same : road ≡ move.road = some_same ((road_setting network vehicle).road a) road move.road is move.is in
     differs (ap (λ (w : Road). w.tail) same ∙ move.tail)
-no_move net vehicle until p q (drive a) t why (late road begins after) move =
-    let same : road ≡ move.road = some_same ((road_setting net vehicle).road a) road move.road begins.is move.is in
+no_move network vehicle until p q (drive a) t why (late road begins after) move =
+    let same : road ≡ move.road = some_same ((road_setting network vehicle).road a) road move.road begins.is move.is in
     let minutes : road.minutes ≡ move.road.minutes = ap (λ (w : Road). w.minutes) same in
     omega (arith, minutes, after, move.in_time)
-no_move net vehicle until p q (drive a) t why (closed road begins fits within first) move =
-    let same : road ≡ move.road = some_same ((road_setting net vehicle).road a) road move.road begins.is move.is in
+no_move network vehicle until p q (drive a) t why (closed road begins fits within first) move =
+    let same : road ≡ move.road = some_same ((road_setting network vehicle).road a) road move.road begins.is move.is in
     let minutes : road.minutes ≡ move.road.minutes = ap (λ (w : Road). w.minutes) same in
     let bad : false ≡ true = sym (move.is_open t first.from_on (omega (arith, minutes, within))) ∙ first.closed in
     cc
-no_move net vehicle until p q wait t why (unrated none) move =
+no_move network vehicle until p q wait t why (unrated none) move =
     let bad : None ≡ Some move.weight = sym none ∙ move.rated in cc
-no_move net vehicle until p q wait t why (late_wait weight rated after) move = omega (arith, after, move.in_time)
-no_move net vehicle until p q wait t why (shut_wait weight rated fits shut) move =
+no_move network vehicle until p q wait t why (late_wait weight rated after) move = omega (arith, after, move.in_time)
+no_move network vehicle until p q wait t why (shut_wait weight rated fits shut) move =
     let bad : false ≡ true = sym move.is_open ∙ shut in cc
 
-pub never_both : (net : NetworkModel) (vehicle : VehicleModel) (r : Request) (legs : List Leg) (number t : ℕ) (why : Why) (pair : Pair)
-    → IsUnlawfulAt net vehicle r legs number t why → Achieves (road_setting net vehicle) r legs pair → ⊥
-never_both net vehicle r legs number t why pair unlawful achieved =
+pub never_both : (network : NetworkModel) (vehicle : VehicleModel) (r : Request) (legs : List Leg) (number t : ℕ) (why : Why) (pair : Pair)
+    → IsUnlawfulAt network vehicle r legs number t why → Achieves (road_setting network vehicle) r legs pair → ⊥
+never_both network vehicle r legs number t why pair unlawful achieved =
     elim unlawful.here [
       | inl here ↦
-          let s = road_setting net vehicle in
+          let s = road_setting network vehicle in
           let leg : Leg = here.0 in
           let stops = here.2 in
           let split = legs_split legs unlawful.i leg here.1 in
@@ -76,9 +76,9 @@ never_both net vehicle r legs number t why pair unlawful achieved =
           let parts = walk_parts s r.until (steps_of_leg leg) split.0 unlawful.at (end_of r pair) on in
           let within = subst (λ (xs : List Step). Walks s r.until xs unlawful.at parts.0) stops.steps parts.1 in
           let next = walk_on s r.until stops.made (stops.step ∷ stops.left) unlawful.at stops.at parts.0 stops.walk within in
-          no_move net vehicle r.until stops.at next.0 stops.step t why stops.stuck next.1
+          no_move network vehicle r.until stops.at next.0 stops.step t why stops.stuck next.1
       | inr here ↦
-          let s = road_setting net vehicle in
+          let s = road_setting network vehicle in
           let all : take unlawful.i legs ≡ legs = ap (λ (n : ℕ). take n legs) here.all ∙ take_all (length legs) legs (omega arith) in
           let walk = subst (λ (xs : List Leg). Walks s r.until (steps_of xs) (start_of r) unlawful.at) all unlawful.led.walk in
           let same : unlawful.at ≡ end_of r pair = walks_same s r.until (steps_of legs) (start_of r) unlawful.at (end_of r pair) walk achieved.walk in

@@ -36,20 +36,20 @@ waits_to s until v t u x weight rated from to opens =
     (waits s until (u - t) v t x weight rated (λ m at under. opens m at (omega (arith, under, from))) (omega (arith, from, to)))
 
 -- where waiting is open, the road setting doesn't shut it
-pub wait_open : (net : NetworkModel) (vehicle : VehicleModel) (v t : ℕ) → is_park_open net (park_of net v) t ≡ true
-    → (road_setting net vehicle).wait_shut v t ≡ false
-wait_open net vehicle v t opens = ap not opens
+pub wait_open : (network : NetworkModel) (vehicle : VehicleModel) (v t : ℕ) → is_park_open network (park_of network v) t ≡ true
+    → (road_setting network vehicle).wait_shut v t ≡ false
+wait_open network vehicle v t opens = ap not opens
 
 -- a node with a weight has a row
-pub rated_row : (net : NetworkModel) (v w : ℕ) → weight_at net v ≡ Some w → IsSome (park_of net v)
-rated_row net v w is = ap is_some (map_some (park_of net v) (λ (park : ParkRow). park.weight) w is).1
+pub rated_row : (network : NetworkModel) (v w : ℕ) → weight_at network v ≡ Some w → IsSome (park_of network v)
+rated_row network v w is = ap is_some (map_some (park_of network v) (λ (park : ParkRow). park.weight) w is).1
 
 -- a weight is small, and so is the cost of some minutes of waiting
-pub small_weight : (net : NetworkModel) (v w : ℕ) → IsGoodNetwork net → weight_at net v ≡ Some w → w ≤ HEAVIEST_WEIGHT
-small_weight net v w good is =
-    let found = map_some (park_of net v) (λ (park : ParkRow). park.weight) w is in
+pub small_weight : (network : NetworkModel) (v w : ℕ) → IsGoodNetwork network → weight_at network v ≡ Some w → w ≤ HEAVIEST_WEIGHT
+small_weight network v w good is =
+    let found = map_some (park_of network v) (λ (park : ParkRow). park.weight) w is in
     let small : found.0.weight ≤ HEAVIEST_WEIGHT = subst (λ (o : Option ParkRow). IfSome o (λ park. park.weight ≤ HEAVIEST_WEIGHT)) found.1
-    (All-lookup (λ (park : ParkRow). park.weight ≤ HEAVIEST_WEIGHT) (nat_eq v) net.parks (λ k d within. (good.parks k d within).small)) in
+    (All-lookup (λ (park : ParkRow). park.weight ≤ HEAVIEST_WEIGHT) (nat_eq v) network.parks (λ k d within. (good.parks k d within).small)) in
     omega (arith, small, found.2)
 
 pub small_wait : (minutes w : ℕ) → w ≤ HEAVIEST_WEIGHT → minutes * w ≤ minutes * HEAVIEST_WEIGHT

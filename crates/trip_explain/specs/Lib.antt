@@ -1,8 +1,6 @@
-pub mod Rulings
 pub mod Reasons
 pub mod Explanations
 pub mod Dominators
 pub mod Inside
-pub mod Steadiness
 pub mod ExplanationText
 pub mod ItineraryFile

@@ -1,22 +1,22 @@
 // Why an arc is closed, and the first minute of a drive at which it is.
-ghost use Rattle.std.specs.Prelude.{◌≡◌, ◌≤◌, ◌<◌, ◌+◌, ◌^◌, None, true, false, ℕ, length};
+ghost use Rattle.std.specs.Prelude.{◌≡◌, ◌≤◌, ◌<◌, ◌+◌, None, true, false, ℕ, length};
 ghost use Rattle.std.specs.Prelude.{IfSome, IfOk, OnOk, IfErr};
 ghost use Rattle.route_base.specs.Open.{IsOpen};
-ghost use Rattle.route_base.specs.Runs.{any_has, has_minute};
+ghost use Rattle.route_base.specs.Runs.{has_minute};
 ghost use Rattle.route_base.specs.Time.{IsInstant, first_instant, last_instant};
+ghost use Rattle.vehicle_classes.specs.Classes.{keys_of};
 ghost use Rattle.zone_rules.specs.Zones.{wall_at};
 ghost use Rattle.network_tables.specs.Access.{area_at, area_place, is_closed, is_let_in};
 ghost use Rattle.network_tables.specs.NetworkModel.{closures_of};
 ghost use Rattle.network_tables.specs.RoadSetting.{road_setting};
-ghost use Rattle.trip_explain.specs.Inside.{IsBarredFirst, IsFirstWithin};
-ghost use Rattle.trip_explain.specs.Reasons.{ClosesFirst, IsBarredBy, IsClosedBy, IsFirstRun};
-ghost use Rattle.trip_explain.specs.Steadiness.{LetsInAmid};
+ghost use Rattle.road_access.specs.Steadiness.{RuleSteadily};
+ghost use Rattle.trip_explain.specs.Inside.{IsBarredFirst, IsFirstWithin, LetsInAmid};
+ghost use Rattle.trip_explain.specs.Reasons.{ClosesFirst, IsBarredBy, IsClosedBy};
 
 use crate::explanation::Why;
-use crate::rulings::arc_ruling;
-use crate::steady_rulings::ruling_steady;
 use conditional_rules::lets_in;
 use network_tables::Network;
+use road_access::{arc_ruling, first_closure};
 use route_base::{ArcId, Minute, Run};
 use vehicle_classes::Vehicle;
 use zone_rules::Wall;
@@ -36,41 +36,32 @@ pub struct Quiet {
     pub to: u32,
 }
 
-fn is_within(run: Run, t: Minute) -> bool
-    ensures { result ≡ has_minute t run }
-{
-    run.lo <= t && t < run.hi
-}
-
-// The place of the arc's first closure that has the minute.
-fn first_closure(network: &Network, a: ArcId, t: Minute) -> Option<usize>
-    requires low { 1 ≤ a.0 }
-    requires high { a.0 ≤ length network.now.graph.arcs }
-    ensures some { IfSome result (IsFirstRun (closures_of network.now a.0) t) }
-    ensures below { IfSome result (λ k. k + 1 < 2 ^ 64) }
-    ensures none { result ≡ None → any_has (closures_of network.now a.0) t ≡ false }
-{
-    for k in 0..network.closure_count(a) {
-        if is_within(network.closure(a, k), t) {
-            return Some(k);
-        }
-    }
-    None
-}
-
-// The rule that doesn't let the vehicle in, if one decides so.
-fn barring(network: &Network, vehicle: &Vehicle, a: ArcId, t: Minute) -> Option<Why>
+// How many minutes from the instant on, at most `most`, of the local day the same rule lets the vehicle in, or the rule that doesn't.
+fn let_in_from(
+    network: &Network,
+    vehicle: &Vehicle,
+    a: ArcId,
+    t: Minute,
+    most: u32,
+) -> Result<u32, Why>
     requires low { 1 ≤ a.0 }
     requires high { a.0 ≤ length network.now.graph.arcs }
     requires instant { IsInstant t }
-    ensures some { IfSome result (IsBarredBy network.now vehicle.now a.0 t) }
-    ensures none { result ≡ None → is_let_in network.now vehicle.now a.0 t ≡ true }
+    requires room { 1 ≤ most }
+    ensures let_in { OnOk result (is_let_in network.now vehicle.now a.0 t ≡ true) }
+    ensures most { IfOk result (λ count. count ≤ most) }
+    ensures same { IfOk result (RuleSteadily network.now vehicle.now a.0 t
+        (keys_of vehicle.now.class)) }
+    ensures barred { IfErr result (IsBarredBy network.now vehicle.now a.0 t) }
 {
-    let ruling = arc_ruling(network, vehicle, a, t)?;
+    let steady = arc_ruling(network, vehicle, a, t, most);
+    let Some(ruling) = steady.ruling else {
+        return Ok(steady.minutes);
+    };
     if lets_in(ruling.access, vehicle) {
-        return None;
+        return Ok(steady.minutes);
     }
-    Some(Why::Rule {
+    Err(Why::Rule {
         of_arc: ruling.of_arc,
         key: ruling.key,
         conditional: ruling.conditional,
@@ -86,9 +77,9 @@ fn closing_at(network: &Network, vehicle: &Vehicle, a: ArcId, t: Minute) -> Opti
     ensures some { IfSome result (IsClosedBy network.now vehicle.now a.0 t) }
     ensures none { result ≡ None → is_closed network.now vehicle.now a.0 t ≡ false }
 {
-    match barring(network, vehicle, a, t) {
-        Some(why) => Some(why),
-        None => match first_closure(network, a, t) {
+    match let_in_from(network, vehicle, a, t, 1) {
+        Err(why) => Some(why),
+        Ok(_) => match first_closure(network, a, t) {
             Some(k) => Some(Why::Closure(k as u64 + 1)),
             None => None,
         },
@@ -145,32 +136,6 @@ fn is_amid(wall: Wall, quiet: Quiet) -> bool
     wall.day == quiet.day && quiet.from <= wall.minute && wall.minute < quiet.to
 }
 
-// The minutes of the day from this instant on, at most as many as are left, at which the same rule lets the vehicle in.
-fn quiet_from(
-    network: &Network,
-    vehicle: &Vehicle,
-    a: ArcId,
-    t: Minute,
-    wall: Wall,
-    left: u64,
-) -> Quiet
-    requires low { 1 ≤ a.0 }
-    requires high { a.0 ≤ length network.now.graph.arcs }
-    requires minute { wall.minute < 1440 }
-    requires wall { wall ≡ wall_at (area_at network.now (area_place network.now a.0)).zone t }
-    requires left { 1 ≤ left }
-    requires let_in { is_let_in network.now vehicle.now a.0 t ≡ true }
-    ensures { LetsInAmid network.now vehicle.now a.0 result }
-{
-    let most = left.min(1440) as u32;
-    let count = ruling_steady(network, vehicle, a, wall.minute, most);
-    Quiet {
-        day: wall.day,
-        from: wall.minute,
-        to: wall.minute + count,
-    }
-}
-
 // Looks at the first of the minutes that are left: minutes of a day at which the arc lets the vehicle in, or the rule that doesn't
 // let it in. It decides the access anew only at a minute that isn't among the quiet ones.
 fn after_minute(
@@ -194,13 +159,13 @@ fn after_minute(
     if is_amid(wall, quiet) {
         return Ok(quiet);
     }
-    if let Some(why) = barring(network, vehicle, a, t) {
-        return Err(why);
-    }
-    if left == 1 {
-        return Ok(quiet);
-    }
-    Ok(quiet_from(network, vehicle, a, t, wall, left))
+    let most = left.min(1440) as u32;
+    let count = let_in_from(network, vehicle, a, t, most)?;
+    Ok(Quiet {
+        day: wall.day,
+        from: wall.minute,
+        to: wall.minute + count,
+    })
 }
 
 // The first minute from `from` on, before `end`, at which a rule doesn't let the vehicle in.

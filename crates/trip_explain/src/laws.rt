@@ -1,5 +1,5 @@
 // Laws of the definitions that need no call.
-ghost use Rattle.std.specs.Prelude.{◌≡◌, ◌↔◌, ℕ, None, List, true, option_map};
+ghost use Rattle.std.specs.Prelude.{◌≡◌, ◌↔◌, ℕ, None, List, true};
 ghost use Rattle.route_base.specs.Front.{Dominates, IsAchieved, IsFront, IsUndominated};
 ghost use Rattle.route_base.specs.Legs.{Achieves};
 ghost use Rattle.route_base.specs.Setting.{Setting};
@@ -7,28 +7,18 @@ ghost use Rattle.route_base.specs.declared.types.Leg.{Leg};
 ghost use Rattle.route_base.specs.declared.types.Pair.{Pair};
 ghost use Rattle.route_base.specs.declared.types.Request.{Request};
 ghost use Rattle.vehicle_classes.specs.VehicleModel.{VehicleModel};
-ghost use Rattle.vehicle_classes.specs.declared.classes.Key.{Key};
-ghost use Rattle.network_tables.specs.Access.{access_given};
 ghost use Rattle.network_tables.specs.NetworkModel.{NetworkModel};
 ghost use Rattle.network_tables.specs.RoadSetting.{road_setting};
 ghost use Rattle.trip_explain.specs.Dominators.{dominates, first_dominator};
 ghost use Rattle.trip_explain.specs.Explanations.{IsUnlawfulAt};
-ghost use Rattle.trip_explain.specs.Rulings.{ruling_given};
 ghost use Rattle.trip_explain.specs.declared.explanation.Why.{Why};
 
 /// The law that legs which are unlawful somewhere achieve no pair. The call does nothing.
 pub fn never_both()
-    ensures { (net : NetworkModel) (vehicle : VehicleModel) (r : Request) (legs : List Leg)
+    ensures { (network : NetworkModel) (vehicle : VehicleModel) (r : Request) (legs : List Leg)
         → (number t : ℕ) (why : Why) (pair : Pair)
-        → IsUnlawfulAt net vehicle r legs number t why
-        → Achieves (road_setting net vehicle) r legs pair → ⊥ }
-{}
-
-/// The law that the access of the ruling of some keys is the access that these keys give. The call does nothing.
-pub fn ruling_decides()
-    ensures { (net : NetworkModel) (vehicle : VehicleModel) (a t : ℕ) (keys : List Key)
-        → option_map (λ ruling. ruling.access) (ruling_given net vehicle a t keys)
-        ≡ access_given net vehicle a t keys }
+        → IsUnlawfulAt network vehicle r legs number t why
+        → Achieves (road_setting network vehicle) r legs pair → ⊥ }
 {}
 
 /// The law that the test `dominates` tells whether a pair dominates another. The call does nothing.
@@ -45,8 +35,9 @@ pub fn undominated_exactly()
 
 /// The law that legs are unlawful at one leg and one minute, for one reason. The call does nothing.
 pub fn one_explanation()
-    ensures { (net : NetworkModel) (vehicle : VehicleModel) (r : Request) (legs : List Leg)
+    ensures { (network : NetworkModel) (vehicle : VehicleModel) (r : Request) (legs : List Leg)
         → (n m t u : ℕ) (why other : Why)
-        → IsUnlawfulAt net vehicle r legs n t why → IsUnlawfulAt net vehicle r legs m u other
+        → IsUnlawfulAt network vehicle r legs n t why
+        → IsUnlawfulAt network vehicle r legs m u other
         → (n ≡ m) × ((t ≡ u) × (why ≡ other)) }
 {}

@@ -12,7 +12,7 @@ use vehicle_classes::Vehicle;
 /// reason that holds; or a leg past the last, where the legs are lawful and don't end at the goal.
 ///
 /// At each minute of a drive up to the first closed one it reads the clocks of the arc's area. There it decides the access of that arc
-/// as `closed_at` of the crate `ban_expansion` does, but only where that may differ from the minute before: where a day begins or
+/// as `closed_at` of the crate `road_access` does, but only where that may differ from the minute before: where a day begins or
 /// clocks are changed, and where hours of the arc's or its area's rules begin or end. It goes through the arc's closures once for each
 /// drive. At each minute of a wait it tells whether waiting is open. It takes no memory.
 pub fn explain(network: &Network, vehicle: &Vehicle, request: Request, legs: &[Leg]) -> Explanation

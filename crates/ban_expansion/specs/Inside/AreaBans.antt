@@ -9,12 +9,12 @@ use Rattle.ban_expansion.specs.Bans.{HasThose}
 use Rattle.ban_expansion.specs.Inside.Grouping.{every_key, has_own_rule}
 
 -- the arc is of the area at this place, and has no rules of its own
-pub record IsPlainIn (net : NetworkModel) (area a : ℕ) : Type 0 where
-  pub place : area_place net a ≡ area
-  pub rules : list_any (has_own_rule net a) every_key ≡ false
+pub record IsPlainIn (network : NetworkModel) (area a : ℕ) : Type 0 where
+  pub place : area_place network a ≡ area
+  pub rules : list_any (has_own_rule network a) every_key ≡ false
 
 -- a set that is known has the minutes of the window at which arcs of its area without rules of their own don't let the vehicle in
-pub record AreBarred (net : NetworkModel) (vehicle : VehicleModel) (window : Run) (sets : List (Option (List Run))) : Type 0 where
-  pub areas : length sets ≡ length net.areas
-  pub each : (area : ℕ) (set : List Run) (a : ℕ) → slice_get sets area ≡ Some (Some set) → IsPlainIn net area a
-      → HasThose window (λ t. not (is_let_in net vehicle a t)) set
+pub record AreBarred (network : NetworkModel) (vehicle : VehicleModel) (window : Run) (sets : List (Option (List Run))) : Type 0 where
+  pub areas : length sets ≡ length network.areas
+  pub each : (area : ℕ) (set : List Run) (a : ℕ) → slice_get sets area ≡ Some (Some set) → IsPlainIn network area a
+      → HasThose window (λ t. not (is_let_in network vehicle a t)) set

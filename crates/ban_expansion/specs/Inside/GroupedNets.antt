@@ -24,24 +24,24 @@ timed_over place toll arc = record {
 }
 
 -- the timed arc is the graph's at place k with its toll, and takes its closed runs from the place of its group
-pub record IsTimedArc (net : NetworkModel) (groups : List ℕ) (k : ℕ) (arc : TimedArc) : Type 0 where
-  pub is : option_map (timed_over arc.closed (toll_at net (k + 1))) (slice_get net.graph.arcs k) ≡ Some arc
+pub record IsTimedArc (network : NetworkModel) (groups : List ℕ) (k : ℕ) (arc : TimedArc) : Type 0 where
+  pub is : option_map (timed_over arc.closed (toll_at network (k + 1))) (slice_get network.graph.arcs k) ≡ Some arc
   pub group : slice_get groups k ≡ Some arc.closed
 
 -- the first `count` arcs of the network are timed
-pub record AreTimed (net : NetworkModel) (groups : List ℕ) (count : ℕ) (arcs : List TimedArc) : Type 0 where
+pub record AreTimed (network : NetworkModel) (groups : List ℕ) (count : ℕ) (arcs : List TimedArc) : Type 0 where
   pub counted : length arcs ≡ count
-  pub each : (k : ℕ) (arc : TimedArc) → slice_get arcs k ≡ Some arc → IsTimedArc net groups k arc
+  pub each : (k : ℕ) (arc : TimedArc) → slice_get arcs k ≡ Some arc → IsTimedArc network groups k arc
 
 -- the runs have the minutes of the window at which the arc is closed
-pub record HasClosed (net : NetworkModel) (vehicle : VehicleModel) (window : Run) (a : ArcId) (set : List Run) : Type 0 where
+pub record HasClosed (network : NetworkModel) (vehicle : VehicleModel) (window : Run) (a : ArcId) (set : List Run) : Type 0 where
   pub runs : AreRuns set
-  pub minutes : HasThose window (is_closed net vehicle a.0) set
+  pub minutes : HasThose window (is_closed network vehicle a.0) set
 
 -- for each of these arcs a list of its closed minutes
 abbrev pub AreClosedLists : NetworkModel → VehicleModel → Run → List ArcId → List (List Run) → Type 0
-AreClosedLists net vehicle window arcs lists = AllZip (HasClosed net vehicle window) arcs lists
+AreClosedLists network vehicle window arcs lists = AllZip (HasClosed network vehicle window) arcs lists
 
 -- the lists are those of some vehicle
 abbrev pub AreClosedOnce : NetworkModel → Run → List ArcId → List (List Run) → Type 0
-AreClosedOnce net window arcs lists = (vehicle : VehicleModel) × AreClosedLists net vehicle window arcs lists
+AreClosedOnce network window arcs lists = (vehicle : VehicleModel) × AreClosedLists network vehicle window arcs lists

@@ -13,13 +13,13 @@ use Rattle.network_tables.specs.declared.parks.RatedNode.{RatedNode}
 use Rattle.ban_expansion.specs.Bans.{HasThose}
 
 -- the runs have the minutes of the window at which waiting by the timetable isn't open
-pub record HasShut (net : NetworkModel) (window : Run) (timetable : Timetable) (set : List Run) : Type 0 where
+pub record HasShut (network : NetworkModel) (window : Run) (timetable : Timetable) (set : List Run) : Type 0 where
   pub runs : AreRuns set
-  pub minutes : HasThose window (λ t. not (is_open_by timetable.hours (area_at net timetable.area) t)) set
+  pub minutes : HasThose window (λ t. not (is_open_by timetable.hours (area_at network timetable.area) t)) set
 
 -- for each of these timetables a list of its shut minutes
 abbrev pub AreShutLists : NetworkModel → Run → List Timetable → List (List Run) → Type 0
-AreShutLists net window timetables lists = AllZip (HasShut net window) timetables lists
+AreShutLists network window timetables lists = AllZip (HasShut network window) timetables lists
 
 -- the park of a rated node, which takes its shut runs from the list of its timetable, behind `first` other lists
 abbrev pub park_over : ℕ → RatedNode → Park

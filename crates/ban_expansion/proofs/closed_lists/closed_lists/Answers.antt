@@ -18,7 +18,7 @@ loop-first-init c = record {
 
 pub loop-first-preserved : goal.loop-first-preserved
 loop-first-preserved c =
-    let net = c.args.network.now in
+    let network = c.args.network.now in
     let vehicle = c.args.vehicle.now in
     let window = c.args.window in
     let firsts : List ArcId = c.args.firsts.now in
@@ -28,13 +28,13 @@ loop-first-preserved c =
     let before : List (List Run) = map (λ v. v.items) c.loop-first.lists.items in
     let lists : map (λ v. v.items) c.push.new.self.items ≡ before ++ runs ∷ [] =
     ap (map (λ v. v.items)) c.in_ok-push.ensures.items ∙ map_push (λ v. v.items) c.loop-first.lists.items c.into_runs.result in
-    let has : HasClosed net vehicle window first runs = record {
+    let has : HasClosed network vehicle window first runs = record {
       runs = c.into_runs.ensures.runs;
       minutes = λ t. ap (λ (rs : List Run). any_has rs t) c.into_runs.ensures.items ∙ c.in_ok-set.ensures.minutes t;
     } in
-    let more = zip_push (HasClosed net vehicle window) (take i firsts) before first runs c.loop-first.invariant.lists has in
-    let all : AreClosedLists net vehicle window (take (i + 1) firsts) (map (λ v. v.items) c.push.new.self.items) =
-    subst (λ (sets : List (List Run)). AreClosedLists net vehicle window (take (i + 1) firsts) sets) (sym lists)
-    (subst (λ (arcs : List ArcId). AreClosedLists net vehicle window arcs (before ++ runs ∷ []))
+    let more = zip_push (HasClosed network vehicle window) (take i firsts) before first runs c.loop-first.invariant.lists has in
+    let all : AreClosedLists network vehicle window (take (i + 1) firsts) (map (λ v. v.items) c.push.new.self.items) =
+    subst (λ (sets : List (List Run)). AreClosedLists network vehicle window (take (i + 1) firsts) sets) (sym lists)
+    (subst (λ (arcs : List ArcId). AreClosedLists network vehicle window arcs (before ++ runs ∷ []))
     (sym (take_more firsts i no_arc c.loop-first-test.true)) more) in
     record { lists = all; known = c.in_ok-set.ensures.known }

@@ -11,20 +11,20 @@ use Rattle.ban_expansion.proofs.closed_sets.lay_key.Goals as goal
 
 pub returns : goal.returns
 returns c =
-    let net = c.args.network.now in
+    let network = c.args.network.now in
     let vehicle = c.args.vehicle.now in
     let purpose = vehicle.purpose in
     let window = c.args.window in
     let held : ℕ → Option (List Clause) → Option Access = λ t o. option_and_then (decision_at vehicle c.zone_of.result.now c.holidays_of.result.now t) o in
     let decides : (t : ℕ) (o : Option (List Clause)) → held t o
-    ≡ option_and_then (decision_at vehicle (area_at net c.args.area).zone (area_at net c.args.area).holidays t) o =
-    λ t o. decided_there net vehicle c.args.area t c.zone_of.ensures c.holidays_of.ensures o in
+    ≡ option_and_then (decision_at vehicle (area_at network c.args.area).zone (area_at network c.args.area).holidays t) o =
+    λ t o. decided_there network vehicle c.args.area t c.zone_of.ensures c.holidays_of.ensures o in
     let general : ℕ → Option Access = λ t. held t (option_map (λ x. x.now) c.area_conditional.result) in
     let special : ℕ → Option Access = λ t. held t (option_map (λ x. x.now) c.arc_conditional.result) in
     let area_plain : ℕ → Option Access = λ t. c.area_plain.result in
     let arc_plain : ℕ → Option Access = λ t. c.arc_plain.result in
-    let general_is = λ (t : ℕ). ap (held t) c.area_conditional.ensures ∙ decides t (conditional_at net.rules (scopes.Area c.args.area) c.args.key) in
-    let special_is = λ (t : ℕ). ap (held t) c.arc_conditional.ensures ∙ decides t (conditional_at net.rules (scopes.Arc c.args.a.0) c.args.key) in
+    let general_is = λ (t : ℕ). ap (held t) c.area_conditional.ensures ∙ decides t (conditional_at network.rules (scopes.Area c.args.area) c.args.key) in
+    let special_is = λ (t : ℕ). ap (held t) c.arc_conditional.ensures ∙ decides t (conditional_at network.rules (scopes.Arc c.args.a.0) c.args.key) in
     let arc_values = lays_more purpose window arc_plain special c.in_ok-closed-2.closed c.in_ok-closed-3.closed c.in_ok-closed-4.closed
     c.in_ok-closed-3.ensures c.in_ok-closed-4.ensures in
     let arc_over = lays_more purpose window general (λ t. option_or (special t) (arc_plain t))

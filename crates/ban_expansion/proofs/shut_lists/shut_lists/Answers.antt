@@ -16,7 +16,7 @@ none = record { area = 0; hours = None }
 
 pub loop-k-preserved : goal.loop-k-preserved
 loop-k-preserved c =
-    let net = c.args.network.now in
+    let network = c.args.network.now in
     let window = c.args.window in
     let timetables : List Timetable = c.args.parks.now.timetables in
     let k = c.loop-k.k in
@@ -28,18 +28,18 @@ loop-k-preserved c =
     ap (map (λ v. v.items)) c.in_ok-push.ensures.items ∙ map_push (λ v. v.items) c.loop-k.lists.items c.into_runs.result in
     let hours = c.hours.ensures ∙ ap (λ (t : Timetable). t.hours) at in
     let area = sym c.area.ensures ∙ ap (λ (t : Timetable). t.area) at in
-    let has : HasShut net window timetable runs = record {
+    let has : HasShut network window timetable runs = record {
       runs = c.into_runs.ensures.runs;
       minutes = λ t.
           ap (λ (rs : List Run). any_has rs t) c.into_runs.ensures.items
           ∙ c.in_ok-set.ensures t
-          ∙ ap (λ (o : Option (List HoursRule)). has_minute t window && not (is_open_by o (area_at net c.area.result) t)) hours
-          ∙ ap (λ (a : ℕ). has_minute t window && not (is_open_by timetable.hours (area_at net a) t)) area;
+          ∙ ap (λ (o : Option (List HoursRule)). has_minute t window && not (is_open_by o (area_at network c.area.result) t)) hours
+          ∙ ap (λ (a : ℕ). has_minute t window && not (is_open_by timetable.hours (area_at network a) t)) area;
     } in
     let within : k < length timetables = omega (arith, c.loop-k-test.true, c.timetable_count-k-end.ensures) in
-    let more = zip_push (HasShut net window) (take k timetables) before timetable runs c.loop-k.invariant has in
-    subst (λ (sets : List (List Run)). AreShutLists net window (take (k + 1) timetables) sets) (sym lists)
-    (subst (λ (ts : List Timetable). AreShutLists net window ts (before ++ runs ∷ [])) (sym (take_more timetables k none within)) more)
+    let more = zip_push (HasShut network window) (take k timetables) before timetable runs c.loop-k.invariant has in
+    subst (λ (sets : List (List Run)). AreShutLists network window (take (k + 1) timetables) sets) (sym lists)
+    (subst (λ (ts : List Timetable). AreShutLists network window ts (before ++ runs ∷ [])) (sym (take_more timetables k none within)) more)
 
 pub returns : goal.returns
 returns c =

@@ -1,7 +1,7 @@
 use Rattle.std.proofs.Common.{◌≡◌, ⊎_elim, ℕ, true, arith, sym, subst}
 use Rattle.std.proofs.lemmas.Bool.{cases_eq}
 use Rattle.network_tables.specs.Access.{is_let_in}
-use Rattle.trip_explain.proofs.SteadyRulings.{none_amid}
+use Rattle.trip_explain.proofs.QuietMinutes.{none_amid}
 use Rattle.trip_explain.proofs.closed_minutes.first_barring.Goals as goal
 
 pub loop-t-init : goal.loop-t-init

@@ -1,6 +1,6 @@
 use Rattle.std.proofs.Common.{◌≡◌, ◌≤◌, ◌<◌, ℕ, true}
 use Rattle.network_tables.specs.Access.{is_let_in}
-use Rattle.trip_explain.specs.Steadiness.{LetsInAmid}
+use Rattle.trip_explain.specs.Inside.{LetsInAmid}
 use Rattle.trip_explain.proofs.closed_minutes.first_barring.Given as goal
 
 abbrev pub invariant-loop-t : goal.invariant-loop-t

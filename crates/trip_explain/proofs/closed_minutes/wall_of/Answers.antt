@@ -1,4 +1,4 @@
-use Rattle.trip_explain.proofs.SteadyRulings.{shown_in_area}
+use Rattle.road_access.proofs.ShownWalls.{shown_in_area}
 use Rattle.trip_explain.proofs.closed_minutes.wall_of.Goals as goal
 
 pub returns-clause-value : goal.returns-clause-value

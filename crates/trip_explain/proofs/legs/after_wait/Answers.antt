@@ -23,11 +23,11 @@ returns-in_default-clause-err c =
 
 pub returns-in-Some-first_shut-clause-err : goal.returns-in-Some-first_shut-clause-err
 returns-in-Some-first_shut-clause-err c =
-    let net = c.args.network.now in
+    let network = c.args.network.now in
     let minute = c.in-Some-first_shut.minute in
     let shut = c.in-Some-first_shut.ensures.some in
     let split = wait_split c.args.minutes (minute - c.args.at.minute) (omega arith) in
-    let rated : weight_at net c.args.at.node.0 ≡ Some c.in-Some.weight = sym c.weight.ensures.value ∙ c.in-Some.is in
+    let rated : weight_at network c.args.at.node.0 ≡ Some c.in-Some.weight = sym c.weight.ensures.value ∙ c.in-Some.is in
     record {
       made = replicate (minute - c.args.at.minute) wait;
       step = wait;
@@ -38,17 +38,17 @@ returns-in-Some-first_shut-clause-err c =
         cost = c.args.at.cost + (minute - c.args.at.minute) * c.in-Some.weight;
       };
       steps = split.1;
-      walk = waits_to (road_setting net c.args.vehicle.now) c.args.until c.args.at.node.0 c.args.at.minute minute c.args.at.cost
+      walk = waits_to (road_setting network c.args.vehicle.now) c.args.until c.args.at.node.0 c.args.at.minute minute c.args.at.cost
           c.in-Some.weight rated shut.from_on (omega (arith, shut.within))
-          (λ m at under. wait_open net c.args.vehicle.now c.args.at.node.0 m (shut.before m at under));
+          (λ m at under. wait_open network c.args.vehicle.now c.args.at.node.0 m (shut.before m at under));
       stuck = shut_wait c.in-Some.weight rated (omega (arith, shut.within)) (ap not shut.here);
     }
 
 pub returns-then-within-minutes-clause-err : goal.returns-then-within-minutes-clause-err
 returns-then-within-minutes-clause-err c =
-    let net = c.args.network.now in
+    let network = c.args.network.now in
     let split = wait_split c.args.minutes (c.args.until - c.args.at.minute) (omega arith) in
-    let rated : weight_at net c.args.at.node.0 ≡ Some c.in-Some.weight = sym c.weight.ensures.value ∙ c.in-Some.is in
+    let rated : weight_at network c.args.at.node.0 ≡ Some c.in-Some.weight = sym c.weight.ensures.value ∙ c.in-Some.is in
     record {
       made = replicate (c.args.until - c.args.at.minute) wait;
       step = wait;
@@ -59,9 +59,9 @@ returns-then-within-minutes-clause-err c =
         cost = c.args.at.cost + (c.args.until - c.args.at.minute) * c.in-Some.weight;
       };
       steps = split.1;
-      walk = waits_to (road_setting net c.args.vehicle.now) c.args.until c.args.at.node.0 c.args.at.minute c.args.until c.args.at.cost
+      walk = waits_to (road_setting network c.args.vehicle.now) c.args.until c.args.at.node.0 c.args.at.minute c.args.until c.args.at.cost
           c.in-Some.weight rated c.requires.spot.to (omega arith)
-          (λ m at under. wait_open net c.args.vehicle.now c.args.at.node.0 m
+          (λ m at under. wait_open network c.args.vehicle.now c.args.at.node.0 m
           (c.first_shut.ensures.none c.in_default-first_shut.is m at (omega (arith, under))));
       stuck = late_wait c.in-Some.weight rated (omega arith);
     }

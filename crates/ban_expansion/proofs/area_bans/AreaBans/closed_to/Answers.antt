@@ -4,9 +4,9 @@ use Rattle.ban_expansion.proofs.area_bans.AreaBans.closed_to.Goals as goal
 
 pub returns-in_ok-set-in-Some-clause-minutes : goal.returns-in_ok-set-in-Some-clause-minutes
 returns-in_ok-set-in-Some-clause-minutes c =
-    let net = c.args.network.now in
+    let network = c.args.network.now in
     let area = c.area_of-area.result in
-    let plain : IsPlainIn net area c.args.a.0 = record {
+    let plain : IsPlainIn network area c.args.a.0 = record {
       place = ap (λ (o : Option ℕ). unwrap_or o 0) c.area_of-area.ensures.value;
       rules = sym c.has_rules.ensures ∙ c.if-has_rules.false;
     } in

@@ -8,6 +8,6 @@ loop-area-preserved c =
     c.in_ok-push.ensures.items ∙ ap (λ (l : List (Option (List Run))). l ++ None ∷ []) c.loop-area.invariant ∙ none_more c.loop-area.area
 
 pub returns : goal.returns
-returns c = λ net vehicle window size.
+returns c = λ network vehicle window size.
     let all : c.loop-area.area ≡ c.args.areas = omega (arith, c.loop-area-test.false, c.loop-area.auto.area-end) in
-    none_barred net vehicle window c.loop-area.sets.items c.args.areas (c.loop-area.invariant ∙ ap none_yet all) size
+    none_barred network vehicle window c.loop-area.sets.items c.args.areas (c.loop-area.invariant ∙ ap none_yet all) size

@@ -1,0 +1,4 @@
+pub mod Closures
+pub mod Inside
+pub mod Rulings
+pub mod Steadiness

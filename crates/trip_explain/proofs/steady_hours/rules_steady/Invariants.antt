@@ -1,5 +1,0 @@
-use Rattle.trip_explain.specs.Steadiness.{RulesSeen}
-use Rattle.trip_explain.proofs.steady_hours.rules_steady.Given as goal
-
-abbrev pub invariant-loop-i : goal.invariant-loop-i
-invariant-loop-i l = RulesSeen l.at l.most l.hours l.i l.count
