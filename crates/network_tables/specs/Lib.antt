@@ -7,6 +7,7 @@ pub mod Jobs
 pub mod NetworkFiles
 pub mod NetworkModel
 pub mod NetworkParts
+pub mod OwnKeys
 pub mod Parking
 pub mod ParkRows
 pub mod Parks

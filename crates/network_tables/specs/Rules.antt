@@ -191,3 +191,17 @@ is_arc (scopes.Arc number) = true
 
 abbrev pub has_arc_rules : List Rule → Bool
 has_arc_rules rules = list_any (λ rule. is_arc rule.0.scope) rules
+
+-- all keys of access, from general to special
+abbrev pub every_key : List Key
+every_key = keys.Access ∷ keys.Vehicle ∷ keys.MotorVehicle ∷ keys.Hgv ∷ keys.HgvArticulated ∷ keys.Goods ∷ keys.Bus ∷ []
+
+-- whether a place is an arc's own for a key, whether the arc has a rule of its own for the key, and whether it has one for any key
+abbrev pub is_own_place : ℕ → Key → RulePlace → Bool
+is_own_place a key place = is_same_scope (scopes.Arc a) place.scope && is_same_key key place.key
+
+abbrev pub has_own_rule : List Rule → ℕ → Key → Bool
+has_own_rule rules a key = list_any (λ rule. is_own_place a key rule.0) rules
+
+abbrev pub has_own_rules : List Rule → ℕ → Bool
+has_own_rules rules a = list_any (has_own_rule rules a) every_key

@@ -15,6 +15,6 @@ pub use Rattle.network_tables.specs.NetworkParts.{network_with, HoldsNetwork}
 pub use Rattle.network_tables.specs.Parks.{parks_with, timetable_at, timetable_with, HasTimetable, HaveTimetables, IsTimedIn}
 pub use Rattle.network_tables.specs.Ratings.{rating_of, ratings_schema, ratings_in}
 pub use Rattle.network_tables.specs.Refusals.{Reads}
-pub use Rattle.network_tables.specs.Rules.{rules_schema, rule_value_at, plain_at, conditional_at, is_arc, has_arc_rules}
+pub use Rattle.network_tables.specs.Rules.{rules_schema, rule_value_at, plain_at, conditional_at, is_arc, has_arc_rules, has_own_rules}
 pub use Rattle.network_tables.specs.RuleLists.{HaveRules, with_rule, with_passed_row}
 pub use Rattle.network_tables.specs.Tolls.{toll_of, toll_for, tolls_in, tolls_schema}

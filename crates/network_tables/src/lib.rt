@@ -15,7 +15,8 @@
 //! `Parks` says how nodes share timetables, as `Network::parks` hands them out.
 //!
 //! The other modules are machinery: `RuleLists` and `ParkRows` have rules and parks while they are read, `NetworkParts` is how a network
-//! is held, and `ClosureLists` how its closures are, `Refusals` are words for contracts.
+//! is held, `ClosureLists` how its closures are, and `OwnKeys` how it is told which arcs have rules of their own; `Refusals` are words
+//! for contracts.
 //!
 //! A source file has all of one table: its schema in code, a row, the state, and the call that reads it. `area_files` and `vehicle_file`
 //! call the libraries below. The tests are in the crate `network_tests`.

@@ -2,7 +2,7 @@
 ghost use Rattle.std.specs.Prelude.{◌≡◌, ◌≤◌, ◌<◌, All, IsSome, Some, length, option_map, slice_get};
 ghost use Rattle.route_base.specs.declared.limits.TheConstants.{HIGHEST_TOLL};
 ghost use Rattle.network_tables.specs.Words.{at_number, closures_of, park_of, toll_at, weight_at, IsGoodNetwork, network_with};
-ghost use Rattle.network_tables.specs.Words.{HoldsNetwork, plain_at, conditional_at, has_arc_rules, parks_with, IsTimedIn};
+ghost use Rattle.network_tables.specs.Words.{HoldsNetwork, plain_at, conditional_at, has_arc_rules, has_own_rules, parks_with, IsTimedIn};
 
 use crate::closure_lists::ClosureLists;
 use crate::parks::Parks;
@@ -156,6 +156,14 @@ impl Network {
         self.parts.rules.has_arc_rules()
     }
 
+    /// Whether the arc has a rule of its own, of any key. In constant time.
+    #[inline(always)]
+    pub fn has_own_rules(&self, a: ArcId) -> bool
+        ensures { result ≡ has_own_rules self.now.rules a.0 }
+    {
+        self.parts.rules.has_own_rules(a.0)
+    }
+
     /// The number of rows of rules whose key is passed over. In constant time.
     pub fn passed_over(&self) -> u64
         ensures { result ≡ self.now.passed_over }
@@ -186,6 +194,7 @@ impl Network {
     }
 
     /// The place from 0 of the area whose clocks and holidays count where one waits at the node. In constant time on average.
+    /// For other callers: the program asks `is_wait_open`.
     pub fn park_area(&self, v: NodeId) -> usize
         requires rated { IsSome (park_of self.now v.0) }
         ensures value { option_map (λ park. park.area) (park_of self.now v.0) ≡ Some result }
@@ -197,6 +206,7 @@ impl Network {
 
     /// The hours in which one may wait at the node; `None` exactly where it has none, so that waiting is always open. In constant time
     /// on average.
+    /// For other callers: the program asks `is_wait_open`.
     pub fn park_hours(&self, v: NodeId) -> Option<&Hours>
         requires rated { IsSome (park_of self.now v.0) }
         ensures { option_map (λ park. park.hours) (park_of self.now v.0)

@@ -1,8 +1,9 @@
 // rules.csv: access rules of areas and arcs by key.
-ghost use Rattle.std.specs.Prelude.{◌≡◌, [], None, OnOk, IfErr, IsSome, option_map};
-ghost use Rattle.network_tables.specs.Words.{rules_schema, rule_value_at, plain_at, conditional_at, has_arc_rules, HaveRules, with_rule, with_passed_row, IfBadCause};
+ghost use Rattle.std.specs.Prelude.{◌≡◌, [], None, OnOk, IfErr, IsFalse, IsSome, option_map};
+ghost use Rattle.network_tables.specs.Words.{rules_schema, rule_value_at, plain_at, conditional_at, has_arc_rules, has_own_rules, HaveRules, with_rule, with_passed_row, IfBadCause};
 ghost use Rattle.network_tables.specs.Words.{names_of, arc_count_of, areas_of, rules_fault, rules_of, Reads};
 
+mod own_keys;
 mod place;
 mod row;
 mod value;
@@ -13,6 +14,7 @@ use area_tables::Areas;
 use conditional_rules::{Access, Conditional};
 use csv::ByteRecord;
 use indexmap::IndexMap;
+use own_keys::{OwnKeys, add_key, keys_of, make_room};
 use place::RulePlace;
 pub use place::Scope;
 use route_base::limits::MOST_RULES;
@@ -24,23 +26,24 @@ use table_reader::{RowFault, Table};
 use value::RuleValue;
 use vehicle_classes::Key;
 
-/// Rules by their places, whether some are an arc's own, and the number of rows that were passed over.
+/// Rules by their places, whether some are an arc's own, by the numbers of arcs the keys for which they have some, and the number of
+/// rows that were passed over.
 pub struct Rules {
     values: IndexMap<RulePlace, RuleValue>,
     of_arcs: bool,
+    own_keys: Vec<OwnKeys>,
     passed_over: u64,
 }
 
 impl Model for Rules {
-    ghost use Rattle.std.specs.Prelude.{◌≡◌};
     ghost use Rattle.network_tables.specs.RuleLists.{RuleList};
-    ghost use Rattle.network_tables.specs.Rules.{has_arc_rules};
+    ghost use Rattle.network_tables.specs.OwnKeys.{KnowsArcs};
 
     ghost Value = { RuleList };
 
     ghost view = { λ r. record { rules = r.values.entries; passed_over = r.passed_over } };
 
-    ghost invariant = { λ r. r.of_arcs ≡ has_arc_rules r.values.entries };
+    ghost invariant = { λ r. KnowsArcs r.of_arcs r.own_keys.items r.values.entries };
 }
 
 // By hand, so that the drops of its parts are proved here alone.
@@ -49,6 +52,7 @@ impl Drop for Rules {
         let Rules {
             values: _,
             of_arcs: _,
+            own_keys: _,
             passed_over: _,
         } = self;
     }
@@ -62,7 +66,19 @@ impl Rules {
         Rules {
             values: IndexMap::new(alloc),
             of_arcs: false,
+            own_keys: Vec::new(alloc),
             passed_over: 0,
+        }
+    }
+
+    // Whether there may be a value at a place, in constant time. At an arc's place there is one only if the arc has rules of the key.
+    #[inline(always)]
+    fn may_have(&self, place: RulePlace) -> bool
+        ensures { IsFalse result → rule_value_at self.now.rules place ≡ None }
+    {
+        match place.scope {
+            Scope::Area(_place) => true,
+            Scope::Arc(number) => keys_of(&self.own_keys, number).has(place.key),
         }
     }
 
@@ -70,6 +86,9 @@ impl Rules {
     fn value(&self, place: RulePlace) -> Option<&RuleValue>
         ensures { option_map (λ v. v.now) result ≡ rule_value_at self.now.rules place }
     {
+        if !self.may_have(place) {
+            return None;
+        }
         self.values.get(&place)
     }
 
@@ -108,6 +127,14 @@ impl Rules {
         self.of_arcs
     }
 
+    /// Whether the arc of this number has a rule of its own, in constant time.
+    #[inline(always)]
+    pub fn has_own_rules(&self, a: u32) -> bool
+        ensures { result ≡ has_own_rules self.now.rules a }
+    {
+        keys_of(&self.own_keys, a).has_any()
+    }
+
     /// The number of rows whose key is passed over, at no cost.
     pub fn passed_over(&self) -> u64
         ensures { result ≡ self.now.passed_over }
@@ -125,8 +152,10 @@ impl Rules {
         if self.value(place).is_some() {
             return Err(RowFault::Bad(Cause::Duplicate));
         }
+        make_room(&mut self.own_keys, place.scope)?;
         self.values.insert(place, value)?;
         self.of_arcs |= place.scope.is_arc();
+        add_key(&mut self.own_keys, place);
         Ok(())
     }
 

@@ -17,14 +17,12 @@ from lorry_tools.places import Places
 from lorry_tools.problems import Problem, Unreadable
 from lorry_tools.program import Refused
 from lorry_tools.rules import Streets
-from lorry_tools.service import own_rules
 from lorry_tools.service.limits import Limits
 from lorry_tools.service.roads import RoadMap
 from lorry_tools.service.runs import LimitedProgram, Runs, deadline_of
 from lorry_tools.service.ways import Ways
 
 FILES = (*NETWORK, *BESIDE)
-FOR_PLANS = "for-plans"
 BAD_REQUEST = 7  # docs/COMMANDS.md: the status where all files are good, and the words aren't
 ANY_TIME = "2020-01-01T00:00Z"
 ATTEMPTS = 20
@@ -36,12 +34,11 @@ Stamp = tuple[Optional[tuple[int, int, int]], ...]
 
 
 class Copy:
-    """A copy of a folder that was judged, with what requests need of it. Batches read the tables of
-    PLANS, over which all plans are the same. It is removed when it is retired and no request uses
-    it any more."""
+    """A copy of a folder that was judged, with what requests need of it. It is removed when it is
+    retired and no request uses it any more."""
 
-    def __init__(self, folder: Folder, plans: Folder, version: str, stamp: Stamp):
-        self.folder, self.plans, self.version, self.stamp = folder, plans, version, stamp
+    def __init__(self, folder: Folder, version: str, stamp: Stamp):
+        self.folder, self.version, self.stamp = folder, version, stamp
         self.loaded = datetime.datetime.now(datetime.timezone.utc)
         self.places = Places(folder)
         self.streets = Streets(folder)
@@ -153,7 +150,7 @@ class Served:
             stamp, version = copy_files(self.path, path)
             folder = Folder(path, self.name)
             judge(folder, self.runs, self.limits)
-            return Copy(folder, self._for_plans(folder), version, stamp)
+            return Copy(folder, version, stamp)
         except (OSError, Unreadable) as error:
             shutil.rmtree(path, ignore_errors=True)
             why = error.strerror if isinstance(error, OSError) else str(error)
@@ -161,21 +158,6 @@ class Served:
         except BaseException:
             shutil.rmtree(path, ignore_errors=True)
             raise
-
-    def _for_plans(self, folder: Folder) -> Folder:
-        """Returns tables that are read sooner, within the copy; the copy itself where there are
-        none, or where the program refuses them."""
-        path = folder.file(FOR_PLANS)
-        os.mkdir(path)
-        plans = Folder(path, self.name)
-        try:
-            if own_rules.write_tables(folder, path):
-                judge(plans, self.runs, self.limits)
-                return plans
-        except BadFolder:
-            pass
-        shutil.rmtree(path)
-        return folder
 
 
 class BadFolder(Problem):

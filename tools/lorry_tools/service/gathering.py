@@ -149,11 +149,11 @@ class Gatherer:
         deadline = max(it.deadline for it in batch)
         program = LimitedProgram(copy.folder, self.runs, deadline)
         name = f"jobs-{number}.csv"
-        path = copy.plans.file(name)
+        path = copy.folder.file(name)
         try:
             with open(path, "w", encoding="ascii") as file:
                 file.write("\n".join([*JOBS.headers, *(row_of(it.request) for it in batch), ""]))
-            found = program.batch(copy.plans.path, name, self.limits.runs)
+            found = program.batch(copy.folder.path, name, self.limits.runs)
             if len(found) == len(batch):
                 return list(found)
         except Stopping as problem:
