@@ -1,16 +1,19 @@
 -- Nothing found yet, and the end.
-use Rattle.std.proofs.Common.{◌≡◌, inl, ⊎_elim, ℕ, zero, suc, Bool, true, false, Option, Some, None, List, [], length, get_or, refl, sym, ◌∙◌, ap, subst, arith}
+use Rattle.std.proofs.Common.{◌≡◌, inl, inr, ⊎_elim, ℕ, zero, suc, Bool, true, false, Option, Some, None, List, [], length, get_or}
+use Rattle.std.proofs.Common.{refl, sym, ◌∙◌, ap, subst, arith}
 use Rattle.cost_functions.specs.Building.{AreBuilt}
-use Rattle.std.specs.Prelude.{All, slice_get}
+use Rattle.std.specs.Prelude.{All, Contains, slice_get}
 use Rattle.std.proofs.lemmas.Option.{slice_get_within, get_or_from_slice_get}
 use Rattle.std.proofs.lemmas.Bool.{cases_eq}
+use Rattle.route_base.specs.Front.{RiseAndFall}
+use Rattle.route_base.specs.Itinerary.{Position}
 use Rattle.route_base.specs.Legs.{start_of}
 use Rattle.route_base.specs.Net.{at_number}
 use Rattle.label_queue.specs.Keys.{key_at, IsLeastTaken}
 use Rattle.propagation.specs.declared.progress.Progress.{Progress as ProgressHeld}
 use Rattle.cost_functions.specs.Pieces.{value_at, value_in}
 use Rattle.route_base.specs.Runs.{any_has}
-use Rattle.propagation.specs.Inside.Invariants.{Progress, Task, point}
+use Rattle.propagation.specs.Inside.Invariants.{IsBlank, IsLabel, IsResting, IsWorseOrLate, Progress, Task, point}
 use Rattle.propagation.specs.Inside.Offers.{IsSource}
 use Rattle.propagation.specs.Inside.Pairs.{AreBorders}
 use Rattle.propagation.specs.Found.{cost_at}
@@ -68,6 +71,24 @@ module _ (k : Task) where
 
       zero_of : (t x : ℕ) → costs t ≡ Some x → t ≡ k.request.depart → x ≡ 0
       zero_of t x is at = let e : Some x ≡ Some 0 = sym is ∙ (ap costs at ∙ here) in cc
+
+  -- where the start has no bound, nothing is left to be found
+  pub blank_rests : (now : Progress) → IsBlank now → k.bounds k.request.origin.0 ≡ None → IsResting k now
+  blank_rests now blank unbound = record {
+    start = inr (subst (λ o. IsWorseOrLate k.request.until now.pairs o (start_of k.request)) (sym unbound) tt);
+    sound = record { reached = λ p is. nowhere p is; comes = λ p is. nowhere p is };
+    steps = record { waits = λ p q is step. nowhere p is; drives = λ p is. nowhere p is };
+    paired = record {
+      trade = subst RiseAndFall (sym blank.pairs) (λ i j d before within. absurd (omega (arith, within)));
+      achieved = λ p one. let bad = subst (λ w. Contains w p) blank.pairs one in absurd (omega (arith, bad.1));
+      matched = λ t x is. nowhere (point k.request.goal.0 t x) is;
+    };
+    tight = λ p is. nowhere p is;
+    known = λ v t is. let bad : false ≡ true = sym (blank.pending v t) ∙ is in cc;
+  }
+    where
+      nowhere : {C : Type 0} (p : Position) → IsLabel now p → C
+      nowhere {C} p is = let bad : None ≡ Some p.cost = sym (blank.cost p.node p.minute) ∙ is in cc
 
 -- nothing is pending at number 0
 none_at_zero : (sets : List (List Run)) (u t : ℕ) → u ≡ 0 → is_pending sets u t ≡ true → ⊥

@@ -1,6 +1,6 @@
 -- The minutes that are taken from the pending ones of a node.
-use Rattle.std.proofs.Common.{◌≡◌, ◌⊎◌, inl, inr, ⊎_elim, ℕ, ◌-◌, ◌≤◌, ◌<◌, Bool, true, false, ◌&&◌, not, Option, Some, None, List, [], length, get_or, set}
-use Rattle.std.proofs.Common.{refl, sym, ◌∙◌, ap, subst}
+use Rattle.std.proofs.Common.{◌≡◌, ◌⊎◌, inl, inr, ⊎_elim, ℕ, ◌-◌, ◌≤◌, ◌<◌, Bool, true, false, ◌&&◌, ◌||◌, not, Option, Some, None, List, [], length, get_or}
+use Rattle.std.proofs.Common.{set, refl, sym, ◌∙◌, ap, subst}
 use Rattle.cost_functions.specs.Building.{AreBuilt}
 use Rattle.std.specs.Prelude.{All, nat_lt, if◌then◌else◌, IfSome, IsNone}
 use Rattle.std.proofs.lemmas.Bool.{cases_eq, lt-ltb, and_parts, or_right}
@@ -35,6 +35,14 @@ pending_is sets v own low high is t = ap (λ o. set_has o t) (number_read sets v
 set_is : (sets : List (List Run)) (v : ℕ) (own : List Run) → 1 ≤ v → v ≤ length sets → (t : ℕ)
     → is_pending (set sets (v - 1) own) v t ≡ any_has own t
 set_is sets v own low high t = ap (λ o. set_has o t) (number_set sets v own low high)
+
+-- more minutes are pending at one node
+pub awaited : (sets : List (List Run)) (h : ℕ) (own new : List Run) (more : ℕ → Bool) → 1 ≤ h → h ≤ length sets → own ≡ get_or sets (h - 1) own
+    → ((t : ℕ) → any_has new t ≡ (any_has own t || more t)) → IsAwaited h more (is_pending sets) (is_pending (set sets (h - 1) new))
+awaited sets h own new more low high is added = record {
+  here = λ t. set_is sets h new low high t ∙ added t ∙ ap (λ b. b || more t) (sym (pending_is sets h own low high is t));
+  others = λ v t ne. ap (λ o. set_has o t) (number_set_other sets h v new low high ne);
+}
 
 -- all that is pending is taken, and nothing is left
 pub split_whole : (sets : List (List Run)) (v first : ℕ) (own taken rest : List Run) → 1 ≤ v → v ≤ length sets → own ≡ get_or sets (v - 1) own

@@ -86,15 +86,24 @@ fn place_of(
         → (slice_index_or list.new.items place d).minutes ≡ minutes) }
 {
     let place = list.partition_point(|made| made.minutes < minutes);
-    if !is_for(list, place, minutes) {
-        let set = entries(alloc, closed, until, minutes)?;
-        if list.is_empty() {
-            // Mostly no other set follows: a list that grows by itself takes memory for four.
-            *list = Vec::with_capacity(alloc, 1)?;
-        }
-        list.insert(place, EntrySet { minutes, set })?;
+    if is_for(list, place, minutes) {
+        return Ok(place);
     }
+    room_for_first(alloc, list)?;
+    let set = entries(alloc, closed, until, minutes)?;
+    list.insert(place, EntrySet { minutes, set })?;
     Ok(place)
+}
+
+// Room for one set in a list without any. Mostly no other follows, and a list that grows by itself takes memory for four.
+#[inline(always)]
+fn room_for_first(alloc: Global, list: &mut Vec<EntrySet>) -> Result<(), OutOfMemory>
+    ensures { OnOk result (list.new.items ≡ list.old.items) }
+{
+    if list.is_empty() {
+        *list = Vec::with_capacity(alloc, 1)?;
+    }
+    Ok(())
 }
 
 // Whether the set at a place is one for drives of this length.

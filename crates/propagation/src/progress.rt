@@ -110,11 +110,21 @@ pub fn await_at(
 {
     let place = h.0 as usize - 1;
     add_improved(alloc, spares, &mut pending[place], improved)?;
+    enqueue(queue, h, key);
+    Ok(())
+}
+
+// Puts a node into the queue; one that is there gets the smaller of its key and this one.
+#[inline(always)]
+fn enqueue(queue: &mut LabelQueue, h: NodeId, key: u64)
+    requires low { 1 ≤ h.0 }
+    requires high { h.0 ≤ length queue.old }
+    ensures { (k : ℕ) × IsSet queue.old queue.new h.0 (Some k) }
+{
     match queue.key_of(h) {
         None => queue.put(h, key),
         Some(before) => queue.lower(h, key.min(before)),
     }
-    Ok(())
 }
 
 // Adds the minutes of the second set to the first, which becomes the second where it has none; else the second is done with.

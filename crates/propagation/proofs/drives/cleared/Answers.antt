@@ -1,10 +1,14 @@
-use Rattle.std.proofs.Common.{List, subst}
+use Rattle.std.proofs.Common.{List, sym, subst}
+use Rattle.route_base.specs.Front.{RiseAndFall}
 use Rattle.route_base.specs.declared.types.Pair.{Pair}
 use Rattle.cost_functions.specs.Pieces.{value_at}
 use Rattle.function_merge.specs.Pruning.{IsPruned}
 use Rattle.propagation.specs.Inside.States.{task_of}
 use Rattle.propagation.proofs.Offering.{cleared_of}
 use Rattle.propagation.proofs.drives.cleared.Goals as goal
+
+pub into_pruned-requires-clause-trade : goal.into_pruned-requires-clause-trade
+into_pruned-requires-clause-trade c = subst RiseAndFall (sym c.deref.ensures.value) c.requires.borders.trade
 
 pub returns-clause-cleared : goal.returns-clause-cleared
 returns-clause-cleared c = cleared_of (task_of c.args.task) c.args.progress.now.pairs.items c.args.progress.now.borders.items c.args.h.0 c.args.bound

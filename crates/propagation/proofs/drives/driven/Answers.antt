@@ -4,11 +4,24 @@ use Rattle.cost_functions.specs.declared.pieces.Piece.{Piece}
 use Rattle.potentials.specs.Sums.{bound_at}
 use Rattle.function_merge.specs.Moves.{kept_at, moved_at, CanMove}
 use Rattle.function_merge.specs.Pruning.{IsPruned}
+use Rattle.route_base.specs.Front.{RiseAndFall}
 use Rattle.route_base.specs.declared.types.Pair.{Pair}
 use Rattle.propagation.specs.Inside.States.{task_of}
 use Rattle.propagation.proofs.Offering.{cleared_of}
 use Rattle.propagation.proofs.Shifting.{entries_drive, entries_fit}
 use Rattle.propagation.proofs.drives.driven.Goals as goal
+
+pub place_for-requires-clause-is : goal.place_for-requires-clause-is
+place_for-requires-clause-is c = c.requires.way.is
+
+pub place_for-requires-clause-good : goal.place_for-requires-clause-good
+place_for-requires-clause-good c = c.requires.way.good
+
+pub starts_at-starts-requires-clause-ready : goal.starts_at-starts-requires-clause-ready
+starts_at-starts-requires-clause-ready c = c.in_ok-place.ensures.ready
+
+pub shift_over_runs-requires-clause-trade : goal.shift_over_runs-requires-clause-trade
+shift_over_runs-requires-clause-trade c = subst RiseAndFall (sym c.deref.ensures.value) c.requires.borders.trade
 
 pub shift_over_runs-requires-clause-fit : goal.shift_over_runs-requires-clause-fit
 shift_over_runs-requires-clause-fit c =

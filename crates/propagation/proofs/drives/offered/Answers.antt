@@ -3,6 +3,21 @@ use Rattle.propagation.specs.Inside.States.{progress_of, task_of}
 use Rattle.propagation.proofs.Offering.{source_of, covers_drives}
 use Rattle.propagation.proofs.drives.offered.Goals as goal
 
+pub driven-requires-clause-reached : goal.driven-requires-clause-reached
+driven-requires-clause-reached c = c.requires.part.reached
+
+pub with_waits-requires-clause-bound : goal.with_waits-requires-clause-bound
+with_waits-requires-clause-bound c = c.requires.way.bound
+
+pub with_waits-requires-clause-park : goal.with_waits-requires-clause-park
+with_waits-requires-clause-park c = c.requires.way.park
+
+pub with_waits-requires-clause-good : goal.with_waits-requires-clause-good
+with_waits-requires-clause-good c = c.requires.way.good_park
+
+pub with_waits-requires-clause-small : goal.with_waits-requires-clause-small
+with_waits-requires-clause-small c = c.in_ok-clear.ensures.built.small
+
 pub with_waits-requires-clause-clear : goal.with_waits-requires-clause-clear
 with_waits-requires-clause-clear c =
     let drives = c.in_ok-clear.ensures.driven in

@@ -1,5 +1,6 @@
-use Rattle.std.proofs.Common.{List, refl, sym, ◌∙◌, ap, subst, arith}
-use Rattle.std.specs.Prelude.{IsSome}
+use Rattle.std.proofs.Common.{◌<◌, List, length, refl, sym, ◌∙◌, ap, subst, arith}
+use Rattle.std.specs.Prelude.{IsSome, Vec}
+use Rattle.std.specs.declared.alloc.Global.{Global}
 use Rattle.std.specs.Option.{option_map}
 use Rattle.route_base.specs.Net.{shut_by, setting_of, shut_runs_at}
 use Rattle.route_base.specs.Runs.{any_has}
@@ -8,6 +9,7 @@ use Rattle.route_base.specs.declared.types.Run.{Run}
 use Rattle.cost_functions.specs.Pieces.{value_at}
 use Rattle.potentials.specs.Sums.{bound_at}
 use Rattle.propagation.specs.Inside.EntrySets.{AreEntries}
+use Rattle.propagation.specs.declared.entry_sets.EntrySet.{EntrySet}
 use Rattle.propagation.proofs.EntryLists.{set_read}
 use Rattle.propagation.proofs.Shifting.{wait_fits}
 use Rattle.propagation.proofs.Waited.{open_only, open_every, waited_is}
@@ -18,6 +20,12 @@ shut_runs-shut-requires c = subst IsSome (sym (ap (option_map (λ (park : Park).
 
 pub ready_set-requires-clause-own : goal.ready_set-requires-clause-own
 ready_set-requires-clause-own c = sym (c.shut_runs-shut.ensures.value ∙ ap (shut_by c.args.task.net.now) c.requires.is)
+
+pub index-requires-2 : goal.index-requires-2
+index-requires-2 c =
+    let within = subst (λ (w : Vec EntrySet Global). c.in_ok-place.place < length w.items) (sym c.index.ensures)
+    (c.in_ok-place.ensures.set.within c.index.result.now) in
+    omega (arith, within, c.index.result.now.ok.0)
 
 pub wait_with_spare-requires-clause-fit : goal.wait_with_spare-requires-clause-fit
 wait_with_spare-requires-clause-fit c t x early there =

@@ -1,6 +1,7 @@
 use Rattle.std.proofs.Common.{◌≡◌, ◌-◌, ℕ, Option, Some, None, ◌∙◌, ap, subst, arith}
 use Rattle.std.specs.Option.{option_map}
-use Rattle.route_base.specs.Net.{setting_of}
+use Rattle.std.specs.Prelude.{IfSome}
+use Rattle.route_base.specs.Net.{IsGoodPark, setting_of}
 use Rattle.route_base.specs.declared.types.Park.{Park}
 use Rattle.cost_functions.specs.Pieces.{value_at}
 use Rattle.propagation.specs.Inside.Offers.{IsWaited}
@@ -19,6 +20,18 @@ returns-in_default-clause-offer c =
 pub returns-in_default-clause-covers : goal.returns-in_default-clause-covers
 returns-in_default-clause-covers c = λ costs cleared.
     covers_unrated (task_of c.args.task) (progress_of c.args.progress.now) c.args.h.0 costs (value_at c.args.clear) cleared
+
+pub waited-requires-clause-is : goal.waited-requires-clause-is
+waited-requires-clause-is c = c.requires.park ∙ c.in-Some.is
+
+pub waited-requires-clause-good : goal.waited-requires-clause-good
+waited-requires-clause-good c = subst (λ o. IfSome o (IsGoodPark c.args.task.net.now)) c.in-Some.is c.requires.good
+
+pub waited-requires-clause-last : goal.waited-requires-clause-last
+waited-requires-clause-last c = omega (arith, c.saturating_sub-last.ensures)
+
+pub cleared-offer-requires-clause-small : goal.cleared-offer-requires-clause-small
+cleared-offer-requires-clause-small c = c.in_ok-with_waits.ensures.built.small
 
 pub waited-requires-clause-reached : goal.waited-requires-clause-reached
 waited-requires-clause-reached c t x there =

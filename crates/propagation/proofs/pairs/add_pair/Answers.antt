@@ -1,10 +1,22 @@
-use Rattle.std.proofs.Common.{◌≡◌, true, false, sym, ◌∙◌, not, subst}
+use Rattle.std.proofs.Common.{◌≡◌, inl, true, false, List, sym, ◌∙◌, not, subst}
 use Rattle.std.proofs.lemmas.List.Kept.{AllPairs-filter}
 use Rattle.route_base.specs.Front.{RiseAndFall, Trades}
 use Rattle.route_base.specs.Relaxing.{HasPair}
+use Rattle.route_base.specs.declared.types.Pair.{Pair}
 use Rattle.propagation.specs.Inside.Pairs.{is_as_bad}
 use Rattle.propagation.proofs.Pairing.{taken_pair}
 use Rattle.propagation.proofs.pairs.add_pair.Goals as goal
+
+pub has_as_good-requires : goal.has_as_good-requires
+has_as_good-requires c = record { trade = subst RiseAndFall (sym c.deref.ensures.value) c.requires.trade }
+
+pub returns-then-has_as_good : goal.returns-then-has_as_good
+returns-then-has_as_good c = record {
+  trade = c.requires.trade;
+  kept = λ t x had. had;
+  each = λ p one. inl one;
+  here = subst (λ (w : List Pair). HasPair w c.args.pair.arrival c.args.pair.cost) c.deref.ensures.value (c.has_as_good.ensures.0 c.if-has_as_good.true);
+}
 
 pub put_in-requires : goal.put_in-requires
 put_in-requires c = record {

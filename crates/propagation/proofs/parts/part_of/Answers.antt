@@ -1,6 +1,7 @@
 use Rattle.std.proofs.Common.{◌≡◌, ℕ, ◌+◌, ◌-◌, Option, Some, None, List, refl, sym, ◌∙◌, ap, subst, arith}
 use Rattle.std.specs.Option.{option_map}
 use Rattle.std.specs.Prelude.{if◌then◌else◌}
+use Rattle.route_base.specs.Front.{RiseAndFall}
 use Rattle.route_base.specs.Runs.{any_has}
 use Rattle.route_base.specs.declared.types.Pair.{Pair}
 use Rattle.cost_functions.specs.Building.{AreBuilt}
@@ -26,6 +27,9 @@ shift_and_prune-requires-clause-fit c =
     let built = subst AreBuilt (sym c.index-3.ensures)
     (c.requires.shape.built (c.args.v.0 - 1) c.index-3.result.now (omega (arith, c.requires.low, c.requires.high, c.requires.shape.functions))) in
     can_stay c.index-3.result.now c.in_ok-split.split.taken built.pieces built.small
+
+pub shift_and_prune-requires-clause-trade : goal.shift_and_prune-requires-clause-trade
+shift_and_prune-requires-clause-trade c = subst RiseAndFall (sym c.deref.ensures.value) c.requires.shape.borders.trade
 
 pub returns-clause-parts : goal.returns-clause-parts
 returns-clause-parts c =

@@ -1,9 +1,10 @@
-use Rattle.std.proofs.Common.{refl}
+use Rattle.std.proofs.Common.{refl, sym, ◌∙◌, subst, arith}
+use Rattle.route_base.specs.Front.{RiseAndFall}
 use Rattle.route_base.specs.Legs.{start_of}
 use Rattle.cost_functions.specs.Pieces.{value_at}
 use Rattle.propagation.specs.Inside.States.{progress_of, task_of}
 use Rattle.propagation.proofs.Keeping.{covered_relaxed, takes_first}
-use Rattle.propagation.proofs.Blanks.{start_source}
+use Rattle.propagation.proofs.Blanks.{blank_rests, start_source}
 use Rattle.propagation.proofs.searching.begun.Goals as goal
 
 pub with_waits-requires-clause-clear : goal.with_waits-requires-clause-clear
@@ -13,6 +14,13 @@ with_waits-requires-clause-clear c = record {
       (λ t ne. c.in_ok-first.ensures.elsewhere t ne);
   cleared = c.cleared-clear.ensures.cleared;
 }
+
+pub take_at-requires-clause-trade : goal.take_at-requires-clause-trade
+take_at-requires-clause-trade c = subst RiseAndFall (sym c.in_ok-progress.ensures.blank.pairs) (λ i j d before within. absurd (omega (arith, within)))
+
+pub returns-in_default-clause-facts : goal.returns-in_default-clause-facts
+returns-in_default-clause-facts c = blank_rests (task_of c.args.task) (progress_of c.in_ok-progress.progress) c.in_ok-progress.ensures.blank
+    (sym c.get.ensures ∙ c.in_default.is)
 
 pub returns-clause-facts : goal.returns-clause-facts
 returns-clause-facts c =

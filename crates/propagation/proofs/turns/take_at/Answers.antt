@@ -1,4 +1,4 @@
-use Rattle.std.proofs.Common.{◌≡◌, true, refl, subst}
+use Rattle.std.proofs.Common.{◌≡◌, true, refl, ◌∙◌, subst}
 use Rattle.std.specs.Prelude.{IfSome}
 use Rattle.route_base.specs.Runs.{any_has}
 use Rattle.cost_functions.specs.Pieces.{value_at}
@@ -20,6 +20,17 @@ returns-then-h-task-clause-takes c = takes_goal (task_of c.args.task) c.args.h.0
     }))
     (takes_time c.args.task.net.now c.requires.asked.good) c.if-h-task.true c.in_ok-improved.ensures.lowered c.in_ok-add_pairs.ensures.takes
     (λ v t. refl)
+
+pub returns-then-h-task-clause-shape : goal.returns-then-h-task-clause-shape
+returns-then-h-task-clause-shape c = record {
+  functions = c.in_ok-improved.ensures.nodes ∙ c.requires.shape.functions;
+  built = c.in_ok-improved.ensures.built;
+  pending = c.requires.shape.pending;
+  queue = c.requires.shape.queue;
+  queued = c.requires.shape.queued;
+  waiting = c.requires.shape.waiting;
+  borders = c.in_ok-add_pairs.ensures.borders;
+}
 
 pub returns-clause-takes : goal.returns-clause-takes
 returns-clause-takes c = takes_other (task_of c.args.task) c.args.h.0 (value_at c.args.offer.now) (any_has c.in_ok-improved.improved)
