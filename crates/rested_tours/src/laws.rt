@@ -19,7 +19,7 @@ ghost use Rattle.state_dominance.specs.Inside.Product.{IsBase, task_over};
 ghost use Rattle.stop_tour.specs.declared.stops.Stop.{Stop};
 ghost use Rattle.stop_tour.specs.declared.stops.TourRoute.{TourRoute};
 
-/// The law that the front over the states of the ruler of rested tours is the front of rested tours, where no arc has the number 0, as in
+/// The law that the front over the states of the ruler of rested tours is the front of rested tours, if no arc has the number 0, as in
 /// each net. The call does nothing.
 pub fn rested_tours_are_found()
     ensures { (s : Setting) (r : Request) (stops : List Stop) (rule : BreakRule) (base : ℕ)

@@ -16,6 +16,8 @@ use stop_tour::{Stop, TourRoutes};
 ///
 /// It takes the time and memory of `plan_ruled` over the number of stops that were served: on grids with 20 stops twice the time of
 /// `stop_tour::tour_with` by `FunctionEngine`, and three quarters of its memory.
+///
+/// For other callers: the program plans tours without a rule by `stop_tour::tour_with`.
 pub fn plan_tour(
     alloc: Global,
     net: &TimedNet,

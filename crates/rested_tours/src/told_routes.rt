@@ -22,7 +22,7 @@ fn told_route(alloc: Global, rest: u64, route: &RuledRoute) -> Result<TourRoute,
     })
 }
 
-/// The tours that routes tell, in their order, where a rest takes these minutes. Linear in the legs.
+/// The tours that routes tell, in their order, if a rest takes these minutes. Linear in the legs.
 pub fn told_routes(
     alloc: Global,
     rest: u64,

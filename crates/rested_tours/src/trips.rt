@@ -60,7 +60,7 @@ fn planned(
 
 /// The Pareto front of arrival and cost over all lawful itineraries that keep the break rule, by rising arrival, each pair with the
 /// legs of the first of its itineraries: compared from the end, fewer minutes driven since the last break come first, and then the earlier
-/// step. Where the origin is the goal, that is to stay. `TooManyStates` comes exactly where the states of the trip, and the drives and
+/// step. If the origin is the goal, that is to stay. `TooManyStates` comes exactly if the states of the trip, and the drives and
 /// breaks that leave them, are more than `MOST_STATES`, whatever the goal.
 ///
 /// It takes the time and memory of `has_too_many_states`, and then of `plan_ruled` over the minutes driven since the last break.

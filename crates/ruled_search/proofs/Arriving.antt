@@ -9,7 +9,7 @@ use Rattle.route_base.specs.Open.{IsOpen, IsWaitOpen}
 use Rattle.route_base.specs.declared.types.Bound.{Bound}
 use Rattle.route_base.proofs.Waiting.{same_position, waits}
 use Rattle.propagation.specs.Inside.Invariants.{point}
-use Rattle.state_dominance.specs.Inside.Product.{Ruler, Service, IsBase, code, driven_by, driven_to, rested_by, served_by, served_to, shut_for, road_code, product, task_over}
+use Rattle.state_dominance.specs.Inside.Product.{Ruler, Service, IsBase, code, driven_by, driven_to, rested_by, served_by, served_to, shut_for, road_code, product, task_by_latest}
 use Rattle.state_dominance.proofs.Roads.{IsDriveRoad, IsRestRoad, IsServiceRoad, road_kinds, road_is, shut_is}
 use Rattle.ruled_states.specs.Inside.Codes.{base}
 use Rattle.ruled_search.specs.Inside.Sources.{ComesOver}
@@ -71,9 +71,9 @@ module _ (s : Setting) (r : Ruler) (v j t x : ℕ) (source : Position) where
     pub paid : x ≡ source.cost + weight
 
 module _ (s : Setting) (r : Ruler) (is_base : IsBase s r base) (origin goal depart until : ℕ) (bound : ℕ → ℕ → Option Bound)
-    (cost : ℕ → ℕ → Option ℕ) (v j t x : ℕ) (node : v < base) where
+    (latest : ℕ → ℕ) (cost : ℕ → ℕ → Option ℕ) (v j t x : ℕ) (node : v < base) where
   module _ (y a : ℕ) (source : Position) (number : y / 3 % base ≡ a)
-      (c : ComesOver (task_over s r base origin goal depart until bound) cost (drive y) source (point (code base v j) t x)) where
+      (c : ComesOver (task_by_latest s r base origin goal depart until bound latest) cost (drive y) source (point (code base v j) t x)) where
     abbrev IsKind : Type 0
     IsKind = IsDriveRoad s r base y c.move.road ⊎ (IsRestRoad s r base y c.move.road ⊎ IsServiceRoad s r base y c.move.road)
 
@@ -158,7 +158,7 @@ module _ (s : Setting) (r : Ruler) (is_base : IsBase s r base) (origin goal depa
         other)
         kinds
 
-  pub wait_comes : (source : Position) → ComesOver (task_over s r base origin goal depart until bound) cost wait source (point (code base v j) t x)
+  pub wait_comes : (source : Position) → ComesOver (task_by_latest s r base origin goal depart until bound latest) cost wait source (point (code base v j) t x)
       → ComesByWait s r v j t x source
   wait_comes source c =
       let at : source.node % base ≡ v = ap (λ n. n % base) (sym c.move.node) ∙ mod-mul-add j base v node in
@@ -174,7 +174,7 @@ module _ (s : Setting) (r : Ruler) (is_base : IsBase s r base) (origin goal depa
   module _ (u m y : ℕ) (late : t ≤ until) where
     pub drive_leads : (a : ℕ) (over : Road) → s.road a ≡ Some over → over.head ≡ v → r.drive u over.minutes ≡ Some j
         → IsOpen s a m over.minutes → t ≡ m + over.minutes → x ≡ y + over.cost → cost (code base over.tail u) m ≡ Some y
-        → ComesOver (task_over s r base origin goal depart until bound) cost (drive (road_code base 0 a over.tail u))
+        → ComesOver (task_by_latest s r base origin goal depart until bound latest) cost (drive (road_code base 0 a over.tail u))
         (point (code base over.tail u) m y) (point (code base v j) t x)
     drive_leads a over is head allowed opens minute paid known =
         let small = is_base.arcs a over is in
@@ -195,7 +195,7 @@ module _ (s : Setting) (r : Ruler) (is_base : IsBase s r base) (origin goal depa
 
     pub rest_leads : (place rest weight : ℕ) → slice_get r.rests place ≡ Some rest → s.weight v ≡ Some weight → r.rest u rest ≡ j
         → IsWaitOpen s v m rest → t ≡ m + rest → x ≡ y + rest * weight → cost (code base v u) m ≡ Some y
-        → ComesOver (task_over s r base origin goal depart until bound) cost (drive (road_code base 1 place v u))
+        → ComesOver (task_by_latest s r base origin goal depart until bound latest) cost (drive (road_code base 1 place v u))
         (point (code base v u) m y) (point (code base v j) t x)
     rest_leads place rest weight is rated after opens minute paid known =
         let small = is_base.rests place rest is in
@@ -216,7 +216,7 @@ module _ (s : Setting) (r : Ruler) (is_base : IsBase s r base) (origin goal depa
 
     pub service_leads : (place : ℕ) (c : Service) → slice_get r.services place ≡ Some c → c.node ≡ v → r.serve u place ≡ Some j
         → c.from ≤ m → t ≤ c.to → t ≡ m + c.minutes → x ≡ y → cost (code base v u) m ≡ Some y
-        → ComesOver (task_over s r base origin goal depart until bound) cost (drive (road_code base 2 place v u))
+        → ComesOver (task_by_latest s r base origin goal depart until bound latest) cost (drive (road_code base 2 place v u))
         (point (code base v u) m y) (point (code base v j) t x)
     service_leads place c is at allowed begins ends minute paid known =
         let small = is_base.services place c is in

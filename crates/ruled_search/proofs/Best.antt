@@ -15,7 +15,7 @@ use Rattle.route_base.proofs.Walking.{moves_later, walk-append, walk-push, walk_
 use Rattle.front_transport.specs.ParetoFronts.{IsParetoFront, ArrivesBefore}
 use Rattle.propagation.specs.Inside.Invariants.{Progress, point}
 use Rattle.state_dominance.specs.Inside.Dominance.{Task, AreBoundsAlong, IsAchievedIn, IsCovered, IsResting, IsSimulation, Reaches}
-use Rattle.state_dominance.specs.Inside.Product.{Ruler, Service, AreRuledBounds, IsBase, IsSimulating, code, task_over}
+use Rattle.state_dominance.specs.Inside.Product.{Ruler, Service, AreLatest, AreRuledBounds, IsBase, IsSimulating, code, task_by_latest}
 use Rattle.state_dominance.proofs.Finishing.{covered_on_way, front, known_exactly}
 use Rattle.state_dominance.proofs.Simulating.{are_bounds, code_low, drive_state, driven_too, is_simulation, same_node}
 use Rattle.ruled_states.specs.Inside.Codes.{base}
@@ -31,16 +31,16 @@ use Rattle.ruled_search.proofs.StepOrder.{alike_on, alike_reverse, alike_sym, be
 pub same_digits : (c d : ℕ) → c % base ≡ d % base → c / base ≡ d / base → c ≡ d
 same_digits c d node state = sym (div-add-mod' c base) ∙ (ap (λ n. n * base + c % base) state ∙ (ap (λ n. d / base * base + n) node ∙ div-add-mod' d base))
 
-module _ (s : Setting) (r : Ruler) (origin goal depart until : ℕ) (bound : ℕ → ℕ → Option Bound) (sim : IsSimulating r) (numbers : IsBase s r base)
-    (bounds : AreRuledBounds s r goal bound) where
+module _ (s : Setting) (r : Ruler) (origin goal depart until : ℕ) (bound : ℕ → ℕ → Option Bound) (latest : ℕ → ℕ) (sim : IsSimulating r)
+    (numbers : IsBase s r base) (bounds : AreRuledBounds s r goal bound) (minutes : AreLatest r until bound latest) where
   abbrev over : Task
-  over = task_over s r base origin goal depart until bound
+  over = task_by_latest s r base origin goal depart until bound latest
 
   simulation : IsSimulation over
-  simulation = is_simulation s r base origin goal depart until bound sim numbers bounds
+  simulation = is_simulation s r base origin goal depart until bound latest sim numbers bounds minutes
 
   along : AreBoundsAlong over
-  along = are_bounds s r base origin goal depart until bound sim numbers bounds
+  along = are_bounds s r base origin goal depart until bound latest sim numbers bounds minutes
 
   state_low : (u v : ℕ) → over.no_worse u v ≡ true → u / base ≤ v / base
   state_low u v better = sim.low (u / base) (v / base) (and_parts (eqb (u % base) (v % base)) (r.no_worse (u / base) (v / base)) better).1
@@ -53,7 +53,7 @@ module _ (s : Setting) (r : Ruler) (origin goal depart until : ℕ) (bound : ℕ
       → x ≤ p.cost → Reaches over (point u p.minute x)
       → (z : Step) × Moves over.setting until z (point u p.minute x) q × IsAlikeStep base y z × (x ≡ p.cost)
   into_best (drive a) p q best move u x better le reach =
-      let d = driven_too s r base origin goal depart until bound sim numbers bounds u x a p q better le move in
+      let d = driven_too s r base origin goal depart until bound latest sim numbers bounds minutes u x a p q better le move in
       let at : d.end ≡ point d.end.node q.minute d.end.cost = same_position _ _ refl d.no_worse.minute refl in
       let reached : Reaches over (point d.end.node q.minute d.end.cost) = (
         reach.0 ++ drive d.road ∷ [],
@@ -98,15 +98,15 @@ module _ (s : Setting) (r : Ruler) (origin goal depart until : ℕ) (bound : ℕ
   -- the state in which a step begins
   pub begins_in : (x : Step) (p q : Position) → Moves over.setting until x p q → state_before base x (q.node / base) ≡ p.node / base
   begins_in wait p q move = ap (λ n. n / base) move.node
-  begins_in (drive x) p q move = drive_state s r base origin goal depart until bound sim numbers bounds x p q move
+  begins_in (drive x) p q move = drive_state s r base origin goal depart until bound latest sim numbers bounds minutes x p q move
 
   alike_roads : (cost : ℕ → ℕ → Option ℕ) (v j t c x z a : ℕ) (p o : Position) → v < base → x / 3 % base ≡ a
       → ComesOver over cost (drive x) p (point (code base v j) t c) → ComesOver over cost (drive z) o (point (code base v j) t c)
       → IsAlikeStep base (drive x) (drive z) → (p.minute ≡ o.minute) × (p.cost ≡ o.cost) × (p.node % base ≡ o.node % base)
   alike_roads cost v j t c x z a p o small number one two alike = ⊎_elim
       (λ (kind : x % 3 ≡ 0).
-      let d = drive_comes s r numbers origin goal depart until bound cost v j t c small x a p number one kind in
-      let e = drive_comes s r numbers origin goal depart until bound cost v j t c small z a o (sym alike.1 ∙ number) two (sym alike.0 ∙ kind) in
+      let d = drive_comes s r numbers origin goal depart until bound latest cost v j t c small x a p number one kind in
+      let e = drive_comes s r numbers origin goal depart until bound latest cost v j t c small z a o (sym alike.1 ∙ number) two (sym alike.0 ∙ kind) in
       let same : d.0 ≡ e.0 = same_Some d.0 e.0 (sym d.1 ∙ e.1) in (
         omega (arith, d.2.minute, e.2.minute, ap (λ (w : Road). w.minutes) same),
         omega (arith, d.2.paid, e.2.paid, ap (λ (w : Road). w.cost) same),
@@ -115,8 +115,8 @@ module _ (s : Setting) (r : Ruler) (origin goal depart until : ℕ) (bound : ℕ
       ))
       (λ (other : (x % 3 ≡ 1) ⊎ (x % 3 ≡ 2)). ⊎_elim
       (λ (kind : x % 3 ≡ 1).
-      let d = rest_comes s r numbers origin goal depart until bound cost v j t c small x a p number one kind in
-      let e = rest_comes s r numbers origin goal depart until bound cost v j t c small z a o (sym alike.1 ∙ number) two (sym alike.0 ∙ kind) in
+      let d = rest_comes s r numbers origin goal depart until bound latest cost v j t c small x a p number one kind in
+      let e = rest_comes s r numbers origin goal depart until bound latest cost v j t c small z a o (sym alike.1 ∙ number) two (sym alike.0 ∙ kind) in
       let same : d.0 ≡ e.0 = same_Some d.0 e.0 (sym d.1 ∙ e.1) in
       let weight : d.2.weight ≡ e.2.weight = same_Some d.2.weight e.2.weight (sym d.2.rated ∙ e.2.rated) in
       let paid : d.0 * d.2.weight ≡ e.0 * e.2.weight = ap (λ n. n * d.2.weight) same ∙ ap (λ n. e.0 * n) weight in (
@@ -125,8 +125,8 @@ module _ (s : Setting) (r : Ruler) (origin goal depart until : ℕ) (bound : ℕ
         one_node d.2.state e.2.state d.2.at e.2.at,
       ))
       (λ (kind : x % 3 ≡ 2).
-      let d = service_comes s r numbers origin goal depart until bound cost v j t c small x a p number one kind in
-      let e = service_comes s r numbers origin goal depart until bound cost v j t c small z a o (sym alike.1 ∙ number) two (sym alike.0 ∙ kind) in
+      let d = service_comes s r numbers origin goal depart until bound latest cost v j t c small x a p number one kind in
+      let e = service_comes s r numbers origin goal depart until bound latest cost v j t c small z a o (sym alike.1 ∙ number) two (sym alike.0 ∙ kind) in
       let same : d.0 ≡ e.0 = same_Some d.0 e.0 (sym d.1 ∙ e.1) in (
         omega (arith, d.2.minute, e.2.minute, ap (λ (w : Service). w.minutes) same),
         omega (arith, d.2.paid, e.2.paid),
@@ -200,8 +200,8 @@ module _ (s : Setting) (r : Ruler) (origin goal depart until : ℕ) (bound : ℕ
         (λ (late : IsAlikeStep base x h.1 × (p.node / base ≤ h.0 / base)). late.1)
         (first.first h.1 (point h.0 p.minute c) h.3) in
         let chain : over.no_worse h.0 p.node ≡ true = simulation.on h.0 u p.node h.2 better in
-        let low = code_low s r base origin goal depart until bound sim numbers bounds p.node h.0
-        (sym (same_node s r base origin goal depart until bound sim numbers bounds h.0 p.node chain)) least in
+        let low = code_low s r base origin goal depart until bound latest sim numbers bounds minutes p.node h.0
+        (sym (same_node s r base origin goal depart until bound latest sim numbers bounds minutes h.0 p.node chain)) least in
         let one = simulation.low h.0 u h.2 in
         let two = simulation.low u p.node better in
         (omega (arith, low, one, two), z.3)
@@ -281,7 +281,7 @@ module _ (s : Setting) (r : Ruler) (origin goal depart until : ℕ) (bound : ℕ
         (λ (least : o.node / base ≤ p.node / base).
         let same = alike_sources now.cost x z p (point h.0 o.minute o.cost) q last.comes h.3 late.0 in
         let node : p.node ≡ o.node = same_digits p.node o.node
-        (same.2 ∙ same_node s r base origin goal depart until bound sim numbers bounds h.0 o.node h.2) (omega (arith, least, low, late.1)) in
+        (same.2 ∙ same_node s r base origin goal depart until bound latest sim numbers bounds minutes h.0 o.node h.2) (omega (arith, least, low, late.1)) in
         let at : o ≡ p = same_position o p (sym node) (sym same.0) (sym same.1) in
         let more = first_to xs ys p f.1 (subst (λ (w : Position). Walks over.setting until (reverse ys) over.start w) at g.1)
         (best_source x p q best on last) (leads_on x p q last.comes.move on) in
@@ -320,8 +320,8 @@ module _ (s : Setting) (r : Ruler) (origin goal depart until : ℕ) (bound : ℕ
       best_end u x better le reach =
           let h = end_covered u x (simulation.goals u e better at_goal) le reach in
           let chain : over.no_worse h.0 e ≡ true = simulation.on h.0 u e h.1 better in
-          let low = code_low s r base origin goal depart until bound sim numbers bounds e h.0
-          (sym (same_node s r base origin goal depart until bound sim numbers bounds h.0 e chain)) (least h.0 h.2 h.3) in
+          let low = code_low s r base origin goal depart until bound latest sim numbers bounds minutes e h.0
+          (sym (same_node s r base origin goal depart until bound latest sim numbers bounds minutes h.0 e chain)) (least h.0 h.2 h.3) in
           let first = simulation.low h.0 u h.1 in
           let second = simulation.low u e better in
           (omega (arith, low, first, second), h.4)

@@ -11,7 +11,7 @@ use Rattle.propagation.specs.Inside.Offers.{IsWaited}
 use Rattle.state_dominance.specs.Inside.Product.{Ruler, code}
 use Rattle.state_dominance.specs.Inside.Widening.{IsCleared, IsClosed}
 use Rattle.ruled_states.specs.Inside.Codes.{base}
-use Rattle.ruled_search.specs.Inside.Tasks.{task_of, state_bound}
+use Rattle.ruled_search.specs.Inside.Tasks.{latest_in, task_of, state_bound}
 use Rattle.ruled_search.specs.declared.task.Task.{Task as TaskHeld}
 use Rattle.ruled_search.proofs.Made.{node_of, state_of}
 
@@ -19,6 +19,9 @@ module _ {R : Type 0} (ruling : R → Ruler) (task : TaskHeld R) (v k : ℕ) (sm
   pub bound_by_code : (task_of R ruling task).bounds (code base v k) ≡ state_bound (ruling task.ruler.now) task.bounds.now v k
   bound_by_code = ap (λ n. state_bound (ruling task.ruler.now) task.bounds.now n (code base v k / base)) (node_of base v k small)
       ∙ ap (state_bound (ruling task.ruler.now) task.bounds.now v) (state_of base v k small)
+
+  pub latest_by_code : (task_of R ruling task).latest (code base v k) ≡ latest_in R ruling task k
+  latest_by_code = ap (latest_in R ruling task) (state_of base v k small)
 
   pub weight_by_code : (task_of R ruling task).setting.weight (code base v k) ≡ (setting_of task.net.now).weight v
   weight_by_code = ap (λ n. (setting_of task.net.now).weight n) (node_of base v k small)
@@ -37,7 +40,7 @@ module _ {R : Type 0} (ruling : R → Ruler) (task : TaskHeld R) (v k : ℕ) (sm
 
   -- at a rated node
   pub closed_rated : (pairs : List Pair) (park : Park) (bound : Bound) (last : ℕ) (clear waits wide : ℕ → Option ℕ) → park_at task.net.now v ≡ Some park
-      → state_bound (ruling task.ruler.now) task.bounds.now v k ≡ Some bound → last ≡ task.request.until - bound.minutes
+      → state_bound (ruling task.ruler.now) task.bounds.now v k ≡ Some bound → last ≡ latest_in R ruling task k - bound.minutes
       → IsWaited clear waits ((task_of R ruling task).setting.wait_shut (code base v k)) park.weight last
       → IsCleared (task_of R ruling task) pairs (code base v k) waits wide → IsClosed (task_of R ruling task) pairs (code base v k) clear wide
   closed_rated pairs park bound last clear waits wide rated is upto waited cleared = inr (
@@ -47,7 +50,8 @@ module _ {R : Type 0} (ruling : R → Ruler) (task : TaskHeld R) (v k : ℕ) (sm
       has_bound = bound_by_code ∙ is;
       rated = weight_by_code ∙ ap (option_map (λ (w : Park). w.weight)) rated;
       waits = waits;
-      waited = subst (λ n. IsWaited clear waits ((task_of R ruling task).setting.wait_shut (code base v k)) park.weight n) upto waited;
+      waited = subst (λ n. IsWaited clear waits ((task_of R ruling task).setting.wait_shut (code base v k)) park.weight n)
+          (upto ∙ ap (λ n. n - bound.minutes) (sym latest_by_code)) waited;
       cleared = cleared;
     },
   )

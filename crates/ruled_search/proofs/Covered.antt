@@ -11,13 +11,13 @@ use Rattle.cost_functions.specs.declared.pieces.Piece.{Piece}
 use Rattle.function_merge.specs.Rejection.{IsNoBetter}
 use Rattle.propagation.specs.Inside.Invariants.{Progress}
 use Rattle.state_dominance.specs.Inside.Dominance.{Task, IsCovered}
-use Rattle.state_dominance.specs.Inside.Product.{Ruler, code, task_over}
+use Rattle.state_dominance.specs.Inside.Product.{Ruler, code, task_by_latest}
 use Rattle.ruled_search.specs.Inside.Tasks.{IsRoadRelaxed}
 
 -- a state that is no worse makes a code that is no worse
-pub worse_by_code : (s : Setting) (r : Ruler) (base origin goal depart until : ℕ) (bound : ℕ → ℕ → Option Bound) (v j k : ℕ) → v < base
-    → r.no_worse j k ≡ true → (task_over s r base origin goal depart until bound).no_worse (code base v j) (code base v k) ≡ true
-worse_by_code s r base origin goal depart until bound v j k small better =
+pub worse_by_code : (s : Setting) (r : Ruler) (base origin goal depart until : ℕ) (bound : ℕ → ℕ → Option Bound) (latest : ℕ → ℕ) (v j k : ℕ)
+    → v < base → r.no_worse j k ≡ true → (task_by_latest s r base origin goal depart until bound latest).no_worse (code base v j) (code base v k) ≡ true
+worse_by_code s r base origin goal depart until bound latest v j k small better =
     let node : (i : ℕ) → code base v i % base ≡ v = λ i. mod-mul-add i base v small in
     let state : (i : ℕ) → code base v i / base ≡ i = λ i. div-mul-add i base v small in
     ap (λ n. nat_eq n (code base v k % base) && r.no_worse (code base v j / base) (code base v k / base)) (node j)

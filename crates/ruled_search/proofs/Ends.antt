@@ -21,7 +21,7 @@ use Rattle.ruled_states.specs.declared.table.Info.{Info}
 use Rattle.ruled_states.specs.declared.table.Place.{Place}
 use Rattle.ruled_search.specs.Routes.{IsFirstRuled, TellsSteps}
 use Rattle.ruled_search.specs.Inside.Sources.{AreFirstSteps, ComesFirst, HasSource, IsBest, IsEndOf, IsKnownSpot, IsLeastAt, IsSolved, LeadsToEnd, place_of}
-use Rattle.ruled_search.specs.Inside.Tasks.{progress_of, state_bound, task_of}
+use Rattle.ruled_search.specs.Inside.Tasks.{latest_in, progress_of, state_bound, task_of}
 use Rattle.ruled_search.specs.declared.progress.Progress.{Progress as ProgressHeld}
 use Rattle.ruled_search.specs.declared.routes.RuledLeg.{RuledLeg}
 use Rattle.ruled_search.specs.declared.routes.RuledRoute.{RuledRoute}
@@ -125,7 +125,8 @@ module _ {R : Type 0} {ruling : R → Ruler} {task : TaskHeld R} {incoming : Sta
         };
         best = subst (λ (p : Position). IsBest (task_of R ruling task) p) at
             (best_end (setting_of task.net.now) (ruling task.ruler.now) task.request.origin.0 task.request.goal.0 task.request.depart task.request.until
-            (state_bound (ruling task.ruler.now) task.bounds.now) solved.asked.rules solved.asked.numbers solved.asked.bound (progress_of progress)
+            (state_bound (ruling task.ruler.now) task.bounds.now) (latest_in R ruling task) solved.asked.rules solved.asked.numbers
+            solved.asked.bound solved.asked.latest (progress_of progress)
             solved.facts solved.done solved.asked.in_time pair one (code_of spot.info) end.goal least);
         node = code_of spot.info;
         goal = end.goal;
@@ -152,7 +153,8 @@ module _ {R : Type 0} {ruling : R → Ruler} {task : TaskHeld R} {incoming : Sta
         ⊎_elim
         (λ (h : (n : ℕ) × (c.comes.steps ≡ replicate n wait)).
         let all = waits_first (setting_of task.net.now) (ruling task.ruler.now) task.request.origin.0 task.request.goal.0 task.request.depart
-        task.request.until (state_bound (ruling task.ruler.now) task.bounds.now) solved.asked.rules solved.asked.numbers solved.asked.bound
+        task.request.until (state_bound (ruling task.ruler.now) task.bounds.now) (latest_in R ruling task) solved.asked.rules
+        solved.asked.numbers solved.asked.bound solved.asked.latest
         (progress_of progress) solved.facts solved.done solved.asked.in_time pair one h.0 (place_of from) (place_of spot)
         (solved.facts.reached (place_of from) c.comes.is_one.known)
         (subst (λ w. Walks k.setting task.request.until w (place_of from) (place_of spot)) h.1 c.comes.walk) way.best
@@ -161,7 +163,8 @@ module _ {R : Type 0} {ruling : R → Ruler} {task : TaskHeld R} {incoming : Sta
         (λ (h : IsFirstRoad k cost c.comes.steps (place_of from) (place_of spot)). (
           subst (λ w. AreFirstSteps k cost w (place_of from) (place_of spot)) (sym h.is) (place_of spot, h.first, refl),
           best_source (setting_of task.net.now) (ruling task.ruler.now) task.request.origin.0 task.request.goal.0 task.request.depart
-              task.request.until (state_bound (ruling task.ruler.now) task.bounds.now) solved.asked.rules solved.asked.numbers solved.asked.bound
+              task.request.until (state_bound (ruling task.ruler.now) task.bounds.now) (latest_in R ruling task) solved.asked.rules
+              solved.asked.numbers solved.asked.bound solved.asked.latest
               (progress_of progress) solved.facts solved.done solved.asked.in_time pair one (drive h.road) (place_of from) (place_of spot) way.best
               (way.leads.steps, way.node, way.goal, way_leads) h.first,
         ))
@@ -207,8 +210,9 @@ module _ {R : Type 0} {ruling : R → Ruler} {task : TaskHeld R} {incoming : Sta
             tells = subst (λ (w : List RuledLeg). TellsSteps base w way.leads.steps) (sym legs) way.leads.tells;
           };
           first = λ g others goal walk. first_of_pair (setting_of task.net.now) (ruling task.ruler.now) task.request.origin.0 task.request.goal.0
-              task.request.depart task.request.until (state_bound (ruling task.ruler.now) task.bounds.now) solved.asked.rules solved.asked.numbers
-              solved.asked.bound (progress_of progress) solved.facts solved.done solved.asked.in_time pair one way.node way.goal way.least way.leads.steps
+              task.request.depart task.request.until (state_bound (ruling task.ruler.now) task.bounds.now) (latest_in R ruling task) solved.asked.rules
+              solved.asked.numbers solved.asked.bound solved.asked.latest (progress_of progress) solved.facts solved.done solved.asked.in_time pair
+              one way.node way.goal way.least way.leads.steps
               first g others goal
               (subst (λ (w : Pair). Walks k.setting task.request.until others k.start (point g w.arrival w.cost)) same walk);
         }

@@ -83,7 +83,7 @@ module _ (k : Task) (c x : ℕ) where
     pub bar_unbound : k.bounds road.head ≡ None → IsBarred k c x
     bar_unbound none pairs p q here reached step =
         let same : road ≡ step.road = same_Some road step.road (sym is ∙ step.is) in
-        subst (λ o. IsWorseOrLate k.until pairs o q)
+        subst (λ o. IsWorseOrLate (k.latest q.node) pairs o q)
         (sym (ap k.bounds (step.node ∙ ap (λ (w : Road). w.head) (sym same)) ∙ none)) tt
 
     pub bar_long : k.until < road.minutes → IsBarred k c x

@@ -122,16 +122,19 @@ wait_fits k fit h weight s y t rated opens reached le late =
     omega (arith, small, e)
 
 -- what is pruned by borders is cleared at a node with the bound
-pub cleared_of : (k : Task) (pairs borders : List Pair) (h : ℕ) (b : Bound) (f g : ℕ → Option ℕ) → k.bounds h ≡ Some b → AreBorders pairs borders
-    → IsPruned k.until borders b f g → IsCleared k pairs h f g
-cleared_of k pairs borders h b f g is are pruned = record {
-  kept = pruned.kept;
-  clear = λ t x there e. pruned.clear (point h t x) there (by_worse k.until pairs borders b (point h t x) are
-      (subst (λ o. IsWorseOrLate k.until pairs o (point h t x)) is e));
-  left = λ t x there. ⊎_elim
-      (λ (stays : g t ≡ Some x). inl stays)
-      (λ (e : IsDominatedOrLate k.until borders (Some b) (point h t x)).
-      inr (subst (λ o. IsWorseOrLate k.until pairs o (point h t x)) (sym is)
-      (worse_by_borders k.until pairs borders b (point h t x) are e)))
-      (pruned.left (point h t x) there);
-}
+pub cleared_of : (k : Task) (pairs borders : List Pair) (h latest : ℕ) (b : Bound) (f g : ℕ → Option ℕ) → k.bounds h ≡ Some b
+    → k.latest h ≡ latest → AreBorders pairs borders → IsPruned latest borders b f g → IsCleared k pairs h f g
+cleared_of k pairs borders h latest b f g is last are pruned =
+    let late : (p : Position) → IsWorseOrLate latest pairs (Some b) p → IsWorseOrLate (k.latest h) pairs (k.bounds h) p = λ p e.
+    subst (λ n. IsWorseOrLate n pairs (k.bounds h) p) (sym last) (subst (λ o. IsWorseOrLate latest pairs o p) (sym is) e) in
+    let early : (p : Position) → IsWorseOrLate (k.latest h) pairs (k.bounds h) p → IsWorseOrLate latest pairs (Some b) p = λ p e.
+    subst (λ o. IsWorseOrLate latest pairs o p) is (subst (λ n. IsWorseOrLate n pairs (k.bounds h) p) last e) in
+    record {
+      kept = pruned.kept;
+      clear = λ t x there e. pruned.clear (point h t x) there (by_worse latest pairs borders b (point h t x) are (early (point h t x) e));
+      left = λ t x there. ⊎_elim
+          (λ (stays : g t ≡ Some x). inl stays)
+          (λ (e : IsDominatedOrLate latest borders (Some b) (point h t x)).
+          inr (late (point h t x) (worse_by_borders latest pairs borders b (point h t x) are e)))
+          (pruned.left (point h t x) there);
+    }

@@ -21,7 +21,7 @@ use Rattle.ruled_states.specs.Inside.Codes.{base}
 use Rattle.ruled_states.specs.Inside.Tables.{code_of}
 use Rattle.ruled_states.specs.declared.table.Info.{Info}
 use Rattle.ruled_search.specs.Inside.Sources.{ComesFrom, ComesOver, HasNoRoad, HasNoRoadBefore, HasNoWait, HasSource, IsKnownSpot, IsLeastAt, IsLeastLeg, IsLeastOver, IsSolved, led_to, place_of}
-use Rattle.ruled_search.specs.Inside.Tasks.{progress_of, state_bound, task_of}
+use Rattle.ruled_search.specs.Inside.Tasks.{latest_in, progress_of, state_bound, task_of}
 use Rattle.ruled_search.specs.Routes.{TellsLeg}
 use Rattle.ruled_search.specs.declared.progress.Progress.{Progress as ProgressHeld}
 use Rattle.ruled_search.specs.declared.routes.RuledLeg.{RuledLeg}
@@ -82,7 +82,8 @@ module _ {R : Type 0} {ruling : R → Ruler} {task : TaskHeld R} {incoming : Sta
       × ((progress_of progress).cost (code base arc.tail.0 k) (spot.minute - arc.minutes) ≡ Some (spot.cost - arc.cost)) × (source.node / base ≡ k)
   drive_from a y source kind number comes =
       let d = drive_comes (setting_of task.net.now) (ruling task.ruler.now) solved.asked.numbers task.request.origin.0 task.request.goal.0
-      task.request.depart task.request.until (state_bound (ruling task.ruler.now) task.bounds.now) (progress_of progress).cost spot.info.node.0 spot.info.state spot.minute spot.cost spot_node y a source
+      task.request.depart task.request.until (state_bound (ruling task.ruler.now) task.bounds.now) (latest_in R ruling task)
+      (progress_of progress).cost spot.info.node.0 spot.info.state spot.minute spot.cost spot_node y a source
       number comes kind in
       let arc = map_some (at_number task.net.now.arcs a) road_of d.0 d.1 in
       let minutes : arc.0.minutes ≡ d.0.minutes = ap (λ (w : Road). w.minutes) arc.2 in
@@ -132,7 +133,8 @@ module _ {R : Type 0} {ruling : R → Ruler} {task : TaskHeld R} {incoming : Sta
       (road_code base 0 a.0 arc.tail.0 from.info.state) arc.tail.0 (spot.minute - arc.minutes) (spot.cost - arc.cost)
       (record { node = arc.tail.0; state = from.info.state; is = refl }) right.0 right.1 (omega (arith, long, early))
       (drive_leads (setting_of task.net.now) (ruling task.ruler.now) solved.asked.numbers task.request.origin.0 task.request.goal.0 task.request.depart
-      task.request.until (state_bound (ruling task.ruler.now) task.bounds.now) (progress_of progress).cost spot.info.node.0 spot.info.state spot.minute spot.cost spot_node from.info.state
+      task.request.until (state_bound (ruling task.ruler.now) task.bounds.now) (latest_in R ruling task)
+      (progress_of progress).cost spot.info.node.0 spot.info.state spot.minute spot.cost spot_node from.info.state
       (spot.minute - arc.minutes) (spot.cost - arc.cost) upto a.0 (road_of arc) road head right.2 opens (omega (arith, early)) (omega (arith, cheap)) known) (
         (solved.asked.numbers.arcs a.0 (road_of arc) road).0,
         drive_least a.0 arc is from
@@ -159,7 +161,8 @@ module _ {R : Type 0} {ruling : R → Ruler} {task : TaskHeld R} {incoming : Sta
       × ((progress_of progress).cost (code base spot.info.node.0 k) (spot.minute - rest) ≡ Some (spot.cost - rest * weight)) × (source.node / base ≡ k)
   rest_from place y source kind number comes =
       let d = rest_comes (setting_of task.net.now) (ruling task.ruler.now) solved.asked.numbers task.request.origin.0 task.request.goal.0
-      task.request.depart task.request.until (state_bound (ruling task.ruler.now) task.bounds.now) (progress_of progress).cost spot.info.node.0 spot.info.state spot.minute spot.cost spot_node y place source
+      task.request.depart task.request.until (state_bound (ruling task.ruler.now) task.bounds.now) (latest_in R ruling task)
+      (progress_of progress).cost spot.info.node.0 spot.info.state spot.minute spot.cost spot_node y place source
       number comes kind in
       let begun : source.minute ≡ spot.minute - d.0 = omega (arith, d.2.minute) in
       let before : source.cost ≡ spot.cost - d.0 * d.2.weight = omega (arith, d.2.paid) in (
@@ -209,7 +212,8 @@ module _ {R : Type 0} {ruling : R → Ruler} {task : TaskHeld R} {incoming : Sta
       (road_code base 1 place spot.info.node.0 from.info.state) spot.info.node.0 (spot.minute - rest) (spot.cost - rest * weight)
       (record { node = spot.info.node.0; state = from.info.state; is = refl }) right.0 right.1 (omega (arith, long, early))
       (rest_leads (setting_of task.net.now) (ruling task.ruler.now) solved.asked.numbers task.request.origin.0 task.request.goal.0 task.request.depart
-      task.request.until (state_bound (ruling task.ruler.now) task.bounds.now) (progress_of progress).cost spot.info.node.0 spot.info.state spot.minute spot.cost spot_node from.info.state
+      task.request.until (state_bound (ruling task.ruler.now) task.bounds.now) (latest_in R ruling task)
+      (progress_of progress).cost spot.info.node.0 spot.info.state spot.minute spot.cost spot_node from.info.state
       (spot.minute - rest) (spot.cost - rest * weight) upto place rest weight is rated
       (same_Some ((ruling task.ruler.now).rest from.info.state rest) spot.info.state right.2) opens (omega (arith, early)) (omega (arith, cheap)) known) (
         solved.asked.numbers.rests place rest is,
@@ -237,7 +241,8 @@ module _ {R : Type 0} {ruling : R → Ruler} {task : TaskHeld R} {incoming : Sta
       × ((progress_of progress).cost (code base spot.info.node.0 k) (spot.minute - served.minutes) ≡ Some (spot.cost - 0)) × (source.node / base ≡ k)
   service_from place y source kind number comes =
       let d = service_comes (setting_of task.net.now) (ruling task.ruler.now) solved.asked.numbers task.request.origin.0 task.request.goal.0
-      task.request.depart task.request.until (state_bound (ruling task.ruler.now) task.bounds.now) (progress_of progress).cost spot.info.node.0 spot.info.state spot.minute spot.cost spot_node y place source
+      task.request.depart task.request.until (state_bound (ruling task.ruler.now) task.bounds.now) (latest_in R ruling task)
+      (progress_of progress).cost spot.info.node.0 spot.info.state spot.minute spot.cost spot_node y place source
       number comes kind in
       let begun : source.minute ≡ spot.minute - d.0.minutes = omega (arith, d.2.minute) in
       let before : source.cost ≡ spot.cost - 0 = omega (arith, d.2.paid) in (
@@ -282,7 +287,8 @@ module _ {R : Type 0} {ruling : R → Ruler} {task : TaskHeld R} {incoming : Sta
       (road_code base 2 place spot.info.node.0 from.info.state) spot.info.node.0 (spot.minute - served.minutes) (spot.cost - 0)
       (record { node = spot.info.node.0; state = from.info.state; is = refl }) right.0 right.1 (omega (arith, long, early))
       (service_leads (setting_of task.net.now) (ruling task.ruler.now) solved.asked.numbers task.request.origin.0 task.request.goal.0 task.request.depart
-      task.request.until (state_bound (ruling task.ruler.now) task.bounds.now) (progress_of progress).cost spot.info.node.0 spot.info.state spot.minute spot.cost spot_node from.info.state
+      task.request.until (state_bound (ruling task.ruler.now) task.bounds.now) (latest_in R ruling task)
+      (progress_of progress).cost spot.info.node.0 spot.info.state spot.minute spot.cost spot_node from.info.state
       (spot.minute - served.minutes) (spot.cost - 0) upto place served is at right.2 (omega (arith, begins, early)) ends (omega (arith, early))
       (omega arith) known) (
         (solved.asked.numbers.services place served is).0,
@@ -323,7 +329,8 @@ module _ {R : Type 0} {ruling : R → Ruler} {task : TaskHeld R} {incoming : Sta
         tells = refl;
         walk = subst (λ (p : Position). Walks (task_of R ruling task).setting task.request.until (replicate (spot.minute - since) wait) p (place_of spot)) at
             (wait_leads (setting_of task.net.now) (ruling task.ruler.now) solved.asked.numbers task.request.origin.0 task.request.goal.0 task.request.depart
-            task.request.until (state_bound (ruling task.ruler.now) task.bounds.now) (progress_of progress).cost spot.info.node.0 spot.info.state spot.minute spot.cost spot_node since
+            task.request.until (state_bound (ruling task.ruler.now) task.bounds.now) (latest_in R ruling task)
+            (progress_of progress).cost spot.info.node.0 spot.info.state spot.minute spot.cost spot_node since
             (spot.cost - paid) weight earlier upto rated opens (omega (arith, is, cheap)));
         least = tt;
       }
@@ -334,7 +341,8 @@ module _ {R : Type 0} {ruling : R → Ruler} {task : TaskHeld R} {incoming : Sta
       → HasNoWait (task_of R ruling task) (progress_of progress).cost spot
   wait_missed out source comes =
       let d = wait_comes (setting_of task.net.now) (ruling task.ruler.now) solved.asked.numbers task.request.origin.0 task.request.goal.0
-      task.request.depart task.request.until (state_bound (ruling task.ruler.now) task.bounds.now) (progress_of progress).cost spot.info.node.0 spot.info.state spot.minute spot.cost spot_node source comes in
+      task.request.depart task.request.until (state_bound (ruling task.ruler.now) task.bounds.now) (latest_in R ruling task)
+      (progress_of progress).cost spot.info.node.0 spot.info.state spot.minute spot.cost spot_node source comes in
       let before : source.cost ≡ spot.cost - d.weight = omega (arith, d.paid) in
       out source.minute d.weight (sym d.minute) d.rated (omega (arith, d.paid)) d.is_open
       (ap (λ c. (progress_of progress).cost c source.minute) (sym d.at) ∙ (comes.known ∙ ap (λ (n : ℕ). Some n) before))
@@ -344,7 +352,8 @@ module _ {R : Type 0} {ruling : R → Ruler} {task : TaskHeld R} {incoming : Sta
       → EndsAt task.net.now Head spot.info.node.0 (x / 3 % base)
   drive_ends x source kind comes =
       let d = drive_comes (setting_of task.net.now) (ruling task.ruler.now) solved.asked.numbers task.request.origin.0 task.request.goal.0
-      task.request.depart task.request.until (state_bound (ruling task.ruler.now) task.bounds.now) (progress_of progress).cost spot.info.node.0
+      task.request.depart task.request.until (state_bound (ruling task.ruler.now) task.bounds.now) (latest_in R ruling task)
+      (progress_of progress).cost spot.info.node.0
       spot.info.state spot.minute spot.cost spot_node x (x / 3 % base) source refl comes kind in
       let arc = map_some (at_number task.net.now.arcs (x / 3 % base)) road_of d.0 d.1 in
       ap (option_map (node_at Head)) arc.1 ∙ ap (λ (n : ℕ). Some n) (ap (λ (w : Road). w.head) arc.2 ∙ d.2.head)
@@ -375,7 +384,8 @@ module _ {R : Type 0} {ruling : R → Ruler} {task : TaskHeld R} {incoming : Sta
           (λ (kind : x % 3 ≡ 1). rests (x / 3 % base) x s.source kind refl comes)
           (λ (kind : x % 3 ≡ 2).
           let d = service_comes (setting_of task.net.now) (ruling task.ruler.now) solved.asked.numbers task.request.origin.0 task.request.goal.0
-          task.request.depart task.request.until (state_bound (ruling task.ruler.now) task.bounds.now) (progress_of progress).cost spot.info.node.0
+          task.request.depart task.request.until (state_bound (ruling task.ruler.now) task.bounds.now) (latest_in R ruling task)
+          (progress_of progress).cost spot.info.node.0
           spot.info.state spot.minute spot.cost spot_node x (x / 3 % base) s.source refl comes kind in
           services (x / 3 % base) (slice_get_within (ruling task.ruler.now).services (x / 3 % base) d.0 d.1) x s.source kind refl comes)
           other)

@@ -1,5 +1,5 @@
 -- What a turn begins with: a state with pending minutes, and a part of its costs.
-use Rattle.std.proofs.Common.{◌≡◌, ◌≤◌, ◌<◌, ◌*◌, ℕ, zero, suc, true, false, Option, Some, None, List, length, get_or, refl, ◌∙◌, arith}
+use Rattle.std.proofs.Common.{◌≡◌, ◌≤◌, ◌<◌, ◌*◌, ℕ, zero, suc, true, false, Option, Some, None, List, length, get_or, refl, ◌∙◌, ap, arith}
 use Rattle.std.proofs.lemmas.Option.{slice_get-get_or}
 use Rattle.route_base.specs.Net.{at_number}
 use Rattle.route_base.specs.declared.types.Run.{Run}
@@ -7,7 +7,7 @@ use Rattle.route_base.proofs.Numbered.{number_within}
 use Rattle.propagation.specs.Inside.Invariants.{Progress, point}
 use Rattle.propagation.specs.Inside.States.{is_pending, set_has}
 use Rattle.state_dominance.specs.Inside.Dominance.{Task, IsSearching}
-use Rattle.state_dominance.specs.Inside.Product.{Ruler, Service, rested_by, served_by}
+use Rattle.state_dominance.specs.Inside.Product.{Ruler, Service, IsStaged, rested_by, served_by, served_to}
 use Rattle.state_dominance.specs.Inside.Taking.{TakesPart}
 use Rattle.state_dominance.specs.Inside.Widening.{IsKnownPart}
 use Rattle.ruled_states.specs.Inside.Codes.{base}
@@ -56,6 +56,11 @@ pub no_rest_place : (r : Ruler) (v k : ℕ) (o p : Option ℕ) → o ≡ None �
 no_rest_place r v k None p none = refl
 no_rest_place r v k (Some rest) p none = let bad : Some rest ≡ None = none in cc
 
-pub no_service_place : (r : Ruler) (i k : ℕ) (o : Option Service) → o ≡ None → served_by r base i k o ≡ None
-no_service_place r i k None none = refl
-no_service_place r i k (Some c) none = let bad : Some c ≡ None = none in cc
+-- a service that isn't that of the stage is forbidden
+pub no_other_service : (r : Ruler) (base i k : ℕ) (o : Option Service) → IsStaged r → (r.stage k ≡ i → ⊥) → served_by r base i k o ≡ None
+no_other_service r _ i k None stages other = refl
+no_other_service r base i k (Some c) stages other = by (r.serve k i) refl
+  where
+    by : (next : Option ℕ) → r.serve k i ≡ next → served_by r base i k (Some c) ≡ None
+    by None none = ap (served_to base k c) none
+    by (Some next) is = absurd (other (stages.serve k i next is).0)

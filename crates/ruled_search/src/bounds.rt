@@ -1,9 +1,10 @@
-// The bounds of states.
+// The bounds of states, and their latest minutes.
 ghost use Rattle.std.specs.Prelude.{◌≡◌};
-ghost use Rattle.ruled_search.specs.Inside.Tasks.{state_bound};
+ghost use Rattle.ruled_search.specs.Inside.Tasks.{latest_in, state_bound};
 
-use route_base::{Bound, NodeId};
-use ruled_states::{Labels, Ruler};
+use crate::task::Task;
+use route_base::{Bound, Minute, NodeId};
+use ruled_states::{Labels, Ruler, latest_of};
 
 // The bound of a state at a node: that of the labels, or nothing where there are none.
 pub fn bound_at<R: Ruler>(
@@ -21,4 +22,12 @@ pub fn bound_at<R: Ruler>(
             cost: 0,
         }),
     }
+}
+
+// The latest minute of a state.
+#[inline(always)]
+pub fn latest_at<R: Ruler>(task: Task<'_, R>, state: u64) -> Minute
+    ensures { result ≡ latest_in R R.ruling task.entry state }
+{
+    latest_of(task.ruler, task.latest, task.request.until, state)
 }

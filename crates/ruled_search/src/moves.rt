@@ -11,6 +11,7 @@ ghost use Rattle.ruled_search.specs.Inside.Tasks.{task_of, IsGoodTask};
 ghost use Rattle.ruled_search.specs.declared.ways.Kind.TheVariants.{Serve};
 ghost use Rattle.ruled_search.specs.Inside.Ways.{IsWay, AreStarts, AreClearDrives, IsLoneRun, IsPlaceReady, road_in, shut_in, tail_of};
 
+use crate::bounds::latest_at;
 use crate::progress::{Progress, Tools};
 use crate::task::Task;
 use crate::ways::{Kind, Way};
@@ -167,7 +168,7 @@ pub fn moved<R: Ruler + Copy>(
         starts,
         way.minutes,
         way.cost,
-        task.request.until,
+        latest_at(task, way.after),
         &progress.borders,
         way.bound,
     )?;

@@ -16,6 +16,7 @@ ghost use Rattle.ruled_search.specs.Inside.Steps.{IsOfferedBy};
 ghost use Rattle.ruled_search.specs.Inside.Tasks.{task_of, progress_of, state_bound, IsGoodTask, IsShapedFor};
 ghost use Rattle.ruled_search.specs.Inside.Ways.{IsWay, tail_of};
 
+use crate::bounds::latest_at;
 use crate::moves::moved;
 use crate::progress::{Progress, Tools};
 use crate::task::Task;
@@ -47,7 +48,7 @@ pub fn cleared<R: Ruler + Copy>(
         (code base node.0 state) (value_at costs) (value_at result) }
     ensures small { AreSmallPieces result }
 {
-    into_pruned(costs, task.request.until, &progress.borders, bound)
+    into_pruned(costs, latest_at(task, state), &progress.borders, bound)
 }
 
 // The costs with waits at a park, from these costs on until a minute.
@@ -126,7 +127,7 @@ pub fn with_waits<R: Ruler + Copy>(
     let Some(park) = task.net.park(node) else {
         return Ok(clear);
     };
-    let last = task.request.until.saturating_sub(bound.minutes);
+    let last = latest_at(task, state).saturating_sub(bound.minutes);
     let with_waits = waited(alloc, task, tools, node, state, park, &clear, last)?;
     tools.spares.put(clear)?;
     Ok(cleared(task, progress, node, state, bound, with_waits))

@@ -9,6 +9,7 @@ ghost use Rattle.state_dominance.specs.Inside.Taking.{TakesPart};
 ghost use Rattle.ruled_states.specs.Inside.Tables.{code_of};
 ghost use Rattle.ruled_search.specs.Inside.Tasks.{task_of, progress_of, HasLeft, IsGoodTask, IsShapedFor};
 
+use crate::bounds::latest_at;
 use crate::progress::{Progress, Tools};
 use crate::task::Task;
 use cost_functions::CostFn;
@@ -66,7 +67,7 @@ pub fn part_of<R: Ruler + Copy>(
         &split.taken,
         0,
         0,
-        task.request.until,
+        latest_at(task, info.state),
         &progress.borders,
         info.bound,
     )?;

@@ -2,8 +2,9 @@
 ghost use Rattle.std.specs.Prelude.{◌≤◌, IfOk};
 ghost use Rattle.node_arcs.specs.Stars.{AreIncoming};
 ghost use Rattle.route_base.specs.Net.{IsGoodRequest, setting_of};
-ghost use Rattle.state_dominance.specs.Inside.Product.{IsBase, AreRuledBounds};
+ghost use Rattle.state_dominance.specs.Inside.Product.{IsBase, AreLatest, AreRuledBounds};
 ghost use Rattle.ruled_states.specs.Inside.Codes.{base};
+ghost use Rattle.ruled_states.specs.Inside.Latest.{latest_by};
 ghost use Rattle.ruled_search.specs.Inside.Tasks.{state_bound};
 ghost use Rattle.ruled_search.specs.Routes.{IsPlanned, RuledCostsFit};
 
@@ -14,7 +15,7 @@ use crate::searching::searched;
 use crate::task::Task;
 use node_arcs::NodeArcs;
 use route_base::{Minute, OutOfMemory, Request, TimedNet};
-use ruled_states::{Ground, Labels, Ruler, ruled_labels};
+use ruled_states::{Ground, Labels, Ruler, latest_by_left, ruled_labels};
 use std::alloc::Global;
 
 /// The Pareto front of arrival (Unix minutes) and cost (thousandths) over the states of a ruler, each pair with legs that achieve it. The only
@@ -35,12 +36,14 @@ pub fn plan_ruled<R: Ruler + Copy>(
     let _nodes = net.node_count();
     let incoming = NodeArcs::incoming(alloc, net)?;
     let bounds = bounds_of(alloc, net, &incoming, request, ruler)?;
+    let latest = latest_of_states(alloc, &bounds, ruler, request)?;
     let outgoing = NodeArcs::outgoing(alloc, net)?;
     let task = Task {
         net,
         outgoing: &outgoing,
         ruler,
         bounds: &bounds,
+        latest: &latest,
         request,
         earliest: earliest_arrival(&bounds, ruler, request),
     };
@@ -69,6 +72,23 @@ fn bounds_of<R: Ruler + Copy>(
     };
     let bounds = ruled_labels(alloc, &ground)?;
     Ok(bounds)
+}
+
+// The latest minutes of states; the last one where there are no labels.
+fn latest_of_states<R: Ruler + Copy>(
+    alloc: Global,
+    bounds: &Option<Labels>,
+    ruler: &R,
+    request: Request,
+) -> Result<Vec<Minute>, OutOfMemory>
+    ensures { IfOk result (λ latest. AreLatest (R.ruling ruler.now) request.until
+        (state_bound (R.ruling ruler.now) bounds.now)
+        (latest_by (R.ruling ruler.now) latest.items request.until)) }
+{
+    let Some(labels) = bounds else {
+        return Ok(Vec::new(alloc));
+    };
+    latest_by_left(alloc, ruler, labels, request.until)
 }
 
 // The earliest minute at which one could be at the goal by the bounds.

@@ -62,7 +62,7 @@ pub fn turn<R: Ruler + Copy>(
     let part = part_of(alloc, task, tools, progress, number, info, first)?;
     let clear = narrowed(alloc, task, progress, info.node, info.state, part)?;
     let left = rest_all(alloc, task, tools, progress, info, clear)?;
-    serve_each(alloc, task, tools, progress, info, &left)?;
+    serve_next(alloc, task, tools, progress, info, &left)?;
     drive_each(alloc, task, tools, progress, info, &left)?;
     tools.spares.put(left)?;
     Ok(())
@@ -191,8 +191,8 @@ fn rest_each<R: Ruler + Copy>(
     Ok(())
 }
 
-// Relaxes each service at a state, for the part.
-fn serve_each<R: Ruler + Copy>(
+// Relaxes the service at a state, if there is one, for the part: only that at the place of its stage is allowed.
+fn serve_next<R: Ruler + Copy>(
     alloc: Global,
     task: Task<'_, R>,
     tools: &mut Tools,
@@ -219,10 +219,9 @@ fn serve_each<R: Ruler + Copy>(
     ensures relaxed { OnOk result (IsKindRelaxed (task_of R R.ruling task.entry)
         (progress_of progress.new) (value_at part.now) 2 info.node.0 info.state) }
 {
-    for place in 0..task.ruler.service_count() {
-        let way = service_way(task, place, info.node, info.state);
-        relax_from(alloc, task, tools, progress, info, part, way)?;
-    }
+    let place = task.ruler.stage(info.state);
+    let way = service_way(task, place, info.node, info.state);
+    relax_from(alloc, task, tools, progress, info, part, way)?;
     Ok(())
 }
 

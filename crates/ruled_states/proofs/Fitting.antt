@@ -74,7 +74,7 @@ module _ (r : Ruler) where
       let least = fit_least ls k good.label good.is_one (fits good.label.need good.better) in
       (least.0, least.1, omega (arith, least.2, good.within))
 
-both_is : (m c : Option ℕ) (b : Bound) → both_parts m c ≡ Some b → (m ≡ Some b.minutes) × (c ≡ Some b.cost)
+pub both_is : (m c : Option ℕ) (b : Bound) → both_parts m c ≡ Some b → (m ≡ Some b.minutes) × (c ≡ Some b.cost)
 both_is None c b is = let bad : None ≡ Some b = is in cc
 both_is (Some m) None b is = let bad : None ≡ Some b = is in cc
 both_is (Some m) (Some c) b is =

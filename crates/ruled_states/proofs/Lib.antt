@@ -2,6 +2,7 @@ pub mod Adding
 pub mod Cutting
 pub mod Fitting
 pub mod Goods
+pub mod InTime
 pub mod Lowered
 pub mod Narrow
 pub mod Numbers

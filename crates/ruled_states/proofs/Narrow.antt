@@ -11,7 +11,7 @@ use Rattle.cost_functions.specs.declared.pieces.Piece.{Piece}
 use Rattle.propagation.specs.Found.{cost_at}
 use Rattle.propagation.specs.Inside.Invariants.{point}
 use Rattle.state_dominance.specs.Inside.Dominance.{IsDominated}
-use Rattle.state_dominance.specs.Inside.Product.{Ruler, IsSimulating, code, task_over}
+use Rattle.state_dominance.specs.Inside.Product.{Ruler, IsSimulating, code, task_by_latest}
 use Rattle.state_dominance.specs.Inside.Taking.{IsNarrowed}
 use Rattle.ruled_states.specs.Inside.Codes.{base, found_by, HaveSmallNodes}
 use Rattle.ruled_states.specs.Inside.Cuts.{IsCutAt, AreCut}
@@ -24,13 +24,13 @@ two_parts : (a b : Bool) → (a && b) ≡ true → (a ≡ true) × (b ≡ true)
 two_parts true b is = (refl, is)
 two_parts false b is = absurd (cc)
 
-module _ (s : Setting) (r : Ruler) (origin goal depart until : ℕ) (bound : ℕ → ℕ → Option Bound) (sim : IsSimulating r)
-    (infos : List Info) (functions : List (List Piece)) (pending : List (List Run)) (pairs : List Pair) (small : HaveSmallNodes infos)
+module _ (s : Setting) (r : Ruler) (origin goal depart until : ℕ) (bound : ℕ → ℕ → Option Bound) (latest : ℕ → ℕ)
+    (sim : IsSimulating r) (infos : List Info) (functions : List (List Piece)) (pending : List (List Run)) (pairs : List Pair) (small : HaveSmallNodes infos)
     (distinct : (v k n m : ℕ) → IsStateOf infos v k n → IsStateOf infos v k m → n ≡ m)
     (v k : ℕ) (row : List Place) (node : v < base) (places : ArePlacesOf infos v row) (wide narrow : ℕ → Option ℕ)
     (cut : AreCut r functions k row wide narrow) where
   clear_of : (t x : ℕ) → narrow t ≡ Some x
-      → IsDominated (task_over s r base origin goal depart until bound) (found_by infos functions pending pairs) (point (code base v k) t x) → ⊥
+      → IsDominated (task_by_latest s r base origin goal depart until bound latest) (found_by infos functions pending pairs) (point (code base v k) t x) → ⊥
   clear_of t x is d =
       let c : ℕ = d.node in
       let own : ℕ = code base v k in
@@ -52,7 +52,7 @@ module _ (s : Setting) (r : Ruler) (origin goal depart until : ℕ) (bound : ℕ
       })
 
   dominated_by : (p : Place) (t x : ℕ) → Contains row p → IsCutAt r functions k p t x
-      → IsDominated (task_over s r base origin goal depart until bound) (found_by infos functions pending pairs) (point (code base v k) t x)
+      → IsDominated (task_by_latest s r base origin goal depart until bound latest) (found_by infos functions pending pairs) (point (code base v k) t x)
   dominated_by p t x one at =
       let le = sim.low p.state k at.better in
       let less : p.state < k = by p.state k le at.other in
@@ -76,7 +76,7 @@ module _ (s : Setting) (r : Ruler) (origin goal depart until : ℕ) (bound : ℕ
           (λ (apart : a ≡ b → ⊥). omega (arith, le, apart))
           (cases_eq a b)
 
-  pub narrow_by_codes : IsNarrowed (task_over s r base origin goal depart until bound) (found_by infos functions pending pairs) (code base v k) wide narrow
+  pub narrow_by_codes : IsNarrowed (task_by_latest s r base origin goal depart until bound latest) (found_by infos functions pending pairs) (code base v k) wide narrow
   narrow_by_codes = record {
     kept = cut.kept;
     clear = clear_of;

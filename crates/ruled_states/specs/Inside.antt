@@ -2,5 +2,6 @@
 pub mod Codes
 pub mod Cuts
 pub mod Labels
+pub mod Latest
 pub mod Services
 pub mod Tables

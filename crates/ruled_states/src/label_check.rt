@@ -8,18 +8,19 @@ ghost use Rattle.ruled_states.specs.Inside.Services.{service_at};
 
 use crate::back_star::BackStar;
 use crate::label_search::{Counted, Ground, found_labels};
-use crate::labels::{Label, Labels, labels_of};
+use crate::labels::{Label, Labels, count_below, labels_of};
 use crate::rulers::{Ruler, Service};
 use route_base::{ArcId, NodeId, OutOfMemory, Park, TimedArc};
 use std::alloc::Global;
 
-// Whether some label is worth no more and needs no more.
+// Whether some label from the need's stage on is worth no more and needs no more. The labels are by rising stage.
 #[inline(always)]
 fn has_as_good<R: Ruler>(ruler: &R, labels: &[Label], value: u64, need: u64) -> bool
     ensures { IsTrue result → HasAsGood (R.ruling ruler.now) labels.now value need }
 {
-    for label in labels {
-        if label.value <= value && ruler.is_no_worse(label.need, need) {
+    let from = count_below(ruler, labels, ruler.stage(need));
+    for k in from..labels.len() {
+        if labels[k].value <= value && ruler.is_no_worse(labels[k].need, need) {
             return true;
         }
     }

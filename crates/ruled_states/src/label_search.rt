@@ -5,7 +5,7 @@ ghost use Rattle.ruled_states.specs.Inside.Labels.{counting_of};
 ghost use Rattle.ruled_states.specs.Inside.Services.{service_at};
 
 use crate::back_star::{BackArc, BackStar};
-use crate::labels::Label;
+use crate::labels::{Label, count_to};
 use crate::radix_queue::{Entry, RadixQueue};
 use crate::rulers::{Ruler, Service};
 use node_arcs::NodeArcs;
@@ -64,17 +64,23 @@ pub struct Ground<'a, R> {
     pub goal: NodeId,
 }
 
-// The labels that are kept of each node, by rising value, the need of the last of them, and those that wait.
+// The labels that are kept of each node, by rising stage and then value, and those that wait.
 #[derive(Drop)]
 struct Search {
     kept: Vec<Vec<Label>>,
-    last: Vec<Option<u64>>,
     queue: RadixQueue,
 }
 
-// Whether a label with this need is dominated by one of these, whose values are no larger.
+// Whether a label with this need is dominated by one of the same stage among these, whose values are no larger. The last of the stage
+// mostly does, if one does.
+#[inline(always)]
 fn is_dominated<R: Ruler>(ruler: &R, kept: &[Label], need: u64) -> bool {
-    for label in kept.iter().rev() {
+    let stage = ruler.stage(need);
+    let end = count_to(ruler, kept, stage);
+    for label in kept[..end].iter().rev() {
+        if ruler.stage(label.need) != stage {
+            return false;
+        }
         if ruler.is_no_worse(label.need, need) {
             return true;
         }
@@ -83,17 +89,13 @@ fn is_dominated<R: Ruler>(ruler: &R, kept: &[Label], need: u64) -> bool {
 }
 
 impl Search {
-    // Whether a label of the node dominates one with this need. The last that was kept mostly does, if one does.
+    // Whether a label of the node dominates one with this need.
     #[inline(always)]
     fn dominates<R: Ruler>(&self, ruler: &R, node: NodeId, need: u64) -> bool {
-        let place = node.0 as usize;
-        if place >= self.last.len() || place >= self.kept.len() {
-            return true;
+        match self.kept.get(node.0 as usize) {
+            Some(kept) => is_dominated(ruler, kept.as_slice(), need),
+            None => true,
         }
-        let Some(last) = self.last[place] else {
-            return false;
-        };
-        ruler.is_no_worse(last, need) || is_dominated(ruler, self.kept[place].as_slice(), need)
     }
 
     #[inline(always)]
@@ -120,15 +122,12 @@ impl Search {
         node: NodeId,
         label: Label,
     ) -> Result<bool, OutOfMemory> {
-        let place = node.0 as usize;
         if self.dominates(ruler, node, label.need) {
             return Ok(false);
         }
-        if let Some(kept) = self.kept.get_mut(place) {
-            kept.push(label)?;
-        }
-        if let Some(last) = self.last.get_mut(place) {
-            *last = Some(label.need);
+        if let Some(kept) = self.kept.get_mut(node.0 as usize) {
+            let end = count_to(ruler, kept.as_slice(), ruler.stage(label.need));
+            kept.insert(end, label)?;
         }
         Ok(true)
     }
@@ -175,13 +174,14 @@ impl Search {
         node: NodeId,
         label: Label,
     ) -> Result<(), OutOfMemory> {
-        for place in 0..ground.ruler.service_count() {
-            if let Some(service) = ground.ruler.service(place) {
-                if service.node == node {
-                    if let Some(need) = ground.ruler.unserve(label.need, place) {
-                        let value = label.value.saturating_add(counted.of_service(service));
-                        self.offer(ground.ruler, node, Label { value, need })?;
-                    }
+        let Some(place) = ground.ruler.stage(label.need).checked_sub(1) else {
+            return Ok(());
+        };
+        if let Some(service) = ground.ruler.service(place) {
+            if service.node == node {
+                if let Some(need) = ground.ruler.unserve(label.need, place) {
+                    let value = label.value.saturating_add(counted.of_service(service));
+                    self.offer(ground.ruler, node, Label { value, need })?;
                 }
             }
         }
@@ -204,7 +204,7 @@ impl Search {
     }
 }
 
-// The labels of each node that are not dominated, by rising value.
+// The labels of each node that are not dominated, by rising stage and then value.
 pub fn found_labels<R: Ruler>(
     alloc: Global,
     ground: &Ground<'_, R>,
@@ -218,7 +218,6 @@ pub fn found_labels<R: Ruler>(
     }
     let mut search = Search {
         kept: lists,
-        last: vec![in alloc; None; count]?,
         queue: RadixQueue::new(alloc)?,
     };
     let need = ground.ruler.last();

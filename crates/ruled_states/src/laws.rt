@@ -5,7 +5,7 @@ ghost use Rattle.route_base.specs.declared.types.Bound.{Bound};
 ghost use Rattle.route_base.specs.declared.types.Pair.{Pair};
 ghost use Rattle.route_base.specs.declared.types.Run.{Run};
 ghost use Rattle.cost_functions.specs.declared.pieces.Piece.{Piece};
-ghost use Rattle.state_dominance.specs.Inside.Product.{Ruler, IsSimulating, code, task_over};
+ghost use Rattle.state_dominance.specs.Inside.Product.{Ruler, IsSimulating, code, task_by_latest};
 ghost use Rattle.state_dominance.specs.Inside.Taking.{IsNarrowed};
 ghost use Rattle.ruled_states.specs.Inside.Codes.{base, found_by, HaveSmallNodes};
 ghost use Rattle.ruled_states.specs.Inside.Cuts.{AreCut};
@@ -19,12 +19,12 @@ ghost use Rattle.ruled_states.specs.declared.table.Place.{Place};
 /// dominates. The call does nothing.
 pub fn cuts_are_narrow()
     ensures { (s : Setting) (r : Ruler) (origin goal depart until : ℕ) (bound : ℕ → ℕ → Option Bound)
-        (infos : List Info) (functions : List (List Piece)) (pending : List (List Run)) (pairs : List Pair)
+        (latest : ℕ → ℕ) (infos : List Info) (functions : List (List Piece)) (pending : List (List Run)) (pairs : List Pair)
         (v k : ℕ) (row : List Place) (wide narrow : ℕ → Option ℕ)
         → IsSimulating r → HaveSmallNodes infos
         → ((w j n m : ℕ) → IsStateOf infos w j n → IsStateOf infos w j m → n ≡ m)
         → v < base → ArePlacesOf infos v row → AreCut r functions k row wide narrow
-        → IsNarrowed (task_over s r base origin goal depart until bound)
+        → IsNarrowed (task_by_latest s r base origin goal depart until bound latest)
         (found_by infos functions pending pairs) (code base v k) wide narrow }
 {}
 

@@ -1,6 +1,6 @@
 // The ruler without a rule.
 ghost use Rattle.state_dominance.specs.NoRule.{no_rule};
-ghost use Rattle.state_dominance.proofs.NotRuled.{simulates, fitting};
+ghost use Rattle.state_dominance.proofs.NotRuled.{simulates, fitting, staged};
 
 use crate::rulers::{Ruler, Service};
 
@@ -71,7 +71,14 @@ impl Ruler for NoRule {
         None
     }
 
+    #[inline(always)]
+    fn stage(&self, state: u64) -> u64 {
+        0
+    }
+
     ghost simulates = { λ x. simulates };
 
     ghost fitting = { λ x. fitting };
+
+    ghost staged = { λ x. staged };
 }

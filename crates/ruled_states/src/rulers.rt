@@ -3,8 +3,8 @@ ghost use Rattle.std.specs.Prelude.{◌≡◌, length, slice_get};
 ghost use Rattle.std.specs.Option.{option_map};
 ghost use Rattle.ruled_states.specs.Inside.Services.{service_at};
 ghost use Rattle.state_dominance.specs.OneRule.{one_rule};
-ghost use Rattle.state_dominance.specs.Inside.Product.{Ruler as Ruling, IsSimulating, IsFitting};
-ghost use Rattle.state_dominance.proofs.OneRuled.{simulates, fitting};
+ghost use Rattle.state_dominance.specs.Inside.Product.{Ruler as Ruling, IsSimulating, IsFitting, IsStaged};
+ghost use Rattle.state_dominance.proofs.OneRuled.{simulates, fitting, staged};
 
 use route_base::NodeId;
 use std::slice;
@@ -71,9 +71,15 @@ pub trait Ruler {
     fn unserve(&self, need: u64, place: u64) -> Option<u64>
         ensures { result ≡ (ruling self.now).unserve need place };
 
+    /// The number of services that were done in the state.
+    fn stage(&self, state: u64) -> u64
+        ensures { result ≡ (ruling self.now).stage state };
+
     ghost simulates: { (x : Self) → IsSimulating (ruling x) };
 
     ghost fitting: { (x : Self) → IsFitting (ruling x) };
+
+    ghost staged: { (x : Self) → IsStaged (ruling x) };
 }
 
 /// One rule, at most so many minutes of driving since the last unbroken wait of so many: the state is the minutes driven since then.
@@ -146,9 +152,16 @@ impl Ruler for OneRule {
         None
     }
 
+    #[inline(always)]
+    fn stage(&self, state: u64) -> u64 {
+        0
+    }
+
     ghost simulates = { λ x. simulates x.drive x.rest };
 
     ghost fitting = { λ x. fitting x.drive x.rest };
+
+    ghost staged = { λ x. staged x.drive x.rest };
 }
 
 // The sum, if it is within the limit.

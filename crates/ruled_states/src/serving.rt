@@ -2,7 +2,7 @@
 ghost use Rattle.std.specs.Prelude.{◌≡◌, ◌/◌, ◌%◌, ◌<◌, ⊤, length, map};
 ghost use Rattle.ruled_states.specs.Inside.Services.{service_at};
 ghost use Rattle.state_dominance.specs.Serving.{HasSmallStates, joint, served_limit, serving};
-ghost use Rattle.state_dominance.proofs.Served.{made_simulates, made_fits};
+ghost use Rattle.state_dominance.proofs.Served.{made_simulates, made_fits, made_staged};
 
 use crate::rulers::{Ruler, Service};
 use std::alloc::AllocError;
@@ -131,7 +131,14 @@ impl<R: Ruler> Ruler for Serving<'_, R> {
         }
     }
 
+    #[inline(always)]
+    fn stage(&self, state: u64) -> u64 {
+        served_of(state)
+    }
+
     ghost simulates = { λ x. made_simulates service_at x.services.now (R.ruling x.rules.now) x.few (R.simulates x.rules.now) };
 
     ghost fitting = { λ x. made_fits service_at x.services.now (R.ruling x.rules.now) x.few (R.fitting x.rules.now) };
+
+    ghost staged = { λ x. made_staged service_at x.services.now (R.ruling x.rules.now) x.few };
 }

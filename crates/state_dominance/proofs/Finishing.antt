@@ -118,10 +118,10 @@ module _ (k : Task) (now : Progress) (sim : IsSimulation k) (bound : AreBoundsAl
       (facts.matched h.node p.arrival h.known.least (sim.goals h.node can.node h.better can.goal) h.known.is))
       (λ (e : IsPrunable k now.pairs end).
       ⊎_elim
-      (λ (over : k.until < p.arrival + 0). absurd (omega (arith, over, late)))
+      (λ (over : k.latest can.node < p.arrival + 0). absurd (omega (arith, over, late, bound.last can.node can.goal)))
       (λ (had : HasBetter now.pairs (p.arrival + 0) (p.cost + 0)).
       record { pair = had.pair; is_one = had.is_one; arrival = omega (arith, had.better.arrival); cost = omega (arith, had.better.cost) })
-      (subst (λ o. IsWorseOrLate k.until now.pairs o end) (bound.goal can.node can.goal) e))
+      (subst (λ o. IsWorseOrLate (k.latest can.node) now.pairs o end) (bound.goal can.node can.goal) e))
       (walk_relaxed can.reached.0 end can.reached.1)
 
   pub front : k.start.minute ≤ k.until → IsParetoFront IsNoWorse ArrivesBefore (IsAchievedIn k) now.pairs
@@ -140,7 +140,7 @@ module _ (k : Task) (now : Progress) (sim : IsSimulation k) (bound : AreBoundsAl
       let last : IsPrunable k now.pairs (point g pair.arrival pair.cost) = along k.setting k.until (IsPrunable k now.pairs)
       (λ x u w excused move. prunable_moves k bound now.pairs x u w move excused) after p (point g pair.arrival pair.cost) e walk in
       ⊎_elim
-      (λ (over : k.until < pair.arrival + 0). absurd (omega (arith, over, late)))
+      (λ (over : k.latest g < pair.arrival + 0). absurd (omega (arith, over, late, bound.last g goal)))
       (λ (had : HasBetter now.pairs (pair.arrival + 0) (pair.cost + 0)).
       let le : IsNoWorse had.pair pair = (omega (arith, had.better.arrival), omega (arith, had.better.cost)) in
       let same : had.pair ≡ pair = no_worse_one now.pairs had.pair pair facts.trade had.is_one one le in
@@ -148,7 +148,7 @@ module _ (k : Task) (now : Progress) (sim : IsSimulation k) (bound : AreBoundsAl
       (λ (early : had.pair.arrival < pair.arrival + 0). absurd (omega (arith, early, ap (λ (w : Pair). w.arrival) same)))
       (λ (cheap : had.pair.cost < pair.cost + 0). absurd (omega (arith, cheap, ap (λ (w : Pair). w.cost) same)))
       had.better.other)
-      (subst (λ o. IsWorseOrLate k.until now.pairs o (point g pair.arrival pair.cost)) (bound.goal g goal) last))
+      (subst (λ o. IsWorseOrLate (k.latest g) now.pairs o (point g pair.arrival pair.cost)) (bound.goal g goal) last))
       (walk_relaxed reach.0 p reach.1)
 
   -- each position there than which none that is reached is better is known with its cost

@@ -1,8 +1,8 @@
--- The ruler without a rule simulates and fits.
+-- The ruler without a rule simulates and fits, and has one stage.
 use Rattle.std.proofs.Common.{◌≡◌, Some, None, refl, ◌∙◌, arith}
 use Rattle.std.proofs.lemmas.Bool.{eqb-true, eq-eqb}
 use Rattle.std.proofs.lemmas.Option.{same_Some}
-use Rattle.state_dominance.specs.Inside.Product.{IsSimulating, IsFitting}
+use Rattle.state_dominance.specs.Inside.Product.{IsSimulating, IsFitting, IsStaged}
 use Rattle.state_dominance.specs.NoRule.{no_rule}
 use Rattle.state_dominance.specs.Serving.{HasSmallStates}
 
@@ -25,6 +25,16 @@ fitting = record {
   drive = λ k next minutes n is fits. (0, refl, λ o le. refl);
   rest = λ k minutes n o fits le. refl;
   serve = λ k i next n is fits. (let bad : None ≡ Some next = is in cc);
+}
+
+pub staged : IsStaged no_rule
+staged = record {
+  drive = λ k minutes next is. refl;
+  rest = λ k minutes. refl;
+  serve = λ k i next is. (let bad : None ≡ Some next = is in cc);
+  ends = λ k ends. refl;
+  falls = λ j k better. refl;
+  fits = λ k n fits. refl;
 }
 
 -- its state is small

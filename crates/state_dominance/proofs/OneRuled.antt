@@ -1,10 +1,10 @@
--- The ruler of one break rule simulates and fits.
+-- The ruler of one break rule simulates and fits, and has one stage.
 use Rattle.std.proofs.Common.{◌≡◌, ◌⊎◌, inl, inr, ⊎_elim, ℕ, ◌+◌, ◌≤◌, ◌<◌, ◌||◌, leb, eqb, Bool, true, false, Some, None, refl, ap, arith}
 use Rattle.std.specs.Prelude.{if◌then◌else◌}
 use Rattle.std.proofs.lemmas.Bool.{leb-true, le-leb, eqb-true, eq-eqb}
 use Rattle.std.proofs.lemmas.Option.{same_Some}
 use Rattle.route_base.proofs.Logic.{behind_test}
-use Rattle.state_dominance.specs.Inside.Product.{IsSimulating, IsFitting}
+use Rattle.state_dominance.specs.Inside.Product.{IsSimulating, IsFitting, IsStaged}
 use Rattle.state_dominance.specs.OneRule.{one_rule}
 use Rattle.state_dominance.specs.Serving.{served_limit, HasSmallStates}
 
@@ -86,6 +86,16 @@ module _ (drive rest : ℕ) where
         (λ (none : o ≡ 0). fits_none k o none)
         (λ (within : k + o ≤ drive). fits_within k o within)
         (rest_fits (leb rest minutes) k n o (fit_kinds (if leb rest minutes then 0 else k) n fits) low);
+  }
+
+  pub staged : IsStaged (one_rule drive rest)
+  staged = record {
+    drive = λ k minutes next is. refl;
+    rest = λ k minutes. refl;
+    serve = λ k i next is. (let bad : None ≡ Some next = is in cc);
+    ends = λ k ends. refl;
+    falls = λ j k better. refl;
+    fits = λ k n fits. refl;
   }
 
   rest_small : (b : Bool) (k : ℕ) → k < served_limit → (if b then 0 else k) < served_limit

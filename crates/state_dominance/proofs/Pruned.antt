@@ -1,5 +1,6 @@
 -- What is prunable, covered or dominated stays so: over steps, for worse states, and as the search goes on.
 use Rattle.std.proofs.Common.{◌≡◌, inl, inr, ⊎_elim, ℕ, ◌+◌, ◌≤◌, ◌<◌, Option, Some, None, List, refl, sym, ◌∙◌, ap, subst, arith}
+use Rattle.std.proofs.lemmas.Option.{same_Some}
 use Rattle.route_base.specs.Itinerary.{Position, Step, drive, wait, Moves}
 use Rattle.route_base.specs.Relaxing.{HasWithin, HasPair}
 use Rattle.route_base.specs.declared.types.Bound.{Bound}
@@ -9,16 +10,17 @@ use Rattle.propagation.specs.Inside.Pairs.{HasBetter, IsBetter}
 use Rattle.propagation.proofs.Pruning.{has_better_kept, has_better_on}
 use Rattle.state_dominance.specs.Inside.Dominance.{Task, IsNoWorseThan, IsSimulation, AreBoundsAlong, IsCovered, IsDominated, IsPrunable, IsRelaxedIn}
 
--- an excuse goes on from a bound to one that is nearer by a step
-excuse_goes : (until : ℕ) (pairs : List Pair) (o o' : Option Bound) (p q : Position)
+-- an excuse goes on from a bound to one that is nearer by a step, behind which it is late where it was so before
+excuse_goes : (until until' : ℕ) (pairs : List Pair) (o o' : Option Bound) (p q : Position)
     → ((h : Bound) → o' ≡ Some h → (b : Bound) × (o ≡ Some b) × (p.minute + b.minutes ≤ q.minute + h.minutes) × (p.cost + b.cost ≤ q.cost + h.cost))
-    → IsWorseOrLate until pairs o p → IsWorseOrLate until pairs o' q
-excuse_goes until pairs o None p q nearer h = tt
-excuse_goes until pairs o (Some h') p q nearer h =
+    → ((b h : Bound) → o ≡ Some b → o' ≡ Some h → until < p.minute + b.minutes → until' < q.minute + h.minutes)
+    → IsWorseOrLate until pairs o p → IsWorseOrLate until' pairs o' q
+excuse_goes until until' pairs o None p q nearer later h = tt
+excuse_goes until until' pairs o (Some h') p q nearer later h =
     let n = nearer h' refl in
     let own : IsWorseOrLate until pairs (Some n.0) p = subst (λ (w : Option Bound). IsWorseOrLate until pairs w p) n.1 h in
     ⊎_elim
-    (λ (late : until < p.minute + n.0.minutes). inl (omega (arith, late, n.2)))
+    (λ (late : until < p.minute + n.0.minutes). inl (later n.0 h' n.1 refl late))
     (λ (had : HasBetter pairs (p.minute + n.0.minutes) (p.cost + n.0.cost)). inr (has_better_on pairs _ _ _ _ n.2 n.3 had))
     own
 
@@ -26,26 +28,34 @@ module _ (k : Task) where
   -- what is prunable stays so over lawful steps
   pub prunable_moves : AreBoundsAlong k → (pairs : List Pair) (x : Step) (p q : Position) → Moves k.setting k.until x p q
       → IsPrunable k pairs p → IsPrunable k pairs q
-  prunable_moves bound pairs (drive a) p q move = excuse_goes k.until pairs (k.bounds p.node) (k.bounds q.node) p q
+  prunable_moves bound pairs (drive a) p q move = excuse_goes (k.latest p.node) (k.latest q.node) pairs (k.bounds p.node) (k.bounds q.node) p q
       (λ h is. let e = bound.each a move.road h move.is (ap k.bounds (sym move.node) ∙ is) in
       (e.0, ap k.bounds (sym move.tail) ∙ e.1, omega (arith, e.2.minutes, move.minute), omega (arith, e.2.cost, move.cost)))
-  prunable_moves bound pairs wait p q move = excuse_goes k.until pairs (k.bounds p.node) (k.bounds q.node) p q
+      (λ b h before behind late. bound.late a p q b h move before behind late)
+  prunable_moves bound pairs wait p q move = excuse_goes (k.latest p.node) (k.latest q.node) pairs (k.bounds p.node) (k.bounds q.node) p q
       (λ h is. (h, ap k.bounds (sym move.node) ∙ is, omega (arith, move.minute), omega (arith, move.cost)))
+      (λ b h before behind late.
+      let same : b ≡ h = same_Some b h (sym before ∙ (ap k.bounds (sym move.node) ∙ behind)) in
+      omega (arith, late, ap k.latest move.node, ap (λ (w : Bound). w.minutes) same, move.minute))
 
   -- and for what is no better
   pub prunable_worse : IsSimulation k → (pairs : List Pair) (p q : Position) → IsNoWorseThan k p q → IsPrunable k pairs p → IsPrunable k pairs q
-  prunable_worse sim pairs p q worse = excuse_goes k.until pairs (k.bounds p.node) (k.bounds q.node) p q
+  prunable_worse sim pairs p q worse = excuse_goes (k.latest p.node) (k.latest q.node) pairs (k.bounds p.node) (k.bounds q.node) p q
       (λ h is. let e = sim.bounds p.node q.node h worse.node is in
       (e.0, e.1, omega (arith, e.2, worse.minute), omega (arith, e.3, worse.cost)))
+      (λ b h before behind late.
+      let e = sim.bounds p.node q.node h worse.node behind in
+      let same : b ≡ e.0 = same_Some b e.0 (sym before ∙ e.1) in
+      omega (arith, late, sim.latest p.node q.node worse.node, ap (λ (w : Bound). w.minutes) same, e.2, worse.minute))
 
   -- and by better pairs
   pub prunable_kept : (old new : List Pair) (p : Position) → ((t x : ℕ) → HasPair old t x → HasPair new t x) → IsPrunable k old p → IsPrunable k new p
   prunable_kept old new p better = by (k.bounds p.node)
     where
-      by : (o : Option Bound) → IsWorseOrLate k.until old o p → IsWorseOrLate k.until new o p
+      by : (o : Option Bound) → IsWorseOrLate (k.latest p.node) old o p → IsWorseOrLate (k.latest p.node) new o p
       by None h = tt
       by (Some b) h = ⊎_elim
-          (λ (late : k.until < p.minute + b.minutes). inl late)
+          (λ (late : k.latest p.node < p.minute + b.minutes). inl late)
           (λ (had : HasBetter old (p.minute + b.minutes) (p.cost + b.cost)). inr (has_better_kept old new _ _ better had))
           h
 
@@ -53,7 +63,7 @@ module _ (k : Task) where
   pub prunable_behind : (pairs : List Pair) (t x : ℕ) (p : Position) → HasPair pairs t x → t + 1 ≤ p.minute → x ≤ p.cost → IsPrunable k pairs p
   prunable_behind pairs t x p had later dearer = by (k.bounds p.node)
     where
-      by : (o : Option Bound) → IsWorseOrLate k.until pairs o p
+      by : (o : Option Bound) → IsWorseOrLate (k.latest p.node) pairs o p
       by None = tt
       by (Some b) =
           let own : IsBetter had.pair (p.minute + b.minutes) (p.cost + b.cost) = record {

@@ -1,4 +1,4 @@
--- The ruler of a trip that serves stops simulates and fits where that of its rules does.
+-- The ruler of a trip that serves stops simulates and fits if that of its rules does, and its stage is the number of served stops.
 use Rattle.std.proofs.Common.{◌≡◌, ℕ, suc, ◌/◌, ◌%◌, ◌≤◌, ◌<◌, ◌&&◌, ltb, eqb, Bool, true, false, Some, None, List, length, map, refl, sym, ◌∙◌, ap, subst, arith}
 use Rattle.std.specs.Prelude.{if◌then◌else◌}
 use Rattle.std.specs.Option.{option_map}
@@ -8,7 +8,7 @@ use Rattle.std.proofs.lemmas.Nat.{div-mul-add, mod-mul-add, div-add-mod'}
 use Rattle.std.proofs.lemmas.Option.{same_Some}
 use Rattle.std.proofs.Math.Nat.{mul-le-mul_right, mod-lt}
 use Rattle.route_base.proofs.Logic.{behind_test, map_some}
-use Rattle.state_dominance.specs.Inside.Product.{Ruler, Service, IsSimulating, IsFitting}
+use Rattle.state_dominance.specs.Inside.Product.{Ruler, Service, IsSimulating, IsFitting, IsStaged}
 use Rattle.state_dominance.specs.Serving.{served_limit, joint, serving}
 
 two_parts : (a b : Bool) → (a && b) ≡ true → (a ≡ true) × (b ≡ true)
@@ -158,6 +158,20 @@ module _ (services : List Service) (r : Ruler) where
         );
   }
 
+  pub serving_staged : length services < served_limit → IsStaged (serving services r)
+  serving_staged few = record {
+    drive = λ k minutes next is.
+        let m = map_some (r.drive (state k) minutes) (λ o. joint o (served k)) next is in
+        ap served (sym m.2) ∙ joint_served m.0 (served k) (served_low k);
+    rest = λ k minutes. joint_served (r.rest (state k) minutes) (served k) (served_low k);
+    serve = λ k i next is.
+        let had = may_serve k i next is in
+        (had.1, ap served (sym had.2) ∙ joint_served (state k) (suc i) (omega (arith, had.0, few)));
+    ends = λ k ends. eqb-true (served k) (length services) (two_parts (eqb (served k) (length services)) (r.ends (state k)) ends).0;
+    falls = λ j k better. same_served j k better;
+    fits = λ k n fits. sym (fit_served k n fits);
+  }
+
 -- the same for services that are made of a list
 module _ {A : Type 0} (service : A → Service) (all : List A) (r : Ruler) (few : length all < served_limit) where
   few_services : length (map service all) < served_limit
@@ -168,3 +182,6 @@ module _ {A : Type 0} (service : A → Service) (all : List A) (r : Ruler) (few 
 
   pub made_fits : IsFitting r → IsFitting (serving (map service all) r)
   made_fits fit = serving_fits (map service all) r few_services fit
+
+  pub made_staged : IsStaged (serving (map service all) r)
+  made_staged = serving_staged (map service all) r few_services

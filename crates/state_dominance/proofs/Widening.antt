@@ -23,9 +23,9 @@ module _ (k : Task) (now : Progress) (sim : IsSimulation k) (h : ℕ) where
       (λ (one : (weight : ℕ) × IsWaitedOn k now.pairs h weight clear wide).
       let on = one.1 in
       ⊎_elim
-      (λ (out : k.until - on.bound.minutes < t). inr (subst (λ o. IsWorseOrLate k.until now.pairs o (point h t x))
+      (λ (out : k.latest h - on.bound.minutes < t). inr (subst (λ o. IsWorseOrLate (k.latest h) now.pairs o (point h t x))
       (sym on.has_bound) (inl (omega (arith, out)))))
-      (λ (in_reach : t ≤ k.until - on.bound.minutes).
+      (λ (in_reach : t ≤ k.latest h - on.bound.minutes).
       let b = on.waited.least t x t is (omega arith) in_reach (λ u early late. absurd (omega (arith, early, late))) in
       let none : t - t ≡ 0 = omega arith in
       let le : b.0 ≤ x = omega (arith, b.2, ap (λ n. one.0 * n) none) in
@@ -33,7 +33,7 @@ module _ (k : Task) (now : Progress) (sim : IsSimulation k) (h : ℕ) where
       (λ (there : wide t ≡ Some b.0). inl (record { least = b.0; is = there; within = le }))
       (λ (p : IsPrunable k now.pairs (point h t b.0)). inr (prunable_dearer t b.0 x le p))
       (on.cleared.left t b.0 b.1))
-      (cases_lt (k.until - on.bound.minutes) t))
+      (cases_lt (k.latest h - on.bound.minutes) t))
       closed
 
 module _ (k : Task) (now : Progress) (sim : IsSimulation k) (bound : AreBoundsAlong k) (h : ℕ) (costs clear wide : ℕ → Option ℕ)
@@ -62,7 +62,7 @@ module _ (k : Task) (now : Progress) (sim : IsSimulation k) (bound : AreBoundsAl
           walk-append k.setting k.until r.0 (replicate n wait) k.start (point h s y) (point h t x) r.1
               (subst (λ (w : Position). Walks k.setting k.until (replicate n wait) (point h s y) w)
               (same_position (point h (s + n) (y + n * weight)) (point h t x) refl whole (omega (arith, paid)))
-              (waits k.setting k.until n h s y weight on.rated (λ u early late. f.4 u early (omega (arith, late, whole))) (omega (arith, whole, f.0)))),
+              (waits k.setting k.until n h s y weight on.rated (λ u early late. f.4 u early (omega (arith, late, whole))) (omega (arith, whole, f.0, bound.low h)))),
         )
 
     -- a waiting cost comes from the minute before
@@ -81,7 +81,7 @@ module _ (k : Task) (now : Progress) (sim : IsSimulation k) (bound : AreBoundsAl
         let minutes : t - s ≡ (e - s) + 1 = omega (arith, later) in
         let scaled = ap (λ n. weight * n) minutes in
         let le : b.0 + weight ≤ x = omega (arith, b.2, paid, scaled) in
-        let move = one_wait e b.0 (f.4 e (omega (arith, later)) (omega (arith, later))) (omega (arith, next, f.0)) in
+        let move = one_wait e b.0 (f.4 e (omega (arith, later)) (omega (arith, later))) (omega (arith, next, f.0, bound.low h)) in
         ⊎_elim
         (λ (there : wide e ≡ Some b.0). inr (record {
           end = point h (e + 1) (b.0 + weight);
@@ -109,9 +109,9 @@ module _ (k : Task) (now : Progress) (sim : IsSimulation k) (bound : AreBoundsAl
         let paid = f.6 in
         let same_weight : move.weight ≡ weight = weights (move.weight) (sym move.rated ∙ on.rated) in
         ⊎_elim
-        (λ (out : k.until - on.bound.minutes < t + 1). inr (subst (λ o. IsWorseOrLate k.until now.pairs o q)
-        (sym (ap k.bounds move.node ∙ on.has_bound)) (inl (omega (arith, out, move.minute)))))
-        (λ (in_reach : t + 1 ≤ k.until - on.bound.minutes).
+        (λ (out : k.latest h - on.bound.minutes < t + 1). inr (subst (λ o. IsWorseOrLate (k.latest q.node) now.pairs o q)
+        (sym (ap k.bounds move.node ∙ on.has_bound)) (inl (omega (arith, out, move.minute, ap k.latest move.node)))))
+        (λ (in_reach : t + 1 ≤ k.latest h - on.bound.minutes).
         let opens : IsOpenUntil (k.setting.wait_shut h) s (t + 1) = λ u early late. ⊎_elim
         (λ (before : u < t). f.4 u early before)
         (λ (here : t ≤ u). ap (k.setting.wait_shut h) (omega (arith, here, late)) ∙ move.is_open)
@@ -125,7 +125,7 @@ module _ (k : Task) (now : Progress) (sim : IsSimulation k) (bound : AreBoundsAl
         (λ (p : IsPrunable k now.pairs (point h (t + 1) b.0)). inr (prunable_worse k sim now.pairs (point h (t + 1) b.0) q
         (record { node = subst (λ n. k.no_worse h n ≡ true) (sym move.node) (sim.same h); minute = sym move.minute; cost = le }) p))
         (on.cleared.left (t + 1) b.0 b.1))
-        (cases_lt (k.until - on.bound.minutes) (t + 1))
+        (cases_lt (k.latest h - on.bound.minutes) (t + 1))
       where
         weights : (w : ℕ) → Some w ≡ Some weight → w ≡ weight
         weights w same = cc

@@ -15,4 +15,5 @@ no_rule = record {
   ends = λ k. true;
   last = 0;
   unserve = λ n i. None;
+  stage = λ k. 0;
 }

@@ -16,4 +16,5 @@ one_rule drive rest = record {
   ends = λ k. true;
   last = 0;
   unserve = λ n i. None;
+  stage = λ k. 0;
 }

@@ -26,6 +26,7 @@ serving services r = record {
   ends = λ n. nat_eq (n % served_limit) (length services) && r.ends (n / served_limit);
   last = joint r.last (length services);
   unserve = λ n i. if nat_lt i (length services) && nat_eq (n % served_limit) (suc i) then Some (joint (n / served_limit) i) else None;
+  stage = λ n. n % served_limit;
 }
 
 -- with a number of served stops each state that a search comes to is one of 64 bits

@@ -12,7 +12,7 @@ ghost use Rattle.state_dominance.specs.NoRule.{no_rule};
 ghost use Rattle.state_dominance.specs.OneRule.{one_rule};
 ghost use Rattle.state_dominance.specs.Inside.Product.{Service};
 ghost use Rattle.state_dominance.specs.Serving.{serving, served_limit};
-ghost use Rattle.state_dominance.specs.Words.{Ruler, IsSimulating, IsFitting, IsBase, AreRuledBounds, task_over};
+ghost use Rattle.state_dominance.specs.Words.{Ruler, IsSimulating, IsFitting, IsStaged, IsBase, AreLatest, AreRuledBounds, task_by_latest};
 ghost use Rattle.route_base.specs.Setting.{Setting};
 ghost use Rattle.route_base.specs.declared.types.Bound.{Bound};
 
@@ -69,32 +69,34 @@ pub fn parts_are_kept()
         → IsResting k now }
 {}
 
-/// The law that a ruler's search over states is one with dominance, and that its bounds hold along each road. The call does nothing.
+/// The law that a ruler's search over states is one with dominance, and that its bounds and latest minutes hold along each road. The call does nothing.
 pub fn rulers_simulate()
     ensures simulate { (s : Setting) (r : Ruler) (base origin goal depart until : ℕ)
-        (bound : ℕ → ℕ → Option Bound) → IsSimulating r → IsBase s r base
-        → AreRuledBounds s r goal bound
-        → IsSimulation (task_over s r base origin goal depart until bound) }
+        (bound : ℕ → ℕ → Option Bound) (latest : ℕ → ℕ) → IsSimulating r → IsBase s r base
+        → AreRuledBounds s r goal bound → AreLatest r until bound latest
+        → IsSimulation (task_by_latest s r base origin goal depart until bound latest) }
     ensures bounds { (s : Setting) (r : Ruler) (base origin goal depart until : ℕ)
-        (bound : ℕ → ℕ → Option Bound) → IsSimulating r → IsBase s r base
-        → AreRuledBounds s r goal bound
-        → AreBoundsAlong (task_over s r base origin goal depart until bound) }
+        (bound : ℕ → ℕ → Option Bound) (latest : ℕ → ℕ) → IsSimulating r → IsBase s r base
+        → AreRuledBounds s r goal bound → AreLatest r until bound latest
+        → AreBoundsAlong (task_by_latest s r base origin goal depart until bound latest) }
 {}
 
-/// The law that the ruler of one break rule simulates and fits. The call does nothing.
+/// The law that the ruler of one break rule simulates and fits, and has one stage. The call does nothing.
 pub fn one_rule_simulates()
     ensures simulates { (drive rest : ℕ) → IsSimulating (one_rule drive rest) }
     ensures fits { (drive rest : ℕ) → IsFitting (one_rule drive rest) }
+    ensures staged { (drive rest : ℕ) → IsStaged (one_rule drive rest) }
 {}
 
-/// The law that the ruler without a rule simulates and fits. The call does nothing.
+/// The law that the ruler without a rule simulates and fits, and has one stage. The call does nothing.
 pub fn no_rule_simulates()
     ensures simulates { IsSimulating no_rule }
     ensures fits { IsFitting no_rule }
+    ensures staged { IsStaged no_rule }
 {}
 
-/// The law that the ruler of a trip that serves stops, of which there are fewer than 2^32, simulates and fits where that of its rules does. The
-/// call does nothing.
+/// The law that the ruler of a trip that serves stops, of which there are fewer than 2^32, simulates and fits if that of its rules does, and
+/// that its stage is the number of served stops. The call does nothing.
 pub fn servings_simulate()
     ensures simulates { (services : List Service) (r : Ruler)
         → length services < served_limit → IsSimulating r
@@ -102,6 +104,8 @@ pub fn servings_simulate()
     ensures fits { (services : List Service) (r : Ruler)
         → length services < served_limit → IsFitting r
         → IsFitting (serving services r) }
+    ensures staged { (services : List Service) (r : Ruler)
+        → length services < served_limit → IsStaged (serving services r) }
 {}
 
 /// The law that what drives of a known part over a road end with, pruned and waited on, is wide. The call does nothing.

@@ -13,9 +13,10 @@ use Rattle.propagation.specs.Inside.Pairs.{AreBorders}
 use Rattle.propagation.specs.Inside.States.{is_pending}
 use Rattle.propagation.specs.Inside.Measures.{work}
 use Rattle.state_dominance.specs.Inside.Dominance.{Task, IsPrunable, IsRelaxedIn, Reaches}
-use Rattle.state_dominance.specs.Inside.Product.{Ruler, IsSimulating, IsBase, AreRuledBounds, code, road_code, task_over}
+use Rattle.state_dominance.specs.Inside.Product.{Ruler, IsSimulating, IsStaged, IsBase, AreLatest, AreRuledBounds, code, road_code, task_by_latest}
 use Rattle.ruled_states.specs.Inside.Codes.{base, found_by}
 use Rattle.ruled_states.specs.Inside.Labels.{label_bound, lists_of}
+use Rattle.ruled_states.specs.Inside.Latest.{latest_by}
 use Rattle.ruled_states.specs.Inside.Tables.{IsStateOf}
 use Rattle.ruled_states.specs.declared.labels.Labels.{Labels}
 use Rattle.ruled_states.specs.declared.table.Info.{Info}
@@ -28,24 +29,30 @@ abbrev pub state_bound : Ruler → Option Labels → ℕ → ℕ → Option Boun
 state_bound r None v k = Some (record { minutes = 0; cost = 0 })
 state_bound r (Some labels) v k = label_bound r (lists_of labels.minutes.items) (lists_of labels.costs.items) v k
 
+-- the latest minute of each state
+abbrev pub latest_in : (R : Type 0) → (R → Ruler) → TaskHeld R → ℕ → ℕ
+latest_in R ruling task = latest_by (ruling task.ruler.now) task.latest.now task.request.until
+
 -- the task that the code holds, as one over states
 abbrev pub task_of : (R : Type 0) → (R → Ruler) → TaskHeld R → Task
-task_of R ruling task = task_over (setting_of task.net.now) (ruling task.ruler.now) base task.request.origin.0 task.request.goal.0
-    task.request.depart task.request.until (state_bound (ruling task.ruler.now) task.bounds.now)
+task_of R ruling task = task_by_latest (setting_of task.net.now) (ruling task.ruler.now) base task.request.origin.0 task.request.goal.0
+    task.request.depart task.request.until (state_bound (ruling task.ruler.now) task.bounds.now) (latest_in R ruling task)
 
 -- what the code has found, by code
 abbrev pub progress_of : ProgressHeld → Progress
 progress_of progress = found_by progress.table.infos progress.functions.items progress.pending.items progress.pairs.items
 
--- the net is well formed, the request is one over it, whose costs fit, and the ruler, the bounds and the arcs are right
+-- the net is well formed, the request is one over it, whose costs fit, and the ruler, the bounds, the latest minutes and the arcs are right
 pub record IsGoodTask (R : Type 0) (ruling : R → Ruler) (task : TaskHeld R) : Type 0 where
   pub good : IsGoodNet task.net.now
   pub ends : IsGoodRequest task.net.now task.request
   pub in_time : task.request.depart ≤ task.request.until
   pub fit : RuledCostsFit (setting_of task.net.now) (ruling task.ruler.now) base task.request
   pub rules : IsSimulating (ruling task.ruler.now)
+  pub stages : IsStaged (ruling task.ruler.now)
   pub numbers : IsBase (setting_of task.net.now) (ruling task.ruler.now) base
   pub bound : AreRuledBounds (setting_of task.net.now) (ruling task.ruler.now) task.request.goal.0 (state_bound (ruling task.ruler.now) task.bounds.now)
+  pub latest : AreLatest (ruling task.ruler.now) task.request.until (state_bound (ruling task.ruler.now) task.bounds.now) (latest_in R ruling task)
   pub outgoing : AreOutgoing task.net.now task.outgoing.now
 
 -- a state in the table: its node is one of the net, and its bound is the one it has by the bounds

@@ -1,6 +1,6 @@
 -- What a search keeps whose nodes are codes of states, of which some are no worse than others: label correcting with dominance between
 -- states (source: own; no law).
-use Rattle.std.specs.Prelude.{◌≡◌, ◌⊎◌, ℕ, ◌≤◌, ◌<◌, Bool, true, Option, Some, List, Contains}
+use Rattle.std.specs.Prelude.{◌≡◌, ◌⊎◌, ℕ, ◌+◌, ◌≤◌, ◌<◌, Bool, true, Option, Some, List, Contains}
 use Rattle.route_base.specs.Setting.{Setting, Road}
 use Rattle.route_base.specs.Itinerary.{Position, Step, Drives, Waits, Walks}
 use Rattle.route_base.specs.Front.{RiseAndFall}
@@ -10,13 +10,15 @@ use Rattle.route_base.specs.declared.types.Pair.{Pair}
 use Rattle.propagation.specs.Found.{HasPredecessor}
 use Rattle.propagation.specs.Inside.Invariants.{Progress, point, IsLabel, InPart, no_part, IsWorseOrLate}
 
--- what is searched: the nodes of the setting are codes of states
+-- what is searched: the nodes of the setting are codes of states; by the bounds it is too late at a node where they lead to the goal only
+-- after the latest minute of the node
 pub record Task : Type 0 where
   pub setting : Setting
   pub until : ℕ
   pub start : Position
   pub goal : ℕ → Bool
   pub bounds : ℕ → Option Bound
+  pub latest : ℕ → ℕ
   pub no_worse : ℕ → ℕ → Bool
 
 -- no worse a state, at the same minute, at no higher a cost
@@ -33,17 +35,23 @@ pub record IsSimulation (k : Task) : Type 0 where
   pub goals : (u v : ℕ) → k.no_worse u v ≡ true → k.goal v ≡ true → k.goal u ≡ true
   pub bounds : (u v : ℕ) (b : Bound) → k.no_worse u v ≡ true → k.bounds v ≡ Some b
       → (d : Bound) × (k.bounds u ≡ Some d) × (d.minutes ≤ b.minutes) × (d.cost ≤ b.cost)
+  pub latest : (u v : ℕ) → k.no_worse u v ≡ true → k.latest v ≤ k.latest u
   pub drives : (u y a : ℕ) (p q : Position) → k.no_worse u p.node ≡ true → y ≤ p.cost → Drives k.setting k.until a p q
       → (b : ℕ) × (w : Position) × Drives k.setting k.until b (point u p.minute y) w × IsNoWorseThan k w q
   pub waits : (u y : ℕ) (p q : Position) → k.no_worse u p.node ≡ true → y ≤ p.cost → Waits k.setting k.until p q
       → (w : Position) × Waits k.setting k.until (point u p.minute y) w × IsNoWorseThan k w q
 
--- the bounds are no larger than the way over any road, which takes a minute, and nothing at the goal
+-- the bounds are no larger than the way over any road, which takes a minute, and nothing at the goal, where the latest minute is the last one;
+-- where it is too late before a road, it is so behind it
 pub record AreBoundsAlong (k : Task) : Type 0 where
   pub time : (a : ℕ) (road : Road) → k.setting.road a ≡ Some road → 1 ≤ road.minutes
   pub goal : (v : ℕ) → k.goal v ≡ true → k.bounds v ≡ Some (record { minutes = 0; cost = 0 })
   pub each : (a : ℕ) (road : Road) (h : Bound) → k.setting.road a ≡ Some road → k.bounds road.head ≡ Some h
       → (b : Bound) × (k.bounds road.tail ≡ Some b) × IsBoundThrough road h b
+  pub low : (v : ℕ) → k.latest v ≤ k.until
+  pub last : (v : ℕ) → k.goal v ≡ true → k.latest v ≡ k.until
+  pub late : (a : ℕ) (p q : Position) (b h : Bound) → Drives k.setting k.until a p q → k.bounds p.node ≡ Some b → k.bounds q.node ≡ Some h
+      → k.latest p.node < p.minute + b.minutes → k.latest q.node < q.minute + h.minutes
 
 -- lawful steps lead from the start to the position
 abbrev pub Reaches : Task → Position → Type 0
@@ -70,7 +78,7 @@ pub record IsDominated (k : Task) (now : Progress) (p : Position) : Type 0 where
 
 -- every way on from the position is late, or some pair is better
 abbrev pub IsPrunable : Task → List Pair → Position → Type 0
-IsPrunable k pairs p = IsWorseOrLate k.until pairs (k.bounds p.node) p
+IsPrunable k pairs p = IsWorseOrLate (k.latest p.node) pairs (k.bounds p.node) p
 
 abbrev pub IsRelaxedIn : Task → Progress → Position → Type 0
 IsRelaxedIn k now p = IsCovered k now p ⊎ IsPrunable k now.pairs p

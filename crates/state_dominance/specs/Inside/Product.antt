@@ -1,5 +1,5 @@
 -- The setting over states: a ruler says what a driver may do, and its states go along with the nodes (source: own; no law).
-use Rattle.std.specs.Prelude.{◌≡◌, ℕ, zero, suc, ◌+◌, ◌*◌, ◌/◌, ◌%◌, ◌<◌, ◌≤◌, ◌&&◌, ◌||◌, Bool, true, nat_eq, nat_lt, nat_le, Option, Some, None, List, slice_get}
+use Rattle.std.specs.Prelude.{◌≡◌, ◌⊎◌, ℕ, zero, suc, ◌+◌, ◌*◌, ◌/◌, ◌%◌, ◌<◌, ◌≤◌, ◌&&◌, ◌||◌, Bool, true, nat_eq, nat_lt, nat_le, Option, Some, None, List, length, slice_get}
 use Rattle.route_base.specs.Setting.{Setting, Road}
 use Rattle.route_base.specs.declared.types.Bound.{Bound}
 use Rattle.state_dominance.specs.Inside.Dominance.{Task}
@@ -14,7 +14,8 @@ pub record Service : Type 0 where
 -- states, of which the first is that of the start; what a drive of some minutes leads to, if it is allowed; what an unbroken wait of some
 -- minutes leads to; the waits that matter; which states are no worse than which; and after which a need fits: the state from which the same
 -- drives, taken backwards, lead to the goal or to a rest. Then the services; what the service at a place leads to, if it is allowed; in which
--- states a trip may end; the need at the goal; and what a need becomes when a service is taken backwards
+-- states a trip may end; the need at the goal; what a need becomes when a service is taken backwards; and the number of services that were
+-- done in a state
 pub record Ruler : Type 0 where
   pub first : ℕ
   pub drive : ℕ → ℕ → Option ℕ
@@ -27,6 +28,7 @@ pub record Ruler : Type 0 where
   pub ends : ℕ → Bool
   pub last : ℕ
   pub unserve : ℕ → ℕ → Option ℕ
+  pub stage : ℕ → ℕ
 
 -- whatever a state allows, each that is no worse allows too, and leads to what is no worse; it has the smaller number
 pub record IsSimulating (r : Ruler) : Type 0 where
@@ -51,6 +53,16 @@ pub record IsFitting (r : Ruler) : Type 0 where
   pub rest : (k minutes n o : ℕ) → r.fits (r.rest k minutes) n ≡ true → r.no_worse o (r.rest n minutes) ≡ true → r.fits k o ≡ true
   pub serve : (k i next n : ℕ) → r.serve k i ≡ Some next → r.fits next n ≡ true
       → (m : ℕ) × (r.unserve n i ≡ Some m) × ((o : ℕ) → r.no_worse o m ≡ true → r.fits k o ≡ true)
+
+-- services are done in their order, and the stage tells how many: drives and rests keep it, as does what is no worse, and what fits has the
+-- stage of its need
+pub record IsStaged (r : Ruler) : Type 0 where
+  pub drive : (k minutes next : ℕ) → r.drive k minutes ≡ Some next → r.stage next ≡ r.stage k
+  pub rest : (k minutes : ℕ) → r.stage (r.rest k minutes) ≡ r.stage k
+  pub serve : (k i next : ℕ) → r.serve k i ≡ Some next → (r.stage k ≡ i) × (r.stage next ≡ suc i)
+  pub ends : (k : ℕ) → r.ends k ≡ true → r.stage k ≡ length r.services
+  pub falls : (j k : ℕ) → r.no_worse j k ≡ true → r.stage j ≡ r.stage k
+  pub fits : (k n : ℕ) → r.fits k n ≡ true → r.stage n ≡ r.stage k
 
 -- the code of a node and a state, where nodes are below the base
 abbrev pub code : ℕ → ℕ → ℕ → ℕ
@@ -143,13 +155,30 @@ pub record AreRuledBounds (s : Setting) (r : Ruler) (goal : ℕ) (bound : ℕ �
   pub serves : (i k next : ℕ) (c : Service) (h : Bound) → slice_get r.services i ≡ Some c → r.serve k i ≡ Some next → bound c.node next ≡ Some h
       → (b : Bound) × (bound c.node k ≡ Some b) × (b.minutes ≤ c.minutes + h.minutes) × (b.cost ≤ h.cost)
 
--- the search over states
-abbrev pub task_over : Setting → Ruler → ℕ → ℕ → ℕ → ℕ → ℕ → (ℕ → ℕ → Option Bound) → Task
-task_over s r base origin goal depart until bound = record {
+-- for each state the latest minute at which the bounds may lead to the goal: where a trip may end it is the last minute; it doesn't rise over
+-- drives and rests, taken backwards, nor for what is worse; and before a service it is that behind it, or it leaves time for the service's
+-- whole window
+pub record AreLatest (r : Ruler) (until : ℕ) (bound : ℕ → ℕ → Option Bound) (latest : ℕ → ℕ) : Type 0 where
+  pub low : (k : ℕ) → latest k ≤ until
+  pub ends : (k : ℕ) → r.ends k ≡ true → latest k ≡ until
+  pub falls : (j k : ℕ) → r.no_worse j k ≡ true → latest k ≤ latest j
+  pub drives : (k minutes next : ℕ) → r.drive k minutes ≡ Some next → latest next ≤ latest k
+  pub rests : (k minutes : ℕ) → latest (r.rest k minutes) ≤ latest k
+  pub serves : (i k next : ℕ) (c : Service) (h : Bound) → slice_get r.services i ≡ Some c → r.serve k i ≡ Some next → bound c.node next ≡ Some h
+      → (latest next ≤ latest k) ⊎ (c.to + h.minutes ≤ latest k)
+
+-- the search over states, each with its latest minute
+abbrev pub task_by_latest : Setting → Ruler → ℕ → ℕ → ℕ → ℕ → ℕ → (ℕ → ℕ → Option Bound) → (ℕ → ℕ) → Task
+task_by_latest s r base origin goal depart until bound latest = record {
   setting = product s r base;
   until = until;
   start = record { node = code base origin r.first; minute = depart; cost = 0 };
   goal = λ c. nat_eq (c % base) goal && r.ends (c / base);
   bounds = λ c. bound (c % base) (c / base);
+  latest = λ c. latest (c / base);
   no_worse = λ c d. nat_eq (c % base) (d % base) && r.no_worse (c / base) (d / base);
 }
+
+-- the same, where that of each is the last minute
+abbrev pub task_over : Setting → Ruler → ℕ → ℕ → ℕ → ℕ → ℕ → (ℕ → ℕ → Option Bound) → Task
+task_over s r base origin goal depart until bound = task_by_latest s r base origin goal depart until bound (λ k. until)

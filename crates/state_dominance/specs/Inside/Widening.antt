@@ -40,7 +40,7 @@ pub record IsWaitedOn (k : Task) (pairs : List Pair) (h weight : ℕ) (clear wid
   pub has_bound : k.bounds h ≡ Some bound
   pub rated : k.setting.weight h ≡ Some weight
   pub waits : ℕ → Option ℕ
-  pub waited : IsWaited clear waits (k.setting.wait_shut h) weight (k.until - bound.minutes)
+  pub waited : IsWaited clear waits (k.setting.wait_shut h) weight (k.latest h - bound.minutes)
   pub cleared : IsCleared k pairs h waits wide
 
 -- the offer: clear costs where no one may wait, else those with waits

@@ -3,7 +3,7 @@ use Rattle.cost_functions.specs.Pieces.{value_at}
 use Rattle.cost_functions.specs.declared.pieces.Piece.{Piece}
 use Rattle.route_base.specs.Net.{setting_of}
 use Rattle.ruled_states.specs.Inside.Cuts.{AreCut}
-use Rattle.ruled_search.specs.Inside.Tasks.{state_bound}
+use Rattle.ruled_search.specs.Inside.Tasks.{latest_in, state_bound}
 use Rattle.ruled_search.proofs.Placed.{have_functions, small_nodes}
 use Rattle.ruled_search.proofs.offers.narrowed.Goals as goal
 
@@ -19,7 +19,8 @@ returns-clause-narrowed g c =
     let progress = c.args.progress.now in
     let shape = c.requires.shape.1 in
     c.cuts_are_narrow.ensures (setting_of task.net.now) (g.R.Ruler.ruling task.ruler.now) task.request.origin.0 task.request.goal.0 task.request.depart
-    task.request.until (state_bound (g.R.Ruler.ruling task.ruler.now) task.bounds.now) progress.table.infos progress.functions.items
+    task.request.until (state_bound (g.R.Ruler.ruling task.ruler.now) task.bounds.now) (latest_in _ g.R.Ruler.ruling task) progress.table.infos
+    progress.functions.items
     progress.pending.items progress.pairs.items c.args.node.0 c.args.state c.places-places.result.now (value_at c.args.costs)
     (value_at c.in_ok-left.left) c.requires.asked.rules
     (small_nodes task.net.now.nodes (state_bound (g.R.Ruler.ruling task.ruler.now) task.bounds.now) progress.table.infos c.requires.asked.good.nodes

@@ -1,7 +1,7 @@
 use Rattle.cost_functions.specs.Pieces.{value_at}
 use Rattle.route_base.specs.Net.{setting_of}
 use Rattle.ruled_states.specs.Inside.Codes.{base}
-use Rattle.ruled_search.specs.Inside.Tasks.{progress_of, state_bound, task_of}
+use Rattle.ruled_search.specs.Inside.Tasks.{latest_in, progress_of, state_bound, task_of}
 use Rattle.ruled_search.specs.Inside.Ways.{head_of, road_in, tail_of}
 use Rattle.ruled_search.proofs.Offering.{reached_clear}
 use Rattle.ruled_search.proofs.offers.offered.Goals as goal
@@ -28,9 +28,9 @@ returns-clause-offer g c =
     let closed = c.in_ok-wide.ensures.closed in
     let narrow = c.in_ok-offer.ensures.narrowed in
     let simulate = c.rulers_simulate.ensures.simulate (setting_of task.net.now) ruler base task.request.origin.0 task.request.goal.0 task.request.depart
-    task.request.until bound asked.rules asked.numbers asked.bound in
+    task.request.until bound (latest_in _ g.R.Ruler.ruling task) asked.rules asked.numbers asked.bound asked.latest in
     let along = c.rulers_simulate.ensures.bounds (setting_of task.net.now) ruler base task.request.origin.0 task.request.goal.0 task.request.depart
-    task.request.until bound asked.rules asked.numbers asked.bound in
+    task.request.until bound (latest_in _ g.R.Ruler.ruling task) asked.rules asked.numbers asked.bound asked.latest in
     let is_wide = c.drives_are_wide.ensures k now (road_in way) (tail_of way) (head_of way) part moved.ends clear wide simulate along c.requires.part
     moved.driven moved.cleared closed in
     record {

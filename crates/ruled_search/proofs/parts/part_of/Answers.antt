@@ -11,6 +11,7 @@ use Rattle.function_merge.specs.Pruning.{IsPruned}
 use Rattle.propagation.proofs.Lowering.{value_is}
 use Rattle.ruled_states.proofs.Parts.{parts_by_code, left_by_code}
 use Rattle.ruled_search.specs.Inside.Tasks.{task_of, state_bound}
+use Rattle.ruled_search.proofs.Closing.{latest_by_code}
 use Rattle.ruled_search.proofs.Reshaped.{bound_by_code, good_info, has_place, own_number, shaped_again}
 use Rattle.ruled_search.proofs.parts.part_of.Goals as goal
 
@@ -47,13 +48,14 @@ returns-clause-parts g c =
     let own = value_is now.functions.items c.args.number c.index-3.result.now place.0 place.1 c.index-3.ensures in
     let kept = kept_at c.index-3.result.now c.in_ok-split.split.taken in
     let whole = moved_at 0 0 kept in
-    parts_by_code (task_of _ g.R.Ruler.ruling task) task.request refl now.table.infos c.args.number c.args.info c.requires.info
+    parts_by_code (task_of _ g.R.Ruler.ruling task) c.latest_at.result now.table.infos c.args.number c.args.info
+    (c.latest_at.ensures ∙ sym (latest_by_code g.R.Ruler.ruling task c.args.info.node.0 c.args.info.state (omega (arith, good.node.1, few)))) c.requires.info
     (own_number nodes bound c.args.number now c.requires.shape few c.args.number c.args.info c.requires.info)
     (bound_by_code bound c.args.info.node.0 c.args.info.state (omega (arith, good.node.1, few)) ∙ good.bound)
     now.functions.items now.pending.items c.split_at.new.pending.items now.pairs.items now.borders.items c.requires.shape.borders
     (any_has c.in_ok-split.split.taken) c.in_ok-split.split.next whole (value_at c.in_ok-part.part) c.in_ok-split.ensures.split
     (λ t. stay kept t ∙ ap (λ o. if any_has c.in_ok-split.split.taken t then o else None) (sym (own t)))
-    (subst (λ (w : List Pair). IsPruned task.request.until w c.args.info.bound whole (value_at c.in_ok-part.part))
+    (subst (λ (w : List Pair). IsPruned c.latest_at.result w c.args.info.bound whole (value_at c.in_ok-part.part))
     c.deref.ensures.value c.in_ok-part.ensures.values)
 
 pub returns-clause-left : goal.returns-clause-left

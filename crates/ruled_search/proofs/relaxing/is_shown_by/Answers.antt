@@ -6,7 +6,7 @@ use Rattle.propagation.specs.Found.{cost_at}
 use Rattle.propagation.proofs.Lowering.{value_is}
 use Rattle.state_dominance.specs.Inside.Product.{code}
 use Rattle.ruled_states.specs.Inside.Codes.{base}
-use Rattle.ruled_search.specs.Inside.Tasks.{progress_of, state_bound, task_of}
+use Rattle.ruled_search.specs.Inside.Tasks.{latest_in, progress_of, state_bound, task_of}
 use Rattle.ruled_search.specs.Inside.Ways.{head_of, road_in, tail_of}
 use Rattle.route_base.proofs.Numbered.{number_within}
 use Rattle.ruled_search.proofs.Covered.{shown_covered, worse_by_code}
@@ -32,7 +32,7 @@ returns g c = λ yes.
     shown_covered (task_of _ g.R.Ruler.ruling task) (progress_of now) (tail_of way) (road_in way)
     (made_road (tail_of way) (head_of way) way.minutes way.cost) c.args.part.now (code base way.head.0 place.state) own c.requires.way.is
     (worse_by_code (setting_of task.net.now) ruler base task.request.origin.0 task.request.goal.0 task.request.depart task.request.until bound
-    way.head.0 place.state way.after (omega (arith, c.requires.way.head.1, c.requires.asked.good.nodes))
+    (latest_in _ g.R.Ruler.ruling task) way.head.0 place.state way.after (omega (arith, c.requires.way.head.1, c.requires.asked.good.nodes))
     (sym c.is_no_worse.ensures ∙ c.if-not-is_no_worse.false))
     (λ t. ap (λ n. cost_at now.functions.items n t) number
     ∙ value_is now.functions.items place.number own here.0 (omega (arith, here.1, shape.functions)) c.index-own.ensures t)

@@ -2,6 +2,16 @@ use Rattle.std.proofs.Common.{◌≡◌, IsTrue, true, false, sym, ◌∙◌, ar
 use Rattle.ruled_search.proofs.Numbering.{solved_numbered}
 use Rattle.ruled_search.proofs.Sourcing.{drive_found, drive_missed_at}
 use Rattle.ruled_search.proofs.sources.drive_into.Goals as goal
+use Rattle.ruled_search.proofs.sources.drive_into.Goals.{then-arc-spot-via-then-arc-spot, then-arc-spot-via-else-arc-spot+then-arc-spot-2}
+
+pub returns-then-arc-spot-clause-none : goal.returns-then-arc-spot-clause-none
+returns-then-arc-spot-clause-none g c _ = drive_missed_at c.requires.solved c.args.spot c.requires.spot c.requires.upto c.args.a.0 c.in_ok-arc.arc
+    (sym c.arc.ensures.value ∙ c.in_ok-arc.was)
+    (λ early cheap opens k allowed known.
+    elim c.then-arc-spot.branch [
+      | then-arc-spot-via-then-arc-spot w ↦ omega (arith, early, w.if-arc-spot.true)
+      | then-arc-spot-via-else-arc-spot+then-arc-spot-2 w ↦ omega (arith, cheap, w.if-arc-spot-2.true)
+    ])
 
 pub returns-then-not-is_open-clause-none : goal.returns-then-not-is_open-clause-none
 returns-then-not-is_open-clause-none g c _ = drive_missed_at c.requires.solved c.args.spot c.requires.spot c.requires.upto c.args.a.0 c.in_ok-arc.arc

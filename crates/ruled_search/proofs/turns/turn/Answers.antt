@@ -82,6 +82,30 @@ rest_all-requires-clause-high g c =
     (good_info c.args.task.net.now.nodes bound c.args.number c.args.progress.now c.requires.shape c.args.number c.in-Some.info
     (sym c.info.ensures ∙ c.in-Some.is)).node.1
 
+pub serve_next-requires-clause-low : goal.serve_next-requires-clause-low
+serve_next-requires-clause-low g c =
+    let bound = state_bound (g.R.Ruler.ruling c.args.task.ruler.now) c.args.task.bounds.now in
+    (good_info c.args.task.net.now.nodes bound c.args.number c.args.progress.now c.requires.shape c.args.number c.in-Some.info
+    (sym c.info.ensures ∙ c.in-Some.is)).node.0
+
+pub serve_next-requires-clause-high : goal.serve_next-requires-clause-high
+serve_next-requires-clause-high g c =
+    let bound = state_bound (g.R.Ruler.ruling c.args.task.ruler.now) c.args.task.bounds.now in
+    (good_info c.args.task.net.now.nodes bound c.args.number c.args.progress.now c.requires.shape c.args.number c.in-Some.info
+    (sym c.info.ensures ∙ c.in-Some.is)).node.1
+
+pub drive_each-requires-clause-low : goal.drive_each-requires-clause-low
+drive_each-requires-clause-low g c =
+    let bound = state_bound (g.R.Ruler.ruling c.args.task.ruler.now) c.args.task.bounds.now in
+    (good_info c.args.task.net.now.nodes bound c.args.number c.args.progress.now c.requires.shape c.args.number c.in-Some.info
+    (sym c.info.ensures ∙ c.in-Some.is)).node.0
+
+pub drive_each-requires-clause-high : goal.drive_each-requires-clause-high
+drive_each-requires-clause-high g c =
+    let bound = state_bound (g.R.Ruler.ruling c.args.task.ruler.now) c.args.task.bounds.now in
+    (good_info c.args.task.net.now.nodes bound c.args.number c.args.progress.now c.requires.shape c.args.number c.in-Some.info
+    (sym c.info.ensures ∙ c.in-Some.is)).node.1
+
 pub rest_all-requires-clause-facts : goal.rest_all-requires-clause-facts
 rest_all-requires-clause-facts g c =
     let k = task_of _ g.R.Ruler.ruling c.args.task in
@@ -101,7 +125,7 @@ rest_all-requires-clause-part g c =
 pub drive_each-requires-clause-part : goal.drive_each-requires-clause-part
 drive_each-requires-clause-part g c =
     part_kept (task_of _ g.R.Ruler.ruling c.args.task) (code_of c.in-Some.info) (value_at c.in_ok-left.left) (progress_of c.rest_all.new.progress)
-    (progress_of c.serve_each.new.progress) c.in_ok-serve_each.ensures.better c.in_ok-left.ensures.part
+    (progress_of c.serve_next.new.progress) c.in_ok-serve_next.ensures.better c.in_ok-left.ensures.part
 
 pub returns-clause-facts : goal.returns-clause-facts
 returns-clause-facts g c =
@@ -110,30 +134,30 @@ returns-clause-facts g c =
     let code = code_of info in
     let left = value_at c.in_ok-left.left in
     let rested = progress_of c.rest_all.new.progress in
-    let served = progress_of c.serve_each.new.progress in
+    let served = progress_of c.serve_next.new.progress in
     let driven = progress_of c.drive_each.new.progress in
     let bound = state_bound (g.R.Ruler.ruling c.args.task.ruler.now) c.args.task.bounds.now in
     let good = good_info c.args.task.net.now.nodes bound c.args.number c.args.progress.now c.requires.shape c.args.number info
     (sym c.info.ensures ∙ c.in-Some.is) in
     let later = c.in_ok-drive_each.ensures.better in
-    let both = improves_append rested served driven c.in_ok-serve_each.ensures.better later in
+    let both = improves_append rested served driven c.in_ok-serve_next.ensures.better later in
     settle k driven code left c.in_ok-drive_each.ensures.facts
     (all_relaxed g.R.Ruler.ruling c.args.task info.node.0 info.state (omega (arith, good.node.1, c.requires.asked.good.nodes)) c.requires.asked driven left
     c.in_ok-drive_each.ensures.relaxed (λ a small. road_kept k code left rested driven _ both (c.in_ok-left.ensures.relaxed a small))
-    (λ a small. road_kept k code left served driven _ later (c.in_ok-serve_each.ensures.relaxed a small)))
+    (λ a small. road_kept k code left served driven _ later (c.in_ok-serve_next.ensures.relaxed a small)))
 
 pub returns-clause-less : goal.returns-clause-less
 returns-clause-less g c =
     let info = c.in-Some.info in
     let taken = progress_of c.part_of.new.progress in
     let rested = progress_of c.rest_all.new.progress in
-    let served = progress_of c.serve_each.new.progress in
+    let served = progress_of c.serve_next.new.progress in
     let driven = progress_of c.drive_each.new.progress in
     let bound = state_bound (g.R.Ruler.ruling c.args.task.ruler.now) c.args.task.bounds.now in
     let good = good_info c.args.task.net.now.nodes bound c.args.number c.args.progress.now c.requires.shape c.args.number info
     (sym c.info.ensures ∙ c.in-Some.is) in
     let better = improves_append taken rested driven c.in_ok-left.ensures.better
-    (improves_append rested served driven c.in_ok-serve_each.ensures.better c.in_ok-drive_each.ensures.better) in
+    (improves_append rested served driven c.in_ok-serve_next.ensures.better c.in_ok-drive_each.ensures.better) in
     turn_falls g.R.Ruler.ruling c.args.task c.requires.asked (progress_of c.args.progress.now) taken driven (code_of info) (value_at c.in_ok-part.part) 0
     (code_of info) (value_at c.in_ok-left.left) no_part (small_code info c.is_small.ensures (omega (arith, good.node.1, c.requires.asked.good.nodes))) c.requires.facts
     c.in_ok-part.ensures.parts c.in_ok-part.ensures.left better c.in_ok-drive_each.ensures.facts

@@ -1,4 +1,4 @@
-use Rattle.state_dominance.proofs.NotRuled.{simulates, fitting}
+use Rattle.state_dominance.proofs.NotRuled.{simulates, fitting, staged}
 use Rattle.state_dominance.proofs.laws.no_rule_simulates.Goals as goal
 
 pub returns-clause-simulates : goal.returns-clause-simulates
@@ -6,3 +6,6 @@ returns-clause-simulates c = simulates
 
 pub returns-clause-fits : goal.returns-clause-fits
 returns-clause-fits c = fitting
+
+pub returns-clause-staged : goal.returns-clause-staged
+returns-clause-staged c = staged

@@ -1,4 +1,4 @@
-use Rattle.state_dominance.proofs.OneRuled.{simulates, fitting}
+use Rattle.state_dominance.proofs.OneRuled.{simulates, fitting, staged}
 use Rattle.state_dominance.proofs.laws.one_rule_simulates.Goals as goal
 
 pub returns-clause-simulates : goal.returns-clause-simulates
@@ -6,3 +6,6 @@ returns-clause-simulates c = λ drive rest. simulates drive rest
 
 pub returns-clause-fits : goal.returns-clause-fits
 returns-clause-fits c = λ drive rest. fitting drive rest
+
+pub returns-clause-staged : goal.returns-clause-staged
+returns-clause-staged c = λ drive rest. staged drive rest

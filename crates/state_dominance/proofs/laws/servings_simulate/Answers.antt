@@ -1,4 +1,4 @@
-use Rattle.state_dominance.proofs.Served.{serving_simulates, serving_fits}
+use Rattle.state_dominance.proofs.Served.{serving_simulates, serving_fits, serving_staged}
 use Rattle.state_dominance.proofs.laws.servings_simulate.Goals as goal
 
 pub returns-clause-simulates : goal.returns-clause-simulates
@@ -6,3 +6,6 @@ returns-clause-simulates c = λ services r few sim. serving_simulates services r
 
 pub returns-clause-fits : goal.returns-clause-fits
 returns-clause-fits c = λ services r few fit. serving_fits services r few fit
+
+pub returns-clause-staged : goal.returns-clause-staged
+returns-clause-staged c = λ services r few. serving_staged services r few

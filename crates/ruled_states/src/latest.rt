@@ -1,0 +1,75 @@
+// The latest minutes at which the goal may be bounded, for each number of services that are left.
+ghost use Rattle.std.specs.Prelude.{◌≡◌, ◌≤◌, ℕ, suc, Some, IfOk, length};
+ghost use Rattle.route_base.specs.declared.types.Bound.{Bound};
+ghost use Rattle.state_dominance.specs.Inside.Product.{AreLatest, IsStaged};
+ghost use Rattle.ruled_states.specs.Inside.Labels.{least_fit, label_bound, lists_of};
+ghost use Rattle.ruled_states.specs.Inside.Latest.{latest_by, IsLargest, IsInTime};
+
+use crate::labels::{Label, Labels, labels_of};
+use crate::rulers::Ruler;
+use route_base::{Minute, OutOfMemory};
+use std::alloc::Global;
+
+// The largest value of a label with more services than so many; 0 if there is none.
+fn largest_value<R: Ruler>(ruler: &R, labels: &[Label], served: u64) -> u64
+    ensures { IsLargest (R.ruling ruler.now) labels.now served result }
+{
+    let mut largest = 0;
+    for label in labels {
+        if served < ruler.stage(label.need) {
+            largest = label.value.max(largest);
+        }
+    }
+    largest
+}
+
+// The latest minute before the service at a place, by that behind it: whoever comes to the goal later than its window and the largest bound
+// behind it allow has missed the window.
+fn latest_before<R: Ruler>(ruler: &R, labels: &Labels, after: Minute, place: u64) -> Minute
+    ensures low { result ≤ after }
+    ensures in_time { IsInTime (R.ruling ruler.now) (label_bound (R.ruling ruler.now)
+        (lists_of labels.now.minutes.items) (lists_of labels.now.costs.items)) place after result }
+{
+    let Some(service) = ruler.service(place) else {
+        return after;
+    };
+    let behind = labels_of(&labels.minutes, service.node);
+    let largest = largest_value(ruler, behind, place);
+    let to = service.to.saturating_add(largest);
+    to.min(after)
+}
+
+/// For each number of services that are left, from none on, the latest minute at which the goal may be bounded: a state at a minute is of no
+/// use if the minute and the least minutes to the goal come later, as some window is missed then. One pass over the labels at the services.
+pub fn latest_by_left<R: Ruler>(
+    alloc: Global,
+    ruler: &R,
+    labels: &Labels,
+    until: Minute,
+) -> Result<Vec<Minute>, OutOfMemory>
+    ensures { IfOk result (λ minutes. AreLatest (R.ruling ruler.now) until
+        (label_bound (R.ruling ruler.now) (lists_of labels.now.minutes.items)
+        (lists_of labels.now.costs.items)) (latest_by (R.ruling ruler.now) minutes.items until)) }
+{
+    let count = ruler.service_count();
+    let mut minutes = Vec::new(alloc);
+    minutes.push(until)?;
+    let mut latest = until;
+    for left in 0..count {
+        latest = latest_before(ruler, labels, latest, count - 1 - left);
+        minutes.push(latest)?;
+    }
+    Ok(minutes)
+}
+
+/// The latest minute of a state among these; the last one where there are none.
+#[inline(always)]
+pub fn latest_of<R: Ruler>(ruler: &R, minutes: &[Minute], until: Minute, state: u64) -> Minute
+    ensures { result ≡ latest_by (R.ruling ruler.now) minutes.now until state }
+{
+    let left = ruler.service_count().saturating_sub(ruler.stage(state));
+    match minutes.get(left as usize) {
+        Some(minute) => *minute,
+        None => until,
+    }
+}
