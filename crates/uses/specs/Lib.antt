@@ -1,2 +1,3 @@
 pub mod Lockers
+pub mod Nets
 pub mod Words

@@ -12,8 +12,8 @@ use certificate_check::{Verdict, check};
 use route_base::{OutOfMemory, Request, Routes, TimedNet};
 use std::alloc::Global;
 
-/// The routes of a certificate, whoever wrote its bytes, where the checker accepts it: their pairs are then the Pareto front of the
-/// request, and their legs are lawful. `None` exactly where the bytes aren't a certificate, or not a good one. Linear in the bytes, and it
+/// The routes of a certificate, whoever wrote its bytes, if the checker accepts it: their pairs are then the Pareto front of the
+/// request, and their legs are lawful. `None` exactly if the bytes aren't a certificate, or not a good one. Linear in the bytes, and it
 /// takes the time and memory of `check`.
 pub fn certified_routes(
     alloc: Global,

@@ -11,7 +11,7 @@ use route_base::Minute;
 use std::alloc::Global;
 use zone_rules::Zone;
 
-/// Whether a ban with these hours holds at an instant, in the local time of a zone. `NotHours` comes exactly where the text isn't
+/// Whether a ban with these hours holds at an instant, in the local time of a zone. `NotHours` comes exactly if the text isn't
 /// one of hours. Linear in the text.
 pub fn is_banned(
     alloc: Global,

@@ -14,8 +14,8 @@ use std::alloc::Global;
 use vehicle_classes::Vehicle;
 use zone_rules::Zone;
 
-/// The access that a conditional value gives a vehicle at an instant, in the local time of a zone; `None` where no clause holds.
-/// `NotConditional` comes exactly where the text isn't a conditional value. Linear in the text.
+/// The access that a conditional value gives a vehicle at an instant, in the local time of a zone; `None` if no clause holds.
+/// `NotConditional` comes exactly if the text isn't a conditional value. Linear in the text.
 pub fn access_given(
     alloc: Global,
     text: &[u8],
