@@ -63,7 +63,15 @@ pub fn table(alloc: Global, header: &str, rows: &str) -> Result<String, OutOfMem
     Ok(format!(in alloc; "{header}{rows}")?)
 }
 
-// The refusal of a file at this record.
-pub fn refusal(file: FileKind, row: u64, cause: Cause) -> Option<NetworkFault> {
-    Some(NetworkFault::Bad(BadInput { file, row, cause }))
+// Whether a file is refused at this record and for this cause.
+pub fn is_refused(
+    read: Result<Network, NetworkFault>,
+    file: FileKind,
+    row: u64,
+    cause: Cause,
+) -> bool {
+    match read {
+        Err(fault) => fault == NetworkFault::Bad(BadInput { file, row, cause }),
+        Ok(_) => false,
+    }
 }

@@ -1,6 +1,7 @@
 // The callers of the libraries: one worked case for each.
 ghost use Rattle.route_base.specs.Time.{IsInstant};
 
+mod callers;
 mod judgements;
 mod plans;
 

@@ -32,7 +32,7 @@ fn routes_of(alloc: Global, rows: &[RouteRow<'_>]) -> Result<Routes, OutOfMemory
     Ok(routes)
 }
 
-// The bounds of the three nodes, where those of node 1 have these minutes. None is left out, since the nodes rise.
+// The bounds of the three nodes, if those of node 1 have these minutes. None is left out, since the nodes rise.
 fn bounds_of(alloc: Global, minutes: u64) -> Result<NodeBounds, OutOfMemory> {
     let mut bounds = NodeBounds::new(alloc);
     for (node, minutes, cost) in [(1, minutes, 120000), (2, 60, 60000), (3, 0, 0)] {
@@ -102,7 +102,7 @@ fn certificate_of<R: Abort + AllocGlobal>(rt: &R, row: &CertificateRow<'_>) -> C
     }
 }
 
-// The verdict on a row's certificate; none where its bounds are out of range, or memory doesn't suffice.
+// The verdict on a row's certificate; none if its bounds are out of range, or memory doesn't suffice.
 fn verdict_of<R: Abort + AllocGlobal>(
     rt: &R,
     net: &TimedNet,
@@ -201,7 +201,7 @@ const JUDGED: &[Judged<'static>] = &[
     ),
 ];
 
-// Where waiting at node 2 is shut in its last minute, the wait is unlawful, and without its pair nothing else fails.
+// If waiting at node 2 is shut in its last minute, the wait is unlawful, and without its pair nothing else fails.
 const JUDGED_WHERE_SHUT: &[Judged<'static>] = &[
     (
         (&[WAITS, DRIVES], 120, &[START, PARKED]),

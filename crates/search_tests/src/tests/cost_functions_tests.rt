@@ -13,7 +13,7 @@ const LONG: Piece = Piece {
     slope: 2,
 };
 
-// Single minutes: the first two of the long piece, and two behind it.
+// Single minutes: the first two of the long piece, and two after it.
 const FIRST: Piece = Piece {
     lo: 1,
     hi: 1,

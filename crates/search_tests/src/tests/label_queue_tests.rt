@@ -92,7 +92,7 @@ fn takes_nodes_of_equal_keys_in_order(rt: HostRuntime) -> Result<(), Fail> {
     Ok(())
 }
 
-// Gives a node a key, where it has none or a larger one.
+// Gives a node a key, if it has none or a larger one.
 fn set_key(queue: &mut LabelQueue, v: NodeId, key: u64)
     requires low { 1 ≤ v.0 }
     requires high { v.0 ≤ length queue.old }
@@ -130,7 +130,7 @@ fn takes_rising_keys_as_a_plain_list_does(rt: HostRuntime) -> Result<(), Fail> {
     Ok(())
 }
 
-// Gives a node a key in the queue and in the list, where it has none or a larger one.
+// Gives a node a key in the queue and in the list, if it has none or a larger one.
 fn lower_both(
     queue: &mut BucketQueue,
     plain: &mut Vec<Option<u64>>,

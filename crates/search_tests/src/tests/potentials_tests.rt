@@ -46,7 +46,7 @@ fn bound(minutes: u64, cost: Cost) -> Option<Bound> {
     Some(Bound { minutes, cost })
 }
 
-// Whether the bounds are those to node 3, where the arc from 2 has this cost, and this is the least cost from 1.
+// Whether the bounds are those to node 3, if the arc from 2 has this cost, and this is the least cost from 1.
 fn are_bounds(bounds: &Bounds, cost: Cost, least_from_1: Cost) -> bool {
     bounds.get(NodeId(1)) == bound(120, least_from_1)
         && bounds.get(NodeId(2)) == bound(60, cost)
@@ -54,7 +54,7 @@ fn are_bounds(bounds: &Bounds, cost: Cost, least_from_1: Cost) -> bool {
         && bounds.get(NodeId(4)).is_none()
 }
 
-// The cost of the arc, and the least cost from node 1. Where the arc is dearer, that is the cost of the straight way; the least minutes
+// The cost of the arc, and the least cost from node 1. If the arc is dearer, that is the cost of the straight way; the least minutes
 // are still those over node 2.
 const COSTS: &[(Cost, Cost)] = &[(60_000, 120_000), (400_000, 300_000)];
 

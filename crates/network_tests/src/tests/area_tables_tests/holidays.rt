@@ -1,7 +1,8 @@
 // The holidays of arcs.
 use crate::tests::network_tables_tests::{AREAS, read};
-use network_tables::{Network, NetworkFault};
+use network_tables::Network;
 use route_base::{ArcId, FileKind};
+use std::alloc::Global;
 
 // Whether a day is a public holiday and whether it is a school holiday, at an arc; none where the triangle has no such arc.
 fn holidays_on(network: &Network, a: u32, day: u32) -> Option<(bool, bool)> {
@@ -43,9 +44,15 @@ fn has_holidays(network: &Network, days: &[(u32, u32, bool, bool)]) -> bool {
     has
 }
 
+// Whether a network with them is read.
+fn reads_days(alloc: Global) -> bool {
+    match read(alloc, TEXTS) {
+        Ok(network) => has_holidays(&network, DAYS),
+        Err(_) => false,
+    }
+}
+
 #[test]
-fn reads_holidays_of_both_kinds(rt: HostRuntime) -> Result<(), NetworkFault> {
-    let has = has_holidays(&read(rt.alloc(), TEXTS)?, DAYS);
-    assert!(rt; has);
-    Ok(())
+fn reads_holidays_of_both_kinds(rt: HostRuntime) {
+    assert!(rt; reads_days(rt.alloc()));
 }

@@ -3,7 +3,7 @@ ghost use Rattle.std.specs.Prelude.{◌≡◌, ◌≤◌, ◌<◌, true, length}
 
 use crate::tests::network_tables_tests::read;
 use ban_expansion::{closed_at, closed_set, expand_plain, group_arcs};
-use network_tables::{Network, NetworkFault};
+use network_tables::Network;
 use route_base::limits::{FIRST_INSTANT, LAST_INSTANT};
 use route_base::{ArcId, FileKind, Minute, Run, TimedNet};
 use std::alloc::Global;
@@ -96,11 +96,17 @@ fn has_closed(alloc: Global, network: &Network, cases: &[(usize, u32, &[Run])]) 
     has
 }
 
+// Whether this is so in the port.
+fn closes_port(alloc: Global) -> bool {
+    match read(alloc, PORT) {
+        Ok(network) => has_closed(alloc, &network, CLOSED),
+        Err(_) => false,
+    }
+}
+
 #[test]
-fn closes_arcs_by_the_last_value_that_is_given(rt: HostRuntime) -> Result<(), NetworkFault> {
-    let has = has_closed(rt.alloc(), &read(rt.alloc(), PORT)?, CLOSED);
-    assert!(rt; has);
-    Ok(())
+fn closes_arcs_by_the_last_value_that_is_given(rt: HostRuntime) {
+    assert!(rt; closes_port(rt.alloc()));
 }
 
 // Whether an arc is closed to a vehicle at an instant; none where one of the three is missing.
@@ -130,11 +136,17 @@ fn has_instants(network: &Network, cases: &[(usize, u32, Minute, bool)]) -> bool
     has
 }
 
+// Whether this is so in the port.
+fn closes_port_at_instants(alloc: Global) -> bool {
+    match read(alloc, PORT) {
+        Ok(network) => has_instants(&network, INSTANTS),
+        Err(_) => false,
+    }
+}
+
 #[test]
-fn closes_arcs_at_the_same_instants(rt: HostRuntime) -> Result<(), NetworkFault> {
-    let has = has_instants(&read(rt.alloc(), PORT)?, INSTANTS);
-    assert!(rt; has);
-    Ok(())
+fn closes_arcs_at_the_same_instants(rt: HostRuntime) {
+    assert!(rt; closes_port_at_instants(rt.alloc()));
 }
 
 // The place of the closed minutes of an arc.
@@ -166,10 +178,17 @@ fn shares_sets(alloc: Global, network: &Network) -> bool {
     }
 }
 
+// Whether this is so in the port.
+fn shares_sets_of_port(alloc: Global) -> bool {
+    match read(alloc, PORT) {
+        Ok(network) => shares_sets(alloc, &network),
+        Err(_) => false,
+    }
+}
+
 #[test]
 fn shares_sets_within_an_area(rt: HostRuntime) {
-    let network = read(rt.alloc(), PORT).expect(&rt, "a network");
-    assert!(rt; shares_sets(rt.alloc(), &network));
+    assert!(rt; shares_sets_of_port(rt.alloc()));
 }
 
 // Seven arcs with a conditional value of their own: the fourth has another value, the fifth is in another area, and the last two
@@ -210,7 +229,19 @@ const GROUPED: &[(&[(FileKind, &str)], &[u32], &[ArcId])] = &[
     ),
 ];
 
-// Whether arcs of the network are grouped so.
+// Whether arcs of the network of these texts are grouped so.
+fn groups_arcs(
+    alloc: Global,
+    texts: &[(FileKind, &str)],
+    groups: &[u32],
+    firsts: &[ArcId],
+) -> bool {
+    match read(alloc, texts) {
+        Ok(network) => are_grouped(alloc, &network, groups, firsts),
+        Err(_) => false,
+    }
+}
+
 fn are_grouped(alloc: Global, network: &Network, groups: &[u32], firsts: &[ArcId]) -> bool {
     match group_arcs(alloc, network) {
         Ok(grouped) => grouped.groups() == groups && grouped.firsts() == firsts,
@@ -219,10 +250,11 @@ fn are_grouped(alloc: Global, network: &Network, groups: &[u32], firsts: &[ArcId
 }
 
 #[test]
-fn groups_arcs_that_have_the_same_of_their_own(rt: HostRuntime) -> Result<(), NetworkFault> {
+fn groups_arcs_that_have_the_same_of_their_own(rt: HostRuntime) {
     for (texts, groups, firsts) in GROUPED {
-        let grouped = are_grouped(rt.alloc(), &read(rt.alloc(), texts)?, groups, firsts);
-        assert!(rt; grouped, "{groups:?}");
+        assert!(rt;
+            groups_arcs(rt.alloc(), texts, groups, firsts),
+            "{groups:?}"
+        );
     }
-    Ok(())
 }

@@ -1,7 +1,7 @@
 // A road that is closed from Saturday to Sunday, by each call that makes its closed minutes.
 use crate::tests::network_tables_tests::read;
 use ban_expansion::{closed_set, expand, expand_groups, expand_plain, group_arcs};
-use network_tables::{Network, NetworkFault};
+use network_tables::Network;
 use route_base::{ArcId, FileKind, NoGate, OutOfMemory, Run, TimedNet};
 use std::alloc::Global;
 use std::thread::Threads;
@@ -83,15 +83,18 @@ fn is_closed_by_groups(alloc: Global, network: &Network) -> bool {
 }
 
 // Whether it is closed by each call.
-fn is_closed_always<R: Threads + Sync>(rt: &R, alloc: Global, network: &Network) -> bool {
-    is_closed(alloc, network)
-        && is_closed_in_both(rt, alloc, network)
-        && is_closed_by_groups(alloc, network)
+fn is_closed_always<R: Threads + Sync>(rt: &R, alloc: Global) -> bool {
+    match read(alloc, ROAD) {
+        Ok(network) => {
+            is_closed(alloc, &network)
+                && is_closed_in_both(rt, alloc, &network)
+                && is_closed_by_groups(alloc, &network)
+        }
+        Err(_) => false,
+    }
 }
 
 #[test]
-fn closes_the_road_by_each_call(rt: HostRuntime) -> Result<(), NetworkFault> {
-    let closed = is_closed_always(&rt, rt.alloc(), &read(rt.alloc(), ROAD)?);
-    assert!(rt; closed);
-    Ok(())
+fn closes_the_road_by_each_call(rt: HostRuntime) {
+    assert!(rt; is_closed_always(&rt, rt.alloc()));
 }

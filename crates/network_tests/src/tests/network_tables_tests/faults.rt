@@ -1,7 +1,6 @@
 // The order in which the files of a network are refused.
-use crate::tests::network_tables_tests::{AREAS, VEHICLE_HEADER, read};
-use network_tables::NetworkFault;
-use route_base::{BadInput, Cause, FileKind};
+use crate::tests::network_tables_tests::{AREAS, VEHICLE_HEADER, is_refused, read};
+use route_base::{Cause, FileKind};
 
 // A fault in each file, in the order in which they are read.
 const FAULTY: [(FileKind, &str); 10] = [
@@ -51,12 +50,9 @@ fn mended(n: usize) -> [(FileKind, &'static str); 10] {
 #[test]
 fn names_the_first_fault_in_the_order_of_files(rt: HostRuntime) {
     for (i, (file, row, cause, _)) in REFUSED.iter().enumerate() {
-        let named = NetworkFault::Bad(BadInput {
-            file: *file,
-            row: *row,
-            cause: *cause,
-        });
-        let fault = read(rt.alloc(), &mended(i)).err();
-        assert!(rt; fault == Some(named), "at record {row}, file {i}");
+        assert!(rt;
+            is_refused(read(rt.alloc(), &mended(i)), *file, *row, *cause),
+            "at record {row}, file {i}"
+        );
     }
 }

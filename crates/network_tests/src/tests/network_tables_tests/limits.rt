@@ -2,6 +2,7 @@
 use crate::tests::network_tables_tests::read;
 use network_tables::Network;
 use route_base::{ArcId, FileKind, NodeId, Run};
+use std::alloc::Global;
 
 // Whether one may wait at the second node and not at the first one.
 fn parks_at_the_second_node(network: &Network) -> bool {
@@ -36,11 +37,17 @@ const TEXTS: &[(FileKind, &str)] = &[
     (FileKind::Parking, "node,rating\n2,r\n"),
 ];
 
+// Whether a network with these texts is read so.
+fn reads_texts(alloc: Global) -> bool {
+    match read(alloc, TEXTS) {
+        Ok(network) => parks_at_the_second_node(&network) && closes_the_second_arc(&network),
+        Err(_) => false,
+    }
+}
+
 #[test]
 fn reads_closures_ratings_and_parking(rt: HostRuntime) {
-    let network = read(rt.alloc(), TEXTS).expect(&rt, "a network");
-    assert!(rt; parks_at_the_second_node(&network));
-    assert!(rt; closes_the_second_arc(&network));
+    assert!(rt; reads_texts(rt.alloc()));
 }
 
 // Whether the first and the third arc have these tolls, and the second one none.
@@ -55,8 +62,15 @@ const TOLLS: &[(FileKind, &str)] = &[(
     "\u{FEFF}arc,toll\r\n3,59.999\r\n0000000001,100\r\n",
 )];
 
+// Whether a network with these tolls is read so.
+fn reads_two_tolls(alloc: Global) -> bool {
+    match read(alloc, TOLLS) {
+        Ok(network) => has_two_tolls(&network),
+        Err(_) => false,
+    }
+}
+
 #[test]
 fn reads_tolls(rt: HostRuntime) {
-    let network = read(rt.alloc(), TOLLS).expect(&rt, "a network");
-    assert!(rt; has_two_tolls(&network));
+    assert!(rt; reads_two_tolls(rt.alloc()));
 }

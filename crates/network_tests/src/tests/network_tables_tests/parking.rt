@@ -1,5 +1,5 @@
 // Where and when one may wait: both headers of parking, and why a row is refused.
-use crate::tests::network_tables_tests::{AREAS, read, refusal};
+use crate::tests::network_tables_tests::{AREAS, is_refused, read};
 use network_tables::{Network, NetworkFault};
 use route_base::{Cause, FileKind, NodeId, OutOfMemory};
 use std::alloc::Global;
@@ -34,19 +34,32 @@ fn has_two_parks(network: &Network) -> bool {
         && network.parks().rated(NodeId(3)).is_none()
 }
 
+// Whether a network with these two is read.
+fn reads_two_parks(alloc: Global) -> bool {
+    match parked(alloc, PARKED) {
+        Ok(network) => has_two_parks(&network),
+        Err(_) => false,
+    }
+}
+
 #[test]
-fn reads_areas_and_hours_of_parking(rt: HostRuntime) -> Result<(), NetworkFault> {
-    let right = has_two_parks(&parked(rt.alloc(), PARKED)?);
-    assert!(rt; right);
-    Ok(())
+fn reads_areas_and_hours_of_parking(rt: HostRuntime) {
+    assert!(rt; reads_two_parks(rt.alloc()));
 }
 
 const SHARED: &str = "node,rating,area,hours\n1,r,town,24/7\n2,free,town,24/7\n3,r,port,24/7\n";
 
+// Whether the network of this table has two timetables.
+fn has_two_timetables(alloc: Global, parking: &str) -> bool {
+    match parked(alloc, parking) {
+        Ok(network) => network.parks().timetable_count() == 2,
+        Err(_) => false,
+    }
+}
+
 #[test]
 fn shares_timetables(rt: HostRuntime) {
-    let network = parked(rt.alloc(), SHARED).expect(&rt, "a network");
-    assert!(rt; network.parks().timetable_count() == 2);
+    assert!(rt; has_two_timetables(rt.alloc(), SHARED));
 }
 
 // The record and the cause of a refusal, and the table.
@@ -89,9 +102,8 @@ const REFUSED: &[(u64, Cause, &str)] = &[
 #[test]
 fn refuses_rows_of_parking(rt: HostRuntime) {
     for (row, cause, table) in REFUSED {
-        let fault = parked(rt.alloc(), table).err();
         assert!(rt;
-            fault == refusal(FileKind::Parking, *row, *cause),
+            is_refused(parked(rt.alloc(), table), FileKind::Parking, *row, *cause),
             "{table}"
         );
     }
@@ -107,17 +119,19 @@ fn long_hours(alloc: Global, bytes: usize) -> Result<String, OutOfMemory> {
     Ok(text)
 }
 
-// Why hours of this number of bytes are refused, if they are.
-fn fault_of_hours(alloc: Global, bytes: usize) -> Result<Option<NetworkFault>, OutOfMemory> {
-    let text = long_hours(alloc, bytes)?;
-    Ok(parked(alloc, &text).err())
+// The network with hours of this number of bytes.
+fn with_long_hours(alloc: Global, bytes: usize) -> Result<Network, NetworkFault> {
+    parked(alloc, &long_hours(alloc, bytes)?)
+}
+
+// Whether they are read.
+fn reads_long_hours(alloc: Global, bytes: usize) -> bool {
+    with_long_hours(alloc, bytes).is_ok()
 }
 
 #[test]
-fn refuses_longer_hours_than_65536_bytes(rt: HostRuntime) -> Result<(), OutOfMemory> {
-    let longest = fault_of_hours(rt.alloc(), 65_536)?;
-    assert!(rt; longest.is_none());
-    let longer = fault_of_hours(rt.alloc(), 65_537)?;
-    assert!(rt; longer == refusal(FileKind::Parking, 2, Cause::SizeLimit));
-    Ok(())
+fn refuses_longer_hours_than_65536_bytes(rt: HostRuntime) {
+    assert!(rt; reads_long_hours(rt.alloc(), 65_536));
+    let longer = with_long_hours(rt.alloc(), 65_537);
+    assert!(rt; is_refused(longer, FileKind::Parking, 2, Cause::SizeLimit));
 }

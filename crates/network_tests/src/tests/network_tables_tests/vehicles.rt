@@ -1,5 +1,5 @@
 // The vehicles of a network.
-use crate::tests::network_tables_tests::{VEHICLE_HEADER, refusal, ruled, table};
+use crate::tests::network_tables_tests::{VEHICLE_HEADER, is_refused, ruled, table};
 use network_tables::{Network, NetworkFault};
 use route_base::{Cause, FileKind};
 use std::alloc::Global;
@@ -27,16 +27,16 @@ fn has_the_truck(vehicles: &Vehicles) -> bool {
 }
 
 // Whether a network has these vehicles, and no row of its rules is passed over.
-fn reads_the_truck(alloc: Global) -> Result<bool, NetworkFault> {
-    let network = ruled(alloc, TRUCK, "")?;
-    Ok(has_the_truck(network.vehicles()) && network.passed_over() == 0)
+fn reads_the_truck(alloc: Global) -> bool {
+    match ruled(alloc, TRUCK, "") {
+        Ok(network) => has_the_truck(network.vehicles()) && network.passed_over() == 0,
+        Err(_) => false,
+    }
 }
 
 #[test]
-fn reads_vehicles(rt: HostRuntime) -> Result<(), NetworkFault> {
-    let reads = reads_the_truck(rt.alloc())?;
-    assert!(rt; reads);
-    Ok(())
+fn reads_vehicles(rt: HostRuntime) {
+    assert!(rt; reads_the_truck(rt.alloc()));
 }
 
 // The network of the vehicles in these rows.
@@ -64,12 +64,16 @@ const BAD_VEHICLES: &[(u64, Cause, &str)] = &[
 #[test]
 fn refuses_vehicles_with_their_first_fault(rt: HostRuntime) {
     for (row, cause, rows) in BAD_VEHICLES {
-        let fault = with_vehicles(rt.alloc(), rows).err();
         assert!(rt;
-            fault == refusal(FileKind::Vehicles, *row, *cause),
+            is_refused(
+                with_vehicles(rt.alloc(), rows),
+                FileKind::Vehicles,
+                *row,
+                *cause
+            ),
             "{rows}"
         );
     }
-    let fault = ruled(rt.alloc(), "name,class\n", "").err();
-    assert!(rt; fault == refusal(FileKind::Vehicles, 1, Cause::BadHeader));
+    let header = ruled(rt.alloc(), "name,class\n", "");
+    assert!(rt; is_refused(header, FileKind::Vehicles, 1, Cause::BadHeader));
 }

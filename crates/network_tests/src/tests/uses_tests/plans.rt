@@ -2,7 +2,7 @@
 ghost use Rattle.std.specs.Prelude.{◌≤◌};
 
 use crate::tests::network_tables_tests::read;
-use network_tables::{Network, NetworkFault};
+use network_tables::Network;
 use route_base::{ArcId, FileKind, Minute, NodeId, OutOfMemory, Pair, Request, Route};
 use std::alloc::Global;
 use uses::{is_open_for, plan_trip};
@@ -20,11 +20,15 @@ const PASS: &[(FileKind, &str)] = &[
 
 // Whether the routes have these pairs, in this order.
 fn have_pairs(routes: &[Route], due: &[Pair]) -> bool {
-    routes.len() == due.len()
-        && routes
-            .iter()
-            .zip(due)
-            .all(|(route, due)| route.pair == *due)
+    if due.len() != routes.len() {
+        return false;
+    }
+    for k in 0..routes.len() {
+        if routes[k].pair != due[k] {
+            return false;
+        }
+    }
+    true
 }
 
 // Whether the trip from the first node to the third one has these options until a minute, for any vehicle.
@@ -58,10 +62,17 @@ const OPTIONS: &[Pair] = &[
     },
 ];
 
+// Whether the trip over the pass has them.
+fn has_both_options(alloc: Global) -> bool {
+    match read(alloc, PASS) {
+        Ok(network) => has_options(alloc, &network, 26_564_080, OPTIONS),
+        Err(_) => false,
+    }
+}
+
 #[test]
 fn waits_for_the_pass_or_drives_around_it(rt: HostRuntime) {
-    let network = read(rt.alloc(), PASS).expect(&rt, "a network");
-    assert!(rt; has_options(rt.alloc(), &network, 26_564_080, OPTIONS));
+    assert!(rt; has_both_options(rt.alloc()));
 }
 
 const FIRST_OPTION: &[Pair] = &[Pair {
@@ -82,21 +93,22 @@ const CLOSED_AGAIN: &[(&str, &[Pair])] = &[
 ];
 
 // Whether the trip that ends with that hour has these options under these closures.
-fn obeys_closures(alloc: Global, closures: &str, due: &[Pair]) -> Result<bool, NetworkFault> {
+fn obeys_closures(alloc: Global, closures: &str, due: &[Pair]) -> bool {
     let texts = [
         (FileKind::Closures, closures),
         (FileKind::Ratings, RATINGS),
         (FileKind::Parking, PARKING),
     ];
-    let network = read(alloc, &texts)?;
-    Ok(has_options(alloc, &network, 26_563_920, due))
+    match read(alloc, &texts) {
+        Ok(network) => has_options(alloc, &network, 26_563_920, due),
+        Err(_) => false,
+    }
 }
 
 #[test]
 fn obeys_closures_until_the_last_minute(rt: HostRuntime) {
     for (closures, due) in CLOSED_AGAIN {
-        let obeyed = obeys_closures(rt.alloc(), closures, due);
-        assert!(rt; obeyed == Ok(true), "{closures}");
+        assert!(rt; obeys_closures(rt.alloc(), closures, due), "{closures}");
     }
 }
 
@@ -120,9 +132,15 @@ fn is_open_around(alloc: Global, network: &Network) -> bool {
         && is_pass_open(alloc, network, 26_563_860) == Ok(Some(true))
 }
 
+// Whether this is so over the pass.
+fn opens_around(alloc: Global) -> bool {
+    match read(alloc, PASS) {
+        Ok(network) => is_open_around(alloc, &network),
+        Err(_) => false,
+    }
+}
+
 #[test]
-fn drives_over_the_pass_before_and_after_it_is_closed(rt: HostRuntime) -> Result<(), NetworkFault> {
-    let open = is_open_around(rt.alloc(), &read(rt.alloc(), PASS)?);
-    assert!(rt; open);
-    Ok(())
+fn drives_over_the_pass_before_and_after_it_is_closed(rt: HostRuntime) {
+    assert!(rt; opens_around(rt.alloc()));
 }

@@ -1,16 +1,18 @@
 // The fronts that both engines find.
-ghost use Rattle.std.specs.Prelude.{◌≤◌, IsTrue};
+ghost use Rattle.std.specs.Prelude.{◌<◌, IsTrue, length};
 ghost use Rattle.route_base.specs.Legs.{CostsFit};
-ghost use Rattle.route_base.specs.Net.{IsGoodNet, IsGoodRequest, setting_of};
+ghost use Rattle.route_base.specs.Net.{IsGoodNet, setting_of};
+ghost use Rattle.drive_breaks.specs.Words.{HasCheapArcs};
+ghost use Rattle.itinerary_unpack.specs.Answered.{IsAnswered};
 ghost use Rattle.search_tests.specs.SmallNets.{IsRequestOver};
 
-use super::nets::{NetLists, net_of};
+use super::nets::{NetLists, whole_net};
 use crate::have_same_pairs;
 use itinerary_unpack::{FunctionEngine, unpack};
 use plain_search::TableEngine;
-use propagation::search;
+use propagation::{Found, search};
 use route_base::limits::{LAST_INSTANT, LONGEST_HORIZON};
-use route_base::{Cost, FrontSearch, Minute, OutOfMemory, Request, Route, Routes, TimedNet};
+use route_base::{Cost, FrontSearch, Leg, Minute, Pair, Request, Route, Routes, TimedNet};
 use std::alloc::Global;
 
 /// The routes that each engine found.
@@ -33,60 +35,117 @@ impl Fronts {
     /// Whether the pairs have these arrivals and costs.
     pub fn are(&self, pairs: &[(Minute, Cost)]) -> bool {
         let table = self.table.as_slice();
-        table.len() == pairs.len()
-            && table.iter().zip(pairs).all(|(route, pair)| (route.pair.arrival, route.pair.cost)
-                == *pair)
+        if table.len() != pairs.len() {
+            return false;
+        }
+        for k in 0..pairs.len() {
+            let (arrival, cost) = pairs[k];
+            if table[k].pair != (Pair { arrival, cost }) {
+                return false;
+            }
+        }
+        true
     }
 }
 
-// Whether two lists of as many routes have the same legs in the same order.
+// Whether two lists of routes have the same legs in the same order.
 fn have_same_legs(first: &[Route], second: &[Route]) -> bool {
-    first.iter().zip(second).all(|(one, other)| one.legs.as_slice() == other.legs.as_slice())
+    if first.len() != second.len() {
+        return false;
+    }
+    for k in 0..second.len() {
+        if first[k].legs.as_slice() != second[k].legs.as_slice() {
+            return false;
+        }
+    }
+    true
 }
 
-/// The routes that both engines find; nothing where the lists aren't those of a small well-formed net, or the request isn't one over it.
-pub fn fronts_of(
-    alloc: Global,
-    lists: NetLists<'_>,
-    request: Request,
-) -> Result<Option<Fronts>, OutOfMemory> {
-    let net = net_of(alloc, lists)?;
-    if net.arc_count() as usize != lists.arcs.len() || !is_over(&net, request) {
-        return Ok(None);
+/// The routes that both engines find; `None` if the lists aren't those of a small well-formed net, the request isn't one over it, or memory
+/// doesn't suffice.
+pub fn fronts_of(alloc: Global, lists: NetLists<'_>, request: Request) -> Option<Fronts> {
+    match whole_net(alloc, lists) {
+        Some(net) => fronts_in(alloc, &net, request),
+        None => None,
     }
-    let table = TableEngine.front(alloc, &net, request)?;
-    let functions = FunctionEngine.front(alloc, &net, request)?;
-    let unpacked = unpacks(alloc, &net, request, functions.as_slice())?;
-    Ok(Some(Fronts {
+}
+
+fn fronts_in(alloc: Global, net: &TimedNet, request: Request) -> Option<Fronts>
+    requires { HasCheapArcs net.now }
+{
+    if is_over(net, request) {
+        fronts_over(alloc, net, request)
+    } else {
+        None
+    }
+}
+
+fn fronts_over(alloc: Global, net: &TimedNet, request: Request) -> Option<Fronts>
+    requires over { IsRequestOver net.now request }
+    requires fit { CostsFit (setting_of net.now) request }
+{
+    let table = TableEngine.front(alloc, net, request).ok()?;
+    let functions = FunctionEngine.front(alloc, net, request).ok()?;
+    let unpacked = unpacks(alloc, net, request, functions.as_slice());
+    Some(Fronts {
         table,
         functions,
         unpacked,
-    }))
+    })
 }
 
 // Whether `search` finds the pairs of these routes, and `unpack` their legs.
-fn unpacks(
+fn unpacks(alloc: Global, net: &TimedNet, request: Request, routes: &[Route]) -> bool
+    requires over { IsRequestOver net.now request }
+    requires fit { CostsFit (setting_of net.now) request }
+{
+    match search(alloc, net, request) {
+        Ok(found) => are_unpacked(alloc, net, request, &found, routes),
+        Err(_) => false,
+    }
+}
+
+// Whether the pairs that were found are those of these routes, and the way back has their legs.
+fn are_unpacked(
     alloc: Global,
     net: &TimedNet,
     request: Request,
+    found: &Found,
     routes: &[Route],
-) -> Result<bool, OutOfMemory>
-    requires good { IsGoodRequest net.now request }
-    requires in_time { request.depart ≤ request.until }
-    requires fit { CostsFit (setting_of net.now) request }
+) -> bool
+    requires { IsAnswered net.now request found.now }
 {
-    let found = search(alloc, net, request)?;
     let pairs = found.pairs();
     if pairs.len() != routes.len() {
-        return Ok(false);
+        return false;
     }
     for k in 0..routes.len() {
-        let legs = unpack(alloc, net, request, &found, k)?;
-        if pairs[k] != routes[k].pair || legs.as_slice() != routes[k].legs.as_slice() {
-            return Ok(false);
+        let route = &routes[k];
+        if pairs[k] != route.pair
+            || !is_unpacked(alloc, net, request, found, k, route.legs.as_slice())
+        {
+            return false;
         }
     }
-    Ok(true)
+    true
+}
+
+// Whether the way back of a pair has these legs.
+fn is_unpacked(
+    alloc: Global,
+    net: &TimedNet,
+    request: Request,
+    found: &Found,
+    k: usize,
+    legs: &[Leg],
+) -> bool
+    requires found { IsAnswered net.now request found.now }
+    requires one { k < length found.now.pairs }
+{
+    match unpack(alloc, net, request, found, k) {
+        Ok(way) => way.as_slice() == legs,
+        Err(_) => false,
+    }
 }
 
 /// Whether the request is one over the net, of at most 60 days.

@@ -1,5 +1,6 @@
 // Nets of plain lists.
-ghost use Rattle.std.specs.Prelude.{◌≡◌, ◌≤◌, All, IfOk, IsTrue, length};
+ghost use Rattle.std.specs.Prelude.{◌≡◌, ◌≤◌, All, IfOk, IfSome, IsTrue, length};
+ghost use Rattle.drive_breaks.specs.Words.{HasCheapArcs};
 ghost use Rattle.route_base.specs.Runs.{AreRuns};
 ghost use Rattle.search_tests.specs.SmallNets.{IsSmallArc, IsShortAndCheap, IsCheapArc, IsLight};
 
@@ -17,8 +18,18 @@ pub struct NetLists<'a> {
     pub parks: &'a [Option<Park>],
 }
 
-/// The net of the lists, without what is no part of a small well-formed net.
-pub fn net_of(alloc: Global, net: NetLists<'_>) -> Result<TimedNet, OutOfMemory>
+/// The net of the lists; `None` if they aren't those of a small well-formed net, or memory doesn't suffice.
+pub fn whole_net(alloc: Global, lists: NetLists<'_>) -> Option<TimedNet>
+    ensures { IfSome result (λ net. HasCheapArcs net) }
+{
+    match net_of(alloc, lists) {
+        Ok(net) if net.arc_count() as usize == lists.arcs.len() => Some(net),
+        _ => None,
+    }
+}
+
+// The net of the lists, without what is no part of a small well-formed net.
+fn net_of(alloc: Global, net: NetLists<'_>) -> Result<TimedNet, OutOfMemory>
     ensures { IfOk result (λ made. All IsCheapArc made.arcs) }
 {
     let nodes = net.nodes.min(100);

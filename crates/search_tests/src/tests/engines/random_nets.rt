@@ -3,9 +3,8 @@ ghost use Rattle.std.specs.Prelude.{◌≤◌, ◌<◌};
 
 use super::fronts::fronts_of;
 use super::nets::NetLists;
-use route_base::{NodeId, OutOfMemory, Park, Request, Run, TimedArc};
+use route_base::{NodeId, Park, Request, Run, TimedArc};
 use std::alloc::Global;
-use std::process::Abort;
 use std::test::Fail;
 
 const SEED: u64 = 20201207;
@@ -44,31 +43,53 @@ impl Random {
     }
 }
 
-// A net and a request.
-#[derive(Drop)]
+// The most arcs, runs and nodes of a net.
+const MOST_ARCS: usize = 12;
+
+const MOST_RUNS: usize = 12;
+
+const MOST_NODES: usize = 6;
+
+// A net and a request: the first of the arcs are the net's, and empty runs are none.
+#[derive(Clone, Copy)]
 pub struct Case {
     pub nodes: u32,
-    pub arcs: Vec<TimedArc>,
-    pub closed: Vec<(u32, Run)>,
-    pub parks: Vec<Option<Park>>,
+    arc_count: usize,
+    arcs: [TimedArc; MOST_ARCS],
+    closed: [(u32, Run); MOST_RUNS],
+    parks: [Option<Park>; MOST_NODES],
     pub request: Request,
 }
 
-pub fn random_case(alloc: Global, random: &mut Random) -> Result<Case, OutOfMemory> {
+impl Case {
+    pub fn lists(&self) -> NetLists<'_> {
+        NetLists {
+            nodes: self.nodes,
+            arcs: &self.arcs[..self.arc_count.min(MOST_ARCS)],
+            lists: LISTS,
+            closed: &self.closed,
+            parks: &self.parks,
+        }
+    }
+}
+
+pub fn random_case(random: &mut Random) -> Case {
     let nodes = random.below(4) as u32 + 3;
     let depart = random.below(10);
-    Ok(Case {
+    let arc_count = random.below(13) as usize;
+    Case {
         nodes,
-        arcs: random_arcs(alloc, random, nodes)?,
-        closed: random_runs(alloc, random)?,
-        parks: random_parks(alloc, random, nodes)?,
+        arc_count,
+        arcs: random_arcs(random, nodes, arc_count),
+        closed: random_runs(random),
+        parks: random_parks(random, nodes),
         request: Request {
             origin: random.node(nodes),
             goal: random.node(nodes),
             depart,
             until: depart + random.below(31),
         },
-    })
+    }
 }
 
 // An arc; the shorter ones are mostly dearer.
@@ -85,85 +106,67 @@ fn random_arc(random: &mut Random, nodes: u32) -> TimedArc
     }
 }
 
-// Up to 12 arcs, of which a quarter are equal to the one before.
-fn random_arcs(alloc: Global, random: &mut Random, nodes: u32) -> Result<Vec<TimedArc>, OutOfMemory>
+// Arcs, of which a quarter are equal to the one before; all after the first ones are equal.
+fn random_arcs(random: &mut Random, nodes: u32, count: usize) -> [TimedArc; MOST_ARCS]
     requires { 1 ≤ nodes }
 {
-    let mut arcs: Vec<TimedArc> = Vec::new(alloc);
-    for _ in 0..random.below(13) {
-        let arc = match arcs.last().copied() {
-            Some(last) if random.below(4) == 0 => last,
-            _ => random_arc(random, nodes),
+    let mut arcs = [NO_ARC; MOST_ARCS];
+    for k in 0..count.min(MOST_ARCS) {
+        arcs[k] = if 0 < k && random.below(4) == 0 {
+            arcs[k - 1]
+        } else {
+            random_arc(random, nodes)
         };
-        arcs.push(arc)?;
     }
-    Ok(arcs)
+    arcs
 }
 
-// In each list up to four runs, which rise and don't touch.
-fn random_runs(alloc: Global, random: &mut Random) -> Result<Vec<(u32, Run)>, OutOfMemory> {
-    let mut closed = Vec::new(alloc);
-    for list in 0..LISTS {
-        for k in 0..4 {
-            let lo = 10 * k + random.below(5) + 1;
-            let hi = lo + random.below(5) + 1;
-            if random.below(2) == 0 {
-                closed.push((list, Run { lo, hi }))?;
-            }
+const NO_ARC: TimedArc = TimedArc {
+    tail: NodeId(1),
+    head: NodeId(1),
+    minutes: 1,
+    cost: 0,
+    closed: 0,
+};
+
+// In each list up to four runs, which rise and don't touch, or are empty.
+fn random_runs(random: &mut Random) -> [(u32, Run); MOST_RUNS] {
+    let mut closed = [(0, Run { lo: 0, hi: 0 }); MOST_RUNS];
+    for k in 0..MOST_RUNS {
+        let lo = k as u64 % 4 * 10 + random.below(5) + 1;
+        let hi = lo + random.below(5) + 1;
+        if random.below(2) == 0 {
+            closed[k] = (k as u32 / 4, Run { lo, hi });
         }
     }
-    Ok(closed)
+    closed
 }
 
 // A park at half of the nodes, which is shut in the runs of one of the lists.
-fn random_parks(
-    alloc: Global,
-    random: &mut Random,
-    nodes: u32,
-) -> Result<Vec<Option<Park>>, OutOfMemory> {
-    let mut parks = Vec::new(alloc);
-    for _ in 0..nodes {
+fn random_parks(random: &mut Random, nodes: u32) -> [Option<Park>; MOST_NODES] {
+    let mut parks = [None; MOST_NODES];
+    for v in 0..MOST_NODES.min(nodes as usize) {
         let park = Park {
             weight: random.below(4),
             shut: random.below(LISTS as u64) as u32,
         };
-        parks.push(if random.below(2) == 0 {
-            Some(park)
-        } else {
-            None
-        })?;
+        if random.below(2) == 0 {
+            parks[v] = Some(park);
+        }
     }
-    Ok(parks)
+    parks
 }
 
-// The number of pairs that both engines find in a random net; none where they don't agree, or the net isn't well-formed.
-fn agreed_pairs<R: Abort + AllocGlobal>(rt: &R, random: &mut Random) -> Option<usize> {
-    let case = random_case(rt.alloc(), random).expect(rt, "memory");
-    let lists = NetLists {
-        nodes: case.nodes,
-        arcs: &case.arcs,
-        lists: LISTS,
-        closed: &case.closed,
-        parks: &case.parks,
-    };
-    agreed_over(rt, lists, case.request)
-}
-
-// The same over the net of these lists.
-fn agreed_over<R: Abort + AllocGlobal>(
-    rt: &R,
-    lists: NetLists<'_>,
-    request: Request,
-) -> Option<usize> {
-    let fronts = fronts_of(rt.alloc(), lists, request).expect(rt, "memory")?;
-    if fronts.agree() {
-        Some(fronts.table.len())
-    } else {
-        None
+// The number of pairs that both engines find in a random net; none if they don't agree, or the net isn't well-formed.
+fn agreed_pairs(alloc: Global, random: &mut Random) -> Option<usize> {
+    let case = random_case(random);
+    match fronts_of(alloc, case.lists(), case.request) {
+        Some(fronts) if fronts.agree() => Some(fronts.table.len()),
+        _ => None,
     }
 }
 
-// 1 where there are at least this many pairs, and 0 elsewhere.
+// 1 if there are at least this many pairs, otherwise 0.
 fn count_with(least: usize, pairs: Option<usize>) -> u64 {
     match pairs {
         Some(pairs) if pairs >= least => 1,
@@ -178,7 +181,7 @@ fn agree_on_random_nets(rt: HostRuntime) -> Result<(), Fail> {
     let mut with_pairs = 0u64;
     let mut with_several = 0u64;
     for net in 0..NETS {
-        let pairs = agreed_pairs(&rt, &mut random);
+        let pairs = agreed_pairs(rt.alloc(), &mut random);
         assert!(rt; pairs.is_some(), "net {net}");
         with_pairs = with_pairs.saturating_add(count_with(1, pairs));
         with_several = with_several.saturating_add(count_with(2, pairs));

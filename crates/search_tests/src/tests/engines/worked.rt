@@ -12,10 +12,10 @@ struct Worked<'a> {
     nodes: u32,
     // Tail, head, minutes, cost, and the place of the list of closed runs; list 0 is empty.
     arcs: &'a [(u32, u32, Minute, Cost, u32)],
-    // The first minute of a run of list 1, and the first minute behind it.
+    // The first minute of a run of list 1, and the first minute after it.
     closed: &'a [(Minute, Minute)],
     weights: &'a [Option<Cost>],
-    // The first minute of a run in which waiting is shut everywhere, and the first minute behind it.
+    // The first minute of a run in which waiting is shut everywhere, and the first minute after it.
     shut: &'a [(Minute, Minute)],
     goal: u32,
     depart: Minute,
@@ -228,7 +228,7 @@ fn is_found<R: Abort + AllocGlobal>(rt: &R, worked: Worked<'_>) -> bool {
         depart: worked.depart,
         until: worked.until,
     };
-    match fronts_of(rt.alloc(), lists, request).expect(rt, "memory") {
+    match fronts_of(rt.alloc(), lists, request) {
         Some(fronts) => fronts.agree() && fronts.are(worked.pairs),
         None => false,
     }

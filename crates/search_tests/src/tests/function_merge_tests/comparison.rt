@@ -4,6 +4,7 @@ ghost use Rattle.cost_functions.specs.Building.{AreBuilt};
 ghost use Rattle.route_base.specs.Front.{RiseAndFall};
 
 use super::plain_lists::{is_better, lesser, pruned, shifted, value, waited};
+use crate::tests::engines::random_nets::Random;
 use cost_functions::CostFn;
 use function_merge::{
     can_shift, can_wait, cut_with_spare, improve_with_spare, into_pruned, is_improved, least,
@@ -20,69 +21,48 @@ const SEED: u64 = 20201207;
 const CASES: u64 = 5000;
 
 // Minutes from 0 on that have values.
-const MINUTES: u64 = 24;
+const MINUTES: usize = 24;
 
 // Minutes from 0 on at which results are compared.
 const COMPARED: u64 = 40;
 
-// Numbers that look random (source: SplitMix64).
-#[derive(Drop)]
-struct Random {
-    state: u64,
-}
-
-impl Random {
-    fn next(&mut self) -> u64 {
-        self.state = self.state.wrapping_add(0x9E3779B97F4A7C15);
-        let mut z = self.state;
-        z = (z ^ (z >> 30)).wrapping_mul(0xBF58476D1CE4E5B9);
-        z = (z ^ (z >> 27)).wrapping_mul(0x94D049BB133111EB);
-        z ^ (z >> 31)
-    }
-
-    fn below(&mut self, n: u64) -> u64
-        requires { 1 ≤ n }
-        ensures { result < n }
-    {
-        self.next() % n
-    }
-}
-
 // Values on a few lines, with gaps.
-fn random_values(alloc: Global, random: &mut Random) -> Result<Vec<Option<u64>>, OutOfMemory> {
-    let mut values = Vec::new(alloc);
+fn random_values(random: &mut Random) -> [Option<u64>; MINUTES] {
+    let mut values = [None; MINUTES];
     let mut cost = 0;
     let mut slope = 0;
     let mut is_there = false;
-    for _ in 0..MINUTES {
+    for t in 0..MINUTES {
         if random.below(4) == 0 {
             is_there = random.below(4) != 0;
             cost = random.below(40);
             slope = random.below(5);
         }
-        values.push(if is_there { Some(cost) } else { None })?;
+        if is_there {
+            values[t] = Some(cost);
+        }
         cost = cost.saturating_add(slope);
     }
-    Ok(values)
+    values
 }
 
-fn random_keep(alloc: Global, random: &mut Random) -> Result<Vec<bool>, OutOfMemory> {
-    let mut keep = Vec::new(alloc);
+fn random_keep(random: &mut Random) -> [bool; MINUTES] {
+    let mut keep = [false; MINUTES];
     let mut is_kept = false;
-    for _ in 0..MINUTES {
+    for t in 0..MINUTES {
         if random.below(3) == 0 {
             is_kept = random.below(2) == 0;
         }
-        keep.push(is_kept)?;
+        keep[t] = is_kept;
     }
-    Ok(keep)
+    keep
 }
 
 fn function_of(alloc: Global, values: &[Option<u64>]) -> Result<CostFn, OutOfMemory>
     ensures { IfOk result AreBuilt }
 {
     let mut points = Vec::new(alloc);
-    for t in 0..MINUTES {
+    for t in 0..MINUTES as u64 {
         add_point(&mut points, t, value(values, t))?;
     }
     CostFn::from_points(alloc, &points)
@@ -102,11 +82,15 @@ fn add_point(points: &mut Vec<(u64, u64)>, t: u64, cost: Option<u64>) -> Result<
     Ok(())
 }
 
+// The minutes that are kept.
 fn set_of(alloc: Global, keep: &[bool]) -> Result<MinuteSet, OutOfMemory> {
-    let mut runs = Vec::new(alloc);
+    let mut runs = [Run { lo: 0, hi: 0 }; MINUTES];
     for t in 0..MINUTES {
-        if keep.get(t as usize) == Some(&true) {
-            runs.push(Run { lo: t, hi: t + 1 })?;
+        if t < keep.len() && keep[t] {
+            runs[t] = Run {
+                lo: t as u64,
+                hi: t as u64 + 1,
+            };
         }
     }
     MinuteSet::from_runs(alloc, &runs)
@@ -116,7 +100,7 @@ fn random_pairs(alloc: Global, random: &mut Random) -> Result<Vec<Pair>, OutOfMe
     ensures { IfOk result (λ pairs. RiseAndFall pairs.items) }
 {
     let mut pairs = Vec::new(alloc);
-    let mut arrival = random.below(MINUTES);
+    let mut arrival = random.below(MINUTES as u64);
     let mut cost = 20 + random.below(60);
     'pairs: while random.below(4) != 0 && 10 < cost {
         pairs.push(Pair { arrival, cost })?;
@@ -252,7 +236,7 @@ fn moves_as_lists<R: Abort + AllocGlobal>(
 ) -> bool
     requires { AreBuilt f.now }
 {
-    let kept = random_keep(rt.alloc(), random).expect(rt, "memory");
+    let kept = random_keep(random);
     let keep = set_of(rt.alloc(), &kept).expect(rt, "memory");
     shifts_as_lists(rt, random, f, a, &kept, &keep) && cuts_as_lists(rt, f, a, &kept, &keep)
 }
@@ -280,7 +264,7 @@ fn waits_as_lists<R: Abort + AllocGlobal>(
     if !can_wait(f, weight, until) {
         return false;
     }
-    let kept = random_keep(rt.alloc(), random).expect(rt, "memory");
+    let kept = random_keep(random);
     let allowed = set_of(rt.alloc(), &kept).expect(rt, "memory");
     let spare = f.reduce(rt.alloc()).expect(rt, "memory");
     let made = wait_with_spare(spare, f, weight, &allowed, until).expect(rt, "memory");
@@ -342,7 +326,7 @@ fn shifts_and_prunes_alike<R: Abort + AllocGlobal>(rt: &R, random: &mut Random, 
     }
     let until = random.below(COMPARED);
     let bound = random_bound(random);
-    let kept = random_keep(rt.alloc(), random).expect(rt, "memory");
+    let kept = random_keep(random);
     let keep = set_of(rt.alloc(), &kept).expect(rt, "memory");
     let pairs = random_pairs(rt.alloc(), random).expect(rt, "memory");
     let spare = f.reduce(rt.alloc()).expect(rt, "memory");
@@ -372,8 +356,8 @@ fn changes_as_lists<R: Abort + AllocGlobal>(
 
 // Whether the calls on random functions are right.
 fn is_right<R: Abort + AllocGlobal>(rt: &R, random: &mut Random) -> bool {
-    let a = random_values(rt.alloc(), random).expect(rt, "memory");
-    let b = random_values(rt.alloc(), random).expect(rt, "memory");
+    let a = random_values(random);
+    let b = random_values(random);
     let f = function_of(rt.alloc(), &a).expect(rt, "memory");
     let g = function_of(rt.alloc(), &b).expect(rt, "memory");
     changes_as_lists(rt, random, &f, &a)

@@ -99,7 +99,7 @@ const LATER: Piece = Piece {
     slope: 2,
 };
 
-// A drive of two minutes at 7 ends on the later line; a cheaper one is better there, and a longer one ends behind it.
+// A drive of two minutes at 7 ends on the later line; a cheaper one is better there, and a longer one ends after it.
 #[test]
 fn rejects_what_is_nowhere_better(rt: HostRuntime) {
     let f = of_one(rt.alloc(), RISING).expect(&rt, "memory");

@@ -1,7 +1,7 @@
 // A slow search straight from the rules: whatever steps reach, minute by minute.
 use crate::tests::engines::nets::NetLists;
 use drive_breaks::BreakRule;
-use route_base::{Cost, Minute, NodeId, OutOfMemory, Pair, Request, Run, TimedArc};
+use route_base::{Cost, Minute, NodeId, Pair, Park, Request, Run, TimedArc};
 use std::alloc::Global;
 use stop_tour::Stop;
 
@@ -14,7 +14,7 @@ pub struct Terms<'a> {
 }
 
 impl Terms<'_> {
-    // The minutes since the last break with a drive of these minutes; `None` where that is against the rule.
+    // The minutes since the last break with a drive of these minutes; `None` if that is against the rule.
     fn driven(self, before: u64, minutes: u64) -> Option<u64> {
         let Some(rule) = self.rule else {
             return Some(0);
@@ -65,97 +65,89 @@ fn is_clear(closed: &[(u32, Run)], list: u32, from: Minute, to: Minute) -> bool 
     !closed.iter().any(|(place, run)| *place == list && run.lo < to && from < run.hi)
 }
 
-// The points that were found, without those that another one covers.
+// The points that were found, without those that another one covers; not whole once memory ran out.
 #[derive(Drop)]
 struct Points {
     held: Vec<Point>,
     until: Minute,
+    is_whole: bool,
 }
 
 impl Points {
-    fn add(&mut self, point: Point) -> Result<(), OutOfMemory> {
-        if point.minute > self.until || self.held.iter().any(|old| old.covers(point)) {
-            return Ok(());
+    fn add(&mut self, point: Point) {
+        if point.minute <= self.until && !self.held.iter().any(|old| old.covers(point)) {
+            self.is_whole = self.held.push(point).is_ok() && self.is_whole;
         }
-        self.held.push(point)?;
-        Ok(())
     }
 
-    fn drive(&mut self, terms: Terms<'_>, from: Point, arc: TimedArc) -> Result<(), OutOfMemory> {
+    fn drive(&mut self, terms: Terms<'_>, from: Point, arc: TimedArc) {
         let minute = from.minute.saturating_add(arc.minutes);
-        let Some(driven) = terms.driven(from.driven, arc.minutes) else {
-            return Ok(());
-        };
         let open = is_clear(terms.lists.closed, arc.closed, from.minute, minute);
-        if arc.tail != from.node || !open {
-            return Ok(());
+        if arc.tail == from.node && open {
+            if let Some(driven) = terms.driven(from.driven, arc.minutes) {
+                self.add(Point {
+                    node: arc.head,
+                    minute,
+                    driven,
+                    waits: 0,
+                    cost: from.cost.saturating_add(arc.cost),
+                    ..from
+                });
+            }
         }
-        self.add(Point {
-            node: arc.head,
-            minute,
-            driven,
-            waits: 0,
-            cost: from.cost.saturating_add(arc.cost),
-            ..from
-        })
     }
 
-    fn wait(&mut self, terms: Terms<'_>, from: Point) -> Result<(), OutOfMemory> {
-        let Some(Some(park)) = terms
+    fn wait(&mut self, terms: Terms<'_>, from: Point, park: Park) {
+        let minute = from.minute.saturating_add(1);
+        if is_clear(terms.lists.closed, park.shut, from.minute, minute) {
+            let (waits, driven) = terms.waited(from.waits, from.driven);
+            self.add(Point {
+                minute,
+                waits,
+                driven,
+                cost: from.cost.saturating_add(park.weight),
+                ..from
+            });
+        }
+    }
+
+    fn serve(&mut self, from: Point, stop: Stop) {
+        let minute = from.minute.saturating_add(stop.service);
+        if stop.node == from.node && stop.from <= from.minute && minute <= stop.to {
+            self.add(Point {
+                minute,
+                served: from.served.saturating_add(1),
+                waits: 0,
+                ..from
+            });
+        }
+    }
+
+    fn go_on(&mut self, terms: Terms<'_>, from: Point) {
+        for arc in terms.lists.arcs {
+            self.drive(terms, from, *arc);
+        }
+        if let Some(Some(park)) = terms
             .lists
             .parks
             .get((from.node.0 as usize).saturating_sub(1))
-        else {
-            return Ok(());
-        };
-        let minute = from.minute.saturating_add(1);
-        if !is_clear(terms.lists.closed, park.shut, from.minute, minute) {
-            return Ok(());
+        {
+            self.wait(terms, from, *park);
         }
-        let (waits, driven) = terms.waited(from.waits, from.driven);
-        self.add(Point {
-            minute,
-            waits,
-            driven,
-            cost: from.cost.saturating_add(park.weight),
-            ..from
-        })
-    }
-
-    fn serve(&mut self, terms: Terms<'_>, from: Point) -> Result<(), OutOfMemory> {
-        let Some(stop) = terms.stops.get(from.served) else {
-            return Ok(());
-        };
-        let minute = from.minute.saturating_add(stop.service);
-        if stop.node != from.node || from.minute < stop.from || minute > stop.to {
-            return Ok(());
+        if let Some(stop) = terms.stops.get(from.served) {
+            self.serve(from, *stop);
         }
-        self.add(Point {
-            minute,
-            served: from.served.saturating_add(1),
-            waits: 0,
-            ..from
-        })
-    }
-
-    fn go_on(&mut self, terms: Terms<'_>, from: Point) -> Result<(), OutOfMemory> {
-        for arc in terms.lists.arcs {
-            self.drive(terms, from, *arc)?;
-        }
-        self.wait(terms, from)?;
-        self.serve(terms, from)
     }
 
     // Goes on from all points of a minute.
-    fn leave(&mut self, terms: Terms<'_>, minute: Minute) -> Result<(), OutOfMemory> {
+    fn leave(&mut self, terms: Terms<'_>, minute: Minute) {
         for k in 0..self.held.len() {
             if let Some(from) = self.held.get(k).copied() {
                 if from.minute == minute {
-                    self.go_on(terms, from)?;
+                    self.go_on(terms, from);
                 }
             }
         }
-        Ok(())
     }
 
     // The least cost at the goal at a minute, with this number of stops served.
@@ -173,15 +165,12 @@ impl Points {
     }
 }
 
-/// The pairs that no other pair of the same trips is no worse than, by rising arrival.
-pub fn slow_front(
-    alloc: Global,
-    terms: Terms<'_>,
-    request: Request,
-) -> Result<Vec<Pair>, OutOfMemory> {
+/// The pairs that no other pair of the same trips is no worse than, by rising arrival; `None` if memory doesn't suffice.
+pub fn slow_front(alloc: Global, terms: Terms<'_>, request: Request) -> Option<Vec<Pair>> {
     let mut points = Points {
         held: Vec::new(alloc),
         until: request.until,
+        is_whole: true,
     };
     points.add(Point {
         node: request.origin,
@@ -190,20 +179,27 @@ pub fn slow_front(
         driven: 0,
         waits: 0,
         cost: 0,
-    })?;
+    });
+    front_of(alloc, &mut points, terms, request)
+}
+
+// Goes on from the points minute by minute; the pairs at the goal.
+fn front_of(
+    alloc: Global,
+    points: &mut Points,
+    terms: Terms<'_>,
+    request: Request,
+) -> Option<Vec<Pair>> {
     let mut pairs = Vec::new(alloc);
     let mut best = u64::MAX;
-    for minute in request.depart..request.until.saturating_add(1) {
-        points.leave(terms, minute)?;
-        if let Some(cost) = points.least(request.goal, minute, terms.stops.len()) {
+    for arrival in request.depart..request.until.saturating_add(1) {
+        points.leave(terms, arrival);
+        if let Some(cost) = points.least(request.goal, arrival, terms.stops.len()) {
             if cost < best {
                 best = cost;
-                pairs.push(Pair {
-                    arrival: minute,
-                    cost,
-                })?;
+                points.is_whole = pairs.push(Pair { arrival, cost }).is_ok() && points.is_whole;
             }
         }
     }
-    Ok(pairs)
+    if points.is_whole { Some(pairs) } else { None }
 }

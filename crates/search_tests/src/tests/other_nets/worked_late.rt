@@ -3,9 +3,8 @@ use super::calls::latest_over;
 use super::worked_arcs::{DEPART, FIRST, SECOND, STRAIGHT};
 use crate::tests::engines::nets::NetLists;
 use latest_departure::{LateRoute, LateRoutes, late_text};
-use route_base::{ArcId, Cost, Leg, Minute, NodeId, OutOfMemory, Park, Request, Run, TimedArc};
+use route_base::{ArcId, Cost, Leg, Minute, NodeId, Park, Request, Run, TimedArc};
 use std::alloc::Global;
-use std::test::Fail;
 
 // A trip to a goal, and its departures and costs with their legs.
 #[derive(Clone, Copy)]
@@ -200,19 +199,21 @@ const LATE: &[Late<'static>] = &[
 ];
 
 fn are_late(routes: &[LateRoute], wants: &[(Minute, Cost, &[Leg])]) -> bool {
-    routes.len() == wants.len()
-        && routes.iter().zip(wants).all(|(route, (departure, cost, legs))| route.departure
-            == *departure
-            && route.cost == *cost
-            && route.legs.as_slice() == *legs)
+    if routes.len() != wants.len() {
+        return false;
+    }
+    for k in 0..wants.len() {
+        let (departure, cost, legs) = wants[k];
+        let route = &routes[k];
+        if route.departure != departure || route.cost != cost || route.legs.as_slice() != legs {
+            return false;
+        }
+    }
+    true
 }
 
 // The latest departures from node 1 to a goal.
-fn late_trip(
-    alloc: Global,
-    lists: NetLists<'_>,
-    goal: u32,
-) -> Result<Option<LateRoutes>, OutOfMemory> {
+fn late_trip(alloc: Global, lists: NetLists<'_>, goal: u32) -> Option<LateRoutes> {
     let request = Request {
         origin: NodeId(1),
         goal: NodeId(goal),
@@ -222,20 +223,18 @@ fn late_trip(
     latest_over(alloc, lists, request)
 }
 
-fn is_late(alloc: Global, row: Late<'_>) -> Result<bool, OutOfMemory> {
-    let Some(routes) = late_trip(alloc, row.lists, row.goal)? else {
-        return Ok(false);
-    };
-    Ok(are_late(routes.as_slice(), row.wants))
+fn is_late(alloc: Global, row: Late<'_>) -> bool {
+    match late_trip(alloc, row.lists, row.goal) {
+        Some(routes) => are_late(routes.as_slice(), row.wants),
+        None => false,
+    }
 }
 
 #[test]
-fn leave_as_late_as_they_can(rt: HostRuntime) -> Result<(), Fail> {
+fn leave_as_late_as_they_can(rt: HostRuntime) {
     for row in LATE {
-        let found = is_late(rt.alloc(), *row)?;
-        assert!(rt; found, "{}", row.name);
+        assert!(rt; is_late(rt.alloc(), *row), "{}", row.name);
     }
-    Ok(())
 }
 
 // Nets, goals, and the texts of the latest departures.
@@ -254,24 +253,23 @@ const TEXTS: &[(NetLists<'static>, u32, &str)] = &[
     (NIGHT, 1, "pairs 1\nleave 26564080 0.000\n"),
 ];
 
-fn has_late_text(
-    alloc: Global,
-    lists: NetLists<'_>,
-    goal: u32,
-    text: &str,
-) -> Result<bool, OutOfMemory> {
-    let Some(routes) = late_trip(alloc, lists, goal)? else {
-        return Ok(false);
-    };
-    let written = late_text(alloc, &routes)?;
-    Ok(written.as_slice() == text.as_bytes())
+fn has_late_text(alloc: Global, lists: NetLists<'_>, goal: u32, text: &str) -> bool {
+    match late_trip(alloc, lists, goal) {
+        Some(routes) => is_late_text(alloc, &routes, text),
+        None => false,
+    }
+}
+
+fn is_late_text(alloc: Global, routes: &LateRoutes, text: &str) -> bool {
+    match late_text(alloc, routes) {
+        Ok(written) => written.as_slice() == text.as_bytes(),
+        Err(_) => false,
+    }
 }
 
 #[test]
-fn write_the_latest_departures(rt: HostRuntime) -> Result<(), Fail> {
+fn write_the_latest_departures(rt: HostRuntime) {
     for (lists, goal, text) in TEXTS {
-        let same = has_late_text(rt.alloc(), *lists, *goal, text)?;
-        assert!(rt; same, "{text}");
+        assert!(rt; has_late_text(rt.alloc(), *lists, *goal, text), "{text}");
     }
-    Ok(())
 }

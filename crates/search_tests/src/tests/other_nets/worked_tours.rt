@@ -2,9 +2,8 @@
 use super::calls::tour_over;
 use super::worked_arcs::{DEPART, FIRST, SECOND, STRAIGHT};
 use crate::tests::engines::nets::NetLists;
-use route_base::{ArcId, Cost, Minute, NodeId, OutOfMemory, Park, Request, Run};
+use route_base::{ArcId, Cost, Minute, NodeId, Pair, Park, Request, Run};
 use std::alloc::Global;
-use std::test::Fail;
 use stop_tour::{Stop, TourLeg, TourRoute, TourRoutes, tour_text};
 
 // A trip that serves stops, with its arrivals and costs and their legs.
@@ -239,19 +238,21 @@ const TOURS: &[Tour<'static>] = &[
 ];
 
 fn are_tours(routes: &[TourRoute], wants: &[(Minute, Cost, &[TourLeg])]) -> bool {
-    routes.len() == wants.len()
-        && routes.iter().zip(wants).all(|(route, (arrival, cost, legs))| route.pair.arrival
-            == *arrival
-            && route.pair.cost == *cost
-            && route.legs.as_slice() == *legs)
+    if routes.len() != wants.len() {
+        return false;
+    }
+    for k in 0..wants.len() {
+        let (arrival, cost, legs) = wants[k];
+        let route = &routes[k];
+        if route.pair != (Pair { arrival, cost }) || route.legs.as_slice() != legs {
+            return false;
+        }
+    }
+    true
 }
 
 // The tours of the stops from node 1 to node 3.
-fn toured(
-    alloc: Global,
-    lists: NetLists<'_>,
-    stops: &[Stop],
-) -> Result<Option<TourRoutes>, OutOfMemory> {
+fn toured(alloc: Global, lists: NetLists<'_>, stops: &[Stop]) -> Option<TourRoutes> {
     let request = Request {
         origin: NodeId(1),
         goal: NodeId(3),
@@ -261,20 +262,18 @@ fn toured(
     tour_over(alloc, lists, request, stops, true)
 }
 
-fn is_toured(alloc: Global, row: Tour<'_>) -> Result<bool, OutOfMemory> {
-    let Some(routes) = toured(alloc, row.lists, row.stops)? else {
-        return Ok(false);
-    };
-    Ok(are_tours(routes.as_slice(), row.wants))
+fn is_toured(alloc: Global, row: Tour<'_>) -> bool {
+    match toured(alloc, row.lists, row.stops) {
+        Some(routes) => are_tours(routes.as_slice(), row.wants),
+        None => false,
+    }
 }
 
 #[test]
-fn serve_stops_within_their_windows(rt: HostRuntime) -> Result<(), Fail> {
+fn serve_stops_within_their_windows(rt: HostRuntime) {
     for row in TOURS {
-        let found = is_toured(rt.alloc(), *row)?;
-        assert!(rt; found, "{}", row.name);
+        assert!(rt; is_toured(rt.alloc(), *row), "{}", row.name);
     }
-    Ok(())
 }
 
 // Nets, stops, and the texts of the tours.
@@ -292,24 +291,23 @@ const TEXTS: &[(NetLists<'static>, &[Stop], &str)] = &[
     ),
 ];
 
-fn has_tour_text(
-    alloc: Global,
-    lists: NetLists<'_>,
-    stops: &[Stop],
-    text: &str,
-) -> Result<bool, OutOfMemory> {
-    let Some(routes) = toured(alloc, lists, stops)? else {
-        return Ok(false);
-    };
-    let written = tour_text(alloc, &routes)?;
-    Ok(written.as_slice() == text.as_bytes())
+fn has_tour_text(alloc: Global, lists: NetLists<'_>, stops: &[Stop], text: &str) -> bool {
+    match toured(alloc, lists, stops) {
+        Some(routes) => is_tour_text(alloc, &routes, text),
+        None => false,
+    }
+}
+
+fn is_tour_text(alloc: Global, routes: &TourRoutes, text: &str) -> bool {
+    match tour_text(alloc, routes) {
+        Ok(written) => written.as_slice() == text.as_bytes(),
+        Err(_) => false,
+    }
 }
 
 #[test]
-fn write_the_tours(rt: HostRuntime) -> Result<(), Fail> {
+fn write_the_tours(rt: HostRuntime) {
     for (lists, stops, text) in TEXTS {
-        let same = has_tour_text(rt.alloc(), *lists, stops, text)?;
-        assert!(rt; same, "{text}");
+        assert!(rt; has_tour_text(rt.alloc(), *lists, stops, text), "{text}");
     }
-    Ok(())
 }
