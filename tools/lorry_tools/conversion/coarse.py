@@ -12,11 +12,23 @@ from __future__ import annotations
 import heapq
 import math
 import multiprocessing
-from typing import AbstractSet, Any, Callable, Collection, Iterable, Iterator, Optional, Sequence
+from typing import (
+    AbstractSet,
+    Any,
+    Callable,
+    Collection,
+    Iterable,
+    Iterator,
+    Mapping,
+    Optional,
+    Sequence,
+)
 
 import numpy
 
+from lorry_tools.conversion import shortcuts
 from lorry_tools.conversion.roads import Arc
+from lorry_tools.conversion.shortcuts import FREE, Ruled
 
 # What leaves a node, or comes into it: the milliseconds, the other node, and the place of the arc
 # in the list of arcs, or -1 - place for an arc with rules or a toll. These are tuples since
@@ -35,7 +47,9 @@ MOST_KEPT = 1
 MOST_WAYS = 12
 
 NO_RULES: frozenset[int] = frozenset()
-FREE = (NO_RULES, 0.0)
+# Searches add up tolls as whole numbers, so that the order doesn't matter: of these parts of a
+# metre, whose numbers are exact.
+TOLL = 1 << 60
 FOR_EVER = 1 << 60
 # The bits of a label's number in the queue, and the kinds of labels at one millisecond.
 BITS = 32
@@ -52,19 +66,23 @@ class Stars:
         self.arcs = arcs
         self.out: Star = [[] for _ in range(count)]
         self.into: Star = [[] for _ in range(count)]
+        # The rules and the toll of those arcs that have some.
+        self.ruled: dict[int, Ruled] = {}
         for place, arc in enumerate(arcs):
             if arc.rules or arc.toll:
+                rules = frozenset((arc.rules,)) if arc.rules else NO_RULES
+                self.ruled[place] = rules, int(arc.toll * TOLL)
                 place = -1 - place
             self.out[arc.tail].append((arc.time, arc.head, place))
             self.into[arc.head].append((arc.time, arc.tail, place))
 
-    def speed(self, node: int) -> float:
-        """The metres a millisecond of the fastest arc at a node."""
-        arcs = self.arcs
-        around = self.out[node] + self.into[node]
-        return max(
-            (arcs[it if it >= 0 else -1 - it].length / time for time, _, it in around), default=0
-        )
+    def speeds(self) -> Any:
+        """The metres a millisecond of the fastest arc at each node."""
+        found = numpy.zeros(len(self.out))
+        own = numpy.array([arc.length / arc.time for arc in self.arcs])
+        for ends in ([arc.tail for arc in self.arcs], [arc.head for arc in self.arcs]):
+            numpy.maximum.at(found, ends, own)
+        return found
 
 
 def reached(start: int, star: Star, most: int) -> dict[int, int]:
@@ -156,11 +174,8 @@ def kept_junctions(
 ) -> set[int]:
     """The nodes that are kept: the fixed ones, and then those that none before is within the gap
     of, in either direction."""
-    fastest = {node: stars.speed(node) for node in nodes}
-    order = sorted(
-        nodes,
-        key=lambda node: (node not in fixed, node in unfit, -round(fastest[node] * 3600), node),
-    )
+    fastest = numpy.rint(stars.speeds() * 3600).astype(int).tolist()
+    order = sorted(nodes, key=lambda node: (node not in fixed, node in unfit, -fastest[node], node))
     kept: set[int] = set()
     covered: set[int] = set()
     for count, node in enumerate(order, 1):
@@ -173,20 +188,29 @@ def kept_junctions(
     return kept
 
 
-def ways_from(start: int, stars: Stars, kept: Collection[int]) -> Ways:
+def ways_from(
+    start: int,
+    out: Star,
+    ruled: Mapping[int, Ruled],
+    kept: Collection[int],
+    most: int,
+    is_strict: bool,
+) -> Optional[Ways]:
     """The ways from a kept junction to others without a kept one between, that no way beats, and
-    whether some were given up.
+    whether some were given up, as more than MOST came to a node.
 
     A way is beaten by one that takes no longer, and has neither a rule that it hasn't nor a higher
     toll. Of ways that take as long, those with kept junctions come first, and then those that were
     met first: so a number says the place of a label in the queue. It is the milliseconds, then
-    whether the way may still pass a kept junction, and then the number of the label."""
-    arcs, out = stars.arcs, stars.out
+    whether the way may still pass a kept junction, and then the number of the label. A strict
+    search returns None where this last one would decide, or where some were given up."""
     push, pop = heapq.heappush, heapq.heappop
     # The labels: their nodes, arcs, the labels before them, rules and metres with a toll.
     nodes, places, before = [start], [0], [0]
-    ruled: dict[int, tuple[frozenset[int], float]] = {}
-    settled: dict[int, list[tuple[frozenset[int], float]]] = {}
+    of_label: dict[int, Ruled] = {}
+    settled: dict[int, list[Ruled]] = {}
+    # When a node was settled last, to which a second label came.
+    last: dict[int, int] = {}
     # The least number of a label without rules and toll at a node: it beats all later ones.
     least: dict[int, int] = {start: 0}
     found: list[Way] = []
@@ -198,59 +222,64 @@ def ways_from(start: int, stars: Stars, kept: Collection[int]) -> Ways:
         number = pop(queue)
         label = number & MOST_LABELS
         number >>= BITS
-        time, left = divmod(number, KINDS)
+        left = number % KINDS
         direct -= left == fresh
         node = nodes[label]
-        rules, toll = ruled.get(label, FREE)
+        rules, toll = of_label.get(label, FREE)
         others = settled.get(node)
         if others is None:
-            others = settled[node] = []
-        for other, other_toll in others:
-            if other_toll <= toll and other <= rules:
-                break
+            settled[node] = [(rules, toll)]
         else:
-            if len(others) >= MOST_WAYS:
+            if is_strict and last[node] == number:
+                return None
+            if beaten(others, rules, toll):
+                continue
+            if len(others) >= most:
+                if is_strict:
+                    return None
                 gave_up = True
                 continue
             others.append((rules, toll))
-            if label and node in kept:
-                if left == fresh:
-                    found.append((path_of(label, places, before), rules))
-                left -= 1
-                if left < 0:
+        last[node] = number
+        if label and node in kept:
+            if left == fresh:
+                found.append((path_of(label, places, before), rules))
+            if not left:
+                continue
+            left -= 1
+            number -= 1
+        is_free = label not in of_label
+        for step, head, place in out[node]:
+            later = number + step * KINDS
+            if later >= least.get(head, FOR_EVER):
+                if is_strict and later == least[head]:
+                    return None
+                continue
+            if is_free and place >= 0:
+                if head in settled and beaten(settled[head], NO_RULES, 0):
                     continue
-            is_free = label not in ruled
-            for step, head, place in out[node]:
-                later = (time + step) * KINDS + left
-                if later >= least.get(head, FOR_EVER):
+                least[head] = later
+            else:
+                if head == start:
                     continue
-                if is_free and place >= 0:
-                    if head in settled and beaten(settled[head], NO_RULES, 0.0):
-                        continue
-                    least[head] = later
-                else:
-                    if head == start:
-                        continue
-                    if place < 0:
-                        place = -1 - place
-                    arc = arcs[place]
-                    own = arc.rules
-                    own_rules = rules | {own} if own and own not in rules else rules
-                    own_toll = toll + arc.toll
-                    if head in settled and beaten(settled[head], own_rules, own_toll):
-                        continue
-                    ruled[len(nodes)] = own_rules, own_toll
-                push(queue, later << BITS | len(nodes))
-                nodes.append(head)
-                places.append(place)
-                before.append(label)
-                direct += left == fresh
+                own_rules, own_toll = rules, toll
+                if place < 0:
+                    place = -1 - place
+                    own, more = ruled[place]
+                    own_rules = rules | own
+                    own_toll = toll + more
+                if head in settled and beaten(settled[head], own_rules, own_toll):
+                    continue
+                of_label[len(nodes)] = own_rules, own_toll
+            push(queue, later << BITS | len(nodes))
+            nodes.append(head)
+            places.append(place)
+            before.append(label)
+            direct += left == fresh
     return found, gave_up
 
 
-def beaten(
-    others: Iterable[tuple[frozenset[int], float]], rules: frozenset[int], toll: float
-) -> bool:
+def beaten(others: Iterable[Ruled], rules: frozenset[int], toll: int) -> bool:
     """Whether one of the others has no further rules and no higher toll."""
     for other, other_toll in others:
         if other_toll <= toll and other <= rules:
@@ -268,25 +297,32 @@ def path_of(label: int, places: Sequence[int], before: Sequence[int]) -> list[in
     return path
 
 
-def arc_of(arcs: Sequence[Arc], rules: frozenset[int]) -> Arc:
-    """The arc that stands for a way over some arcs."""
-    names: dict[str, float] = {}
-    pieces: list[int] = []
-    for arc in arcs:
-        names[arc.name] = names.get(arc.name, 0) + arc.length
-        pieces += arc.pieces
-    name = max(names, key=lambda it: (it != "", names[it]))
-    return Arc(
-        arcs[0].tail,
-        arcs[-1].head,
-        sum(arc.time for arc in arcs),
-        sum(arc.length for arc in arcs),
-        rules,
-        sum(arc.toll for arc in arcs),
-        arcs[0].area,
-        tuple(pieces),
-        name,
-    )
+def arc_of(arcs: Sequence[Arc], way: Way) -> Arc:
+    """The arc that stands for a way over some arcs, whose places are its pieces until `named`."""
+    path, rules = way
+    time, length, toll = 0, 0.0, 0.0
+    for place in path:
+        arc = arcs[place]
+        time += arc.time
+        length += arc.length
+        toll += arc.toll
+    first = arcs[path[0]]
+    head = arcs[path[-1]].head
+    return Arc(first.tail, head, time, length, rules, toll, first.area, tuple(path), "")
+
+
+def named(made: Iterable[Arc], arcs: Sequence[Arc]) -> None:
+    """Gives arcs that stand for ways over others the pieces of these, and the name of most of
+    their metres."""
+    for one in made:
+        names: dict[str, float] = {}
+        pieces: list[int] = []
+        for place in one.pieces:
+            arc = arcs[place]
+            names[arc.name] = names.get(arc.name, 0) + arc.length
+            pieces += arc.pieces
+        one.name = max(names, key=lambda it: (it != "", names[it]))
+        one.pieces = tuple(pieces)
 
 
 def minutes(arc: Arc) -> int:
@@ -375,7 +411,7 @@ def coarse(
     for number, (ways, partly) in enumerate(search.all(sorted(kept), processes), 1):
         said(number, len(kept))
         gave_up += partly
-        found += [arc_of([arcs[it] for it in way], rules) for way, rules in ways]
+        found += [arc_of(arcs, way) for way in ways]
     return found, kept, gave_up
 
 
@@ -386,10 +422,16 @@ class Search:
     inherited: Optional[Search] = None
 
     def __init__(self, stars: Stars, kept: Collection[int]) -> None:
-        self.stars, self.kept = stars, kept
+        self.stars, self.kept, self.short = stars, kept, shortcuts.Graph(stars, kept)
 
     def ways(self, node: int) -> Ways:
-        return ways_from(node, self.stars, self.kept)
+        """Over the graph with shortcuts, and only where that doesn't decide over all arcs."""
+        stars, short, kept = self.stars, self.short, self.kept
+        found = ways_from(node, short.out, short.ruled, kept, shortcuts.MOST_WAYS, True)
+        if found:
+            return [(short.arcs(path), rules) for path, rules in found[0]], False
+        found = ways_from(node, stars.out, stars.ruled, kept, MOST_WAYS, False)
+        return found or ([], False)
 
     def all(self, nodes: list[int], processes: int) -> Iterator[Ways]:
         """Yields the ways from each node, in the order of the nodes."""

@@ -2,7 +2,10 @@
 from __future__ import annotations
 
 import argparse
+import collections
+import copy
 import csv
+import itertools
 import os
 import re
 import statistics
@@ -146,8 +149,8 @@ class Conversion:
 
     def run(self) -> Report:
         self.read()
-        self.estimate()
         self.find_countries()
+        self.estimate()
         self.make_network()
         self.make_coarse()
         self.make_nights()
@@ -218,25 +221,6 @@ class Conversion:
                 count=count,
             )
 
-    def estimate(self) -> None:
-        """Stops where the folder would be far too large."""
-        if len(self.extract.ways) < estimate.FEWEST_WAYS:
-            return
-        gap, most = self.options.coarse, estimate.Size(tables.MOST_NODES, tables.MOST_ARCS)
-        self.progress("estimating the size of the folder ..")
-        estimated = estimate.Estimate(self.extract, self.reading, list(self.speeds))
-        size = estimated.size(gap)
-        self.progress(f"the folder will have {size.text()}")
-        self.report.number("size of the folder, as estimated after reading", size.text())
-        if size.fits(most, tables.SURELY):
-            return
-        found = estimate.advice(estimated, gap, most, self.progress)
-        words = "; ".join(f"{word} would fit, with {it.text()}" for word, it in found)
-        raise Stop(
-            f"the folder would have {size.text()}, and lorry_plan reads {most.nodes:,} nodes and"
-            f" {most.arcs:,} arcs: {words or 'take a part of the extract, by --polygon'}"
-        )
-
     # Countries
 
     def find_countries(self) -> None:
@@ -296,24 +280,51 @@ class Conversion:
 
     # The network
 
+    def estimate(self) -> None:
+        """Stops where the folder would be far too large."""
+        if len(self.extract.ways) < estimate.FEWEST_WAYS:
+            return
+        gap, most = self.options.coarse, estimate.Size(tables.MOST_NODES, tables.MOST_ARCS)
+        self.progress("estimating the size of the folder ..")
+        places = self.places_to_wait(Report())
+        # The borders count what they are asked, and the report says so.
+        own = copy.copy(self.borders)
+        own.near = collections.Counter()
+        estimated = estimate.Estimate(
+            self.extract,
+            self.reading,
+            list(self.speeds),
+            places,
+            own.countries if self.areas_of else None,
+        )
+        size = estimated.size(gap)
+        self.progress(f"the folder will have {size.text()}")
+        self.report.number("size of the folder, as estimated after reading", size.text())
+        if size.fits(most, tables.SURELY):
+            return
+        found = estimate.advice(estimated, gap, most, self.progress)
+        words = "; ".join(f"{word} would fit, with {it.text()}" for word, it in found)
+        raise Stop(
+            f"the folder would have {size.text()}, and lorry_plan reads {most.nodes:,} nodes and"
+            f" {most.arcs:,} arcs: {words or 'take a part of the extract, by --polygon'}"
+        )
+
+    def places_to_wait(self, report: Report) -> list[sites.Site]:
+        """The depots, and the parking that is taken."""
+        any_parking, reading = self.options.any_parking, self.reading
+        found = (sites.site_of(*it, any_parking, reading, report) for it in self.extract.parking)
+        return self.depots + [site for site in found if site]
+
     def make_network(self) -> None:
-        options, report, found = self.options, self.report, self.extract
+        report, found = self.report, self.extract
         self.rules = roads.Rules()
         way_rules = self.way_rules = roads.WayRules(self.reading, self.rules, report, self.law_of)
         self.progress(f"{len(found.ways):,} drivable ways read")
-        self.sites = list(self.depots)
-        for tags, number, refs, x, y in found.parking:
-            site = sites.site_of(
-                tags, number, refs, x, y, options.any_parking, self.reading, report
-            )
-            if site:
-                self.sites.append(site)
+        self.sites = self.places_to_wait(report)
         keys = sites.nearest_refs(found, way_rules.is_usable, self.sites)
         restricted = turns.read(found, self.reading, report)
         keys |= restricted.keys() | self.law_changes
-        self.network = roads.build(
-            found, way_rules, keys, self.areas_of, self.default_area, self.progress
-        )
+        self.network = roads.build(found, way_rules, keys, self.areas_of, self.default_area)
         network = self.network
         expansion = turns.Expansion(network, self.rules, restricted)
         arcs, self.split = expansion.arcs(network.arcs), expansion.split
@@ -364,11 +375,7 @@ class Conversion:
         self.fine_arcs = self.arcs
         if not options.coarse:
             return
-        ends: dict[int, set[str]] = {}
-        for arc in self.arcs:
-            for node in (arc.tail, arc.head):
-                ends.setdefault(node, set()).add(arc.area)
-        fixed = {node for node, areas in ends.items() if len(areas) > 1} | {
+        fixed = roads.at_borders(self.arcs) | {
             site.node for site in self.sites if site.rating in sites.EXACT
         }
         unfit = {network.number[ref] for ref in self.extract.barriers if ref in network.number}
@@ -412,6 +419,7 @@ class Conversion:
         self.arcs = roads.within(arcs, nodes)
         if not self.arcs:
             raise Stop("nothing is left of so coarse a network: take fewer seconds by --coarse")
+        coarse.named(self.arcs, self.fine_arcs)
         self.move_sites(nodes, stars)
 
     def move_sites(self, nodes: AbstractSet[int], stars: coarse.Stars) -> None:
@@ -467,9 +475,9 @@ class Conversion:
         for piece in arc.pieces:
             places = self.network.piece_places(piece)
             way = self.extract.ways[self.network.way_of_piece(piece)]
-            forward, backward, _ = self.way_rules.known(way)[0]
+            forward, backward, _ = self.way_rules.known(way.tags)[0]
             speed = (forward if piece >= 0 else backward)[1]
-            speed = min(speed, self.way_rules.most(arc.area, way), night / 3.6)
+            speed = min(speed, self.way_rules.most(arc.area, way.tags), night / 3.6)
             length = roads.length_of(self.extract, min(places), max(places))
             time += max(1, round(length / speed * 1000))
         return time
@@ -480,18 +488,21 @@ class Conversion:
         network = self.network
         self.nodes = sorted({arc.tail for arc in self.arcs}, key=lambda node: network.refs[node])
         self.number_of = {node: number for number, node in enumerate(self.nodes, 1)}
-        self.arcs.sort(
-            key=lambda arc: (
-                self.number_of[arc.tail],
-                self.number_of[arc.head],
-                arc.time,
-                network.ways(arc),
-            )
-        )
+        self.arcs.sort(key=self.place_of)
+        # The ways decide only between arcs that are alike.
+        groups = (list(own) for _, own in itertools.groupby(self.arcs, self.place_of))
+        self.arcs = [
+            arc
+            for own in groups
+            for arc in (sorted(own, key=network.ways) if len(own) > 1 else own)
+        ]
         self.of_arc: list[int] = [
             self.rules.all(arc.rules) if isinstance(arc.rules, frozenset) else arc.rules
             for arc in self.arcs
         ]
+
+    def place_of(self, arc: Arc) -> tuple[int, int, int]:
+        return self.number_of[arc.tail], self.number_of[arc.head], arc.time
 
     def at_sites(self) -> dict[int, sites.Site]:
         """The site of each node that has one."""
@@ -574,7 +585,8 @@ class Conversion:
             folder,
             self.extract.xs,
             self.extract.ys,
-            ((round(arc.length), self.network.places(arc)) for arc in self.arcs),
+            (self.network.firsts, self.network.lasts),
+            ((round(arc.length), arc.pieces) for arc in self.arcs),
         )
         if not os.path.exists(os.path.join(folder, "vehicles.csv")):
             with open(

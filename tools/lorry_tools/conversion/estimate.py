@@ -1,7 +1,7 @@
 """How large the folder of an extract will be, by samples of its roads.
 
-Each sample has the ways that are nearest to a drawn one. What the conversion makes of its inner
-part, for each junction there, is what it makes of all."""
+Each sample has the ways that are nearest to a drawn one, with the places to wait along them. What
+the conversion makes of its inner part, for each junction there, is what it makes of all."""
 from __future__ import annotations
 
 import copy
@@ -11,9 +11,10 @@ from typing import Callable, Iterable, Iterator, NamedTuple, Optional
 
 import numpy
 
-from lorry_tools.conversion import access, coarse, roads
+from lorry_tools.conversion import access, coarse, roads, sites
 from lorry_tools.conversion.extract import Extract, Way
 from lorry_tools.conversion.report import Report
+from lorry_tools.conversion.sites import Site
 from lorry_tools.conversion.tags import Notes, Reading
 
 # Smaller extracts aren't looked at: no folder of so few ways is too large.
@@ -63,8 +64,16 @@ class Sample(NamedTuple):
 class Estimate:
     """The sizes of folders of an extract."""
 
-    def __init__(self, extract: Extract, reading: Reading, names: list[str]) -> None:
-        self.extract, self.names = extract, names
+    def __init__(
+        self,
+        extract: Extract,
+        reading: Reading,
+        names: list[str],
+        places: list[Site],
+        areas_of: Optional[roads.AreasOf] = None,
+    ) -> None:
+        self.extract, self.names, self.places = extract, names, places
+        self.areas_of = areas_of
         self.reading = copy.copy(reading)
         self.reading.notes, self.reading.flags = Notes(), set()
         self.samples = list(self.draw())
@@ -108,13 +117,22 @@ class Estimate:
         """The junctions of the inner part of a sample, and the size of what is made of them."""
         rules = roads.Rules()
         way_rules = roads.WayRules(self.reading, rules, Report())
-        network = roads.build(part, way_rules, set(), None, "", quiet)
+        near = places_along(part, self.places)
+        exact = sites.nearest_refs(
+            part, way_rules.is_usable, [it for it in near if it.rating in sites.EXACT]
+        )
+        keys = exact | sites.nearest_refs(part, way_rules.is_usable, near)
+        network = roads.build(part, way_rules, keys, self.areas_of, "other")
         count = len(network.refs)
+        fixed, kept = (
+            {network.number[it] for it in refs if it in network.number} for refs in (exact, keys)
+        )
         arcs = connected(count, network.arcs)
-        arcs = roads.without_continuations(count, arcs, set())
+        arcs = roads.without_continuations(count, arcs, kept)
         if gap and arcs:
+            fixed |= roads.at_borders(arcs)
             made, _, _ = coarse.coarse(
-                coarse.Stars(count, arcs), set(), set(), gap * 1000, lambda _: ignore
+                coarse.Stars(count, arcs), fixed, set(), gap * 1000, lambda _: ignore
             )
             usable = [it for it in made if not access.is_shut(rules.lists[rules.all(it.rules)])]
             arcs = coarse.without_detours(usable, network.xs, network.ys, ignore)
@@ -122,7 +140,9 @@ class Estimate:
         def is_inner(node: int) -> bool:
             return sample.has(network.xs[node], network.ys[node])
 
-        known = (network.number[it] for it in roads.junctions(part.refs) if it in network.number)
+        known = (
+            network.number[it] for it in roads.junctions(part.refs).tolist() if it in network.number
+        )
         tails = [arc.tail for arc in arcs if is_inner(arc.tail)]
         return sum(map(is_inner, known)), Size(len(set(tails)), len(tails))
 
@@ -140,6 +160,12 @@ def connected(count: int, arcs: list[roads.Arc]) -> list[roads.Arc]:
     return found
 
 
+def places_along(part: Extract, places: list[Site]) -> list[Site]:
+    """The places to wait that are within the box of some ways."""
+    (west, east), (south, north) = ((min(it), max(it)) for it in (part.xs, part.ys))
+    return [it for it in places if west <= it.x <= east and south <= it.y <= north]
+
+
 def part_of(extract: Extract, ways: list[Way]) -> Extract:
     """An extract of some ways."""
     part = Extract()
@@ -149,12 +175,8 @@ def part_of(extract: Extract, ways: list[Way]) -> Extract:
         part.refs.extend(extract.refs[way.first : way.last])
         part.xs.extend(extract.xs[way.first : way.last])
         part.ys.extend(extract.ys[way.first : way.last])
-        part.ways.append(Way(way.number, way.tags, way.name, first, len(part.refs)))
+        part.ways.append(way.number, way.tags, way.name, first, len(part.refs))
     return part
-
-
-def quiet(text: str) -> None:
-    """Says nothing."""
 
 
 def ignore(done: int, whole: int) -> None:

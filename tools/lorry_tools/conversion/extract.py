@@ -1,19 +1,21 @@
 """What an OpenStreetMap extract says that roads need: ways with their nodes, barriers, parking,
 places, borders.
 
-The extract is read twice by pyosmium: for its relations, and for its nodes and ways."""
+The extract is read twice: by pyosmium for its relations, and then for its nodes and ways, of an
+.osm.pbf file by numpy."""
 from __future__ import annotations
 
 import array
 import collections
 import re
-import sys
-from typing import AbstractSet, Any, Callable, Mapping, Optional
+from typing import AbstractSet, Any, Callable, Iterator, Mapping, Optional
 
+import numpy
 import osmium
 
-from lorry_tools.conversion import tags as road_tags
+from lorry_tools.conversion import pbf, tags as road_tags
 from lorry_tools.conversion.borders import Line
+from lorry_tools.conversion.pbf import NO_PLACE, FoundWay
 from lorry_tools.conversion.tags import Tags
 from lorry_tools.laws.section import refs_in
 
@@ -21,8 +23,6 @@ TagPairs = tuple[tuple[str, str], ...]
 # Tags, the number of the object, its nodes, and its place.
 Parking = tuple[Tags, int, list[int], int, int]
 
-# Coordinates are whole numbers of 1e-7 degrees, as in OpenStreetMap's database; this one is none.
-NO_PLACE = 2147483647
 PLACES = ("city", "town", "village")
 WALLS = {
     "bollard",
@@ -90,6 +90,13 @@ LET_IN = {"yes", "designated", "permissive", "destination", "delivery", "officia
 # The keys that say that motor vehicles of our classes are let in.
 DRIVEN = ("access", "vehicle", "motor_vehicle", "goods", "hgv", "bus")
 FERRIES = ("ferry", "shuttle_train")
+# The keys without one of which a node or a way says nothing here.
+NODE_KEYS = frozenset(
+    ("barrier", "hazmat", "highway", "amenity", "hgv:parking", "place", *road_tags.LIMITS)
+)
+WAY_KEYS = frozenset(("highway", "amenity", "route", "hgv:parking", "boundary"))
+# The largest coordinates.
+FARTHEST_X, FARTHEST_Y = 1_800_000_000, 900_000_000
 # Keys that say what a way is.
 OWN_KEYS = ("highway", "junction", "route", "duration", "motorroad")
 
@@ -125,6 +132,47 @@ class Way:
         self.number, self.tags, self.name, self.first, self.last = number, tags, name, first, last
 
 
+class Ways:
+    """The drivable ways, by columns; an item is made when it is asked for."""
+
+    def __init__(self) -> None:
+        self.numbers, self.firsts, self.lasts = (array.array("q") for _ in range(3))
+        # Tags and names by their places in lists that have each once.
+        self.tags_of, self.names_of = array.array("i"), array.array("i")
+        self.tags: list[TagPairs] = []
+        self.names: list[str] = []
+        self.place_of_tags: dict[TagPairs, int] = {}
+        self.place_of_name: dict[str, int] = {}
+
+    def append(self, number: int, tags: TagPairs, name: str, first: int, last: int) -> None:
+        if tags not in self.place_of_tags:
+            self.place_of_tags[tags] = len(self.tags)
+            self.tags.append(tags)
+        if name not in self.place_of_name:
+            self.place_of_name[name] = len(self.names)
+            self.names.append(name)
+        self.numbers.append(number)
+        self.tags_of.append(self.place_of_tags[tags])
+        self.names_of.append(self.place_of_name[name])
+        self.firsts.append(first)
+        self.lasts.append(last)
+
+    def __len__(self) -> int:
+        return len(self.numbers)
+
+    def __getitem__(self, at: int) -> Way:
+        return Way(
+            self.numbers[at],
+            self.tags[self.tags_of[at]],
+            self.names[self.names_of[at]],
+            self.firsts[at],
+            self.lasts[at],
+        )
+
+    def __iter__(self) -> Iterator[Way]:
+        return map(self.__getitem__, range(len(self)))
+
+
 class Restriction:
     """A turn restriction: its number, tags, ways in, nodes and ways out, and whether it has ways
     between them."""
@@ -151,10 +199,8 @@ class Extract:
         self.counts: collections.Counter[str] = collections.Counter()
         self.classes: collections.Counter[str] = collections.Counter()
         self.other_keys: collections.Counter[str] = collections.Counter()
-        self.ways: list[Way] = []
+        self.ways = Ways()
         self.refs, self.xs, self.ys = array.array("q"), array.array("i"), array.array("i")
-        # Relevant tags are kept once for all ways that have the same.
-        self.tags: dict[TagPairs, TagPairs] = {}
         self.barriers: dict[int, Tags] = {}
         # The names of the junctions of motorways, at their nodes.
         self.exits: dict[int, str] = {}
@@ -224,95 +270,68 @@ class Relations(osmium.SimpleHandler):
             )
 
 
-class NodesAndWays(osmium.SimpleHandler):
-    def __init__(
-        self,
-        found: Extract,
-        parts_of_parking: Mapping[int, int],
-        choice: Choice,
-        progress: Callable[[str], None],
-    ) -> None:
-        super().__init__()
-        self.found, self.choice, self.progress = found, choice, progress
+class NodesAndWays:
+    """Takes the nodes and ways of an extract."""
+
+    def __init__(self, found: Extract, parts_of_parking: Mapping[int, int], choice: Choice) -> None:
+        self.found, self.choice = found, choice
         self.parts_of_parking = parts_of_parking
         self.parts: dict[int, list[tuple[int, int, int]]] = {}
-        self.nodes = self.all_ways = 0
+        self.is_relevant: dict[str, bool] = {}
 
-    def node(self, node: Any) -> None:
-        self.nodes += 1
-        if self.nodes % 1_000_000 == 0:
-            self.progress(f"{self.nodes:,} nodes read")
-        if not len(node.tags):
-            return
+    def node(self, number: int, tags: Tags, x: int, y: int) -> None:
         found = self.found
-        tags = {tag.k: tag.v for tag in node.tags}
-        location = node.location
-        if not location.valid():
+        if abs(x) > FARTHEST_X or abs(y) > FARTHEST_Y:
             return
         if "barrier" in tags or any(key in tags for key in road_tags.LIMITS) or "hazmat" in tags:
-            found.barriers[node.id] = {
+            found.barriers[number] = {
                 key: tags[key] for key in tags if key == "barrier" or road_tags.is_relevant(key)
             }
         if tags.get("highway") == "motorway_junction" and "name" in tags:
-            found.exits[node.id] = tags["name"]
+            found.exits[number] = tags["name"]
         if tags.get("barrier") == "toll_booth" or tags.get("highway") == "toll_gantry":
             found.toll_points[tags.get("barrier") or tags["highway"]] += 1
         if is_parking(tags):
             found.parking.append(
                 (
                     {key: tags[key] for key in PARKING_TAGS if key in tags},
-                    node.id,
-                    [node.id],
-                    location.x,
-                    location.y,
+                    number,
+                    [number],
+                    x,
+                    y,
                 )
             )
         if tags.get("place") in PLACES and "name" in tags:
-            found.places.append((PLACES.index(tags["place"]), tags["name"], location.x, location.y))
+            found.places.append((PLACES.index(tags["place"]), tags["name"], x, y))
 
-    def way(self, way: Any) -> None:
-        found = self.found
-        self.all_ways += 1
-        if self.all_ways % 200_000 == 0:
-            self.progress(f"{self.all_ways:,} ways read")
-        if way.id in found.border_ways:
-            found.border_ways[way.id] = [(it.x, it.y) for it in way.nodes if it.x != NO_PLACE]
-        number = self.parts_of_parking.get(way.id)
+    def way(self, way: FoundWay) -> None:
+        found, tags = self.found, way.tags
+        if way.number in found.border_ways:
+            found.border_ways[way.number] = line_of(way)
+        number = self.parts_of_parking.get(way.number)
         if number is not None:
-            self.parts.setdefault(number, []).extend(
-                (it.ref, it.x, it.y) for it in way.nodes if it.x != NO_PLACE
-            )
-        highway = way.tags.get("highway")
-        if (
-            highway is None
-            and "amenity" not in way.tags
-            and "route" not in way.tags
-            and "hgv:parking" not in way.tags
-            and "boundary" not in way.tags
-        ):
+            self.parts.setdefault(number, []).extend(nodes_of(way))
+        if WAY_KEYS.isdisjoint(tags):
             return
-        tags = {tag.k: tag.v for tag in way.tags}
         if is_parking(tags):
-            nodes = [(it.ref, it.x, it.y) for it in way.nodes if it.x != NO_PLACE]
+            nodes = nodes_of(way)
             if nodes:
-                found.parking.append(parking_of(tags, way.id, nodes))
-        country = country_of(tags)
-        if (
-            tags.get("boundary") == "administrative"
-            and country
-            and len(way.nodes) > 3
-            and way.nodes[0].ref == way.nodes[-1].ref
-        ):
-            found.border_ways[way.id] = [(it.x, it.y) for it in way.nodes if it.x != NO_PLACE]
-            found.borders.append((country, [way.id]))
-        if tags.get("route") in FERRIES and not highway:
-            self.ferry(way, tags)
+                found.parking.append(parking_of(tags, way.number, nodes))
+        if tags.get("boundary") == "administrative":
+            country = country_of(tags)
+            if country and len(way.refs) > 3 and way.refs[0] == way.refs[-1]:
+                found.border_ways[way.number] = line_of(way)
+                found.borders.append((country, [way.number]))
+        highway = tags.get("highway")
         if highway:
-            self.road(way, highway, tags)
+            self.road(way, highway)
+        elif tags.get("route") in FERRIES:
+            self.ferry(way)
 
-    def ferry(self, way: Any, tags: Tags) -> None:
+    def ferry(self, way: FoundWay) -> None:
         """Takes a ferry for motor vehicles whose duration is known."""
-        what = f"{tags['route']} {tags.get('name', '')} (way {way.id})"
+        tags = way.tags
+        what = f"{tags['route']} {tags.get('name', '')} (way {way.number})"
         if not self.choice.ferries:
             self.found.ferries["ferries and trains for vehicles (--ferries out)"].append(what)
         elif not any(tags.get(key) in LET_IN or f"{key}:conditional" in tags for key in DRIVEN):
@@ -320,62 +339,114 @@ class NodesAndWays(osmium.SimpleHandler):
         elif road_tags.duration_of(tags.get("duration", "")) is None:
             self.found.ferries["ferries and trains for vehicles without a duration"].append(what)
         else:
-            self.line(way, tags)
+            self.line(way)
 
-    def road(self, way: Any, highway: str, tags: Tags) -> None:
-        reason = self.choice.leaves_out(highway, tags)
+    def road(self, way: FoundWay, highway: str) -> None:
+        reason = self.choice.leaves_out(highway, way.tags)
         if reason:
             self.found.classes[reason] += 1
         else:
-            self.line(way, tags)
+            self.line(way)
 
-    def line(self, way: Any, tags: Tags) -> None:
+    def line(self, way: FoundWay) -> None:
         """Takes a way with its nodes and its relevant tags."""
-        found = self.found
-        first = len(found.refs)
-        outside = 0
-        parts: list[tuple[int, int]] = []
-        inside = self.choice.inside
-        for node in way.nodes:
-            place = node.location
-            x, y = place.x, place.y
-            if x == NO_PLACE:
-                outside += 1
-                continue
-            if inside and not inside(x, y):
-                first = self.end_part(first, parts)
-                continue
-            found.refs.append(node.ref)
-            found.xs.append(x)
-            found.ys.append(y)
-        self.end_part(first, parts)
-        if outside:
+        found, tags = self.found, way.tags
+        if not way.is_whole:
             found.counts["drivable ways with nodes outside the extract"] += 1
+        parts = list(self.taken(way))
         if not parts:
             found.counts["drivable ways of less than two nodes"] += 1
             return
         pairs = []
         for key in tags:
-            if key in OWN_KEYS or road_tags.is_relevant(key):
+            if self.is_kept(key):
                 pairs.append((key, tags[key]))
             elif key == "ref" and self.choice.refs and self.choice.refs & refs_in(tags[key]):
                 pairs.append((key, tags[key]))
             else:
                 found.other_keys[key] += 1
         kept = tuple(sorted(pairs))
-        kept = found.tags.setdefault(kept, kept)
-        name = sys.intern(" ".join(tags[key] for key in ("ref", "name") if key in tags))
+        name = " ".join(tags[key] for key in ("ref", "name") if key in tags)
         found.counts["drivable ways"] += 1
-        found.ways += [Way(way.id, kept, name, first, last) for first, last in parts]
+        for first, last in parts:
+            found.ways.append(way.number, kept, name, first, last)
 
-    def end_part(self, first: int, parts: list[tuple[int, int]]) -> int:
-        """Ends a part of a way that begins at a place of the arrays, and returns the next place."""
+    def is_kept(self, key: str) -> bool:
+        if key not in self.is_relevant:
+            self.is_relevant[key] = key in OWN_KEYS or road_tags.is_relevant(key)
+        return self.is_relevant[key]
+
+    def taken(self, way: FoundWay) -> Iterator[tuple[int, int]]:
+        """Takes the nodes of a way that are there and within the polygon, and yields the places of
+        its parts in the arrays."""
+        found, inside = self.found, self.choice.inside
+        first = len(found.refs)
+        if way.is_whole and not inside:
+            if len(way.refs) > 1:
+                for column, own in ((found.refs, way.refs), (found.xs, way.xs), (found.ys, way.ys)):
+                    column.frombytes(own.tobytes())
+                yield first, len(found.refs)
+            return
+        for ref, x, y in nodes_of(way):
+            if inside and not inside(x, y):
+                yield from self.part(first)
+                first = len(found.refs)
+                continue
+            found.refs.append(ref)
+            found.xs.append(x)
+            found.ys.append(y)
+        yield from self.part(first)
+
+    def part(self, first: int) -> Iterator[tuple[int, int]]:
+        """Yields a part of a way that begins at a place of the arrays, or takes it out again."""
         found = self.found
         if len(found.refs) - first > 1:
-            parts.append((first, len(found.refs)))
+            yield first, len(found.refs)
         else:
             del found.refs[first:], found.xs[first:], found.ys[first:]
-        return len(found.refs)
+
+
+def nodes_of(way: FoundWay) -> list[tuple[int, int, int]]:
+    """The nodes of a way that are there, with their coordinates."""
+    every = zip(way.refs.tolist(), way.xs.tolist(), way.ys.tolist())
+    return [it for it in every if it[1] != NO_PLACE]
+
+
+def line_of(way: FoundWay) -> Line:
+    return [(x, y) for _, x, y in nodes_of(way)]
+
+
+class Handler(osmium.SimpleHandler):
+    """Hands nodes and ways on from pyosmium."""
+
+    def __init__(
+        self, taker: NodesAndWays, wanted: pbf.Wanted, progress: Callable[[str], None]
+    ) -> None:
+        super().__init__()
+        self.taker, self.wanted, self.progress = taker, wanted, progress
+        self.nodes = self.ways = 0
+
+    def node(self, node: Any) -> None:
+        self.nodes += 1
+        if self.nodes % 1_000_000 == 0:
+            self.progress(f"{self.nodes:,} nodes read")
+        if len(node.tags) and node.location.valid():
+            tags = {tag.k: tag.v for tag in node.tags}
+            self.taker.node(node.id, tags, node.location.x, node.location.y)
+
+    def way(self, way: Any) -> None:
+        self.ways += 1
+        if self.ways % 200_000 == 0:
+            self.progress(f"{self.ways:,} ways read")
+        if not any(key in way.tags for key in WAY_KEYS) and not self.wanted.has_way(way.id):
+            return
+        tags = {tag.k: tag.v for tag in way.tags}
+        places = [(it.ref, it.location) for it in way.nodes]
+        refs = numpy.array([ref for ref, _ in places], dtype=numpy.int64)
+        xs = numpy.array([it.x for _, it in places], dtype=numpy.int32)
+        ys = numpy.array([it.y for _, it in places], dtype=numpy.int32)
+        is_whole = bool((xs != NO_PLACE).all())
+        self.taker.way(FoundWay(way.id, tags, refs, xs, ys, is_whole))
 
 
 def parking_of(tags: Tags, number: int, nodes: list[tuple[int, int, int]]) -> Parking:
@@ -425,25 +496,50 @@ def read(
     path: str, choice: Choice, wants_borders: bool, progress: Callable[[str], None]
 ) -> Extract:
     """Reads an extract; raises RuntimeError where pyosmium can't."""
+    if path.endswith(".pbf"):
+        try:
+            return read_by(path, choice, wants_borders, progress, True)
+        except pbf.Unusual:
+            pass
+    return read_by(path, choice, wants_borders, progress, False)
+
+
+def read_by(
+    path: str,
+    choice: Choice,
+    wants_borders: bool,
+    progress: Callable[[str], None],
+    by_numpy: bool,
+) -> Extract:
     found = Extract()
     relations = Relations(found, wants_borders)
     reader = osmium.io.Reader(path, osmium.osm.osm_entity_bits.RELATION)
     osmium.apply(reader, relations)
     reader.close()
     parts = {way: number for number, (_, ways) in enumerate(relations.parking) for way in ways}
-    handler = NodesAndWays(found, parts, choice, progress)
-    handler.apply_file(path, locations=True)
-    found.counts["nodes"], found.counts["ways"] = handler.nodes, handler.all_ways
-    for number, nodes in handler.parts.items():
+    taker = NodesAndWays(found, parts, choice)
+    found.counts["nodes"], found.counts["ways"] = read_with(path, taker, progress, by_numpy)
+    for number, nodes in taker.parts.items():
         found.parking.append(parking_of(relations.parking[number][0], -number - 1, nodes))
     return found
 
 
+def read_with(
+    path: str, taker: NodesAndWays, progress: Callable[[str], None], by_numpy: bool
+) -> tuple[int, int]:
+    """Hands the nodes and ways of an extract on, and returns how many it has."""
+    wanted = pbf.Wanted(NODE_KEYS, WAY_KEYS, (taker.found.border_ways, taker.parts_of_parking))
+    if by_numpy:
+        file = pbf.File(wanted, taker.node, progress)
+        for way in file.read(path):
+            taker.way(way)
+        return file.nodes, file.ways
+    handler = Handler(taker, wanted, progress)
+    handler.apply_file(path, locations=True)
+    return handler.nodes, handler.ways
+
+
 def read_borders(path: str) -> tuple[list[tuple[str, list[int]]], dict[int, Optional[Line]]]:
     """Reads only the borders of another file."""
-    found = Extract()
-    reader = osmium.io.Reader(path, osmium.osm.osm_entity_bits.RELATION)
-    osmium.apply(reader, Relations(found, True))
-    reader.close()
-    NodesAndWays(found, {}, Choice({}, False), lambda text: None).apply_file(path, locations=True)
+    found = read(path, Choice({}, False), True, lambda text: None)
     return found.borders, found.border_ways

@@ -10,6 +10,7 @@ has an example, and says what the folder isn't good for."""
 from __future__ import annotations
 
 import argparse
+import gc
 import os
 
 from lorry_tools.conversion import holiday_rows
@@ -194,6 +195,8 @@ def main() -> int:
         words.error(f"years go from 1972 to {zone_rows.LAST_YEAR - 1}, the first one first")
     if not os.path.exists(options.extract):
         raise Problem(f"there is no file {options.extract}", 1)
+    # A conversion makes no cycles, and each look for some would pass millions of objects.
+    gc.disable()
     try:
         report = convert.Conversion(options, convert.say).run()
     except (convert.Stop, tables.TooLarge) as error:

@@ -3,6 +3,7 @@ tolls."""
 from __future__ import annotations
 
 import array
+import bisect
 import math
 from typing import (
     AbstractSet,
@@ -11,6 +12,7 @@ from typing import (
     Collection,
     Iterable,
     Iterator,
+    Mapping,
     Optional,
     Sequence,
     TypeVar,
@@ -20,7 +22,7 @@ import numpy
 
 from lorry_tools.conversion import access, speeds, tags as road_tags
 from lorry_tools.conversion.access import CLOSED, OPEN, Lists
-from lorry_tools.conversion.extract import PASSED, WALLS, Extract, TagPairs, Way
+from lorry_tools.conversion.extract import PASSED, WALLS, Extract, TagPairs, Way, Ways
 from lorry_tools.conversion.report import Report
 from lorry_tools.conversion.tags import Said, Tags
 
@@ -31,8 +33,6 @@ RulesOf = Any
 DirectionSays = tuple[Optional[int], float]
 # Both directions, and whether a toll is due.
 WaySays = tuple[DirectionSays, DirectionSays, bool]
-# The two ends of a piece of a way, its length and area, and its number.
-Piece = tuple[int, int, float, str, int]
 # From the coordinates of places, as arrays, to the codes of their countries.
 AreasOf = Callable[[Any, Any], list[Optional[str]]]
 # A step of a way: the way's place in the extract's list, and that of the step's first node in the
@@ -42,6 +42,8 @@ Step = tuple[int, int]
 LawOf = Callable[[TagPairs, str, Step], Lists]
 
 ALL_OPEN: Lists = (OPEN,) * 4
+# From how many nodes at most the largest component is looked for in a fast way.
+TRIED = 5
 # Ferries have areas of their own, since no law for roads holds on them.
 FERRY_AREA = ".ferry"
 
@@ -145,38 +147,46 @@ class WayRules:
         found = work()
         return found, list(self.reading.notes.said)
 
-    def of_way(self, way: Way) -> WaySays:
-        """For each direction: the number of the rules, None where nobody is ever let in, and the
-        speed in metres a second, 0 for a ferry. Then whether a toll is due."""
-        found, said = self.known(way)
-        for kind, what, example in said:
-            self.report.add(kind, what, example, f"way {way.number}")
-        return found
+    def note(self, ways: Ways) -> None:
+        """Reports what was noted of the tags of some ways, and the ways that nobody may use."""
+        tags_of = numpy.frombuffer(ways.tags_of, dtype=numpy.intc)
+        counts = numpy.bincount(tags_of, minlength=len(ways.tags)).tolist()
+        firsts = numpy.unique(tags_of, return_index=True)[1].tolist()
+        for tags, count, first in zip(ways.tags, counts, firsts):
+            where = f"way {ways.numbers[first]}"
+            for kind, what, example in self.known(tags)[1]:
+                self.report.add(kind, what, example, where, count)
+            if not self.is_usable(tags):
+                words = (f"{key}={it}" for key, it in tags if key not in ("junction", "maxspeed"))
+                text = " ".join(words)
+                self.report.add("left out", "roads that nobody may ever use", text, where, count)
 
-    def known(self, way: Way) -> tuple[WaySays, list[Said]]:
-        if way.tags not in self.ways:
-            tags = dict(way.tags)
-            self.ways[way.tags] = self.read(lambda: self.way(tags))
-        return self.ways[way.tags]
+    def known(self, tags: TagPairs) -> tuple[WaySays, list[Said]]:
+        """What the tags of a way say for each direction: the number of the rules, None where nobody
+        is ever let in, and the speed in metres a second, 0 for a ferry. Then whether a toll is due.
+        And the notes."""
+        if tags not in self.ways:
+            self.ways[tags] = self.read(lambda: self.way(dict(tags)))
+        return self.ways[tags]
 
-    def with_law(self, rules: int, way: Way, area: str, step: Step) -> int:
+    def with_law(self, rules: int, tags: TagPairs, area: str, step: Step) -> int:
         """These rules, and the law of the sections of an area that a piece of a way is on, which
         begins with a step."""
         if not self.law_of or area.endswith(FERRY_AREA):
             return rules
-        lists = self.law_of(way.tags, area, step)
+        lists = self.law_of(tags, area, step)
         return rules if lists == ALL_OPEN else self.rules.both(rules, self.rules.of(lists))
 
-    def most(self, area: str, way: Way) -> float:
+    def most(self, area: str, tags: TagPairs) -> float:
         """The highest speed of our vehicles on a way in an area, in metres a second."""
-        key = area, way.tags
+        key = area, tags
         if key not in self.most_known:
-            self.most_known[key] = speeds.most(self.reading.mode, area, dict(way.tags)) / 3.6
+            self.most_known[key] = speeds.most(self.reading.mode, area, dict(tags)) / 3.6
         return self.most_known[key]
 
-    def is_usable(self, way: Way) -> bool:
+    def is_usable(self, tags: TagPairs) -> bool:
         """Whether somebody may drive a way in some direction; nothing is noted."""
-        forward, backward, _ = self.known(way)[0]
+        forward, backward, _ = self.known(tags)[0]
         return forward[0] is not None or backward[0] is not None
 
     def way(self, tags: Tags) -> WaySays:
@@ -242,18 +252,63 @@ class WayRules:
         return None if access.is_shut(lists) else self.rules.of(lists)
 
 
+class Numbers(Mapping[int, int]):
+    """The number of each node of OpenStreetMap that the network has."""
+
+    def __init__(self, refs: Any) -> None:
+        order = numpy.argsort(refs)
+        self.refs = array.array("q", refs[order].tobytes())
+        self.nodes = array.array("i", order.astype(numpy.intc).tobytes())
+
+    def __getitem__(self, ref: int) -> int:
+        at = bisect.bisect_left(self.refs, ref)
+        if at == len(self.refs) or self.refs[at] != ref:
+            raise KeyError(ref)
+        return self.nodes[at]
+
+    def __iter__(self) -> Iterator[int]:
+        return iter(self.refs)
+
+    def __len__(self) -> int:
+        return len(self.refs)
+
+
 class Network:
     """Nodes are numbered from 0 by their place in `refs`; `xs` and `ys` are their coordinates. A
-    piece of a way has its first and last place in the arrays of the extract, and its way."""
+    piece of a way has its first and last place in the arrays of the extract, its way, and its ends
+    `tails` and `heads`."""
 
     def __init__(self) -> None:
         self.firsts, self.lasts = array.array("q"), array.array("q")
         self.way_of = array.array("q")
-        self.refs: list[int] = []
-        self.xs: list[int] = []
-        self.ys: list[int] = []
-        self.number: dict[int, int] = {}
+        self.refs, self.xs, self.ys = array.array("q"), array.array("i"), array.array("i")
+        self.number = Numbers(numpy.zeros(0, dtype=numpy.int64))
         self.arcs: list[Arc] = []
+
+    def add(self, extract: Extract, pieces: Pieces) -> None:
+        """Adds the pieces of ways; their ends are numbered as they come."""
+        for column, own in (
+            (self.firsts, pieces.firsts),
+            (self.lasts, pieces.lasts),
+            (self.way_of, pieces.ways),
+        ):
+            column.frombytes(own.astype(numpy.int64).tobytes())
+        at = numpy.column_stack((pieces.firsts, pieces.lasts)).reshape(-1)
+        refs = numpy.frombuffer(extract.refs, dtype=numpy.int64)
+        names, firsts, back = numpy.unique(refs[at], return_index=True, return_inverse=True)
+        order = numpy.argsort(firsts)
+        number = numpy.empty(len(order), dtype=int)
+        number[order] = numpy.arange(len(order))
+        ends = number[back].reshape(-1, 2)
+        self.tails, self.heads = ends[:, 0], ends[:, 1]
+        places = at[firsts[order]]
+        for column, own in (
+            (self.refs, names[order]),
+            (self.xs, numpy.frombuffer(extract.xs, dtype=numpy.intc)[places]),
+            (self.ys, numpy.frombuffer(extract.ys, dtype=numpy.intc)[places]),
+        ):
+            column.frombytes(own.tobytes())
+        self.number = Numbers(names[order])
 
     def ways(self, arc: Arc) -> tuple[int, ...]:
         """The ways of an arc, as places in the extract's list, each once in its order."""
@@ -269,95 +324,44 @@ class Network:
         self.ys.append(self.ys[node])
         return len(self.refs) - 1
 
-    def places(self, arc: Arc) -> list[range]:
-        """The places of an arc's points in the arrays of the extract, piece by piece."""
-        return [self.piece_places(it) for it in arc.pieces]
-
     def piece_places(self, piece: int) -> range:
+        """The places of a piece's points in the arrays of the extract."""
         if piece >= 0:
             return range(self.firsts[piece], self.lasts[piece] + 1)
         return range(self.lasts[-1 - piece], self.firsts[-1 - piece] - 1, -1)
 
-    def node(self, ref: int, x: int, y: int) -> int:
-        found = self.number.get(ref)
-        if found is None:
-            found = self.number[ref] = len(self.refs)
-            self.refs.append(ref)
-            self.xs.append(x)
-            self.ys.append(y)
-        return found
+
+def junctions(refs: Any) -> Any:
+    """The nodes that several drivable ways have, or one has twice, by the nodes of all ways, as an
+    array."""
+    ordered = numpy.sort(numpy.frombuffer(refs, dtype=numpy.int64))
+    return numpy.unique(ordered[1:][ordered[1:] == ordered[:-1]])
 
 
-def junctions(refs: Iterable[int]) -> set[int]:
-    """The nodes that several drivable ways have, or one has twice, by the nodes of all ways."""
-    ordered = numpy.sort(numpy.fromiter(refs, dtype=numpy.int64))
-    found: list[int] = ordered[1:][ordered[1:] == ordered[:-1]].tolist()
-    return set(found)
-
-
-def cut(
-    network: Network,
-    extract: Extract,
-    way: Way,
-    place: int,
-    keys: AbstractSet[int],
-    areas: Optional[Sequence[Optional[str]]],
-    default_area: str,
-    steps: Sequence[float],
-) -> Iterator[Piece]:
-    """Yields the pieces of a way, which has this place in the extract's list, between nodes of the
-    network: their ends, length, area and number. One that crosses a border is cut there."""
-    start = way.first
-    length = 0.0
-    refs = extract.refs
-    area = None
-    for at in range(way.first + 1, way.last):
-        step = steps[at - 1]
-        if areas:
-            here = areas[at - 1] or default_area
-            if area is not None and here != area:
-                yield piece(network, extract, place, start, at - 1, length, area)
-                start, length = at - 1, 0.0
-            area = here
-        length += step
-        if refs[at] in keys or at == way.last - 1:
-            yield piece(network, extract, place, start, at, length, area or default_area)
-            start, length, area = at, 0.0, None
-
-
-def piece(
-    network: Network, extract: Extract, way: int, start: int, end: int, length: float, area: str
-) -> Piece:
-    ends = [network.node(extract.refs[at], extract.xs[at], extract.ys[at]) for at in (start, end)]
-    network.firsts.append(start)
-    network.lasts.append(end)
-    network.way_of.append(way)
-    return ends[0], ends[1], length, area, len(network.firsts) - 1
-
-
-def steps_of(extract: Extract) -> Sequence[float]:
+def steps_of(extract: Extract) -> Any:
     """The metres from each place of the extract's arrays to the next one."""
     xs, ys = (numpy.frombuffer(it, dtype=numpy.intc) for it in (extract.xs, extract.ys))
     wide = numpy.cos(numpy.radians((ys[:-1].astype(float) + ys[1:]) / 2e7))
     found = numpy.hypot((xs[1:].astype(float) - xs[:-1]) * wide, ys[1:].astype(float) - ys[:-1])
-    return array.array("d", (found * 0.0111194927).tobytes())
+    return found * 0.0111194927
 
 
-def areas_of_steps(extract: Extract, ways: Iterable[Way], areas_of: AreasOf) -> list[Optional[str]]:
-    """The area in the middle of each step of some ways, by the place where the step begins."""
-    is_asked = numpy.zeros(len(extract.refs), dtype=bool)
-    for way in ways:
-        is_asked[way.first : way.last - 1] = True
+def areas_of_steps(
+    extract: Extract, is_asked: Any, areas_of: AreasOf, default: str
+) -> tuple[Any, list[str]]:
+    """The number of the area in the middle of each step that is asked for, by the place where the
+    step begins, and the areas by their numbers."""
     asked = numpy.flatnonzero(is_asked)
     xs, ys = (
         numpy.frombuffer(it, dtype=numpy.intc).astype(numpy.int64)
         for it in (extract.xs, extract.ys)
     )
-    found: list[Optional[str]] = [None] * len(extract.refs)
+    names: dict[str, int] = {}
     codes = areas_of((xs[asked] + xs[asked + 1]) // 2, (ys[asked] + ys[asked + 1]) // 2)
-    for at, code in zip(asked.tolist(), codes):
-        found[at] = code
-    return found
+    numbers = [names.setdefault(code or default, len(names)) for code in codes]
+    found = numpy.zeros(len(extract.refs), dtype=numpy.intc)
+    found[asked] = numbers
+    return found, list(names)
 
 
 def ferry_speed(extract: Extract, way: Way) -> float:
@@ -381,78 +385,234 @@ def country_of(area: str) -> str:
     return area.split(".")[0]
 
 
+class Pieces:
+    """The pieces of ways between nodes of the network, by columns: the places of their ends in the
+    arrays of the extract, their ways, metres and areas. One that crosses a border is cut there."""
+
+    def __init__(
+        self,
+        extract: Extract,
+        is_usable: Any,
+        wanted: Any,
+        areas_of: Optional[AreasOf],
+        default_area: str,
+    ) -> None:
+        ways = extract.ways
+        firsts, lasts = (
+            numpy.frombuffer(it, dtype=numpy.int64) for it in (ways.firsts, ways.lasts)
+        )
+        way_of = numpy.repeat(numpy.arange(len(ways)), lasts - firsts)
+        is_used = is_usable[way_of]
+        refs = numpy.frombuffer(extract.refs, dtype=numpy.int64)
+        is_break = is_in(refs, wanted)
+        is_end = numpy.zeros(len(refs), dtype=bool)
+        is_end[firsts] = True
+        is_end[lasts - 1] = True
+        self.areas = [default_area]
+        area_of = None
+        if areas_of:
+            is_step = is_used.copy()
+            is_step[lasts - 1] = False
+            area_of, self.areas = areas_of_steps(extract, is_step, areas_of, default_area)
+            is_break[1:] |= (area_of[1:] != area_of[:-1]) & ~is_end[1:]
+        at = numpy.flatnonzero((is_break | is_end) & is_used)
+        own = way_of[at]
+        is_piece = own[1:] == own[:-1]
+        self.firsts, self.lasts, self.ways = at[:-1][is_piece], at[1:][is_piece], own[1:][is_piece]
+        self.area = numpy.zeros(len(self.firsts), dtype=numpy.intc)
+        if area_of is not None:
+            self.area = area_of[self.firsts]
+        self.metres = sums(steps_of(extract), self.firsts, self.lasts)
+
+
+def is_in(values: Any, ordered: Any) -> Any:
+    """Which of some values are among others, which are in their order."""
+    if not len(ordered):
+        return numpy.zeros(len(values), dtype=bool)
+    at = numpy.minimum(numpy.searchsorted(ordered, values), len(ordered) - 1)
+    return ordered[at] == values
+
+
+def sums(values: Any, firsts: Any, lasts: Any) -> Any:
+    """The sums of values from each of some places up to others, added up from the first on."""
+    found = numpy.zeros(len(firsts))
+    left = numpy.arange(len(firsts))
+    at = firsts.copy()
+    while len(left):
+        found[left] += values[at]
+        at = at + 1
+        goes_on = at < lasts[left]
+        left, at = left[goes_on], at[goes_on]
+    return found
+
+
 def build(
     extract: Extract,
     way_rules: WayRules,
     keys: AbstractSet[int],
     areas_of: Optional[AreasOf],
     default_area: str,
-    progress: Callable[[str], None],
 ) -> Network:
     """Makes the arcs of all ways, without those that nobody may ever use. `keys` are nodes that the
     network has to have, besides junctions."""
     network = Network()
-    wanted = junctions(extract.refs) | keys | extract.barriers.keys()
+    ways = extract.ways
+    for tags in ways.tags:
+        way_rules.known(tags)
     on_roads = extract.barriers.keys() & set(extract.refs)
-    steps = steps_of(extract)
-    usable = [way for way in extract.ways if way_rules.is_usable(way)]
-    areas = areas_of_steps(extract, usable, areas_of) if areas_of else None
     through = {ref: way_rules.of_node(ref, extract.barriers[ref]) for ref in sorted(on_roads)}
-    for count, way in enumerate(extract.ways, 1):
-        if count % 100_000 == 0:
-            progress(f"{count:,} ways made into arcs")
-        forward, backward, is_toll = way_rules.of_way(way)
-        if forward[0] is None and backward[0] is None:
-            tags = " ".join(
-                f"{key}={value}" for key, value in way.tags if key not in ("junction", "maxspeed")
-            )
-            way_rules.report.add(
-                "left out", "roads that nobody may ever use", tags, f"way {way.number}"
-            )
-            continue
-        ferry = ferry_speed(extract, way)
-        for tail, head, length, area, number in cut(
-            network, extract, way, count - 1, wanted, areas, default_area, steps
-        ):
-            if ferry:
-                area += FERRY_AREA
-            for (rules, speed), ends, piece_driven in (
-                (forward, (tail, head), number),
-                (backward, (head, tail), -1 - number),
-            ):
-                if rules is None or tail == head:
-                    continue
-                step = (count - 1, network.firsts[number])
-                rules = way_rules.with_law(rules, way, area, step)
-                ref = network.refs[ends[0]]
-                if ref in through:
-                    passing = through[ref]
-                    if passing is None:
-                        continue
-                    rules = way_rules.rules.both(rules, passing)
-                    if access.is_shut(way_rules.rules.lists[rules]):
-                        continue
-                speed = ferry or min(speed, way_rules.most(area, way))
-                time = max(1, round(length / speed * 1000))
-                network.arcs.append(
-                    Arc(
-                        ends[0],
-                        ends[1],
-                        time,
-                        length,
-                        rules,
-                        length if is_toll else 0.0,
-                        area,
-                        (piece_driven,),
-                        way.name,
-                    )
-                )
+    way_rules.note(ways)
+    more = numpy.fromiter(keys | extract.barriers.keys(), dtype=numpy.int64)
+    tags_of = numpy.frombuffer(ways.tags_of, dtype=numpy.intc)
+    is_usable = numpy.array([way_rules.is_usable(tags) for tags in ways.tags], dtype=bool)[tags_of]
+    wanted = numpy.unique(numpy.concatenate((junctions(extract.refs), more)))
+    pieces = Pieces(extract, is_usable, wanted, areas_of, default_area)
+    network.add(extract, pieces)
+    directions = Directions(extract, way_rules, pieces, network)
+    directions.obey(through)
+    network.arcs = list(directions.arcs())
     return network
 
 
-def largest_component(count: int, arcs: Iterable[Arc]) -> set[int]:
-    """The nodes of the largest strongly connected component, by Tarjan's algorithm without
-    recursion."""
+class Directions:
+    """The two directions of each piece, one after the other: their rules, -1 for those that make no
+    arc, and their milliseconds; and the areas of pieces."""
+
+    def __init__(
+        self, extract: Extract, way_rules: WayRules, pieces: Pieces, network: Network
+    ) -> None:
+        ways = extract.ways
+        self.extract, self.way_rules, self.pieces, self.network = (
+            extract,
+            way_rules,
+            pieces,
+            network,
+        )
+        self.says = [way_rules.known(tags)[0] for tags in ways.tags]
+        self.tags_of = numpy.frombuffer(ways.tags_of, dtype=numpy.intc)[pieces.ways].astype(int)
+        ferries = ferry_speeds(extract)[pieces.ways]
+        self.areas = pieces.areas + [area + FERRY_AREA for area in pieces.areas]
+        self.area_of = pieces.area + len(pieces.areas) * (ferries > 0)
+        most = self.most()
+        count = len(pieces.ways)
+        rules = numpy.empty((count, 2), dtype=int)
+        times = numpy.empty((count, 2), dtype=int)
+        is_ring = network.tails == network.heads
+        for at, says in enumerate(zip(*((it[0], it[1]) for it in self.says))):
+            numbers = numpy.array([-1 if number is None else number for number, _ in says])
+            rules[:, at] = numpy.where(is_ring, -1, numbers[self.tags_of])
+            speed = numpy.array([it for _, it in says])[self.tags_of]
+            speed = numpy.where(ferries > 0, ferries, numpy.minimum(speed, most))
+            speed[rules[:, at] < 0] = 1.0
+            times[:, at] = numpy.maximum(1, numpy.rint(pieces.metres / speed * 1000))
+        self.rules, self.times = rules.reshape(-1), times.reshape(-1)
+
+    def most(self) -> Any:
+        """The highest speed of our vehicles on each piece, in metres a second."""
+        tags, count = self.extract.ways.tags, len(self.areas)
+        kinds, kind_of = numpy.unique(self.tags_of * count + self.area_of, return_inverse=True)
+        found = [
+            self.way_rules.most(self.areas[it % count], tags[it // count]) for it in kinds.tolist()
+        ]
+        return numpy.array(found)[kind_of]
+
+    def obey(self, through: Mapping[int, Optional[int]]) -> None:
+        """Adds the law of sections, and the rules of passing some nodes of OpenStreetMap."""
+        network, pieces, tags = self.network, self.pieces, self.extract.ways.tags
+        starts = numpy.column_stack((network.tails, network.heads)).reshape(-1)
+        is_asked = self.rules >= 0
+        if not self.way_rules.law_of:
+            refs = numpy.fromiter(sorted(through), dtype=numpy.int64)
+            is_asked &= is_in(numpy.array(network.refs, dtype=numpy.int64)[starts], refs)
+        joined = self.way_rules.rules
+        for at in numpy.flatnonzero(is_asked).tolist():
+            piece, ref = at >> 1, network.refs[starts[at]]
+            step = (int(pieces.ways[piece]), int(pieces.firsts[piece]))
+            area = self.areas[self.area_of[piece]]
+            own = self.way_rules.with_law(
+                int(self.rules[at]), tags[self.tags_of[piece]], area, step
+            )
+            if ref in through:
+                passing = through[ref]
+                own = -1 if passing is None else joined.both(own, passing)
+                if own >= 0 and access.is_shut(joined.lists[own]):
+                    own = -1
+            self.rules[at] = own
+
+    def arcs(self) -> Iterator[Arc]:
+        """Yields the arcs, of each piece first the one along its way."""
+        network, pieces, ways = self.network, self.pieces, self.extract.ways
+        is_toll = numpy.array([it[2] for it in self.says], dtype=bool)[self.tags_of]
+        tolls = numpy.where(is_toll, pieces.metres, 0.0).tolist()
+        tails, heads, metres_of = (
+            it.tolist() for it in (network.tails, network.heads, pieces.metres)
+        )
+        rules, times, area_of = (it.tolist() for it in (self.rules, self.times, self.area_of))
+        names_of = numpy.frombuffer(ways.names_of, dtype=numpy.intc)[pieces.ways].tolist()
+        for at in numpy.flatnonzero(self.rules >= 0).tolist():
+            piece = at >> 1
+            tail, head, driven = tails[piece], heads[piece], piece
+            if at & 1:
+                tail, head, driven = head, tail, -1 - piece
+            yield Arc(
+                tail,
+                head,
+                times[at],
+                metres_of[piece],
+                rules[at],
+                tolls[piece],
+                self.areas[area_of[piece]],
+                (driven,),
+                ways.names[names_of[piece]],
+            )
+
+
+def ferry_speeds(extract: Extract) -> Any:
+    """The metres a second of each way, by the duration of a ferry; 0 for a road."""
+    ways = extract.ways
+    found = numpy.zeros(len(ways))
+    tags_of = numpy.frombuffer(ways.tags_of, dtype=numpy.intc)
+    is_ferry = numpy.array(["highway" not in dict(tags) for tags in ways.tags], dtype=bool)
+    for place in numpy.flatnonzero(is_ferry[tags_of]).tolist():
+        found[place] = ferry_speed(extract, ways[place])
+    return found
+
+
+def reached(count: int, tails: Any, heads: Any, start: int) -> Any:
+    """Which nodes can be reached from one over some arcs."""
+    order = numpy.argsort(tails, kind="stable")
+    others = heads[order]
+    firsts = numpy.searchsorted(tails[order], numpy.arange(count + 1))
+    found = numpy.zeros(count, dtype=bool)
+    found[start] = True
+    left = numpy.array([start])
+    while len(left):
+        counts = firsts[left + 1] - firsts[left]
+        starts = numpy.cumsum(counts) - counts
+        at = numpy.repeat(firsts[left] - starts, counts) + numpy.arange(int(counts.sum()))
+        near = others[at]
+        left = numpy.unique(near[~found[near]])
+        found[left] = True
+    return found
+
+
+def largest_component(count: int, arcs: Sequence[Arc]) -> set[int]:
+    """The nodes of the largest strongly connected component. One that has most of all nodes with
+    arcs is found by what can be reached from one of its nodes and reaches it."""
+    tails = numpy.fromiter((arc.tail for arc in arcs), dtype=int, count=len(arcs))
+    heads = numpy.fromiter((arc.head for arc in arcs), dtype=int, count=len(arcs))
+    most = len(numpy.unique(numpy.concatenate((tails, heads)))) // 2
+    for at in range(0, len(arcs), len(arcs) // TRIED + 1):
+        start = int(tails[at])
+        found = reached(count, tails, heads, start) & reached(count, heads, tails, start)
+        if numpy.count_nonzero(found) > most:
+            return set(numpy.flatnonzero(found).tolist())
+    return by_tarjan(count, arcs)
+
+
+def by_tarjan(count: int, arcs: Iterable[Arc]) -> set[int]:
+    """The nodes of the largest strongly connected component; of several the one whose first node
+    has the least number. By Tarjan's algorithm without recursion."""
     out: list[list[int]] = [[] for _ in range(count)]
     for arc in arcs:
         out[arc.tail].append(arc.head)
@@ -495,6 +655,17 @@ def largest_component(count: int, arcs: Iterable[Arc]) -> set[int]:
                     if len(component) > len(best):
                         best = component
     return set(best)
+
+
+def at_borders(arcs: Iterable[Arc]) -> set[int]:
+    """The nodes at which roads of several areas meet."""
+    area_of: dict[int, str] = {}
+    found: set[int] = set()
+    for arc in arcs:
+        for node in (arc.tail, arc.head):
+            if area_of.setdefault(node, arc.area) != arc.area:
+                found.add(node)
+    return found
 
 
 def within(arcs: Iterable[Arc], nodes: Collection[int]) -> list[Arc]:

@@ -5,6 +5,7 @@ Polylines are made of many arcs at once, by numpy. Coordinates are whole numbers
 from __future__ import annotations
 
 import array
+import itertools
 import os
 from typing import Any, Iterable, Sequence
 
@@ -24,63 +25,63 @@ def polylines(xs: Any, ys: Any, at: Any, firsts: Any) -> tuple[bytes, Any]:
     steps = numpy.diff(points, axis=0, prepend=numpy.zeros((1, 2), dtype=numpy.int64))
     steps[firsts] = points[firsts]
     left = ((steps << 1) ^ (steps >> 63)).reshape(-1)
-    letters = numpy.zeros((len(left), MOST_LETTERS), dtype=numpy.uint8)
-    is_there = numpy.zeros((len(left), MOST_LETTERS), dtype=bool)
-    is_there[:, 0] = True
-    for k in range(MOST_LETTERS):
-        later = left >> BITS
-        letters[:, k] = (left & 31) + 63 + 32 * (later > 0)
-        if k + 1 < MOST_LETTERS:
-            is_there[:, k + 1] = later > 0
-        left = later
-    begins = numpy.concatenate(([0], numpy.cumsum(is_there.sum(axis=1))))
-    return letters[is_there].tobytes(), begins[2 * numpy.asarray(firsts, dtype=numpy.int64)]
+    sizes = numpy.ones(len(left), dtype=int)
+    for letter in range(1, MOST_LETTERS):
+        sizes += left >= 1 << BITS * letter
+    begins = numpy.cumsum(sizes) - sizes
+    letters = numpy.empty(int(sizes.sum()), dtype=numpy.uint8)
+    at = begins
+    while len(at):
+        goes_on = sizes > 1
+        letters[at] = (left & 31) + 63 + 32 * goes_on
+        at, left, sizes = at[goes_on] + 1, left[goes_on] >> BITS, sizes[goes_on] - 1
+    return letters.tobytes(), begins[2 * numpy.asarray(firsts, dtype=numpy.int64)]
+
+
+def points_of(ends: tuple[Any, Any], pieces: Any, counts: Any) -> tuple[Any, Any]:
+    """The places of the points of lines, and where each line begins in them. `ends` has the first
+    and the last place of each piece of a way; a line is made of some pieces, -1 - number for one
+    that is driven against its way, and of each but the first its first point isn't repeated."""
+    own = numpy.where(pieces >= 0, pieces, -1 - pieces)
+    firsts, lasts = (it[own] for it in ends)
+    is_along = pieces >= 0
+    begins = numpy.where(is_along, firsts, lasts)
+    step = numpy.where(is_along, 1, -1)
+    sizes = lasts - firsts
+    lines = numpy.cumsum(counts) - counts
+    begins += step
+    begins[lines] -= step[lines]
+    sizes[lines] += 1
+    starts = numpy.cumsum(sizes) - sizes
+    within = numpy.arange(int(sizes.sum())) - numpy.repeat(starts, sizes)
+    return numpy.repeat(begins, sizes) + numpy.repeat(step, sizes) * within, starts[lines]
 
 
 def write(
     folder: str,
     xs: Sequence[int],
     ys: Sequence[int],
-    rows: Iterable[tuple[int, list[range]]],
+    ends: tuple[Sequence[int], Sequence[int]],
+    rows: Iterable[tuple[int, tuple[int, ...]]],
 ) -> None:
-    """Writes shapes.csv. A row has the metres of an arc, and the places of its points."""
+    """Writes shapes.csv. A row has the metres of an arc, and its pieces, as `points_of` says."""
     lon, lat = numpy.asarray(xs, dtype=numpy.int64), numpy.asarray(ys, dtype=numpy.int64)
+    own = numpy.asarray(ends[0], dtype=numpy.int64), numpy.asarray(ends[1], dtype=numpy.int64)
     with open(os.path.join(folder, "shapes.csv"), "wb") as file:
         file.write(b"arc,metres,polyline\n")
         number = 0
-        metres: list[int] = []
-        at, firsts = array.array("q"), array.array("q")
-        for length, places in rows:
-            metres.append(length)
-            firsts.append(len(at))
-            for count, part in enumerate(places):
-                at.extend(part if count == 0 else part[1:])
-            if len(metres) == AT_ONCE:
-                number = write_part(file, lon, lat, number, metres, at, firsts)
-                metres, at, firsts = [], array.array("q"), array.array("q")
-        write_part(file, lon, lat, number, metres, at, firsts)
-
-
-def write_part(
-    file: Any,
-    lon: Any,
-    lat: Any,
-    number: int,
-    metres: list[int],
-    at: array.array[int],
-    firsts: array.array[int],
-) -> int:
-    """Writes some rows, whose arcs follow on this number, and returns the last number."""
-    if not metres:
-        return number
-    letters, begins = polylines(
-        lon,
-        lat,
-        numpy.frombuffer(at, dtype=numpy.int64),
-        numpy.frombuffer(firsts, dtype=numpy.int64),
-    )
-    ends = begins.tolist()[1:] + [len(letters)]
-    for length, begin, end in zip(metres, begins.tolist(), ends):
-        number += 1
-        file.write(b"%d,%d,%s\n" % (number, length, letters[begin:end]))
-    return number
+        left = iter(rows)
+        while True:
+            part = list(itertools.islice(left, AT_ONCE))
+            if not part:
+                return
+            pieces = array.array("q")
+            for _, it in part:
+                pieces.extend(it)
+            counts = numpy.array([len(it) for _, it in part])
+            at, firsts = points_of(own, numpy.frombuffer(pieces, dtype=numpy.int64), counts)
+            letters, begins = polylines(lon, lat, at, firsts)
+            cuts = [*begins.tolist(), len(letters)]
+            for (length, _), begin, end in zip(part, cuts, cuts[1:]):
+                number += 1
+                file.write(b"%d,%d,%s\n" % (number, length, letters[begin:end]))

@@ -9,7 +9,7 @@ from typing import Any, Callable, Collection, Iterable, Optional
 import numpy
 
 from lorry_tools.conversion import notation, tags as road_tags
-from lorry_tools.conversion.extract import Extract, Way
+from lorry_tools.conversion.extract import Extract, TagPairs
 from lorry_tools.conversion.notation import Unread
 from lorry_tools.conversion.report import Report
 from lorry_tools.conversion.roads import Network, metres
@@ -169,17 +169,16 @@ def code_of(cells: Any) -> Any:
 
 
 def nearest_refs(
-    extract: Extract, usable: Callable[[Way], bool], sites: Iterable[Site]
+    extract: Extract, usable: Callable[[TagPairs], bool], sites: Iterable[Site]
 ) -> set[int]:
     """The node of a usable way that is nearest to each site, so that the network has it."""
     wanted = {code_of(cell) for site in sites for cell in cells_around(site.x, site.y)}
     if not wanted:
         return set()
-    is_usable = numpy.zeros(len(extract.refs), dtype=bool)
-    for way in extract.ways:
-        if usable(way):
-            is_usable[way.first : way.last] = True
-    at = numpy.flatnonzero(is_usable)
+    ways = extract.ways
+    is_usable = numpy.array([usable(tags) for tags in ways.tags], dtype=bool)
+    counts = numpy.subtract(ways.lasts, ways.firsts)
+    at = numpy.flatnonzero(numpy.repeat(is_usable[numpy.asarray(ways.tags_of)], counts))
     xs, ys = (numpy.frombuffer(it, dtype=numpy.intc) for it in (extract.xs, extract.ys))
     refs = numpy.frombuffer(extract.refs, dtype=numpy.int64)
     codes = code_of((xs[at].astype(numpy.int64) // CELL, ys[at].astype(numpy.int64) // CELL))
@@ -233,9 +232,15 @@ class Nodes:
     def nearest(self, x: int, y: int, most: int) -> Optional[int]:
         """The nearest node within so many metres, or None."""
         reach = 1 + int(most / 350)
-        near = [node for cell in cells_around(x, y, reach) for node in self.grid.get(cell, ())]
-        near = [node for node in near if self.distance(node, x, y) <= most]
-        return min(near, key=lambda it: (self.distance(it, x, y), it)) if near else None
+        ys, farthest = self.network.ys, most * 90
+        near = [
+            (self.distance(node, x, y), node)
+            for cell in cells_around(x, y, reach)
+            for node in self.grid.get(cell, ())
+            if abs(ys[node] - y) <= farthest
+        ]
+        found = min(near, default=None)
+        return found[1] if found and found[0] <= most else None
 
 
 def place_sites(

@@ -5,11 +5,11 @@ from __future__ import annotations
 import collections
 import csv
 import os
-from typing import AbstractSet, Callable, Iterable, Mapping, Sequence, Sized
+from typing import AbstractSet, Callable, Iterable, Iterator, Mapping, Sequence, Sized
 
 from lorry_tools.conversion import access, coarse, sites, zone_rows
 from lorry_tools.conversion.access import OPEN, Lists
-from lorry_tools.conversion.extract import Extract
+from lorry_tools.conversion.extract import Extract, TagPairs
 from lorry_tools.conversion.report import Report
 from lorry_tools.conversion.roads import FERRY_AREA, Arc, Network
 
@@ -199,18 +199,32 @@ def check_sizes(count: int, arcs: list[Arc], rows: Sized) -> None:
         )
 
 
-def tags_of(extract: Extract, network: Network, arc: Arc) -> str:
-    """The tags of an arc's roads that may be behind its rules, each once."""
-    found: dict[str, bool] = {}
-    for number in network.ways(arc):
-        for key, value in extract.ways[number].tags:
-            if (
-                key not in PLAIN_TAGS
-                and not key.startswith("maxspeed")
-                and not key.startswith("oneway")
-            ):
-                found[f"{key}={value}"] = True
-    return " | ".join(found)
+def texts_of(tags: TagPairs) -> list[str]:
+    """The tags of a way that may be behind its rules."""
+    return [
+        f"{key}={value}"
+        for key, value in tags
+        if key not in PLAIN_TAGS and not key.startswith(("maxspeed", "oneway"))
+    ]
+
+
+def way_rows(
+    extract: Extract, network: Network, arcs: Iterable[Arc]
+) -> Iterator[tuple[int, str, str, int, int, str]]:
+    """The rows of ways.csv, with each of the tags of an arc's ways once."""
+    ways = extract.ways
+    texts = [texts_of(tags) for tags in ways.tags]
+    for number, arc in enumerate(arcs, 1):
+        own = network.ways(arc)
+        tags = dict.fromkeys(text for way in own for text in texts[ways.tags_of[way]])
+        yield (
+            number,
+            ";".join([str(ways.numbers[way]) for way in own]),
+            arc.name,
+            round(arc.length),
+            round(arc.time / 1000),
+            " | ".join(tags),
+        )
 
 
 def write_roads(
@@ -241,15 +255,5 @@ def write_roads(
         folder,
         "ways.csv",
         ("arc", "osm_way", "name", "metres", "seconds", "tags"),
-        (
-            (
-                number,
-                ";".join(str(extract.ways[way].number) for way in network.ways(arc)),
-                arc.name,
-                round(arc.length),
-                round(arc.time / 1000),
-                tags_of(extract, network, arc),
-            )
-            for number, arc in enumerate(arcs, 1)
-        ),
+        way_rows(extract, network, arcs),
     )
