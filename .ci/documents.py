@@ -8,7 +8,8 @@ the top of the repository, in the order of the document.
 
 The page of NEEDED is passed over where one of its packages is missing, and a line says so.
 
-A block whose kind is followed by a path, such as `rust crates/uses/src/plans.rt`, has to be that whole file.
+A block whose kind is followed by a path, such as `rust crates/uses/src/plans.rt`, has to be that whole file, and with `part` before the path whole lines
+of it.
 
 The manual page and the completions of tools/package.d have to agree with docs/COMMANDS.md.
 
@@ -36,7 +37,7 @@ sys.path.insert(0, os.path.join(TOP, "tools"))
 from lorry_tools.packages import manual
 
 BLOCK = re.compile(r"^```console\n(.*?)^```$", re.M | re.S)
-QUOTED = re.compile(r"^```\w+ (\S+)\n(.*?)^```$", re.M | re.S)
+QUOTED = re.compile(r"^```\w+ (part )?(\S+)\n(.*?)^```$", re.M | re.S)
 HERE_DOCUMENT = re.compile(r".*<<'EOF'\n(?s:.*?)^EOF\n", re.M)
 STATUS = re.compile(r"^\[status (\d+)\]\n", re.M)
 PASSED = re.compile(r"(?:^|\.\.\. )ok$", re.M)
@@ -85,13 +86,16 @@ def differs(command, shown, status):
     return None if printed == shown else f"printed {printed!r} in place of {shown!r}"
 
 
-def differs_from_file(path, shown):
-    """How the text differs from the file; None where it doesn't."""
+def differs_from_file(part, path, shown):
+    """How the text differs from the file, or if it is a part of it, from all lines there; None if it doesn't."""
     try:
         with open(os.path.join(TOP, path), encoding="utf-8") as file:
-            return None if file.read() == shown else "the file has another text"
+            text = file.read()
     except OSError as error:
         return error.strerror
+    if part:
+        return None if "\n" + shown in "\n" + text else "the file has no such lines"
+    return None if text == shown else "the file has another text"
 
 
 def output_of_tests(path, folder):
@@ -161,8 +165,8 @@ def main():
     for name in documents():
         with open(os.path.join(TOP, name), encoding="utf-8") as document:
             text = document.read()
-            for path, shown in QUOTED.findall(text):
-                difference = differs_from_file(path, shown)
+            for part, path, shown in QUOTED.findall(text):
+                difference = differs_from_file(part, path, shown)
                 if difference is None:
                     passed += 1
                 else:

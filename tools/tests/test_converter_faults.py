@@ -21,8 +21,8 @@ FAULTS = [
     ("only_* is read as no_*", "turns", "holds = way_out not in onlys[turn.lists]", "holds = way_out in onlys[turn.lists]"),
     ("a ferry takes twice its time", "roads", "/ (minutes * 60)", "/ (minutes * 120)"),
     ("roads are fast by night too", "convert", "                    arc.rules = self.with_rule(arc, number)\n", "                    pass\n"),
-    ("shapes are driven backwards", "roads", "            return range(self.firsts[piece], self.lasts[piece] + 1)\n", "            return range(self.lasts[piece], self.firsts[piece] - 1, -1)\n"),
-    ("a coarse arc forgets a rule", "coarse", "                    own_rules = rules | {own} if own and own not in rules else rules\n", "                    own_rules = rules\n"),
+    ("shapes are driven backwards", "shapes", "    is_along = pieces >= 0\n", "    is_along = pieces < -len(ends[0])\n"),
+    ("a coarse arc forgets a rule", "coarse", "                    own_rules = rules | own\n", "                    own_rules = rules\n"),
     ("maxspeed is passed over", "tags", "                    return min(found, float(number[1]) *", "                    return max(found, 0 * float(number[1]) *"),
 ]
 # Runs the converter with one text of one module in place of another.

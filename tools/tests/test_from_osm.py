@@ -78,8 +78,9 @@ class Polylines(unittest.TestCase):
             "xs = array.array('i', [draws.randint(-1800000000, 1800000000) for _ in range(500)])\n"
             "ys = array.array('i', [draws.randint(-900000000, 900000000) for _ in range(500)])\n"
             "parts = [[range(k, k + 5), range(k + 4, k - 1, -1)] for k in range(0, 490, 7)]\n"
+            "ends = list(range(0, 490, 7)), list(range(4, 494, 7))\n"
             "shapes.AT_ONCE = 30\n"
-            "shapes.write(sys.argv[2], xs, ys, ((k, it) for k, it in enumerate(parts)))\n"
+            "shapes.write(sys.argv[2], xs, ys, ends, ((k, (k, -1 - k)) for k in range(len(parts))))\n"
             "for it in parts: print([((xs[k] + 5) // 10, (ys[k] + 5) // 10) for k in [*it[0], *it[1][1:]]])\n"
         )
         with tempfile.TemporaryDirectory() as folder:
@@ -712,6 +713,30 @@ class Folders(unittest.TestCase):
             folder = os.path.join(self.kept.name, f"by{processes}")
             own = [path, folder, "--years", "2026", "2026", *self.law(), "--coarse", "60", "--processes", processes]
             run(OSMIUM, "-c", script, f"{TOOLS}/from_osm", TOOLS, *own)
+            made.append({name: open(os.path.join(folder, name), "rb").read() for name in sorted(os.listdir(folder))})
+        self.assertEqual(*made)
+
+    def test_blocks_read_by_numpy_and_by_pyosmium_make_the_same_folder(self):
+        path = self.write("drawn.osm", small_extract.drawn(4, 8))
+        blocks = os.path.join(self.kept.name, "drawn.osm.pbf")
+        copy = (
+            "import osmium, sys\n"
+            "class Copy(osmium.SimpleHandler):\n"
+            "    def node(self, it): out.add_node(it)\n"
+            "    def way(self, it): out.add_way(it)\n"
+            "    def relation(self, it): out.add_relation(it)\n"
+            "out = osmium.SimpleWriter(sys.argv[2]); Copy().apply_file(sys.argv[1]); out.close()"
+        )
+        run(OSMIUM, "-c", copy, path, blocks)
+        script = (
+            "import sys; sys.argv[0] = sys.argv.pop(1); sys.path[:0] = [sys.argv.pop(1)]; from lorry_tools.conversion import pbf\n"
+            "pbf.FEATURES.clear() if sys.argv.pop(1) == 'pyosmium' else None\n"
+            "exec(compile(open(sys.argv[0]).read(), sys.argv[0], 'exec'))"
+        )
+        made = []
+        for words in (["-c", script, f"{TOOLS}/from_osm", TOOLS, "pyosmium"], ["-c", script, f"{TOOLS}/from_osm", TOOLS, "numpy"]):
+            folder = os.path.join(self.kept.name, f"by{words[-1]}")
+            run(OSMIUM, *words, blocks, folder, "--years", "2026", "2026", *self.law(), "--coarse", "60", "--depot", "here=52.51,13.42")
             made.append({name: open(os.path.join(folder, name), "rb").read() for name in sorted(os.listdir(folder))})
         self.assertEqual(*made)
 

@@ -11,7 +11,6 @@ import http.client
 import io
 import json
 import os
-import random
 import re
 import shutil
 import signal
@@ -31,10 +30,7 @@ from beside import PROGRAM, TOOLS, TOP
 beside.say_what_is_skipped("test_serve")
 
 from lorry_tools.answers import read_plain
-from lorry_tools.folder import Folder
 from lorry_tools.instants import minute_of
-from lorry_tools.second import random_folder
-from lorry_tools.service import own_rules
 
 TESTS = os.path.join(TOOLS, "tests")
 EXAMPLE = os.path.join(TOP, "examples", "liechtenstein")
@@ -322,68 +318,6 @@ class Answers(unittest.TestCase):
         done = subprocess.run(words, stdout=subprocess.PIPE, stderr=subprocess.STDOUT, universal_newlines=True)
         self.assertEqual(done.returncode, 0, done.stdout[-4000:])
         self.assertGreater(int(done.stdout.split()[-1]), 3 if SHORT else 100, done.stdout)
-
-
-class Tables(beside.FolderTest):
-    """The tables that batches read, in which no arc has rules of its own."""
-
-    FILES = {
-        "zones": "zone,from,offset\nberlin,2026-01-01T00:00Z,+01:00\n",
-        "areas": "area,zone\nland,berlin\nown.1,UTC\n",
-        "roads": "arc,area\n02,own.1\n3,land\n",
-        "rules": "scope,key,value\narea:land,hgv:conditional,no @ (PH)\narea:land,hgv,yes\narc:1,hgv:conditional,yes @ (weight<9)\n"
-        "arc:03,hgv,no\narc:2,maxweight,7\narc:2,hgv,no\n",
-        "holidays": "area,kind,date\nland,PH,2026-07-06\n",
-        "parking": "node,rating\n1,free\n",
-        "ratings": "rating,weight\nfree,0\n",
-    }
-
-    def written(self):
-        """Returns the tables that are written, by their names, and whether there are any."""
-        place = self.path("for-plans")
-        os.mkdir(place)
-        is_written = own_rules.write_tables(Folder(self.folder), place)
-        found = {}
-        for name in os.listdir(place):
-            with open(os.path.join(place, name), encoding="utf-8") as file:
-                found[name] = file.read()
-        return is_written, found
-
-    def test_arcs_with_the_same_rules_are_an_area(self):
-        self.write(graph=beside.graph(2, (1, 2, 5), (2, 1, 5), (1, 2, 6), (2, 1, 6)), **self.FILES)
-        is_written, found = self.written()
-        self.assertTrue(is_written)
-        self.assertEqual(found["areas.csv"], "area,zone\nland,berlin\nown.1,UTC\nown.2,berlin\nown.3,berlin\nown.4,UTC\n")
-        self.assertEqual(found["roads.csv"], "arc,area\n2,own.4\n1,own.2\n3,own.3\n")
-        # A conditional rule comes after the area's, and a plain one decides whatever these say.
-        self.assertEqual(found["rules.csv"].splitlines()[1:], [
-            "area:land,hgv:conditional,no @ (PH)", "area:land,hgv,yes",
-            "area:own.2,hgv:conditional,no @ (PH); yes @ (weight<9)", "area:own.2,hgv,yes",
-            "area:own.3,hgv,no", "area:own.4,hgv,no",
-        ])  # fmt: skip
-        self.assertEqual(found["holidays.csv"].splitlines()[1:], ["land,PH,2026-07-06", "own.2,PH,2026-07-06", "own.3,PH,2026-07-06"])
-        self.assertEqual(found["parking.csv"], self.FILES["parking"])
-
-    def test_folders_without_such_rules_stay(self):
-        self.write(graph=beside.graph(2, (1, 2, 5)), rules="scope,key,value\narea:default,hgv,no\narc:1,maxweight,7\n")
-        self.assertEqual(self.written(), (False, {}))
-
-    @beside.needs_program
-    def test_plans_over_random_folders_are_the_same(self):
-        count, planned, seed = (15 if SHORT else 1000), 0, 0
-        while count:
-            seed += 1
-            with tempfile.TemporaryDirectory(prefix="tables-") as place:
-                words = random_folder.draw_trip(random.Random(seed), "plan", place)
-                tables = os.path.join(place, "for-plans")
-                os.mkdir(tables)
-                known = subprocess.run([PROGRAM, *words], stdout=subprocess.PIPE)
-                if known.returncode not in (0, 7) or not own_rules.write_tables(Folder(place), tables):
-                    continue
-                found = subprocess.run([PROGRAM, *(tables if it == place else it for it in words)], stdout=subprocess.PIPE)
-                self.assertEqual((found.returncode, found.stdout), (known.returncode, known.stdout), seed)
-                count, planned = count - 1, planned + known.stdout.count(b"pair ")
-        self.assertGreater(planned, 5)
 
 
 class FaultTest(unittest.TestCase):

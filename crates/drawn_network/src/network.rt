@@ -35,7 +35,7 @@ fn read_good(alloc: Global, files: &Files) -> Result<Network, OutOfMemory>
 /// `ratings.csv`, and the network that they state beside tables that are empty. So all arcs lie in the area `default` of the zone UTC,
 /// no rule bans a vehicle, and one may wait at parking areas alone.
 ///
-/// `OutOfMemory` comes where a list can't grow; there is no other refusal. Linear in the nodes, in time and memory.
+/// `OutOfMemory` comes if a list can't grow; there is no other refusal. Linear in the nodes, in time and memory.
 pub fn draw_network(
     alloc: Global,
     number: u64,

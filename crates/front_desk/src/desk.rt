@@ -36,20 +36,8 @@ fn refuse<S: Sink>(alloc: Global, out: &mut S, refusal: Refusal) -> Status
 
 /// Runs the program on its words, without the program's name, over a folder and a sink.
 ///
-/// `plan DIR VEHICLE FROM TO DEPART UNTIL` prints the Pareto front of the trip of a vehicle from node FROM at the instant DEPART to
-/// node TO, by the instant UNTIL at the latest, over the files of the folder DIR, in the form that `--form F` asks for. With
-/// `--certificate NAME` it first writes a certificate of the front into DIR, good and tight. `check DIR VEHICLE FROM TO DEPART UNTIL NAME`
-/// judges the certificate NAME of DIR. `bans DIR VEHICLE ARC DEPART UNTIL` prints the minutes from DEPART up to, but not including, UNTIL at
-/// which the arc is closed to the vehicle. `latest DIR VEHICLE FROM TO DEPART UNTIL` prints how late one may leave, not before DEPART: the
-/// Pareto front of departure and cost. `batch DIR JOBS` prints the plans of the trips of the table JOBS of DIR, planned on four
-/// workers or as many as `--workers N` says. `gen DIR NUMBER ROWS COLUMNS` draws a network from a number, writes its files into DIR, and
-/// prints a summary of them and of a trip over them. `tour DIR VEHICLE FROM TO DEPART UNTIL STOPS` prints the Pareto front of the tours that
-/// serve the stops of the table STOPS of DIR in their order, and `breaks DIR VEHICLE FROM TO DEPART UNTIL` that of the trips with at most
-/// `--drive` minutes of driving, 270 if it isn't given, since the last break of `--rest` minutes, else 45.
-/// `explain DIR VEHICLE FROM TO DEPART UNTIL ITINERARY` prints the pair of the itinerary in the file ITINERARY of DIR, and the first pair of
-/// the Pareto front that dominates it; or for an unlawful one the first leg that can't be travelled, its minute and the reason. The vehicle is
-/// `any` or one of `vehicles.csv`. An instant is a text, such as `2020-07-04T00:00Z`, or a Unix minute. Any other words are `Usage`. The text
-/// goes to the sink in one call.
+/// `read_invocation` of `front_words` says which words are a command, and `docs/COMMANDS.md` what each command prints and writes. Any other
+/// words are `Usage`. The text goes to the sink in one call.
 ///
 /// Reading takes the time and the memory of `load_network`, and the net of a trip those of `expand`. Then a plan takes those of
 /// `propagation::search`, which are those of the cost functions' pieces and not of minutes, and for each pair what its legs take;
@@ -65,7 +53,7 @@ pub fn run<R: Threads + Sync, F: Folder, S: Sink>(
     folder: &mut F,
     out: &mut S,
 ) -> Status
-    // The headline: the text that is printed where the command is done.
+    // The headline: the text that is printed if the command is done.
     ensures done { result ≡ Status.Done
         → Prints (IsAnswer words.now (F.state folder.old) (F.state folder.new))
         (S.state out.old) (S.state out.new) }
@@ -80,7 +68,7 @@ pub fn run<R: Threads + Sync, F: Folder, S: Sink>(
     ensures silent { (result ≡ Status.ReadFault) ⊎ (result ≡ Status.NoMemory)
         → StaysSilent (S.state out.old) (S.state out.new) }
 
-    // A read fault comes only where it was counted, and only where a file is read.
+    // A read fault comes only if it was counted, and only if a file is read.
     ensures read_fault { result ≡ Status.ReadFault
         → FailedToRead (F.state folder.old) (F.state folder.new) }
     ensures nothing_read { ReadsNothing (command_of words.now) → result ≢ Status.ReadFault }

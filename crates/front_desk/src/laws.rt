@@ -83,7 +83,7 @@ pub fn limits_are_these()
     ensures rule { (USUAL_DRIVE ≡ 270) × (USUAL_REST ≡ 45) }
 {}
 
-/// The law that `check` accepts what a plan writes: where the certificate of a plan was written under its name, it is a good one of the folder
+/// The law that `check` accepts what a plan writes: if the certificate of a plan was written under its name, it is a good one of the folder
 /// as it is then, which a check of the same trip reads and doesn't reject (`accepted` of `run`). The call does nothing.
 pub fn written_certificates_are_good()
     ensures { (plan : Plan) (name : List ℕ) (held after : Contents)
@@ -91,8 +91,8 @@ pub fn written_certificates_are_good()
         → HasGoodCertificate (check_of_plan plan name) after }
 {}
 
-/// The law of explanations: the text of lawful legs says `undominated` exactly where no lawful itinerary's pair dominates theirs, and the text
-/// of unlawful legs never does: it tells their leg, minute and reason. The call does nothing.
+/// The law of explanations: the text of lawful legs says `undominated` exactly if no lawful itinerary's pair dominates theirs, and the text
+/// of unlawful legs never does: it names their leg, minute and reason. The call does nothing.
 pub fn explanations_are_exact()
     ensures lawful { (network : NetworkModel) (vehicle : VehicleModel) (request : Request)
         → (legs : List Leg) (text : List ℕ) (pair : Pair)
@@ -107,7 +107,7 @@ pub fn explanations_are_exact()
         → text ≡ explanation_text (Unlawful leg minute why) None }
 {}
 
-/// The law of one text: over the same files, a command prints no other text where it is done; words have no other status and no other text,
+/// The law of one text: over the same files, a command prints no other text if it is done; words have no other status and no other text,
 /// be it an answer, a refusal or a rejection, unless reading, writing or memory fails; a job of a batch has no other text; batches of the
 /// same table of jobs print one text, whatever the number of workers; and the certificates that plans of the same words write have the same
 /// routes. So another run, and another version that meets `run`, print the same, byte for byte. The call does nothing.

@@ -34,14 +34,14 @@ pub struct CertificateFile<'a> {
     pub bytes: Vec<u8>,
 }
 
-/// The text of a plan, and its certificate where one is asked for.
+/// The text of a plan, and its certificate if one is asked for.
 #[derive(Drop)]
 pub struct Planned<'a> {
     pub text: Vec<u8>,
     pub certificate: Option<CertificateFile<'a>>,
 }
 
-// The text of a plan, and its certificate where one is asked for, over the net of its trip. It searches once: a certificate has the
+// The text of a plan, and its certificate if one is asked for, over the net of its trip. It searches once: a certificate has the
 // routes that are printed. A certificate of more bytes than `check` reads would be no use: it counts as one for which there is no memory.
 fn planned_over<'a>(
     alloc: Global,
@@ -130,7 +130,7 @@ fn hand_over<F: Folder>(
     })
 }
 
-/// The report of the plan's trip over the files of its folder, into which its certificate is written where one is asked for. Several
+/// The report of the plan's trip over the files of its folder, into which its certificate is written if one is asked for. Several
 /// workers make the net at once; the network is given back before the search, which needs the net alone.
 pub fn report_plan<R: Threads + Sync, F: Folder, G: Gate>(
     rt: &R,

@@ -17,7 +17,7 @@ use route_base::{Form, Minute, Text};
 /// A command, with the values of its words. Nodes and arcs are numbered from 1; minutes are Unix minutes.
 #[derive(Drop)]
 pub enum Command {
-    /// Plans a trip over the files of the folder `dir`, reports it in a form, and writes a certificate into the folder where a name is
+    /// Plans a trip over the files of the folder `dir`, reports it in a form, and writes a certificate into the folder if a name is
     /// given for it.
     Plan {
         dir: Text,

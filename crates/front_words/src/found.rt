@@ -111,7 +111,7 @@ pub fn small_count_at(matches: &ArgMatches, id: &str, limit: u32) -> Result<u32,
     }
 }
 
-// The form of a report, or plain where no word says it.
+// The form of a report, or plain if no word says it.
 pub fn report_or_plain(matches: &ArgMatches, id: &str) -> Result<Form, WordsFault>
     ensures { IsAnswer (option_map report_in
         (value_if report (text_at matches.now id.now))) result }
@@ -137,7 +137,7 @@ pub fn certificate_if(
     }
 }
 
-// The number of workers, or the usual one where no word says it.
+// The number of workers, or the usual one if no word says it.
 pub fn workers_or_usual(matches: &ArgMatches, id: &str) -> Result<u32, WordsFault>
     ensures value { IsAnswer (option_map (number_in USUAL_WORKERS)
         (value_if (count MOST_WORKERS) (text_at matches.now id.now))) result }
@@ -161,7 +161,7 @@ pub fn count_if(matches: &ArgMatches, id: &str, limit: u64) -> Result<Option<u64
     }
 }
 
-// A number from 1 to the limit, or the usual one where no word says it.
+// A number from 1 to the limit, or the usual one if no word says it.
 pub fn count_or_usual(
     matches: &ArgMatches,
     id: &str,

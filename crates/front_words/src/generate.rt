@@ -44,7 +44,7 @@ fn has_few_nodes(network: &Gen) -> bool
     network.rows * network.columns <= MOST_GENERATED_NODES
 }
 
-// The network that the words say, where its nodes are few enough.
+// The network that the words say, if its nodes are few enough.
 pub fn gen_found(alloc: Global, matches: &ArgMatches) -> Result<Invocation, WordsFault>
     ensures made { IsAnswer (made_at matches.now gen_usage gen_places []) result }
     ensures supported { IfOk result AsksSupported }

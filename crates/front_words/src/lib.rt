@@ -1,12 +1,12 @@
 //! The words of the command line: which command they are.
 //!
-//! The law is in `specs/`. `Forms` says which words have which form, and their values; `Splitting` how the words behind a command's name
+//! The law is in `specs/`. `Forms` says which words have which form, and their values; `Splitting` how the words after a command's name
 //! divide into positional words and options; `Usages` what a row of the table of commands is, and what words make by it; `Trips` has the words
 //! of a trip. Each command has a file of its own, such as `Latest`, with its row and the command that its values make. `Commands` has the table,
 //! and `command_of`, the command that words are.
 //!
 //! `read_invocation` answers exactly this, and `read_words` the same with all words side by side (`flat`). `splitting` divides the words, and
-//! `options` finds the value of an option. `table` has a row for each command (`CommandName::row`), and one way for all of them (`read_row`): where the
+//! `options` finds the value of an option. `table` has a row for each command (`CommandName::row`), and one way for all of them (`read_row`): if the
 //! words are as many as the row's places, they go to one simple command of `clap` in one order, the options with their values and then the positional
 //! words. `clap` then fails only when it is out of memory (`refused` of `parse_line`). Each command has a file here too, such as `latest` (`generate`
 //! for `gen`), which makes it from the words that `clap` gives back. `found` reads these in the forms of `forms`, and `trip_words` those of a trip.

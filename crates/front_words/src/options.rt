@@ -6,7 +6,7 @@ ghost use Rattle.front_words.specs.Inside.{IsAnswerWith, given_in};
 use crate::WordsFault;
 use crate::splitting::Given;
 
-// The value of an option that is given at most once; NotACommand exactly where it is given twice.
+// The value of an option that is given at most once; NotACommand exactly if it is given twice.
 pub fn value_of_option<'a>(given: &[Given<'a>], option: &str) -> Result<Option<&'a str>, WordsFault>
     ensures { IsAnswerWith (option_map (λ v. v.now))
         (only_value (values_for option.now (map given_in given.now))) result }

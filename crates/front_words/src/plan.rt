@@ -12,7 +12,7 @@ use clap::ArgMatches;
 use route_base::{Form, Text};
 use std::alloc::Global;
 
-/// Plans a trip over the files of the folder `dir`, reports it in a form, and writes a certificate into the folder where a name is given
+/// Plans a trip over the files of the folder `dir`, reports it in a form, and writes a certificate into the folder if a name is given
 /// for it.
 #[derive(Drop)]
 pub struct Plan {

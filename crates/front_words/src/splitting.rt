@@ -1,4 +1,4 @@
-// Divides the words behind a command's name into positional words and options.
+// Divides the words after a command's name into positional words and options.
 ghost use Rattle.std.specs.Prelude.{◌≡◌, IfOk, map};
 ghost use Rattle.front_words.specs.Splitting.{is_dashed, is_option, piece_of, split_of};
 ghost use Rattle.front_words.specs.Inside.{IsAnswerWith, IsPlainSplit, piece_of_word, split_in};

@@ -128,7 +128,7 @@ impl CommandName {
     }
 }
 
-// The options of a row with their values, where they are given; NotACommand exactly where one is given twice.
+// The options of a row with their values, if they are given; NotACommand exactly if one is given twice.
 fn given_words<'a>(
     alloc: Global,
     options: &'static [&'static str],

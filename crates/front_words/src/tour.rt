@@ -32,7 +32,7 @@ pub struct RestedTour {
     pub rest: u64,
 }
 
-// The command that the words make which `clap` found: a tour under a rule where one of its numbers is given.
+// The command that the words make which `clap` found: a tour under a rule if one of its numbers is given.
 pub fn tour_found(alloc: Global, matches: &ArgMatches) -> Result<Invocation, WordsFault>
     ensures made { IsAnswer
         (made_at matches.now tour_usage check_places rule_choices) result }
@@ -57,7 +57,7 @@ fn places_found(alloc: Global, matches: &ArgMatches) -> Result<Tour, WordsFault>
     })
 }
 
-// The tour by itself, or under a rule where one of its numbers is given; the other is then the usual one.
+// The tour by itself, or under a rule if one of its numbers is given; the other is then the usual one.
 fn tour_under(tour: Tour, drive: Option<u64>, rest: Option<u64>) -> Invocation
     requires drive { IfSome drive (IsUpTo DAY_MINUTES) }
     requires rest { IfSome rest (IsUpTo DAY_MINUTES) }

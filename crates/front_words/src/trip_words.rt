@@ -1,4 +1,4 @@
-// The words of a trip, `VEHICLE FROM TO DEPART UNTIL` behind the folder's, in all commands that have them.
+// The words of a trip, `VEHICLE FROM TO DEPART UNTIL` after the folder's, in all commands that have them.
 ghost use Rattle.std.specs.Prelude.{IfOk};
 ghost use Rattle.front_words.specs.ClapCommands.{trip_places, values_at};
 ghost use Rattle.front_words.specs.Trips.{IsTimed, trip_forms};
@@ -12,7 +12,7 @@ use std::alloc::Global;
 // The positional words of a command that has a folder and a trip alone, by the names that `clap` has for them.
 pub const TRIP_PLACES: &[&str] = &["dir", "vehicle", "from", "to", "depart", "until"];
 
-// The same of a command that has a name behind them.
+// The same of a command that has a name after them.
 pub const NAMED_TRIP_PLACES: &[&str] = &["dir", "vehicle", "from", "to", "depart", "until", "name"];
 
 // The trip that the words say.

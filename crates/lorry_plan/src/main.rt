@@ -14,7 +14,7 @@ use std::io::ErrorKind;
 use std::process::ExitCode;
 use system_files::{RealFolder, RealOut};
 
-// The words behind the program's name, or the status to exit with where they can't be had.
+// The words after the program's name, or the status to exit with if they can't be had.
 fn words_of(rt: &HostRuntime) -> Result<Vec<Text>, Status> {
     let args = match env::args(rt) {
         Ok(args) => args,

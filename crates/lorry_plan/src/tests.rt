@@ -207,7 +207,7 @@ fn expect_over<R: Abort + Threads + Sync + AllocGlobal, F: Folder>(
     assert!(rt; got == Ok((status, true)), "{line:?}: {got:?}");
 }
 
-// Runs the words over the folder, where the writing call of this ordinal fails: the status, and whether the whole text is
+// Runs the words over the folder, when the writing call of this ordinal fails: the status, and whether the whole text is
 // this one.
 fn run_failing<R: Threads + Sync + AllocGlobal>(
     rt: &R,

@@ -9,7 +9,7 @@ use route_base::{Cause, FileKind, Text};
 pub const LONGEST_ITINERARY: u64 = 16_777_216;
 
 /// A file to read: its kind, its name below the folder, whether it has to be there, the most bytes that it may have, and the
-/// cause of its refusal where it has more.
+/// cause of its refusal if it has more.
 #[derive(Clone, Copy)]
 pub struct FileToRead<'a> {
     pub kind: FileKind,

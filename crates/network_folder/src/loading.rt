@@ -25,8 +25,8 @@ fn network_of(alloc: Global, files: &Files) -> Result<Network, LoadFault>
 /// The network of the files of the folder dir. Linear in the bytes of the files, beside `read_network`.
 ///
 /// `Bad` is the first fault: `Missing` for a graph that isn't there, or `TooLong` for a file beyond `LONGEST_FILE`, in the order in which
-/// the files are read; where all could be read, that of `read_network`. `Failed` comes where the folder couldn't read a file, and
-/// `OutOfMemory` where memory runs out.
+/// the files are read; if all could be read, that of `read_network`. `Failed` comes if the folder couldn't read a file, and
+/// `OutOfMemory` if memory runs out.
 pub fn load_network<F: Folder>(
     alloc: Global,
     folder: &mut F,
@@ -45,7 +45,7 @@ pub fn load_network<F: Folder>(
     Ok(network)
 }
 
-/// The network of the files of the folder dir, and the bytes of one more file, which is read behind them. It costs what `load_network`
+/// The network of the files of the folder dir, and the bytes of one more file, which is read after them. It costs what `load_network`
 /// costs, and the bytes of the file. It fails as `load_network` does, with the file as the last one that is read.
 pub fn load_with<F: Folder>(
     alloc: Global,

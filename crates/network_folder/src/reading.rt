@@ -104,7 +104,7 @@ pub fn read_network_files<F: Folder>(
     Ok(files)
 }
 
-/// The files of a network in the folder dir, and the bytes of one more file, which is read behind them. Linear in the bytes.
+/// The files of a network in the folder dir, and the bytes of one more file, which is read after them. Linear in the bytes.
 pub fn read_files_with<F: Folder>(
     alloc: Global,
     folder: &mut F,

@@ -13,7 +13,7 @@ pub struct FileToWrite<'a> {
     pub bytes: &'a [u8],
 }
 
-/// Writes a file below dir. After `Failed`, where the folder couldn't write it, its name may hold anything, and all else is as it was; after
+/// Writes a file below dir. After `Failed`, when the folder couldn't write it, its name may hold anything, and all else is as it was; after
 /// `OutOfMemory` nothing has changed.
 pub fn put_file<F: Folder>(
     alloc: Global,
@@ -34,7 +34,7 @@ pub fn put_file<F: Folder>(
 }
 
 /// Writes these files below dir, one after another, up to the first that can't be written. After an error those before it are written. After
-/// `Failed`, where the folder couldn't write it, its name may hold anything; after `OutOfMemory` it is as it was. All else is as it was.
+/// `Failed`, when the folder couldn't write it, its name may hold anything; after `OutOfMemory` it is as it was. All else is as it was.
 pub fn put_each<F: Folder>(
     alloc: Global,
     folder: &mut F,

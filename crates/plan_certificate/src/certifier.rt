@@ -19,7 +19,7 @@ use route_base::{OutOfMemory, Request, TimedNet};
 use std::alloc::Global;
 
 /// A certificate whose routes answer the request, that the checker accepts and that is tight. It can be written if the roads are
-/// cheap, as those of a road graph are; where arcs cost more, least costs to the goal may be above the range of the format.
+/// cheap, as those of a road graph are; if arcs cost more, least costs to the goal may be above the range of the format.
 ///
 /// Takes the time and the memory of `propagation::search_over`, and of `itinerary_unpack::unpack_over` for each pair, and what
 /// is linear in the nodes. The functions that were found are moved, the bounds are copied.

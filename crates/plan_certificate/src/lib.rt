@@ -8,7 +8,7 @@
 //! of `route_base`). `good`: the checker accepts the certificate (`IsGood` of `certificate_check`). `tight`: nothing in it is
 //! larger than it has to be (`IsTight` of `specs/Tight`): the bounds are exactly the least, functions are reduced, each of
 //! their values is the cost of lawful steps from the start, and from there the goal is in reach by the horizon. `writable`: it
-//! has a text (`IsWritable` of `certificate`) where no road costs more than 10,180.000, the longest drive and the highest toll
+//! has a text (`IsWritable` of `certificate`) if no road costs more than 10,180.000, the longest drive and the highest toll
 //! (`HasCheapRoads` of `specs/CheapRoads`). The law `certificates_agree` takes tightness and cheap roads from a net to the
 //! setting that the net stands for.
 //!

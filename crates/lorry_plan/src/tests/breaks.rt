@@ -55,7 +55,7 @@ const OVER_A_CLOSURE: &[(&str, &str)] = &[
     ),
 ];
 
-// Where no node has a rating there is no break.
+// If no node has a rating there is no break.
 const UNRATED: &[(&str, &str)] = &[
     (
         "breaks d any 1 3 26563680 26564080",

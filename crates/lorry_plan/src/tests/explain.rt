@@ -65,7 +65,7 @@ const OVER_A_CLOSURE: &[(&str, &str)] = &[
         "drive 1\nwait 119\ndrive 2\n",
         "unlawful 3 26563859 closure 1\n",
     ),
-    // An arc of another tail, one that isn't there, and legs behind the goal.
+    // An arc of another tail, one that isn't there, and legs after the goal.
     ("drive 2\n", "unlawful 1 26563680 tail\n"),
     ("drive 4\n", "unlawful 1 26563680 tail\n"),
     ("drive 4294967295\n", "unlawful 1 26563680 tail\n"),
@@ -385,7 +385,7 @@ fn refuses_explanations_at_their_first_failed_check(rt: HostRuntime) {
     expect_texts(&rt, UNLAWFUL, Status::BadRequest, FAILING);
 }
 
-// A text behind itself this many times over, each time twice as long, and more behind it.
+// A text after itself this many times over, each time twice as long, and more after it.
 fn doubled(alloc: Global, text: &str, times: u32, more: &str) -> Result<String, OutOfMemory> {
     let mut whole = String::from_str(alloc, text)?;
     for _ in 0..times {
@@ -396,7 +396,7 @@ fn doubled(alloc: Global, text: &str, times: u32, more: &str) -> Result<String, 
     Ok(whole)
 }
 
-// Runs the words over the triangle with 16,777,216 bytes of bad lines, and more behind them: the status, and whether the whole text is
+// Runs the words over the triangle with 16,777,216 bytes of bad lines, and more after them: the status, and whether the whole text is
 // this one.
 fn run_over_long<R: Threads + Sync + AllocGlobal>(
     rt: &R,
@@ -409,7 +409,7 @@ fn run_over_long<R: Threads + Sync + AllocGlobal>(
     run_to(rt, &mut folder, EXPLAIN, text)
 }
 
-// What stands behind 16,777,216 bytes, and the refusal.
+// What stands after 16,777,216 bytes, and the refusal.
 const LONG: &[(&str, &str)] = &[
     ("", "refused input itinerary 1 BadForm\n"),
     ("x", "refused input itinerary 0 TooLong\n"),

@@ -26,7 +26,7 @@ fn failing_folder(alloc: Global, files: Texts<'_>, failing: u64) -> Result<MemFo
     Ok(folder)
 }
 
-// Runs the words over the files, where the calls of these ordinals fail: the status, and whether the whole text is this one.
+// Runs the words over the files, when the calls of these ordinals fail: the status, and whether the whole text is this one.
 fn run_over_failing<R: Threads + Sync + AllocGlobal>(
     rt: &R,
     files: Texts<'_>,
@@ -38,7 +38,7 @@ fn run_over_failing<R: Threads + Sync + AllocGlobal>(
     run_failing(rt, &mut folder, write, line, text)
 }
 
-// The status and the text that are due where the calls of these ordinals fail, if this many calls read: a fault of reading,
+// The status and the text that are due when the calls of these ordinals fail, if this many calls read: a fault of reading,
 // whatever becomes of writing, or one of writing the text, or those of the case.
 fn due_where<'a>(calls: u8, case: Case<'a>, (read, write): (u64, u64)) -> (Status, &'a str) {
     if 1 <= read && read <= calls as u64 {
@@ -50,7 +50,7 @@ fn due_where<'a>(calls: u8, case: Case<'a>, (read, write): (u64, u64)) -> (Statu
     }
 }
 
-// Runs the case where the calls of these ordinals fail, and compares the status and the whole text.
+// Runs the case when the calls of these ordinals fail, and compares the status and the whole text.
 fn expect_failing<R: Abort + Threads + Sync + AllocGlobal>(
     rt: &R,
     calls: u8,
@@ -66,7 +66,7 @@ fn expect_failing<R: Abort + Threads + Sync + AllocGlobal>(
     );
 }
 
-// Runs the case where the writing call of this ordinal fails, and each call of reading in turn, or none, or the one behind them.
+// Runs the case when the writing call of this ordinal fails, and each call of reading in turn, or none, or the one after them.
 fn expect_each_read<R: Abort + Threads + Sync + AllocGlobal>(
     rt: &R,
     calls: u8,
@@ -213,7 +213,7 @@ fn certificate_in(folder: &MemFolder) -> Option<bool> {
 
 const CERTIFY: &str = "plan d any 1 3 26563680 26564080 --certificate c.cert";
 
-// Certifies the trip where these calls fail: the status, whether nothing is printed, and, if the file is there, whether it's
+// Certifies the trip when these calls fail: the status, whether nothing is printed, and, if the file is there, whether it's
 // the certificate.
 fn certify<R: Threads + Sync + AllocGlobal>(
     rt: &R,
@@ -224,8 +224,8 @@ fn certify<R: Threads + Sync + AllocGlobal>(
     Ok((ended, silent, certificate_in(&folder)))
 }
 
-// Whether such an end of `certify` is due where these calls fail: fifteen calls read, and the sixteenth writes the
-// certificate, of which nothing is known where it fails.
+// Whether such an end of `certify` is due when these calls fail: fifteen calls read, and the sixteenth writes the
+// certificate, of which nothing is known if it fails.
 fn is_due((read, write): (u64, u64), (ended, silent, left): (Status, bool, Option<bool>)) -> bool {
     match (read, write) {
         (1..=15, 0) => ended == Status::ReadFault && silent && left == None,
@@ -234,7 +234,7 @@ fn is_due((read, write): (u64, u64), (ended, silent, left): (Status, bool, Optio
     }
 }
 
-// Certifies the trip where these calls fail.
+// Certifies the trip when these calls fail.
 fn expect_certified<R: Abort + Threads + Sync + AllocGlobal>(rt: &R, failing: (u64, u64)) {
     let got = certify(rt, failing).expect(rt, "memory");
     assert!(rt; is_due(failing, got), "failing at {failing:?}: {got:?}");

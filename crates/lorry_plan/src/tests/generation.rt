@@ -88,12 +88,12 @@ fn plans_over_the_files_that_it_wrote(rt: HostRuntime) {
     expect_starts(&rt, &mut folder);
 }
 
-// Whether the file is whole where it stands before that of the failing call, and isn't there where it stands behind.
+// Whether the file is whole if it stands before that of the failing call, and isn't there if it comes after it.
 fn is_left(bytes: Option<&[u8]>, text: &str, ordinal: u64, failing: u64) -> bool {
     (ordinal >= failing || is_text(bytes, text)) && (ordinal <= failing || bytes.is_none())
 }
 
-// The first file that isn't whole before that of the failing call, or is there behind it.
+// The first file that isn't whole before that of the failing call, or is there after it.
 fn wrong_file(folder: &MemFolder, failing: u64) -> Option<&'static str> {
     let mut ordinal: u64 = 1;
     for (name, text) in FILES {
@@ -105,7 +105,7 @@ fn wrong_file(folder: &MemFolder, failing: u64) -> Option<&'static str> {
     None
 }
 
-// Draws the smallest network where the writing of the file and of the summary with these ordinals fail: the status, whether
+// Draws the smallest network when the writing of the file and of the summary with these ordinals fail: the status, whether
 // nothing is printed, and the first file that isn't left as it has to be.
 fn draw_failing<R: Threads + Sync + AllocGlobal>(
     rt: &R,

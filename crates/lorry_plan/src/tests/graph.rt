@@ -91,7 +91,7 @@ const CUT: &[(&str, &str)] = &[
     ("p sp 3 3\na 1 2 60\na 2 3 60\na 1 3 ", "4 BadForm"),
 ];
 
-// Graphs that are cut within the last number or behind it.
+// Graphs that are cut within the last number or after it.
 const SHORTER: &[(Texts<'static>, &str)] = &[
     (
         &[("d/graph.gr", "p sp 3 3\na 1 2 60\na 2 3 60\na 1 3 3")],

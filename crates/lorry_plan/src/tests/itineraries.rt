@@ -99,7 +99,7 @@ const CASES: &[(&[Leg], Result<Pair, NotLawful>)] = &[
     (&[], Err(NotLawful { index: 0 })),
 ];
 
-// The same, where waiting is shut in the last minute before the second arc opens.
+// The same, if waiting is shut in the last minute before the second arc opens.
 const CASES_WHERE_SHUT: &[(&[Leg], Result<Pair, NotLawful>)] = &[
     (
         &[FIRST, Leg::Wait(120), SECOND],

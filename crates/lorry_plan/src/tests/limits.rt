@@ -89,7 +89,7 @@ fn push_rows(text: &mut String, table: Table<'_>) -> Result<(), OutOfMemory> {
     Ok(())
 }
 
-// The text of the table, and these rows behind its own.
+// The text of the table, and these rows after its own.
 fn text_of(alloc: Global, table: Table<'_>, more: &str) -> Result<String, OutOfMemory> {
     let mut text = String::from_str(alloc, table.header)?;
     push_rows(&mut text, table)?;
@@ -97,7 +97,7 @@ fn text_of(alloc: Global, table: Table<'_>, more: &str) -> Result<String, OutOfM
     Ok(text)
 }
 
-// Puts the table into the folder, with these rows behind its own.
+// Puts the table into the folder, with these rows after its own.
 fn put_table(
     alloc: Global,
     folder: &mut SureFolder,
@@ -108,7 +108,7 @@ fn put_table(
     put_files(folder, &[(table.path, text.as_str())])
 }
 
-// Tables, each with rows behind its own.
+// Tables, each with rows after its own.
 type Tables<'a> = &'a [(Table<'a>, &'a str)];
 
 // A folder of a graph with one arc and of these tables.

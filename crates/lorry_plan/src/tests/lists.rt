@@ -59,7 +59,7 @@ fn reads_files_of_several_parts(rt: HostRuntime) {
     expect_long(&rt, &mut folder, long.as_str());
 }
 
-// Plans the trip over files of which at most so many bytes come at once: the status, and whether the text is the answer.
+// Plans the trip over files of which at most this many bytes come at once: the status, and whether the text is the answer.
 fn plan_in_drops<R: Threads + Sync + AllocGlobal>(
     rt: &R,
     most: usize,
@@ -86,7 +86,7 @@ fn two_numbers(alloc: Global) -> Result<Listing<u64>, OutOfMemory> {
     Ok(items)
 }
 
-// Whether the list has two numbers, of which the second is 9, and nothing behind them.
+// Whether the list has two numbers, of which the second is 9, and nothing after them.
 fn has_two_numbers(items: &Listing<u64>) -> bool {
     items.len() == 2 && items.get(1) == Some(&9) && items.get(2) == None
 }

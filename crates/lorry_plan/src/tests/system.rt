@@ -125,7 +125,7 @@ const MOST: &str = "012345678";
 
 const FAILED: Result<(), WriteError> = Err(WriteError::Failed);
 
-// The sizes of the pieces that an output takes of the digits, all that it takes, its error behind them, and the result.
+// The sizes of the pieces that an output takes of the digits, all that it takes, its error after them, and the result.
 const OUTPUTS: &[(usize, &str, Option<ErrorKind>, Result<(), WriteError>)] = &[
     (3, DIGITS, None, Ok(())),
     (1, DIGITS, Some(ErrorKind::BrokenPipe), Ok(())),

@@ -27,7 +27,7 @@ const ROADS: &str = "arc,area\n3,sea\n1,acores\n";
 
 const UNKNOWN: &str = "arc,from,to\n4,26563740,26563860\n";
 
-// Faulty files, of which the first fault is told.
+// Faulty files, of which the first fault is named.
 const FIRST: &[(Texts<'static>, &str)] = &[
     (
         &[

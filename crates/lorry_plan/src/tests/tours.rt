@@ -75,7 +75,7 @@ const OVER_THE_TRIANGLE: &[(&str, &str)] = &[
     ),
 ];
 
-// Where lorries can wait they wait for the window to begin.
+// If lorries can wait they wait for the window to begin.
 const WAITING: &[(&str, &str)] = &[(
     "node,service,from,to\n2,30,26563741,26563880\n",
     "pairs 1\npair 26563831 122.000\ndrive 1\nwait 1\nserve 1\ndrive 2\n",
