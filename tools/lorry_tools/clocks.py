@@ -41,7 +41,8 @@ class TableClock:
         """Returns the offsets at the minutes from LOW to HIGH."""
         places = (bisect.bisect_right(self._starts, it) for it in (low, high))
         first, last = (max(0, it - 1) for it in places)
-        return {offset for _, offset in self.changes[first : last + 1]}
+        end = last + 1
+        return {offset for _, offset in self.changes[first:end]}
 
 
 class SystemClock:

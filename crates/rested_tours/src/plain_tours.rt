@@ -15,7 +15,7 @@ use stop_tour::{Stop, TourRoutes};
 /// the first of its tours: the one answer of `stop_tour::tour` (`one_tour_answer`). The only error is out of memory.
 ///
 /// It takes the time and memory of `plan_ruled` over the number of stops that were served: on grids with 20 stops twice the time of
-/// `stop_tour::tour_with` by `FunctionEngine`, and three quarters of its memory.
+/// `stop_tour::tour_with` by `FunctionEngine`, and a third to a half of its memory.
 ///
 /// For other callers: the program plans tours without a rule by `stop_tour::tour_with`.
 pub fn plan_tour(

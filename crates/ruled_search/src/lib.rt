@@ -4,7 +4,7 @@
 //! A way over states is a drive over an arc, a rest at a rated node, or a service at its node. A state has a cost function of the minute
 //! and pending minutes. A turn takes the pieces of a state that begin within an hour of its first pending minute, leaves out what a
 //! better state of the node dominates, and makes offers over its rests, its services and its drives. An offer is pruned by the bounds,
-//! the borders of the pairs and the latest minute of its state, behind which a window is missed, closed under waiting, pruned again and
+//! the borders of the pairs and the latest minute of its state, after which a window is missed, closed under waiting, pruned again and
 //! cut by the better states of its node; then its state takes it.
 //!
 //! The law is `AreRoutesOf` of `specs/Routes` and the front over the states, `IsAchievedIn` of `state_dominance`: both are clauses of

@@ -1,4 +1,4 @@
-// The latest minutes at which the goal may be bounded, for each number of services that are left.
+// The latest minutes for bounds to the goal, by the number of services that are left.
 ghost use Rattle.std.specs.Prelude.{◌≡◌, ◌≤◌, ℕ, suc, Some, IfOk, length};
 ghost use Rattle.route_base.specs.declared.types.Bound.{Bound};
 ghost use Rattle.state_dominance.specs.Inside.Product.{AreLatest, IsStaged};
@@ -10,7 +10,7 @@ use crate::rulers::Ruler;
 use route_base::{Minute, OutOfMemory};
 use std::alloc::Global;
 
-// The largest value of a label with more services than so many; 0 if there is none.
+// The largest value of a label whose need has more than `served` services; 0 if there is none.
 fn largest_value<R: Ruler>(ruler: &R, labels: &[Label], served: u64) -> u64
     ensures { IsLargest (R.ruling ruler.now) labels.now served result }
 {
@@ -23,8 +23,8 @@ fn largest_value<R: Ruler>(ruler: &R, labels: &[Label], served: u64) -> u64
     largest
 }
 
-// The latest minute before the service at a place, by that behind it: whoever comes to the goal later than its window and the largest bound
-// behind it allow has missed the window.
+// The latest minute before the service at a place, by that after it: whoever comes to the goal later than its window and the largest bound
+// after it allow has missed the window.
 fn latest_before<R: Ruler>(ruler: &R, labels: &Labels, after: Minute, place: u64) -> Minute
     ensures low { result ≤ after }
     ensures in_time { IsInTime (R.ruling ruler.now) (label_bound (R.ruling ruler.now)
@@ -39,8 +39,9 @@ fn latest_before<R: Ruler>(ruler: &R, labels: &Labels, after: Minute, place: u64
     to.min(after)
 }
 
-/// For each number of services that are left, from none on, the latest minute at which the goal may be bounded: a state at a minute is of no
-/// use if the minute and the least minutes to the goal come later, as some window is missed then. One pass over the labels at the services.
+/// For each number of services that are left, from none on, the latest Unix minute for bounds to the goal: a label is of no use if its minute
+/// and the least minutes to the goal together are later, as it misses some window then. One pass over the labels at the services, with a
+/// minute for each service in memory. The only error is out of memory.
 pub fn latest_by_left<R: Ruler>(
     alloc: Global,
     ruler: &R,
@@ -62,7 +63,7 @@ pub fn latest_by_left<R: Ruler>(
     Ok(minutes)
 }
 
-/// The latest minute of a state among these; the last one where there are none.
+/// The latest minute of a state among these; `until` if there are none. In constant time.
 #[inline(always)]
 pub fn latest_of<R: Ruler>(ruler: &R, minutes: &[Minute], until: Minute, state: u64) -> Minute
     ensures { result ≡ latest_by (R.ruling ruler.now) minutes.now until state }

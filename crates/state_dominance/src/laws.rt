@@ -69,7 +69,8 @@ pub fn parts_are_kept()
         → IsResting k now }
 {}
 
-/// The law that a ruler's search over states is one with dominance, and that its bounds and latest minutes hold along each road. The call does nothing.
+/// The law that a ruler's search over states is one with dominance, and that its bounds and latest minutes hold along each road. The call
+/// does nothing.
 pub fn rulers_simulate()
     ensures simulate { (s : Setting) (r : Ruler) (base origin goal depart until : ℕ)
         (bound : ℕ → ℕ → Option Bound) (latest : ℕ → ℕ) → IsSimulating r → IsBase s r base

@@ -51,7 +51,7 @@ def write_tree(folder: str, tree: Tree, programs: set[str], seconds: int) -> Non
         path = os.path.join(folder, name)
         os.makedirs(os.path.dirname(path), mode=0o755, exist_ok=True)
         if content.startswith(LINK):
-            os.symlink(content[len(LINK) :].decode(), path)
+            os.symlink(content.removeprefix(LINK).decode(), path)
             continue
         with open(path, "wb") as file:
             file.write(content)

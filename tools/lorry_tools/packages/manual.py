@@ -33,7 +33,7 @@ def usage_word(word: str) -> str:
     are."""
     opened = "[" if word.startswith("[") else ""
     closed = "]" if word.endswith("]") else ""
-    inner = word[len(opened) : len(word) - len(closed)]
+    inner = word.removeprefix(opened).removesuffix(closed)
     shown = rf"\fI{inner}\fP" if inner.isupper() else rf"\fB{inner}\fP".replace("-", r"\-")
     return opened + shown + closed
 

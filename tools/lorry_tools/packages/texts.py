@@ -101,7 +101,8 @@ class Elf:
 
     def text(self, strings: int, at: int) -> str:
         start: int = self.sections[strings][4] + at
-        return self.bytes[start : self.bytes.index(b"\0", start)].decode()
+        end = self.bytes.index(b"\0", start)
+        return self.bytes[start:end].decode()
 
     def libraries(self) -> Iterator[str]:
         for _, kind, _, _, start, size, link, *_ in self.sections:

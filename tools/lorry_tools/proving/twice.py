@@ -67,18 +67,19 @@ def binders(words: list[str]) -> tuple[list[str], list[str]]:
     out: list[str] = []
     place = 0
     while place < len(words):
-        end = place + 1
+        first = end = place + 1
         while end < len(words) and NAME.match(words[end]):
             end += 1
-        if words[place] in "({" and end > place + 1 and words[end : end + 1] == [":"]:
-            behind = place + closing(words[place:])
-            kind, inner = binders(words[end + 1 : behind - 1])
-            for name in words[place + 1 : end]:
+        if words[place] in "({" and first < end < len(words) and words[end] == ":":
+            begin, after = end + 1, place + closing(words[place:])
+            last = after - 1
+            kind, inner = binders(words[begin:last])
+            for name in words[first:end]:
                 out += ["(", name, ":"] + kind + [")"]
-            names += words[place + 1 : end] + inner
-            place = behind + (words[behind : behind + 1] == ["→"])
+            names += words[first:end] + inner
+            place = after + int(after < len(words) and words[after] == "→")
         elif words[place] == "λ":
-            names += words[place + 1 : end]
+            names += words[first:end]
             out += words[place:end]
             place = end
         else:

@@ -1,4 +1,4 @@
-// The keys for which single arcs have rules of their own, so that an arc without such rules is told at once.
+// The keys for which single arcs have rules of their own, so that arcs without such rules take no look-up.
 ghost use Rattle.std.specs.Prelude.{◌≡◌, ◌+◌, ◌<◌, ◌||◌, ◌++◌, ◌∷◌, ℕ, [], List, OnOk, length};
 ghost use Rattle.std.specs.List.{list_any};
 ghost use Rattle.vehicle_classes.specs.declared.classes.Key.{Key};
@@ -85,7 +85,7 @@ impl OwnKeys {
     }
 }
 
-/// The keys of the arc of this number, and none behind the end. In constant time.
+/// The keys of the arc of this number, and none after the end. In constant time.
 #[inline(always)]
 pub fn keys_of(own: &[OwnKeys], a: u32) -> OwnKeys
     ensures { result ≡ keys_at own.now a }
@@ -109,7 +109,7 @@ fn lengthen(own: &mut Vec<OwnKeys>, a: u32) -> Result<(), OutOfMemory>
     Ok(())
 }
 
-/// Makes room for the key of a place. Linear in the number of its arc, if that is behind the end.
+/// Makes room for the key of a place. Linear in the number of its arc, if that is after the end. The only error is out of memory.
 pub fn make_room(own: &mut Vec<OwnKeys>, scope: Scope) -> Result<(), OutOfMemory>
     ensures same { (b : ℕ) → keys_at own.new.items b ≡ keys_at own.old.items b }
     ensures room { OnOk result (HasRoom own.new.items scope) }

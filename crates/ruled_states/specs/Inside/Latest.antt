@@ -1,4 +1,4 @@
--- The latest minutes at which the goal may be bounded, by the number of services that are left (source: own; no law).
+-- The latest minutes for bounds to the goal, by the number of services that are left (source: own; no law).
 use Rattle.std.specs.Prelude.{◌≡◌, ◌⊎◌, ℕ, suc, ◌+◌, ◌-◌, ◌≤◌, ◌<◌, Some, Option, List, Contains, length, slice_get, unwrap_or}
 use Rattle.route_base.specs.declared.types.Bound.{Bound}
 use Rattle.state_dominance.specs.Inside.Product.{Ruler, Service}
@@ -8,7 +8,7 @@ use Rattle.ruled_states.specs.declared.labels.Label.{Label}
 abbrev pub latest_by : Ruler → List ℕ → ℕ → ℕ → ℕ
 latest_by r minutes until k = unwrap_or (slice_get minutes (length r.services - r.stage k)) until
 
--- no label with more services than so many has a larger value
+-- no label whose need has more than `served` services has a larger value
 abbrev pub IsLargest : Ruler → List Label → ℕ → ℕ → Type 0
 IsLargest r labels served value = (l : Label) → Contains labels l → served < r.stage l.need → l.value ≤ value
 
