@@ -1,12 +1,12 @@
 -- Arcs of one area with the same closures and the same rules of their own are closed at the same minutes.
-use Rattle.std.proofs.Common.{◌≡◌, ℕ, ◌||◌, Bool, true, false, not, Option, None, unwrap_or, is_some, option_and_then, ltb}
+use Rattle.std.proofs.Common.{◌≡◌, ℕ, ◌||◌, Bool, true, false, not, Option, None, unwrap_or, option_and_then, ltb}
 use Rattle.std.proofs.Common.{List, [], ◌∷◌, All, get_or, length, refl, sym, ◌∙◌, ap, arith}
 use Rattle.std.specs.List.{list_any}
 use Rattle.std.specs.Option.{option_or}
 use Rattle.std.proofs.lemmas.Bool.{or_parts}
 use Rattle.route_base.specs.Runs.{any_has}
-use Rattle.route_base.proofs.Logic.{none_from_test}
 use Rattle.vehicle_classes.specs.Classes.{keys_of}
+use Rattle.vehicle_classes.specs.Keys.{every_key}
 use Rattle.vehicle_classes.specs.VehicleModel.{VehicleModel}
 use Rattle.vehicle_classes.specs.declared.classes.Key.{Key}
 use Rattle.vehicle_classes.specs.declared.classes.Key.TheVariants as keys
@@ -17,12 +17,12 @@ use Rattle.conditional_rules.specs.declared.access.Access.TheVariants.{Free}
 use Rattle.conditional_rules.specs.declared.conditional.Clause.{Clause}
 use Rattle.network_tables.specs.Access.{access_given, area_at, area_place, decision_at, given_at, is_closed, is_let_in, places_of}
 use Rattle.network_tables.specs.NetworkModel.{NetworkModel, closures_of}
-use Rattle.network_tables.specs.Rules.{access_in, clauses_in, conditional_at, has_arc_rules, plain_at}
+use Rattle.network_tables.specs.Rules.{access_in, clauses_in, conditional_at, has_arc_rules, has_own_rule, has_own_rules, plain_at, rule_value_at}
 use Rattle.network_tables.specs.declared.rules.place.RulePlace.{RulePlace}
 use Rattle.network_tables.specs.declared.rules.place.Scope.TheVariants as scopes
-use Rattle.network_tables.proofs.ArcRules.{no_arc_value}
+use Rattle.network_tables.proofs.ArcRules.{at_arc, no_arc_value, no_own_value}
 use Rattle.ban_expansion.specs.Inside.AreaBans.{IsPlainIn}
-use Rattle.ban_expansion.specs.Inside.Grouping.{AreAlike, HaveSameRules, every_key, has_own, has_own_rule}
+use Rattle.ban_expansion.specs.Inside.Grouping.{AreAlike, HaveSameRules, has_own}
 use Rattle.ban_expansion.proofs.ItemLists.{got_fails}
 
 no_items : {A : Type 0} (xs : List A) → ltb 0 (length xs) ≡ false → xs ≡ []
@@ -38,15 +38,6 @@ no_key p none keys.Hgv = got_fails p every_key 3 keys.Hgv refl none
 no_key p none keys.HgvArticulated = got_fails p every_key 4 keys.HgvArticulated refl none
 no_key p none keys.Goods = got_fails p every_key 5 keys.Goods refl none
 no_key p none keys.Bus = got_fails p every_key 6 keys.Bus refl none
-
--- where no arc has a rule of its own, this one has none
-no_own_rule : (net : NetworkModel) (a : ℕ) → has_arc_rules net.rules ≡ false → (key : Key) → has_own_rule net a key ≡ false
-no_own_rule net a none key = λ i.
-    is_some (option_and_then access_in (no_arc_value net.rules a key false none i))
-    || is_some (option_and_then clauses_in (no_arc_value net.rules a key true none i))
-
-pub no_own_rules : (net : NetworkModel) (a : ℕ) → has_arc_rules net.rules ≡ false → list_any (has_own_rule net a) every_key ≡ false
-no_own_rules net a none = λ i. list_any (λ key. no_own_rule net a none key i) every_key
 
 -- what holds of the list of all keys holds of each key
 of_key : (P : Key → Type 0) → All P every_key → (key : Key) → P key
@@ -96,26 +87,25 @@ module _ (net : NetworkModel) (vehicle : VehicleModel) (a b t : ℕ) where
       λ i. not (inside i) || any_has (same.closures i) t
 
 module _ (net : NetworkModel) where
-  has_no_rules : (a : ℕ) → list_any (has_own_rule net a) every_key ≡ false → (key : Key)
-      → (plain_at net.rules (scopes.Arc a) key ≡ None) × (conditional_at net.rules (scopes.Arc a) key ≡ None)
-  has_no_rules a none key =
-      let values = or_parts (is_some (plain_at net.rules (scopes.Arc a) key)) (is_some (conditional_at net.rules (scopes.Arc a) key))
-      (no_key (has_own_rule net a) none key) in (
-        none_from_test (plain_at net.rules (scopes.Arc a) key) values.0,
-        none_from_test (conditional_at net.rules (scopes.Arc a) key) values.1,
-      )
+  -- arcs without a value for a key have the same rules of their own for it
+  same_values : (a b : ℕ) (key : Key) → ((kind : Bool) → rule_value_at net.rules (at_arc a key kind) ≡ None)
+      → ((kind : Bool) → rule_value_at net.rules (at_arc b key kind) ≡ None) → HaveSameRules net a b key
+  same_values a b key none_a none_b = record {
+    plain = ap (option_and_then access_in) (none_a false ∙ sym (none_b false));
+    conditional = ap (option_and_then clauses_in) (none_a true ∙ sym (none_b true));
+  }
 
   -- arcs without rules of their own have the same ones
-  same_without : (a b : ℕ) → list_any (has_own_rule net a) every_key ≡ false → list_any (has_own_rule net b) every_key ≡ false
-      → (key : Key) → HaveSameRules net a b key
-  same_without a b none_a none_b key = record {
-    plain = (has_no_rules a none_a key).0 ∙ sym (has_no_rules b none_b key).0;
-    conditional = (has_no_rules a none_a key).1 ∙ sym (has_no_rules b none_b key).1;
-  }
+  same_without : (a b : ℕ) → has_own_rules net.rules a ≡ false → has_own_rules net.rules b ≡ false → (key : Key) → HaveSameRules net a b key
+  same_without a b none_a none_b key =
+      same_values a b key
+      (λ kind. no_own_value net.rules a key kind (no_key (has_own_rule net.rules a) none_a key))
+      (λ kind. no_own_value net.rules b key kind (no_key (has_own_rule net.rules b) none_b key))
 
   pub same_if_none : (a b : ℕ) → has_arc_rules net.rules ≡ false → All (HaveSameRules net a b) every_key
   same_if_none a b none = λ i key within.
-      same_without a b (no_own_rules net a none) (no_own_rules net b none) (get_or every_key i key)
+      let k : Key = get_or every_key i key in
+      same_values a b k (λ kind. no_arc_value net.rules a k kind none) (λ kind. no_arc_value net.rules b k kind none)
 
   -- arcs of one area without rules of their own let a vehicle in at the same minutes
   pub let_in_same : (vehicle : VehicleModel) (area a b t : ℕ) → IsPlainIn net area a → IsPlainIn net area b
@@ -124,8 +114,8 @@ module _ (net : NetworkModel) where
 
   pub nothing_own : (a b : ℕ) → area_place net a ≡ area_place net b → has_own net a ≡ false → has_own net b ≡ false → AreAlike net a b
   nothing_own a b area none_a none_b =
-      let of_a = or_parts (ltb 0 (length (closures_of net a))) (list_any (has_own_rule net a) every_key) none_a in
-      let of_b = or_parts (ltb 0 (length (closures_of net b))) (list_any (has_own_rule net b) every_key) none_b in
+      let of_a = or_parts (ltb 0 (length (closures_of net a))) (has_own_rules net.rules a) none_a in
+      let of_b = or_parts (ltb 0 (length (closures_of net b))) (has_own_rules net.rules b) none_b in
       let rules = same_without a b of_a.1 of_b.1 in
       record {
         area = area;

@@ -9,10 +9,11 @@ pub use Rattle.covered_minutes.specs.Coverage.{IsWindow}
 pub use Rattle.network_tables.specs.Access.{area_at, given_at, is_closed, is_let_in, is_open_by, is_park_open, places_of_key}
 pub use Rattle.network_tables.specs.NetworkModel.{NetworkModel, closures_of, park_of}
 pub use Rattle.network_tables.specs.Parks.{HasTimetable, IsTimedIn}
+pub use Rattle.network_tables.specs.Rules.{has_own_rules}
 pub use Rattle.ban_expansion.specs.ArcGroups.{AreGroups, IsArc, IsInGroup}
 pub use Rattle.ban_expansion.specs.Bans.{HasThose, IsNetFor, Lays}
 pub use Rattle.ban_expansion.specs.Inside.AreaBans.{AreBarred}
 pub use Rattle.ban_expansion.specs.Inside.GroupedNets.{AreClosedLists, AreClosedOnce, AreTimed, IsTimedArc, timed_over}
 pub use Rattle.ban_expansion.specs.Inside.ShutLists.{AreParks, AreShutLists, park_over}
 pub use Rattle.ban_expansion.specs.Inside.Grouping.{AreAlike, AreGrouped, AreShared, HaveSameRules, IsNext}
-pub use Rattle.ban_expansion.specs.Inside.Grouping.{begun, begun_shared, every_key, has_own, has_own_rule, group_joined}
+pub use Rattle.ban_expansion.specs.Inside.Grouping.{begun, begun_shared, has_own, group_joined}

@@ -1,23 +1,13 @@
 // Whether two arcs have the same area, the same closures, and the same rules of their own.
 ghost use Rattle.std.specs.Prelude.{◌≡◌, All, IfOk, IsTrue, option_map};
-ghost use Rattle.ban_expansion.specs.Words.{AreAlike, HaveSameRules, IsArc, closures_of, every_key};
+ghost use Rattle.vehicle_classes.specs.Keys.{every_key};
+ghost use Rattle.ban_expansion.specs.Words.{AreAlike, HaveSameRules, IsArc, closures_of};
 
 use conditional_rules::{Conditional, print};
 use network_tables::Network;
 use route_base::{ArcId, OutOfMemory};
 use std::alloc::Global;
-use vehicle_classes::Key;
-
-/// All keys of access, from general to special.
-pub const EVERY_KEY: [Key; 7] = [
-    Key::Access,
-    Key::Vehicle,
-    Key::MotorVehicle,
-    Key::Hgv,
-    Key::HgvArticulated,
-    Key::Goods,
-    Key::Bus,
-];
+use vehicle_classes::{EVERY_KEY, Key};
 
 // Whether the arcs have the same closures in the same order.
 fn have_same_closures(network: &Network, a: ArcId, b: ArcId) -> bool

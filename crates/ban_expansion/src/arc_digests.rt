@@ -3,13 +3,12 @@
 // them costs one comparison, and may have a group of its own where it could share one, which is no more than if all arcs differed.
 ghost use Rattle.ban_expansion.specs.Words.{IsArc};
 
-use crate::arc_comparison::EVERY_KEY;
 use conditional_rules::{Access, Conditional, print};
 use network_tables::Network;
 use route_base::{ArcId, OutOfMemory};
 use std::alloc::Global;
 use std::hash::{DefaultHasher, Hash, Hasher};
-use vehicle_classes::Key;
+use vehicle_classes::EVERY_KEY;
 
 // An odd number, by which no two products of 64 bits become one.
 const FACTOR: u64 = 0x9E37_79B9_7F4A_7C15;

@@ -1,12 +1,10 @@
 // The minutes at which areas don't let a vehicle in, which their arcs without rules of their own share.
 ghost use Rattle.std.specs.Prelude.{◌≡◌, ◌≤◌, ◌<◌, false, Some, length, option_map, slice_get, IfOk, OnOk};
-ghost use Rattle.std.specs.List.{list_any};
 ghost use Rattle.route_base.specs.declared.types.Run.{Run};
 ghost use Rattle.ban_expansion.specs.Words.{AreBarred, AreRuns, HasThose, IsWindow, NetworkModel, VehicleModel};
-ghost use Rattle.ban_expansion.specs.Words.{every_key, has_own_rule, is_closed};
+ghost use Rattle.ban_expansion.specs.Words.{has_own_rules, is_closed};
 
 use crate::closed_sets::{barred_set, closed_over, closed_set};
-use crate::grouping::has_rules;
 use minute_sets::MinuteSet;
 use network_tables::Network;
 use route_base::{ArcId, OutOfMemory, Run};
@@ -53,7 +51,7 @@ impl AreaBans {
         requires low { 1 ≤ a.0 }
         requires high { a.0 ≤ length network.now.graph.arcs }
         requires window { IsWindow window }
-        requires rules { list_any (has_own_rule network.now a.0) every_key ≡ false }
+        requires rules { has_own_rules network.now.rules a.0 ≡ false }
         requires known { AreBarred network.now vehicle.now window self.old.sets.items }
         ensures { OnOk result (AreBarred network.now vehicle.now window self.new.sets.items) }
     {
@@ -85,7 +83,7 @@ impl AreaBans {
         ensures runs { IfOk result AreRuns }
         ensures known { OnOk result (AreBarred network.now vehicle.now window self.new.sets.items) }
     {
-        if has_rules(network, a) {
+        if network.has_own_rules(a) {
             return closed_set(alloc, network, vehicle, a, window);
         }
         self.learn(alloc, network, vehicle, a, window)?;

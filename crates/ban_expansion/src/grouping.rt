@@ -1,10 +1,9 @@
 // Finds the arcs of a network that are closed at the same minutes.
 ghost use Rattle.std.specs.Prelude.{◌≡◌, ◌+◌, ◌≤◌, ◌<◌, ◌^◌, All, Some, [], length, slice_get, IfOk, IfSome, OnOk};
-ghost use Rattle.std.specs.List.{list_any};
-ghost use Rattle.ban_expansion.specs.Words.{AreGroups, AreGrouped, AreShared, begun_shared, every_key, has_own, has_own_rule};
+ghost use Rattle.ban_expansion.specs.Words.{AreGroups, AreGrouped, AreShared, begun_shared, has_own};
 ghost use Rattle.ban_expansion.specs.Words.{IsArc, IsInGroup, IsNext, NetworkModel};
 
-use crate::arc_comparison::{EVERY_KEY, are_alike};
+use crate::arc_comparison::are_alike;
 use crate::arc_digests::arc_digest;
 use crate::arc_groups::ArcGroups;
 use indexmap::IndexMap;
@@ -12,7 +11,6 @@ use network_tables::Network;
 use route_base::{ArcId, OutOfMemory};
 use std::alloc::Global;
 use std::marker::Model;
-use vehicle_classes::Key;
 
 // Groups so far, and for each area the group of its arcs that have nothing of their own, if there is one yet. The groups of the other
 // arcs are found by the digests of their first arcs.
@@ -41,30 +39,6 @@ impl Drop for Grouping {
     }
 }
 
-// Whether the arc has a rule of its own for the key.
-fn has_rule(network: &Network, a: ArcId, key: Key) -> bool
-    ensures { result ≡ has_own_rule network.now a.0 key }
-{
-    network.arc_plain(a, key).is_some() || network.arc_conditional(a, key).is_some()
-}
-
-// Whether the arc has a rule of its own for any key, by look-ups for each. It isn't inlined, so that `has_rules` is one test where
-// there are none.
-#[inline(never)]
-fn finds_rules(network: &Network, a: ArcId) -> bool
-    ensures { result ≡ list_any (has_own_rule network.now a.0) every_key }
-{
-    EVERY_KEY.iter().any(|key| has_rule(network, a, *key))
-}
-
-/// Whether the arc has a rule of its own for any key. In constant time on average.
-#[inline(always)]
-pub fn has_rules(network: &Network, a: ArcId) -> bool
-    ensures { result ≡ list_any (has_own_rule network.now a.0) every_key }
-{
-    network.has_arc_rules() && finds_rules(network, a)
-}
-
 // Whether the arc has closures, or a rule of its own for any key.
 #[inline(always)]
 fn has_any(network: &Network, a: ArcId) -> bool
@@ -72,7 +46,7 @@ fn has_any(network: &Network, a: ArcId) -> bool
     requires high { a.0 ≤ length network.now.graph.arcs }
     ensures { result ≡ has_own network.now a.0 }
 {
-    network.closure_count(a) > 0 || has_rules(network, a)
+    network.closure_count(a) > 0 || network.has_own_rules(a)
 }
 
 // Whether no arc has rules of its own, and this one at most two closures: its set is made about as soon as an arc like it is found.
@@ -228,7 +202,7 @@ impl Grouping {
 /// digests, so where arcs that differ have one digest there may be more groups than that; and where no arc has rules of its own, each
 /// arc with one or two closures has a group of its own, whose set is made about as soon as an arc like it is found.
 ///
-/// If some arc has rules of its own, it takes fourteen tests of flags for an arc, and look-ups for those that have some. It is linear on
+/// If some arc has rules of its own, it takes seven tests of flags for an arc, and look-ups for those that have some. It is linear on
 /// average in areas, arcs, the closures of single arcs, and the bytes of the canonical texts of their conditional values, in time; in
 /// memory in areas and arcs, and in two of these texts.
 pub fn group_arcs(alloc: Global, network: &Network) -> Result<ArcGroups, OutOfMemory>

@@ -19,7 +19,7 @@ arc_rules_more rules place value =
     list_any-append (λ (rule : Rule). is_arc rule.0.scope) rules ((place, value) ∷ [])
     ∙ ap (λ b. has_arc_rules rules || b) (or-false (is_arc place.scope))
 
-abbrev at_arc : ℕ → Key → Bool → RulePlace
+abbrev pub at_arc : ℕ → Key → Bool → RulePlace
 at_arc a key conditional = record { scope = scopes.Arc a; key = key; conditional = conditional }
 
 -- a rule of an area is at no place of an arc

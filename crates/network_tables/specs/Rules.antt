@@ -8,6 +8,7 @@ use Rattle.route_base.specs.Forms.{is_from_to, is_name, table_number_of}
 use Rattle.route_base.specs.declared.faults.Cause.{Cause}
 use Rattle.route_base.specs.declared.faults.Cause.TheVariants.{BadField, Unknown, Duplicate, SizeLimit, NotConditional}
 use Rattle.route_base.specs.declared.limits.TheConstants.{LONGEST_RULE, MOST_RULES}
+use Rattle.vehicle_classes.specs.Keys.{every_key, key_of}
 use Rattle.vehicle_classes.specs.declared.classes.Key.{Key}
 use Rattle.vehicle_classes.specs.declared.classes.Key.TheVariants as keys
 use Rattle.conditional_rules.specs.Accesses.{access_of}
@@ -30,18 +31,6 @@ after mark text = if bytes_eq (take (length mark) text) mark then Some (drop (le
 abbrev pub before : List ℕ → List ℕ → Option (List ℕ)
 before mark text =
     if bytes_eq (drop (length text - length mark) text) mark then Some (take (length text - length mark) text) else None
-
--- the key of a word
-unfoldable pub key_of : List ℕ → Option Key
-key_of word =
-    if bytes_eq word (codes "access") then Some keys.Access
-    else if bytes_eq word (codes "vehicle") then Some keys.Vehicle
-    else if bytes_eq word (codes "motor_vehicle") then Some keys.MotorVehicle
-    else if bytes_eq word (codes "hgv") then Some keys.Hgv
-    else if bytes_eq word (codes "hgv_articulated") then Some keys.HgvArticulated
-    else if bytes_eq word (codes "goods") then Some keys.Goods
-    else if bytes_eq word (codes "bus") then Some keys.Bus
-    else None
 
 -- the key of a word, and whether `:conditional` follows it
 abbrev pub key_before : Option (List ℕ) → List ℕ → Option (Key × Bool)
@@ -191,10 +180,6 @@ is_arc (scopes.Arc number) = true
 
 abbrev pub has_arc_rules : List Rule → Bool
 has_arc_rules rules = list_any (λ rule. is_arc rule.0.scope) rules
-
--- all keys of access, from general to special
-abbrev pub every_key : List Key
-every_key = keys.Access ∷ keys.Vehicle ∷ keys.MotorVehicle ∷ keys.Hgv ∷ keys.HgvArticulated ∷ keys.Goods ∷ keys.Bus ∷ []
 
 -- whether a place is an arc's own for a key, whether the arc has a rule of its own for the key, and whether it has one for any key
 abbrev pub is_own_place : ℕ → Key → RulePlace → Bool

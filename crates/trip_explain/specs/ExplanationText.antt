@@ -2,22 +2,12 @@
 use Rattle.std.specs.Prelude.{ℕ, Bool, true, false, Option, Some, None, List, ◌++◌, codes, decimal}
 use Rattle.route_base.specs.declared.types.Pair.{Pair}
 use Rattle.line_texts.specs.Words.{thousandths_of}
+use Rattle.vehicle_classes.specs.Keys.{key_label_of}
 use Rattle.vehicle_classes.specs.declared.classes.Key.{Key}
-use Rattle.vehicle_classes.specs.declared.classes.Key.TheVariants as keys
 use Rattle.trip_explain.specs.declared.explanation.Explanation.{Explanation}
 use Rattle.trip_explain.specs.declared.explanation.Explanation.TheVariants.{Lawful, Unlawful}
 use Rattle.trip_explain.specs.declared.explanation.Why.{Why}
 use Rattle.trip_explain.specs.declared.explanation.Why.TheVariants as why
-
--- the word of a key in a table of rules
-abbrev pub key_label_of : Key → List ℕ
-key_label_of keys.Access = codes "access"
-key_label_of keys.Vehicle = codes "vehicle"
-key_label_of keys.MotorVehicle = codes "motor_vehicle"
-key_label_of keys.Hgv = codes "hgv"
-key_label_of keys.HgvArticulated = codes "hgv_articulated"
-key_label_of keys.Goods = codes "goods"
-key_label_of keys.Bus = codes "bus"
 
 -- whether a rule is the arc's own or its area's
 abbrev pub scope_label_of : Bool → List ℕ

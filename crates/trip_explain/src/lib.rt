@@ -36,5 +36,5 @@ pub use itinerary_file::read_itinerary;
 pub use laws::{dominates_exactly, never_both, one_explanation, undominated_exactly};
 pub use road_access::ruling_decides;
 pub use text::explain_text;
-pub use text_laws::{each_line_has_its_leg, key_labels_are_read, leg_lines_exactly};
+pub use text_laws::{each_line_has_its_leg, leg_lines_exactly};
 pub use trips::explain;

@@ -1,6 +1,6 @@
 // Writes an explanation as plain lines.
 ghost use Rattle.std.specs.Prelude.{◌≡◌, ◌++◌, OnOk, IfOk};
-ghost use Rattle.trip_explain.specs.ExplanationText.{key_label_of, scope_label_of, kind_label_of};
+ghost use Rattle.trip_explain.specs.ExplanationText.{scope_label_of, kind_label_of};
 ghost use Rattle.trip_explain.specs.ExplanationText.{reason_text, rule_text, worded_pair_line, better_line};
 ghost use Rattle.trip_explain.specs.ExplanationText.{unlawful_line, explanation_text};
 
@@ -8,22 +8,7 @@ use crate::explanation::{Explanation, Why};
 use line_texts::{push_field, push_text, push_thousandths};
 use route_base::{OutOfMemory, Pair};
 use std::alloc::Global;
-use vehicle_classes::Key;
-
-// The word of a key in a table of rules.
-fn key_label(key: Key) -> &'static str
-    ensures { result.now ≡ key_label_of key }
-{
-    match key {
-        Key::Access => "access",
-        Key::Vehicle => "vehicle",
-        Key::MotorVehicle => "motor_vehicle",
-        Key::Hgv => "hgv",
-        Key::HgvArticulated => "hgv_articulated",
-        Key::Goods => "goods",
-        Key::Bus => "bus",
-    }
-}
+use vehicle_classes::{Key, key_label};
 
 // The word for the scope of a rule.
 fn scope_label(of_arc: bool) -> &'static str

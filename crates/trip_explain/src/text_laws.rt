@@ -3,9 +3,6 @@ ghost use Rattle.std.specs.Prelude.{◌≡◌, ◌↔◌, ℕ, List, Some, None}
 ghost use Rattle.std.specs.List.{AllZip};
 ghost use Rattle.route_base.specs.declared.types.Leg.{Leg};
 ghost use Rattle.dimacs_reader.specs.Lines.{lines_of};
-ghost use Rattle.network_tables.specs.Rules.{key_of};
-ghost use Rattle.vehicle_classes.specs.declared.classes.Key.{Key};
-ghost use Rattle.trip_explain.specs.ExplanationText.{key_label_of};
 ghost use Rattle.trip_explain.specs.ItineraryFile.{IsLegLine, leg_of, bad_line_of, legs_of};
 
 /// The law of a leg's line: the leg of a line is the one that the line writes. The call does nothing.
@@ -17,9 +14,4 @@ pub fn leg_lines_exactly()
 pub fn each_line_has_its_leg()
     ensures { (bytes : List ℕ) → bad_line_of bytes ≡ None
         → AllZip IsLegLine (lines_of bytes) (legs_of bytes) }
-{}
-
-/// The law of a key's word: it is the word by which a table of rules names that key. The call does nothing.
-pub fn key_labels_are_read()
-    ensures { (key : Key) → key_of (key_label_of key) ≡ Some key }
 {}

@@ -1,4 +1,5 @@
 pub mod Classes
+pub mod Keys
 pub mod VehicleModel
 pub mod VehicleParts
 pub mod Vehicles

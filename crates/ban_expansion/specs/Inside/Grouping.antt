@@ -1,29 +1,18 @@
 -- Arcs that are grouped so far, and those that have nothing of their own (source: own).
-use Rattle.std.specs.Prelude.{◌≡◌, ◌<◌, ℕ, ◌||◌, nat_lt, Bool, false, is_some, Option, Some}
+use Rattle.std.specs.Prelude.{◌≡◌, ◌<◌, ℕ, ◌||◌, nat_lt, Bool, false, Option, Some}
 use Rattle.std.specs.Prelude.{List, [], ◌∷◌, ◌++◌, length, slice_get, slice_set}
-use Rattle.std.specs.List.{list_any}
 use Rattle.route_base.specs.declared.types.ArcId.{ArcId}
 use Rattle.dimacs_reader.specs.GraphModel.{IsGoodGraph}
 use Rattle.vehicle_classes.specs.declared.classes.Key.{Key}
-use Rattle.vehicle_classes.specs.declared.classes.Key.TheVariants as keys
 use Rattle.network_tables.specs.Access.{area_place}
 use Rattle.network_tables.specs.NetworkModel.{NetworkModel, closures_of}
-use Rattle.network_tables.specs.Rules.{plain_at, conditional_at}
+use Rattle.network_tables.specs.Rules.{plain_at, conditional_at, has_own_rules}
 use Rattle.network_tables.specs.declared.rules.place.Scope.TheVariants as scopes
 use Rattle.ban_expansion.specs.ArcGroups.{GroupsModel, IsInGroup, AreGroupsOf}
 
--- all keys of access, from general to special
-abbrev pub every_key : List Key
-every_key = keys.Access ∷ keys.Vehicle ∷ keys.MotorVehicle ∷ keys.Hgv ∷ keys.HgvArticulated ∷ keys.Goods ∷ keys.Bus ∷ []
-
--- whether the arc has a rule of its own for the key
-abbrev pub has_own_rule : NetworkModel → ℕ → Key → Bool
-has_own_rule net a key =
-    is_some (plain_at net.rules (scopes.Arc a) key) || is_some (conditional_at net.rules (scopes.Arc a) key)
-
 -- whether the arc has closures, or a rule of its own for any key
 abbrev pub has_own : NetworkModel → ℕ → Bool
-has_own net a = nat_lt 0 (length (closures_of net a)) || list_any (has_own_rule net a) every_key
+has_own net a = nat_lt 0 (length (closures_of net a)) || has_own_rules net.rules a
 
 -- two arcs have the same rules of their own for the key
 pub record HaveSameRules (net : NetworkModel) (a b : ℕ) (key : Key) : Type 0 where

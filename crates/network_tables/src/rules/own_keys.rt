@@ -1,9 +1,10 @@
 // The keys for which single arcs have rules of their own, so that arcs without such rules take no look-up.
 ghost use Rattle.std.specs.Prelude.{◌≡◌, ◌+◌, ◌<◌, ◌||◌, ◌++◌, ◌∷◌, ℕ, [], List, OnOk, length};
 ghost use Rattle.std.specs.List.{list_any};
+ghost use Rattle.vehicle_classes.specs.Keys.{every_key};
 ghost use Rattle.vehicle_classes.specs.declared.classes.Key.{Key};
 ghost use Rattle.network_tables.specs.OwnKeys.{AreOwnKeys, HasRoom, has_key, keys_at, no_keys};
-ghost use Rattle.network_tables.specs.Rules.{Rule, every_key, is_same_key};
+ghost use Rattle.network_tables.specs.Rules.{Rule, is_same_key};
 ghost use Rattle.network_tables.specs.declared.rules.value.RuleValue.{RuleValue};
 
 use super::place::{RulePlace, Scope};

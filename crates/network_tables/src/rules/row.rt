@@ -3,7 +3,7 @@ ghost use Rattle.std.specs.Prelude.{◌≡◌, Ok, Err, IfOk, IfErr, length, opt
 ghost use Rattle.csv.specs.Records.{fields_of};
 ghost use Rattle.table_reader.specs.NameIndex.{names_of};
 ghost use Rattle.table_reader.specs.Refusals.{IfBadCause};
-ghost use Rattle.network_tables.specs.Rules.{after, before, key_of, key_field_of, scope_of, rule_of};
+ghost use Rattle.network_tables.specs.Rules.{after, before, key_field_of, scope_of, rule_of};
 
 use super::place::{RulePlace, Scope};
 use super::value::{RuleValue, read_rule_value};
@@ -12,7 +12,7 @@ use csv::ByteRecord;
 use route_base::{Cause, is_name_field, read_table_number};
 use std::alloc::Global;
 use table_reader::{RowFault, three_fields};
-use vehicle_classes::Key;
+use vehicle_classes::{Key, read_key};
 
 // The bytes after a mark at the start of a text.
 fn after<'a>(mark: &[u8], text: &'a [u8]) -> Option<&'a [u8]>
@@ -26,30 +26,6 @@ fn before<'a>(mark: &[u8], text: &'a [u8]) -> Option<&'a [u8]>
     ensures { option_map (λ rest. rest.now) result ≡ before mark.now text.now }
 {
     text.strip_suffix(mark)
-}
-
-// The key of a word.
-#[tactic(auto, unfolding(crate::specs::Rules::key_of))]
-fn read_key(word: &[u8]) -> Option<Key>
-    ensures { result ≡ key_of word.now }
-{
-    if word == b"access".as_slice() {
-        Some(Key::Access)
-    } else if word == b"vehicle".as_slice() {
-        Some(Key::Vehicle)
-    } else if word == b"motor_vehicle".as_slice() {
-        Some(Key::MotorVehicle)
-    } else if word == b"hgv".as_slice() {
-        Some(Key::Hgv)
-    } else if word == b"hgv_articulated".as_slice() {
-        Some(Key::HgvArticulated)
-    } else if word == b"goods".as_slice() {
-        Some(Key::Goods)
-    } else if word == b"bus".as_slice() {
-        Some(Key::Bus)
-    } else {
-        None
-    }
 }
 
 // The key of a field, and whether its values are conditional.

@@ -1,7 +1,8 @@
 use Rattle.std.proofs.Common.{◌≡◌, ℕ, Option, All, IsTrue, unwrap_or, ap, sym, ◌∙◌}
 use Rattle.std.proofs.lemmas.Result.{IfOk-weaker}
+use Rattle.vehicle_classes.specs.Keys.{every_key}
 use Rattle.network_tables.specs.Access.{area_place}
-use Rattle.ban_expansion.specs.Inside.Grouping.{AreAlike, HaveSameRules, every_key}
+use Rattle.ban_expansion.specs.Inside.Grouping.{AreAlike, HaveSameRules}
 use Rattle.ban_expansion.proofs.AlikeArcs.{alike_by_keys}
 use Rattle.ban_expansion.proofs.arc_comparison.are_alike.Goals as goal
 

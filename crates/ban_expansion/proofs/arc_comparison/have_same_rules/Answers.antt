@@ -1,9 +1,10 @@
 use Rattle.std.proofs.Common.{take, get_or, All, List, sym, ◌∙◌, subst}
 use Rattle.std.proofs.lemmas.List.{take_all, take_more}
 use Rattle.std.proofs.lemmas.List.Elements.{All-push}
+use Rattle.vehicle_classes.specs.Keys.{every_key}
 use Rattle.vehicle_classes.specs.declared.classes.Key.{Key}
 use Rattle.vehicle_classes.specs.declared.classes.Key.TheVariants as keys
-use Rattle.ban_expansion.specs.Inside.Grouping.{HaveSameRules, every_key}
+use Rattle.ban_expansion.specs.Inside.Grouping.{HaveSameRules}
 use Rattle.ban_expansion.proofs.AlikeArcs.{same_if_none}
 use Rattle.ban_expansion.proofs.arc_comparison.have_same_rules.Goals as goal
 

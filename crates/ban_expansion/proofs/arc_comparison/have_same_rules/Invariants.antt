@@ -1,5 +1,6 @@
 use Rattle.std.proofs.Common.{All, take}
-use Rattle.ban_expansion.specs.Inside.Grouping.{HaveSameRules, every_key}
+use Rattle.vehicle_classes.specs.Keys.{every_key}
+use Rattle.ban_expansion.specs.Inside.Grouping.{HaveSameRules}
 use Rattle.ban_expansion.proofs.arc_comparison.have_same_rules.Given as goal
 
 abbrev pub invariant-loop-key : goal.invariant-loop-key

@@ -8,7 +8,7 @@ returns-in_ok-set-in-Some-clause-minutes c =
     let area = c.area_of-area.result in
     let plain : IsPlainIn network area c.args.a.0 = record {
       place = ap (λ (o : Option ℕ). unwrap_or o 0) c.area_of-area.ensures.value;
-      rules = sym c.has_rules.ensures ∙ c.if-has_rules.false;
+      rules = sym c.has_own_rules.ensures ∙ c.if-has_own_rules.false;
     } in
     let there = c.known.ensures ∙ ap (λ o. Some (option_map (λ s. s.now) o)) c.in-Some.is in
     c.in_ok-set-in-Some.ensures.minutes c.args.vehicle.now (c.in_ok-learn.ensures.each area c.in-Some.barred.now c.args.a.0 there plain)

@@ -1,9 +1,8 @@
 use Rattle.std.proofs.Common.{◌≡◌, Some, refl}
-use Rattle.network_tables.specs.Rules.{key_of}
+use Rattle.vehicle_classes.specs.Keys.{key_label_of, key_of}
 use Rattle.vehicle_classes.specs.declared.classes.Key.{Key}
 use Rattle.vehicle_classes.specs.declared.classes.Key.TheVariants as keys
-use Rattle.trip_explain.specs.ExplanationText.{key_label_of}
-use Rattle.trip_explain.proofs.text_laws.key_labels_are_read.Goals as goal
+use Rattle.vehicle_classes.proofs.laws.key_labels_are_read.Goals as goal
 
 label_read : (key : Key) → key_of (key_label_of key) ≡ Some key
 unfolding key_of
