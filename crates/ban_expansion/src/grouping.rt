@@ -60,8 +60,8 @@ fn has_short_set(network: &Network, a: ArcId) -> bool
 
 // No group for each of these areas.
 fn none_shared(alloc: Global, areas: usize) -> Result<Vec<Option<u32>>, OutOfMemory>
-    ensures { IfOk result (λ shared. (net : NetworkModel) →
-        length net.areas ≡ areas → AreShared net [] shared.items) }
+    ensures { IfOk result (λ shared. (network : NetworkModel) →
+        length network.areas ≡ areas → AreShared network [] shared.items) }
 {
     let shared = vec![in alloc; None; areas]?;
     Ok(shared)
@@ -70,8 +70,8 @@ fn none_shared(alloc: Global, areas: usize) -> Result<Vec<Option<u32>>, OutOfMem
 impl Grouping {
     // No arcs yet, over this number of areas, with room for this number of arcs. Linear in them, in memory, and in the areas in time.
     fn new(alloc: Global, areas: usize, arcs: usize) -> Result<Grouping, OutOfMemory>
-        ensures { IfOk result (λ grouping. (net : NetworkModel) →
-            length net.areas ≡ areas → AreGrouped net 0 grouping) }
+        ensures { IfOk result (λ grouping. (network : NetworkModel) →
+            length network.areas ≡ areas → AreGrouped network 0 grouping) }
     {
         let shared = none_shared(alloc, areas)?;
         let all = ArcGroups::new(alloc, arcs)?;

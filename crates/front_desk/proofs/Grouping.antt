@@ -12,8 +12,8 @@ use Rattle.front_desk.specs.Inside.Grouping.{KeepsGroups}
 same_item : (a b : ArcId) → Some a ≡ Some b → a ≡ b
 same_item a b same = ap (λ (o : Option ArcId). unwrap_or o a) same
 
-module _ (net : NetworkModel) (all : GroupsModel) where
-  pub kept_groups : AreGroups net all → KeepsGroups net all
+module _ (network : NetworkModel) (all : GroupsModel) where
+  pub kept_groups : AreGroups network all → KeepsGroups network all
   kept_groups are = record {
     counted = are.counted;
     few = are.few;
@@ -21,11 +21,11 @@ module _ (net : NetworkModel) (all : GroupsModel) where
     within = λ k group at. slice_get_within all.firsts group (are.each k group at).first (are.each k group at).there;
     alike = λ k group first at there vehicle t.
         let in_group = are.each k group at in
-        subst (λ (f : ArcId). is_closed net vehicle (k + 1) t ≡ is_closed net vehicle f.0 t)
+        subst (λ (f : ArcId). is_closed network vehicle (k + 1) t ≡ is_closed network vehicle f.0 t)
         (same_item in_group.first first (sym in_group.there ∙ there)) (in_group.alike vehicle t);
   }
 
-  pub given_groups : KeepsGroups net all → AreGroups net all
+  pub given_groups : KeepsGroups network all → AreGroups network all
   given_groups keeps = record {
     counted = keeps.counted;
     few = keeps.few;

@@ -70,10 +70,10 @@ abbrev no_area : Area
 no_area = record { zone = []; holidays = record { public = []; school = [] } }
 
 -- the zone and the holidays of an area that is there
-pub zone_there : (net : NetworkModel) (area : ℕ) (zone : List ZoneRow)
-    → option_map (λ (a : Area). a.zone) (slice_get net.areas area) ≡ Some zone → (area_at net area).zone ≡ zone
-zone_there net area zone is = mapped_there (λ (a : Area). a.zone) (slice_get net.areas area) no_area zone is
+pub zone_there : (network : NetworkModel) (area : ℕ) (zone : List ZoneRow)
+    → option_map (λ (a : Area). a.zone) (slice_get network.areas area) ≡ Some zone → (area_at network area).zone ≡ zone
+zone_there network area zone is = mapped_there (λ (a : Area). a.zone) (slice_get network.areas area) no_area zone is
 
-pub holidays_there : (net : NetworkModel) (area : ℕ) (holidays : HolidayLists)
-    → option_map (λ (a : Area). a.holidays) (slice_get net.areas area) ≡ Some holidays → (area_at net area).holidays ≡ holidays
-holidays_there net area holidays is = mapped_there (λ (a : Area). a.holidays) (slice_get net.areas area) no_area holidays is
+pub holidays_there : (network : NetworkModel) (area : ℕ) (holidays : HolidayLists)
+    → option_map (λ (a : Area). a.holidays) (slice_get network.areas area) ≡ Some holidays → (area_at network area).holidays ≡ holidays
+holidays_there network area holidays is = mapped_there (λ (a : Area). a.holidays) (slice_get network.areas area) no_area holidays is

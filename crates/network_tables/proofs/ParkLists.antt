@@ -42,9 +42,10 @@ pub park_held : (parks : ParkLists) (v : ℕ)
 park_held parks v = lookup-map_values (park_with parks.timetables) (nat_eq v) parks.rated
 
 -- the row of a node of a network that has these parks
-pub row_in : (net : NetworkModel) (parks : ParkLists) → parks_with parks ≡ net.parks → (v : ℕ) (node : Option RatedNode) → node ≡ lookup (nat_eq v) parks.rated
-    → park_of net v ≡ option_map (park_with parks.timetables) node
-row_in net parks same v node is =
+pub row_in : (network : NetworkModel) (parks : ParkLists) → parks_with parks ≡ network.parks → (v : ℕ) (node : Option RatedNode)
+    → node ≡ lookup (nat_eq v) parks.rated
+    → park_of network v ≡ option_map (park_with parks.timetables) node
+row_in network parks same v node is =
     ap (λ (rows : List Parked). park_for rows v) (sym same) ∙ park_held parks v ∙ ap (option_map (park_with parks.timetables)) (sym is)
 
 pub rated_there : (timetables : List Timetable) (node : Option RatedNode) (row : Option ParkRow) → row ≡ option_map (park_with timetables) node

@@ -25,11 +25,11 @@ use Rattle.network_tables.specs.declared.rules.place.Scope.TheVariants as scopes
 
 -- the place of the arc's area among the areas
 abbrev pub area_place : NetworkModel → ℕ → ℕ
-area_place net a = unwrap_or (at_number net.roads a) 0
+area_place network a = unwrap_or (at_number network.roads a) 0
 
 -- the area at a place
 abbrev pub area_at : NetworkModel → ℕ → Area
-area_at net place = unwrap_or (slice_get net.areas place) (record { zone = []; holidays = record { public = []; school = [] } })
+area_at network place = unwrap_or (slice_get network.areas place) (record { zone = []; holidays = record { public = []; school = [] } })
 
 -- the places at which a value of a key may stand for an arc in an area, from general to special: the area's two, then the arc's
 abbrev pub places_of_key : ℕ → ℕ → Key → List RulePlace
@@ -51,27 +51,27 @@ decision_at vehicle zone holidays t clauses = decision vehicle holidays (wall_at
 
 -- the access that the value at a place gives the vehicle at an instant, in this area
 abbrev pub given_at : NetworkModel → Area → VehicleModel → ℕ → RulePlace → Option Access
-given_at net area vehicle t place =
+given_at network area vehicle t place =
     if place.conditional
-    then option_and_then (decision_at vehicle area.zone area.holidays t) (conditional_at net.rules place.scope place.key)
-    else plain_at net.rules place.scope place.key
+    then option_and_then (decision_at vehicle area.zone area.holidays t) (conditional_at network.rules place.scope place.key)
+    else plain_at network.rules place.scope place.key
 
 -- the access that the last of the places of these keys gives, of those that give one
 abbrev pub access_given : NetworkModel → VehicleModel → ℕ → ℕ → List Key → Option Access
-access_given net vehicle a t keys =
-    last_given (given_at net (area_at net (area_place net a)) vehicle t) (places_of (area_place net a) a keys)
+access_given network vehicle a t keys =
+    last_given (given_at network (area_at network (area_place network a)) vehicle t) (places_of (area_place network a) a keys)
 
 -- the access that the last place gives, and free access where no place gives any
 abbrev pub access_at : NetworkModel → VehicleModel → ℕ → ℕ → Access
-access_at net vehicle a t = unwrap_or (access_given net vehicle a t (keys_of vehicle.class)) Free
+access_at network vehicle a t = unwrap_or (access_given network vehicle a t (keys_of vehicle.class)) Free
 
 -- whether the arc's access lets the vehicle in
 abbrev pub is_let_in : NetworkModel → VehicleModel → ℕ → ℕ → Bool
-is_let_in net vehicle a t = lets_purpose_in (access_at net vehicle a t) vehicle.purpose
+is_let_in network vehicle a t = lets_purpose_in (access_at network vehicle a t) vehicle.purpose
 
 -- whether the arc is closed to the vehicle: its access doesn't let it in, or one of its closures has the minute
 abbrev pub is_closed : NetworkModel → VehicleModel → ℕ → ℕ → Bool
-is_closed net vehicle a t = not (is_let_in net vehicle a t) || any_has (closures_of net a) t
+is_closed network vehicle a t = not (is_let_in network vehicle a t) || any_has (closures_of network a) t
 
 -- whether the hours, if there are any, cover the instant by the clocks and the holidays of the area
 abbrev pub is_open_by : Option (List HoursRule) → Area → ℕ → Bool
@@ -80,5 +80,5 @@ is_open_by (Some rules) area t = covered_at rules area.holidays area.zone t
 
 -- whether one may wait at the node at this instant
 abbrev pub is_park_open : NetworkModel → Option ParkRow → ℕ → Bool
-is_park_open net None t = false
-is_park_open net (Some park) t = is_open_by park.hours (area_at net park.area) t
+is_park_open network None t = false
+is_park_open network (Some park) t = is_open_by park.hours (area_at network park.area) t

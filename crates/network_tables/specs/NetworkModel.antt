@@ -32,19 +32,19 @@ pub record NetworkModel : Type 0 where
 
 -- the closed minutes of the arc of this number, in the order of its rows
 abbrev pub closures_of : NetworkModel → ℕ → List Run
-closures_of net a = unwrap_or (at_number net.closures a) []
+closures_of network a = unwrap_or (at_number network.closures a) []
 
 -- how one may wait at the node of this number
 abbrev pub park_of : NetworkModel → ℕ → Option ParkRow
-park_of net v = park_for net.parks v
+park_of network v = park_for network.parks v
 
 -- the price of a minute's wait there
 abbrev pub weight_at : NetworkModel → ℕ → Option ℕ
-weight_at net v = option_map (λ park. park.weight) (park_of net v)
+weight_at network v = option_map (λ park. park.weight) (park_of network v)
 
 -- the toll of the arc of this number, which is 0 without a row
 abbrev pub toll_at : NetworkModel → ℕ → ℕ
-toll_at net a = unwrap_or (toll_for net.tolls a) 0
+toll_at network a = unwrap_or (toll_for network.tolls a) 0
 
 -- a weight is at most 100 for a minute, and the area is one of this number of areas
 pub record IsGoodParked (areas : ℕ) (parked : Parked) : Type 0 where
@@ -60,10 +60,10 @@ abbrev pub AreBelow : ℕ → List ℕ → Type 0
 AreBelow n places = All (λ i. i < n) places
 
 -- a well-formed network: each arc has an area and closures, parks are at its nodes and in its areas, and weights and tolls are small
-pub record IsGoodNetwork (net : NetworkModel) : Type 0 where
-  pub roads : length net.roads ≡ length net.graph.arcs
-  pub placed : AreBelow (length net.areas) net.roads
-  pub closures : length net.closures ≡ length net.graph.arcs
-  pub parks : All (IsGoodParked (length net.areas)) net.parks
-  pub rated : All (IsParkedWithin net.graph.nodes) net.parks
-  pub tolls : (a : ℕ) → toll_at net a ≤ HIGHEST_TOLL
+pub record IsGoodNetwork (network : NetworkModel) : Type 0 where
+  pub roads : length network.roads ≡ length network.graph.arcs
+  pub placed : AreBelow (length network.areas) network.roads
+  pub closures : length network.closures ≡ length network.graph.arcs
+  pub parks : All (IsGoodParked (length network.areas)) network.parks
+  pub rated : All (IsParkedWithin network.graph.nodes) network.parks
+  pub tolls : (a : ℕ) → toll_at network a ≤ HIGHEST_TOLL

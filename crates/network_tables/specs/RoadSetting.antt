@@ -16,11 +16,11 @@ road_over toll arc = record { tail = arc.tail.0; head = arc.head.0; minutes = ar
 -- the network's arcs, shut at the minutes at which they are closed to the vehicle; one may wait at the nodes with a weight, at the
 -- minutes at which they are open
 abbrev pub road_setting : NetworkModel → VehicleModel → Setting
-road_setting net vehicle = record {
-  nodes = net.graph.nodes;
-  arcs = length net.graph.arcs;
-  road = λ a. option_map (road_over (toll_at net a)) (at_number net.graph.arcs a);
-  shut = is_closed net vehicle;
-  weight = weight_at net;
-  wait_shut = λ v t. not (is_park_open net (park_of net v) t);
+road_setting network vehicle = record {
+  nodes = network.graph.nodes;
+  arcs = length network.graph.arcs;
+  road = λ a. option_map (road_over (toll_at network a)) (at_number network.graph.arcs a);
+  shut = is_closed network vehicle;
+  weight = weight_at network;
+  wait_shut = λ v t. not (is_park_open network (park_of network v) t);
 }

@@ -12,19 +12,19 @@ use Rattle.ban_expansion.specs.ArcGroups.{GroupsModel, IsInGroup, AreGroupsOf}
 
 -- whether the arc has closures, or a rule of its own for any key
 abbrev pub has_own : NetworkModel → ℕ → Bool
-has_own net a = nat_lt 0 (length (closures_of net a)) || has_own_rules net.rules a
+has_own network a = nat_lt 0 (length (closures_of network a)) || has_own_rules network.rules a
 
 -- two arcs have the same rules of their own for the key
-pub record HaveSameRules (net : NetworkModel) (a b : ℕ) (key : Key) : Type 0 where
-  pub plain : plain_at net.rules (scopes.Arc a) key ≡ plain_at net.rules (scopes.Arc b) key
-  pub conditional : conditional_at net.rules (scopes.Arc a) key ≡ conditional_at net.rules (scopes.Arc b) key
+pub record HaveSameRules (network : NetworkModel) (a b : ℕ) (key : Key) : Type 0 where
+  pub plain : plain_at network.rules (scopes.Arc a) key ≡ plain_at network.rules (scopes.Arc b) key
+  pub conditional : conditional_at network.rules (scopes.Arc a) key ≡ conditional_at network.rules (scopes.Arc b) key
 
 -- two arcs of one area that have the same closures, and the same rules of their own
-pub record AreAlike (net : NetworkModel) (a b : ℕ) : Type 0 where
-  pub area : area_place net a ≡ area_place net b
-  pub closures : closures_of net a ≡ closures_of net b
-  pub plain : (key : Key) → plain_at net.rules (scopes.Arc a) key ≡ plain_at net.rules (scopes.Arc b) key
-  pub conditional : (key : Key) → conditional_at net.rules (scopes.Arc a) key ≡ conditional_at net.rules (scopes.Arc b) key
+pub record AreAlike (network : NetworkModel) (a b : ℕ) : Type 0 where
+  pub area : area_place network a ≡ area_place network b
+  pub closures : closures_of network a ≡ closures_of network b
+  pub plain : (key : Key) → plain_at network.rules (scopes.Arc a) key ≡ plain_at network.rules (scopes.Arc b) key
+  pub conditional : (key : Key) → conditional_at network.rules (scopes.Arc a) key ≡ conditional_at network.rules (scopes.Arc b) key
 
 -- groups so far, and for each area the group of its arcs that have nothing of their own, if there is one yet
 pub record GroupingModel : Type 0 where
@@ -46,18 +46,18 @@ begun_shared grouping a area = record {
 }
 
 -- an arc that has nothing of its own is in the group that its area shares, if there is one
-pub record AreShared (net : NetworkModel) (firsts : List ArcId) (shared : List (Option ℕ)) : Type 0 where
-  pub areas : length shared ≡ length net.areas
-  pub each : (area group a : ℕ) → slice_get shared area ≡ Some (Some group) → area_place net a ≡ area → has_own net a ≡ false
-      → IsInGroup net firsts a group
+pub record AreShared (network : NetworkModel) (firsts : List ArcId) (shared : List (Option ℕ)) : Type 0 where
+  pub areas : length shared ≡ length network.areas
+  pub each : (area group a : ℕ) → slice_get shared area ≡ Some (Some group) → area_place network a ≡ area → has_own network a ≡ false
+      → IsInGroup network firsts a group
 
 -- the first `count` arcs of the network are grouped
-pub record AreGrouped (net : NetworkModel) (count : ℕ) (grouping : GroupingModel) : Type 0 where
-  pub groups : AreGroupsOf net count grouping.all
-  pub shares : AreShared net grouping.all.firsts grouping.shared
+pub record AreGrouped (network : NetworkModel) (count : ℕ) (grouping : GroupingModel) : Type 0 where
+  pub groups : AreGroupsOf network count grouping.all
+  pub shares : AreShared network grouping.all.firsts grouping.shared
 
 -- the first k arcs are grouped, and there is one more
-pub record IsNext (net : NetworkModel) (k : ℕ) (grouping : GroupingModel) : Type 0 where
-  pub within : k < length net.graph.arcs
-  pub graph : IsGoodGraph net.graph
-  pub grouped : AreGrouped net k grouping
+pub record IsNext (network : NetworkModel) (k : ℕ) (grouping : GroupingModel) : Type 0 where
+  pub within : k < length network.graph.arcs
+  pub graph : IsGoodGraph network.graph
+  pub grouped : AreGrouped network k grouping

@@ -7,10 +7,10 @@ use Rattle.network_tables.specs.NetworkModel.{NetworkModel}
 use Rattle.ban_expansion.specs.ArcGroups.{GroupsModel, IsArc}
 
 -- each arc has a group with a first arc, and is closed to each vehicle at exactly the minutes at which that one is
-pub record KeepsGroups (net : NetworkModel) (all : GroupsModel) : Type 0 where
-  pub counted : length all.groups ≡ length net.graph.arcs
-  pub few : length all.firsts ≤ length net.graph.arcs
-  pub arcs : All (IsArc net) all.firsts
+pub record KeepsGroups (network : NetworkModel) (all : GroupsModel) : Type 0 where
+  pub counted : length all.groups ≡ length network.graph.arcs
+  pub few : length all.firsts ≤ length network.graph.arcs
+  pub arcs : All (IsArc network) all.firsts
   pub within : (k group : ℕ) → slice_get all.groups k ≡ Some group → group < length all.firsts
   pub alike : (k group : ℕ) (first : ArcId) → slice_get all.groups k ≡ Some group → slice_get all.firsts group ≡ Some first
-      → (vehicle : VehicleModel) (t : ℕ) → is_closed net vehicle (k + 1) t ≡ is_closed net vehicle first.0 t
+      → (vehicle : VehicleModel) (t : ℕ) → is_closed network vehicle (k + 1) t ≡ is_closed network vehicle first.0 t

@@ -8,12 +8,12 @@ use Rattle.ban_expansion.proofs.arc_comparison.are_alike.Goals as goal
 
 pub returns : goal.returns
 returns c =
-    let net = c.args.network.now in
+    let network = c.args.network.now in
     let a = c.args.a.0 in
     let b = c.args.b.0 in
     let place = λ (o : Option ℕ). unwrap_or o 0 in
-    let area : area_place net a ≡ area_place net b =
+    let area : area_place network a ≡ area_place network b =
     ap place c.area_of.ensures.value ∙ c.if-area_of.false ∙ sym (ap place c.area_of-2.ensures.value) in
     let closures = c.have_same_closures.ensures c.if-not-have_same_closures.false in
-    IfOk-weaker c.have_same_rules.result (λ same. IsTrue same → All (HaveSameRules net a b) every_key) (λ same. IsTrue same → AreAlike net a b)
-    (λ same rules yes. alike_by_keys net a b area closures (rules yes)) c.have_same_rules.ensures
+    IfOk-weaker c.have_same_rules.result (λ same. IsTrue same → All (HaveSameRules network a b) every_key) (λ same. IsTrue same → AreAlike network a b)
+    (λ same rules yes. alike_by_keys network a b area closures (rules yes)) c.have_same_rules.ensures

@@ -20,19 +20,19 @@ returns-in-Some c =
 
 pub returns : goal.returns
 returns c =
-    let net = c.args.network.now in
+    let network = c.args.network.now in
     let k = c.args.k in
     let a : ArcId = record { 0 = k + 1 } in
     let area = c.area_of-area.result in
     let grouping = c.args.self.now in
     let all = grouping.all in
     let shared = grouping.shared in
-    let before : AreGrouped net k grouping = c.requires.grouped in
+    let before : AreGrouped network k grouping = c.requires.grouped in
     let group = length all.firsts in
     let firsts : List ArcId = all.firsts ++ a ∷ [] in
-    let place : area_place net (k + 1) ≡ area = ap (λ (o : Option ℕ). unwrap_or o 0) c.area_of-area.ensures.value in
-    subst (AreGrouped net (k + 1)) (sym c.in_ok-begin_shared.ensures) (record {
-      groups = begun_groups net k a all refl c.requires.within before.groups;
-      shares = shares_more net firsts shared area group a (slice_get-push_end all.firsts a) place (sym c.has_any.ensures ∙ c.if-has_any.false)
-          (length-set shared area (Some group)) (stays_shared net all.firsts a shared before.shares);
+    let place : area_place network (k + 1) ≡ area = ap (λ (o : Option ℕ). unwrap_or o 0) c.area_of-area.ensures.value in
+    subst (AreGrouped network (k + 1)) (sym c.in_ok-begin_shared.ensures) (record {
+      groups = begun_groups network k a all refl c.requires.within before.groups;
+      shares = shares_more network firsts shared area group a (slice_get-push_end all.firsts a) place (sym c.has_any.ensures ∙ c.if-has_any.false)
+          (length-set shared area (Some group)) (stays_shared network all.firsts a shared before.shares);
     })

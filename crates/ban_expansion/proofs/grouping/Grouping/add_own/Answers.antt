@@ -12,27 +12,27 @@ returns-in-Some c =
 
 pub returns : goal.returns
 returns c =
-    let net = c.args.network.now in
+    let network = c.args.network.now in
     let k = c.args.k in
     let a : ArcId = record { 0 = k + 1 } in
     let all = c.self.inside.all in
     let shared = c.self.inside.shared.items in
-    let before : AreGrouped net k (record { all = all; shared = shared }) = subst (AreGrouped net k) (sym c.self.view_is) c.requires.grouped in
-    subst (AreGrouped net (k + 1)) (sym c.note.ensures)
-    (subst (λ (g : GroupsModel). AreGrouped net (k + 1) (record { all = g; shared = shared })) (sym c.in_ok-begun.ensures.begun) (record {
-      groups = begun_groups net k a all refl c.requires.within before.groups;
-      shares = stays_shared net all.firsts a shared before.shares;
+    let before : AreGrouped network k (record { all = all; shared = shared }) = subst (AreGrouped network k) (sym c.self.view_is) c.requires.grouped in
+    subst (AreGrouped network (k + 1)) (sym c.note.ensures)
+    (subst (λ (g : GroupsModel). AreGrouped network (k + 1) (record { all = g; shared = shared })) (sym c.in_ok-begun.ensures.begun) (record {
+      groups = begun_groups network k a all refl c.requires.within before.groups;
+      shares = stays_shared network all.firsts a shared before.shares;
     }))
 
 pub returns-then-has_short_set : goal.returns-then-has_short_set
 returns-then-has_short_set c =
-    let net = c.args.network.now in
+    let network = c.args.network.now in
     let k = c.args.k in
     let a : ArcId = record { 0 = k + 1 } in
     let all = c.self.inside.all in
     let shared = c.self.inside.shared.items in
-    let before : AreGrouped net k (record { all = all; shared = shared }) = subst (AreGrouped net k) (sym c.self.view_is) c.requires.grouped in
-    subst (λ (g : GroupsModel). AreGrouped net (k + 1) (record { all = g; shared = shared })) (sym c.in_ok-begin.ensures.begun) (record {
-      groups = begun_groups net k a all refl c.requires.within before.groups;
-      shares = stays_shared net all.firsts a shared before.shares;
+    let before : AreGrouped network k (record { all = all; shared = shared }) = subst (AreGrouped network k) (sym c.self.view_is) c.requires.grouped in
+    subst (λ (g : GroupsModel). AreGrouped network (k + 1) (record { all = g; shared = shared })) (sym c.in_ok-begin.ensures.begun) (record {
+      groups = begun_groups network k a all refl c.requires.within before.groups;
+      shares = stays_shared network all.firsts a shared before.shares;
     })

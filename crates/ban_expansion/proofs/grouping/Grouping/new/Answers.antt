@@ -5,6 +5,6 @@ use Rattle.ban_expansion.proofs.GroupedArcs.{none_grouped}
 use Rattle.ban_expansion.proofs.grouping.Grouping.new.Goals as goal
 
 pub returns : goal.returns
-returns c = λ net size.
-    subst (λ (all : GroupsModel). AreGrouped net 0 (record { all = all; shared = c.in_ok-shared.shared.items })) (sym c.in_ok-all.ensures)
-    (record { groups = none_grouped net; shares = c.in_ok-shared.ensures net size })
+returns c = λ network size.
+    subst (λ (all : GroupsModel). AreGrouped network 0 (record { all = all; shared = c.in_ok-shared.shared.items })) (sym c.in_ok-all.ensures)
+    (record { groups = none_grouped network; shares = c.in_ok-shared.ensures network size })
