@@ -6,7 +6,7 @@ ghost use Rattle.network_tables.specs.NetworkFiles.{contents_fault, network_in_f
 ghost use Rattle.drawn_network.specs.DrawnFiles.{drawn_files};
 
 use crate::files::{draw_files, drawn_among};
-use crate::laws::drawn_files_are_good;
+use crate::laws;
 use net_generator::Generated;
 use network_tables::{Files, Network, NetworkFault, read_network};
 use route_base::OutOfMemory;
@@ -52,7 +52,7 @@ pub fn draw_network(
     ensures network { IfOk result
         (λ drawn. drawn.network ≡ network_in_files (drawn_files number rows columns)) }
 {
-    drawn_files_are_good();
+    laws::drawn_files_are_good();
     let files = draw_files(alloc, number, rows, columns)?;
     let network = read_good(alloc, &files)?;
     Ok(DrawnNetwork {

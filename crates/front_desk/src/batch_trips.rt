@@ -35,7 +35,7 @@ pub struct Trips<'a> {
 }
 
 // The trip of a job.
-fn trip_of(job: &Job) -> Trip<'_>
+fn trip_of_job(job: &Job) -> Trip<'_>
     ensures { trip_in result ≡ trip_of_job job.now }
 {
     Trip {
@@ -103,7 +103,7 @@ impl Trips<'_> {
     }
 
     // A net for the trip at a place: the one that is kept, if the trip shares it, or a new one.
-    fn net_for(
+    fn shared_net_for(
         &self,
         kept: Option<SharedNet>,
         vehicle: &Vehicle,
@@ -147,7 +147,7 @@ impl Trips<'_> {
             text.items) }
         ensures shared { OnOk result (IfSome shared.new (IsSharedNet self.now.network.now)) }
     {
-        let net = self.net_for(shared.take(), vehicle, trip, place, to)?;
+        let net = self.shared_net_for(shared.take(), vehicle, trip, place, to)?;
         let text = text_over(self.alloc, self.network, &net, trip)?;
         *shared = Some(net);
         Ok(text)
@@ -168,7 +168,7 @@ impl Trips<'_> {
         ensures text { IfOk result (λ text. IsJobText self.now.network.now job.now text.items) }
         ensures shared { OnOk result (IfSome shared.new (IsSharedNet self.now.network.now)) }
     {
-        let trip = trip_of(job);
+        let trip = trip_of_job(job);
         match vehicle_of_trip(self.network, trip) {
             Ok(vehicle) => self.text_of_trip(shared, vehicle, trip, place, to),
             Err(fault) => refusal_text(self.alloc, Refusal::Request(fault)),

@@ -1,16 +1,15 @@
 // The command that plans a trip with driver breaks.
-ghost use Rattle.std.specs.Prelude.{◌↔◌, List, ℕ, IfOk, OnOk, IfErr};
+ghost use Rattle.std.specs.Prelude.{IfOk, OnOk, IfErr};
 ghost use Rattle.front_desk.specs.Words.{HasGoodRule, IsBreaksText, HasManyStates, breaks_meaning};
-ghost use Rattle.front_desk.specs.Words.{trip_setting, request_of, IsTimed, IsPlannable, IsTripNet, StopsAtSize, Ends};
+ghost use Rattle.front_desk.specs.Words.{request_of, IsTimed, IsPlannable, StopsAtSize, Ends};
 ghost use Rattle.front_transport.specs.CheapArcs.{HasCheapArcs};
-ghost use Rattle.front_words.specs.declared.breaks.Breaks.{Breaks as BreaksModel};
-ghost use Rattle.network_tables.specs.NetworkModel.{NetworkModel};
-ghost use Rattle.route_base.specs.Net.{Net, setting_of};
+ghost use Rattle.route_base.specs.Net.{setting_of};
 
+use crate::laws;
 use crate::networks::net_for;
 use crate::outcome::{Halt, Report, too_many_states};
 use crate::requests::{request_of, trip_of};
-use drive_breaks::{BreakFault, BreakRule, rested_trips_agree};
+use drive_breaks::{BreakFault, BreakRule};
 use front_words::Breaks;
 use network_folder::load_network;
 use plan_report::plain_text;
@@ -18,20 +17,6 @@ use rested_tours::plan_rested;
 use route_base::{Folder, Gate, TimedNet};
 use std::alloc::Global;
 use std::thread::Threads;
-
-// The law of the net of a trip: a text that reports right routes over the net reports them over the network's roads, and there are too
-// many states in both or in neither. The call does nothing.
-fn breaks_agree()
-    ensures text { (network : NetworkModel) (net : Net) (breaks : BreaksModel) (text : List ℕ)
-        → IsTripNet network breaks.trip net → IsBreaksText (setting_of net) breaks text
-        → IsBreaksText (trip_setting network breaks.trip) breaks text }
-    ensures states { (network : NetworkModel) (net : Net) (breaks : BreaksModel)
-        → IsTripNet network breaks.trip net
-        → HasManyStates (setting_of net) breaks
-        ↔ HasManyStates (trip_setting network breaks.trip) breaks }
-{
-    rested_trips_agree();
-}
 
 // The text of a trip with breaks over its net, or why there is none: too many states, or no memory.
 fn rested_text(alloc: Global, net: &TimedNet, breaks: &Breaks) -> Result<Vec<u8>, Halt>
@@ -72,7 +57,7 @@ pub fn report_breaks<R: Threads + Sync, F: Folder, G: Gate>(
 {
     let network = load_network(alloc, folder, &breaks.dir)?;
     let net = net_for(rt, alloc, network, trip_of(&breaks.trip), gate)?;
-    breaks_agree();
+    laws::breaks_agree();
     let text = rested_text(alloc, &net, breaks)?;
     Ok(Report {
         text,

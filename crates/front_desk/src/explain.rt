@@ -1,18 +1,16 @@
 // The command that explains an itinerary.
-ghost use Rattle.std.specs.Prelude.{◌≡◌, None, Option, Some, IfOk, OnOk, IfErr};
+ghost use Rattle.std.specs.Prelude.{◌≡◌, None, Some, IfOk, OnOk, IfErr};
 ghost use Rattle.front_desk.specs.Words.{KeepsFiles, IfTold, network_held, StopsReading, StopsStating, Ends};
 ghost use Rattle.front_desk.specs.Words.{legs_held, itinerary_fault, explain_fault, explain_meaning};
 ghost use Rattle.front_desk.specs.Words.{IsFirstBetter, IsBetterFor, IsExplainText};
 ghost use Rattle.front_desk.specs.Words.{trip_setting, request_of, trip_in, vehicle_named, failed_check};
-ghost use Rattle.front_desk.specs.Words.{IsTimed, IsPlannable, IsTripNet, StopsTrip};
-ghost use Rattle.front_words.specs.declared.commands.Trip.{Trip as TripModel};
-ghost use Rattle.network_tables.specs.NetworkModel.{NetworkModel};
+ghost use Rattle.front_desk.specs.Words.{IsTimed, IsPlannable, StopsTrip};
 ghost use Rattle.route_base.specs.Legs.{HasNoEmptyWait};
-ghost use Rattle.route_base.specs.Net.{Net, setting_of};
-ghost use Rattle.route_base.specs.declared.types.Pair.{Pair as PairModel};
+ghost use Rattle.route_base.specs.Net.{setting_of};
 ghost use Rattle.trip_explain.specs.Explanations.{IsExplained};
 ghost use Rattle.trip_explain.specs.ItineraryFile.{legs_of};
 
+use crate::laws;
 use crate::networks::net_for;
 use crate::outcome::{Halt, Report};
 use crate::requests::{Trip, request_of, trip_of, vehicle_of_trip};
@@ -23,21 +21,11 @@ use network_tables::Network;
 use plan_report::Refusal;
 use route_base::{
     BadInput, Cause, FileKind, Folder, FrontSearch, Gate, Leg, Legs, OutOfMemory, Pair, Request,
-    TimedNet, settings_agree,
+    TimedNet,
 };
 use std::alloc::Global;
 use std::thread::Threads;
 use trip_explain::{Explanation, ItineraryFault, dominator, explain, explain_text, read_itinerary};
-
-// The law of the net of a trip: the first better pair over the net is that over the network's roads. The call does nothing.
-fn better_pairs_agree()
-    ensures { (network : NetworkModel) (net : Net) (trip : TripModel) (pair : PairModel)
-        → (better : Option PairModel) → IsTripNet network trip net
-        → IsFirstBetter (setting_of net) (request_of trip) pair better
-        → IsFirstBetter (trip_setting network trip) (request_of trip) pair better }
-{
-    settings_agree();
-}
 
 // The first pair of the Pareto front over the net of a trip that dominates a pair.
 fn better_over(
@@ -72,7 +60,7 @@ fn better_for<R: Threads + Sync, G: Gate>(
         return Ok(None);
     };
     let net = net_for(rt, alloc, network, trip, gate)?;
-    better_pairs_agree();
+    laws::better_pairs_agree();
     let better = better_over(alloc, &net, request_of(trip), pair)?;
     Ok(better)
 }

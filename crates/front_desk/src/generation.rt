@@ -8,14 +8,14 @@ ghost use Rattle.net_generator.specs.Sizes.{IsDrawable};
 use crate::networks::net_at_once;
 use crate::outcome::{Halt, Report};
 use crate::requests::{Trip, request_of, vehicle_of_trip};
-use drawn_network::{draw_network, drawn_files_are_good};
+use drawn_network::draw_network;
 use front_words::Gen;
 use itinerary_unpack::FunctionEngine;
 use net_generator::Generated;
 use network_folder::{FileToWrite, put_each};
 use network_tables::Network;
 use plan_report::summary_text;
-use route_base::{FileKind, Folder, FrontSearch, Gate, OutOfMemory, settings_agree};
+use route_base::{FileKind, Folder, FrontSearch, Gate, OutOfMemory};
 use std::alloc::Global;
 use std::thread::Threads;
 use vehicle_classes::Vehicle;
@@ -40,7 +40,7 @@ fn vehicle_of_drawn<'a>(network: &'a Network, grid: &Gen) -> &'a Vehicle
     requires network { network.now ≡ stated_network grid.now }
     ensures { IsChecked network.now (drawn_trip grid.now) result.now }
 {
-    drawn_files_are_good();
+    drawn_network::drawn_files_are_good();
     let trip = drawn_trip(grid);
     let Ok(vehicle) = vehicle_of_trip(network, trip) else {
         unreachable!();
@@ -63,7 +63,7 @@ fn summary_of<R: Threads + Sync, G: Gate>(
     let vehicle = vehicle_of_drawn(network, grid);
     let trip = drawn_trip(grid);
     let net = net_at_once(rt, alloc, network, vehicle, trip, gate)?;
-    settings_agree();
+    route_base::settings_agree();
     let routes = FunctionEngine.front(alloc, &net, request_of(trip))?;
     let graph = network.graph();
     let text = summary_text(alloc, graph.node_count(), graph.arc_count(), &routes)?;

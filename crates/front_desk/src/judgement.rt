@@ -1,36 +1,23 @@
 // The command that judges a certificate.
-ghost use Rattle.std.specs.Prelude.{◌≡◌, true, false, None, List, ℕ, IfOk, OnOk, IfErr};
+ghost use Rattle.std.specs.Prelude.{◌≡◌, true, false, None, IfOk, OnOk, IfErr};
 ghost use Rattle.front_desk.specs.Words.{IfTold, network_held, check_fault, certificate_held, StopsReading};
-ghost use Rattle.front_desk.specs.Words.{KeepsFiles, trip_setting, check_meaning, IsTimed, IsTripNet};
+ghost use Rattle.front_desk.specs.Words.{KeepsFiles, check_meaning, IsTimed};
 ghost use Rattle.front_desk.specs.Words.{request_of, Ends, Tells, IsJudged};
-ghost use Rattle.front_desk.specs.Trips.{Trip as TripModel};
-ghost use Rattle.front_desk.specs.declared.outcome.Report.{Report as ReportModel};
-ghost use Rattle.network_tables.specs.NetworkModel.{NetworkModel};
-ghost use Rattle.route_base.specs.Net.{Net, IsGoodRequest, setting_of};
+ghost use Rattle.route_base.specs.Net.{IsGoodRequest, setting_of};
 
+use crate::laws;
 use crate::networks::net_for;
 use crate::outcome::{Halt, Report};
 use crate::requests::{request_of, trip_of};
 use certificate::{Certificate, CertificateFault, read};
-use certificate_check::{Verdict, check, verdicts_agree};
+use certificate_check::{Verdict, check};
 use front_words::Check;
 use network_folder::{FileToRead, LoadFault, load_with};
 use network_tables::Network;
 use plan_report::{Verdict3, check_text};
-use route_base::{FileBytes, Folder, Gate, OutOfMemory, Request, TimedNet, settings_agree};
+use route_base::{FileBytes, Folder, Gate, OutOfMemory, Request, TimedNet};
 use std::alloc::Global;
 use std::thread::Threads;
-
-// The law of the net of a trip: a report that judges bytes over the net judges them over the network's roads. The call does nothing.
-fn judgements_agree()
-    ensures { (network : NetworkModel) (net : Net) (trip : TripModel) (bytes : List ℕ)
-        → (report : ReportModel) → IsTripNet network trip net
-        → IsJudged (setting_of net) (request_of trip) bytes report
-        → IsJudged (trip_setting network trip) (request_of trip) bytes report }
-{
-    settings_agree();
-    verdicts_agree();
-}
 
 // The report on a certificate with this verdict.
 fn verdict_report(
@@ -114,7 +101,7 @@ pub fn report_check<R: Threads + Sync, F: Folder, G: Gate>(
     let (network, bytes) = load_to_check(alloc, folder, check)?;
     let trip = trip_of(&check.trip);
     let net = net_for(rt, alloc, network, trip, gate)?;
-    judgements_agree();
+    laws::judgements_agree();
     let report = judged(alloc, &net, request_of(trip), bytes)?;
     Ok(report)
 }

@@ -1,17 +1,16 @@
 // The command that answers how late one may leave.
-ghost use Rattle.std.specs.Prelude.{IfOk, List, ℕ};
-ghost use Rattle.front_desk.specs.Words.{trip_setting, latest_meaning, IsTimed, IsTripNet};
+ghost use Rattle.std.specs.Prelude.{IfOk};
+ghost use Rattle.front_desk.specs.Words.{latest_meaning, IsTimed};
 ghost use Rattle.front_desk.specs.Words.{request_of, Ends, IsLateText, IsLateRequest};
-ghost use Rattle.front_desk.specs.Trips.{Trip as TripModel};
-ghost use Rattle.network_tables.specs.NetworkModel.{NetworkModel};
-ghost use Rattle.route_base.specs.Net.{Net, setting_of};
+ghost use Rattle.route_base.specs.Net.{setting_of};
 
+use crate::laws;
 use crate::networks::net_within;
 use crate::outcome::{Halt, Report};
 use crate::requests::{request_of, trip_of};
 use front_words::Latest;
 use itinerary_unpack::FunctionEngine;
-use latest_departure::{late_routes_agree, late_text, latest};
+use latest_departure::{late_text, latest};
 use network_folder::load_network;
 use route_base::{Folder, Gate, Minute, OutOfMemory, Request, TimedNet};
 use std::alloc::Global;
@@ -30,17 +29,6 @@ fn late_text_over(alloc: Global, net: &TimedNet, request: Request) -> Result<Vec
     Ok(text)
 }
 
-// The law of the net of a trip: a text that reports latest departures over the net reports them over the network's roads. The call
-// does nothing.
-fn late_texts_agree()
-    ensures { (network : NetworkModel) (net : Net) (trip : TripModel) (text : List ℕ)
-        → IsTripNet network trip net
-        → IsLateText (setting_of net) (request_of trip) text
-        → IsLateText (trip_setting network trip) (request_of trip) text }
-{
-    late_routes_agree();
-}
-
 /// The latest departures of the command's trip over the files of its folder, as a text. Several workers make the net at once; the
 /// network is given back before the search, which needs the net alone and takes the time and memory of `latest`.
 pub fn report_latest<R: Threads + Sync, F: Folder, G: Gate>(
@@ -57,7 +45,7 @@ pub fn report_latest<R: Threads + Sync, F: Folder, G: Gate>(
     let network = load_network(alloc, folder, &late.dir)?;
     let trip = trip_of(&late.trip);
     let net = net_within(rt, alloc, network, trip, LONGEST_LATE_HORIZON, gate)?;
-    late_texts_agree();
+    laws::late_texts_agree();
     let text = late_text_over(alloc, &net, request_of(trip))?;
     Ok(Report {
         text,

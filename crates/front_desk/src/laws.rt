@@ -1,4 +1,4 @@
-// The numbers of the limits, and the laws of certificates, of explanations, of texts and of routes.
+// The numbers of the limits, and the laws of certificates, of explanations, of texts, of routes and of nets.
 ghost use Rattle.std.specs.Prelude.{◌≡◌, ◌↔◌, ℕ, List, Option, Some, None, true};
 ghost use Rattle.front_desk.specs.Batch.{IsBatchReport, IsJobText};
 ghost use Rattle.front_desk.specs.Check.{HasGoodCertificate, check_of_plan};
@@ -44,6 +44,13 @@ ghost use Rattle.route_base.specs.declared.limits.TheConstants.{LONGEST_FOLDER, 
 ghost use Rattle.route_base.specs.declared.limits.TheConstants.{MOST_ZONE_ROWS, MOST_AREAS, MOST_ROAD_ROWS, MOST_VEHICLES};
 ghost use Rattle.route_base.specs.declared.limits.TheConstants.{MOST_RULES, MOST_CLOSURES, MOST_RATINGS, MOST_PARKING_ROWS};
 ghost use Rattle.route_base.specs.declared.limits.TheConstants.{MOST_HOLIDAYS, MOST_TOLLS, MOST_NET_NODES, HIGHEST_TOLL, DEAREST_MINUTE};
+
+mod nets;
+
+pub use nets::{
+    better_pairs_agree, breaks_agree, is_trip_net, judgements_agree, late_texts_agree, plans_agree,
+    rested_texts_agree, tour_texts_agree,
+};
 
 /// The law of the limits: the definitions of the law take each from a constant of the code, and the constants have these numbers. They are
 /// those of `docs/LIMITS.md`. The call does nothing.

@@ -3,10 +3,11 @@
 //! `requests` checks a request and finds its vehicle, and `networks` makes the net of a trip over a network that `network_folder` has loaded:
 //! `net_for` does both, and `net_within` for a shorter time. `batch_trips` plans the jobs of a batch over nets that trips share (`shared_nets`).
 //! Each command has a module of its own, `plan`, `judgement` (of certificates), `bans`, `latest`, `batch`, `generation` (of networks), `tour`,
-//! `rested_tour` (under a break rule), `breaks` and `explain`; `commands` has one case for each. `desk` has the top call, `run`, and `run_gated`, whose workers go through a
-//! gate; `outcome` says how a command may end; `laws` has the numbers of the limits, the law that `check` accepts what `plan` writes, the law
-//! of explanations, and that of one text for one request. The commands are those of `front_words`; reports and the lines of refusals are
-//! those of `plan_report`, latest departures those of `latest_departure`, tours those of `stop_tour` and `rested_tours`, and explanations those of
+//! `rested_tour` (under a break rule), `breaks` and `explain`; `commands` has one case for each. `desk` has the top call, `run`, and
+//! `run_gated`, whose workers go through a gate; `outcome` says how a command may end; `laws` has the numbers of the limits, the law that
+//! `check` accepts what `plan` writes, the law of explanations, that of one text for one request, and in `nets` those by which an answer over
+//! the net of a trip is one over the network's roads. The commands are those of `front_words`; reports and the lines of refusals are those of
+//! `plan_report`, latest departures those of `latest_departure`, tours those of `stop_tour` and `rested_tours`, and explanations those of
 //! `trip_explain`.
 //!
 //! The law of `run` is in `specs/`. `Run` says which text is due with each status and what a run promises by its status, over `Meaning` (what

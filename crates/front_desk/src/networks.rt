@@ -1,38 +1,21 @@
 // Makes the net of a trip over a network.
 ghost use Rattle.std.specs.Prelude.{◌≡◌, ◌≤◌, ◌+◌, None, IfOk, OnOk, IfErr};
-ghost use Rattle.front_desk.specs.Words.{IsGoodNetwork, failed_check, trip_in, IsChecked, IsGoodTrip, IsTimed, StopsTrip};
+ghost use Rattle.front_desk.specs.Words.{failed_check, trip_in, IsChecked, IsGoodTrip, IsTimed, StopsTrip};
 ghost use Rattle.front_desk.specs.Words.{failed_check_within, StopsAtCheck};
-ghost use Rattle.front_desk.specs.Words.{IsTripNet, trip_setting, trip_window};
-ghost use Rattle.route_base.specs.Matching.{StandsFor};
-ghost use Rattle.route_base.specs.Net.{setting_of};
+ghost use Rattle.front_desk.specs.Words.{IsTripNet, trip_window};
 ghost use Rattle.route_base.specs.declared.limits.TheConstants.{LONGEST_HORIZON};
 
+use crate::laws;
 use crate::outcome::Halt;
 use crate::requests::{Trip, vehicle_within};
 use ban_expansion::expand;
 use network_tables::Network;
-use plan_certificate::certificates_agree;
 use plan_report::Refusal;
 use route_base::limits::LONGEST_HORIZON;
-use route_base::{Gate, Minute, OutOfMemory, Run, TimedNet, settings_agree};
+use route_base::{Gate, Minute, OutOfMemory, Run, TimedNet};
 use std::alloc::Global;
 use std::thread::Threads;
 use vehicle_classes::Vehicle;
-
-/// The law that a net which stands for the network's roads in the trip's minutes is the net of the trip. The call does nothing.
-pub fn is_trip_net(network: &Network, trip: Trip<'_>, net: &TimedNet)
-    requires network { IsGoodNetwork network.now }
-    requires good { IsGoodTrip network.now.graph.nodes (trip_in trip) }
-    requires timed { IsTimed (trip_in trip) }
-    requires stands { StandsFor (setting_of net.now) (trip_setting network.now (trip_in trip))
-        (trip_window (trip_in trip)) }
-    ensures { IsTripNet network.now (trip_in trip.entry) net.now }
-{
-    let graph = network.graph();
-    let _nodes = graph.node_count();
-    settings_agree();
-    certificates_agree();
-}
 
 // The minutes of a trip.
 fn window_of(trip: Trip<'_>) -> Run
@@ -59,7 +42,7 @@ pub fn net_at_once<R: Threads + Sync, G: Gate>(
     ensures { IfOk result (IsTripNet network.now (trip_in trip.entry)) }
 {
     let net = expand(rt, alloc, network, vehicle, window_of(trip), gate)?;
-    is_trip_net(network, trip, &net);
+    laws::is_trip_net(network, trip, &net);
     Ok(net)
 }
 

@@ -1,29 +1,22 @@
 // The command that plans a trip.
 ghost use Rattle.std.specs.Prelude.{IfOk, OnOk, IfErr};
-ghost use Rattle.front_desk.specs.Words.{trip_setting, plan_meaning, IsTimed};
+ghost use Rattle.front_desk.specs.Words.{plan_meaning, IsTimed};
 ghost use Rattle.front_desk.specs.Words.{request_of, IsPlannable, IsReady};
 ghost use Rattle.front_desk.specs.Words.{Ends, HandsOver, IsWritten, IsUnwritten};
-ghost use Rattle.front_words.specs.declared.plan.Plan.{Plan as PlanModel};
-ghost use Rattle.front_desk.specs.Words.{IsTripNet};
-ghost use Rattle.front_desk.specs.declared.plan.Planned.{Planned as PlannedModel};
-ghost use Rattle.network_tables.specs.NetworkModel.{NetworkModel};
-ghost use Rattle.route_base.specs.Net.{Net, setting_of};
+ghost use Rattle.route_base.specs.Net.{setting_of};
 
+use crate::laws;
 use crate::networks::net_for;
 use crate::outcome::{Halt, Report};
 use crate::requests::{request_of, trip_of};
 use certificate::write;
-use certificate_check::verdicts_agree;
 use front_words::Plan;
 use itinerary_unpack::FunctionEngine;
 use network_folder::{FileToWrite, load_network, put_file};
-use plan_certificate::{certificates_agree, certify};
-use plan_report::{plan_text, reports_agree};
+use plan_certificate::certify;
+use plan_report::plan_text;
 use route_base::limits::LONGEST_CERTIFICATE;
-use route_base::{
-    Folder, FrontSearch, Gate, OutOfMemory, Request, Routes, Text, TimedNet, WriteError,
-    settings_agree,
-};
+use route_base::{Folder, FrontSearch, Gate, OutOfMemory, Text, TimedNet, WriteError};
 use std::alloc::Global;
 use std::thread::Threads;
 
@@ -77,18 +70,6 @@ fn planned_over<'a>(
             })
         }
     }
-}
-
-// The law of the net of a trip: a plan that is ready over the net is ready over the network's roads. The call does nothing.
-fn plans_agree()
-    ensures { (network : NetworkModel) (net : Net) (plan : PlanModel) (planned : PlannedModel)
-        → IsTripNet network plan.trip net
-        → IsReady (setting_of net) plan planned → IsReady (trip_setting network plan.trip) plan planned }
-{
-    settings_agree();
-    verdicts_agree();
-    certificates_agree();
-    reports_agree();
 }
 
 // Writes the certificate's file below dir, if there is one.
@@ -145,7 +126,7 @@ pub fn report_plan<R: Threads + Sync, F: Folder, G: Gate>(
 {
     let network = load_network(alloc, folder, &plan.dir)?;
     let net = net_for(rt, alloc, network, trip_of(&plan.trip), gate)?;
-    plans_agree();
+    laws::plans_agree();
     let planned = planned_over(alloc, &net, plan)?;
     hand_over(alloc, folder, &plan.dir, planned)
 }

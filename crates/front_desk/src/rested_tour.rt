@@ -1,42 +1,24 @@
 // The command that plans a tour of stops under a break rule.
-ghost use Rattle.std.specs.Prelude.{◌≡◌, None, Some, All, List, ℕ, IfOk, OnOk, IfErr};
-ghost use Rattle.drive_states.specs.declared.rule.BreakRule.{BreakRule as Rule};
+ghost use Rattle.std.specs.Prelude.{◌≡◌, None, Some, All, IfOk, OnOk, IfErr};
 ghost use Rattle.front_desk.specs.Words.{HasGoodTourRule, IsRestedTourText, failed_size, rested_tour_meaning, tour_rule_of};
-ghost use Rattle.front_desk.specs.Words.{trip_setting, request_of, IsTimed, IsPlannable, IsTripNet, StopsAtSize, Ends};
+ghost use Rattle.front_desk.specs.Words.{request_of, IsTimed, IsPlannable, StopsAtSize, Ends};
 ghost use Rattle.front_transport.specs.CheapArcs.{HasCheapArcs};
-ghost use Rattle.front_words.specs.declared.commands.Trip.{Trip as TripModel};
-ghost use Rattle.network_tables.specs.NetworkModel.{NetworkModel};
-ghost use Rattle.route_base.specs.Net.{Net, setting_of};
+ghost use Rattle.route_base.specs.Net.{setting_of};
 ghost use Rattle.route_base.specs.declared.faults.RequestFault.TheVariants.{TooManyStates};
 ghost use Rattle.stop_tour.specs.Tours.{IsGoodStop};
-ghost use Rattle.stop_tour.specs.declared.stops.Stop.{Stop};
 
+use crate::laws;
 use crate::networks::net_for;
 use crate::outcome::{Halt, Report, too_many_states};
 use crate::requests::{request_of, trip_of};
 use crate::tour::load_tour;
 use drive_breaks::BreakRule;
 use front_words::RestedTour;
-use rested_tours::{plan_rested_tour, rested_tours_agree};
+use rested_tours::plan_rested_tour;
 use route_base::{Folder, Gate, Request, TimedNet};
 use std::alloc::Global;
 use std::thread::Threads;
-use stop_tour::{Stops, tour_fits, tour_text, tours_agree};
-
-// The law of the net of a trip: a text that reports right tours under a rule over the net reports them over the network's roads, and the
-// size is too large in both or in neither. The call does nothing.
-fn rested_texts_agree()
-    ensures text { (network : NetworkModel) (net : Net) (trip : TripModel) (stops : List Stop)
-        → (rule : Rule) (text : List ℕ) → IsTripNet network trip net
-        → IsRestedTourText (setting_of net) (request_of trip) stops rule text
-        → IsRestedTourText (trip_setting network trip) (request_of trip) stops rule text }
-    ensures size { (network : NetworkModel) (net : Net) (trip : TripModel) (stops : List Stop)
-        → IsTripNet network trip net
-        → failed_size (setting_of net) stops ≡ failed_size (trip_setting network trip) stops }
-{
-    rested_tours_agree();
-    tours_agree();
-}
+use stop_tour::{Stops, tour_fits, tour_text};
 
 // The text of the tours of a request under a rule over the net of its trip, or why there is none: too many states, or no memory.
 fn rested_tour_text(
@@ -86,7 +68,7 @@ pub fn report_rested_tour<R: Threads + Sync, F: Folder, G: Gate>(
     let (network, stops) = load_tour(alloc, folder, &rested.tour)?;
     let trip = trip_of(&rested.tour.trip);
     let net = net_for(rt, alloc, network, trip, gate)?;
-    rested_texts_agree();
+    laws::rested_texts_agree();
     let text = rested_tour_text(alloc, &net, request_of(trip), &stops, rested)?;
     Ok(Report {
         text,

@@ -6,13 +6,13 @@ ghost use Rattle.front_desk.specs.Batch.{IsTripReport};
 ghost use Rattle.front_desk.specs.Inside.Sharing.{IsSharedNet, IsSharedBy};
 ghost use Rattle.front_desk.specs.Words.{IsChecked, IsGoodNetwork, IsGoodTrip, IsTimed, trip_in, trip_setting};
 
-use crate::networks::is_trip_net;
+use crate::laws;
 use crate::requests::{Trip, request_of};
 use ban_expansion::{ArcGroups, expand_groups};
 use itinerary_unpack::{SearchArcs, front_over, search_arcs};
 use network_tables::Network;
-use plan_report::{plan_text, reports_agree};
-use route_base::{Form, OutOfMemory, Run, TimedNet, settings_agree};
+use plan_report::plan_text;
+use route_base::{Form, OutOfMemory, Run, TimedNet};
 use std::alloc::Global;
 use vehicle_classes::Vehicle;
 
@@ -90,9 +90,9 @@ pub fn text_over(
         (trip_in trip.entry) text.items) }
 {
     let net = &shared.net;
-    is_trip_net(network, trip, net);
-    settings_agree();
-    reports_agree();
+    laws::is_trip_net(network, trip, net);
+    route_base::settings_agree();
+    plan_report::reports_agree();
     let request = request_of(trip);
     let routes = front_over(alloc, net, &shared.arcs, request)?;
     let text = plan_text(alloc, Form::Plain, net, request, &routes)?;

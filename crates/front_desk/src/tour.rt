@@ -1,18 +1,16 @@
 // The command that plans a tour of stops.
-ghost use Rattle.std.specs.Prelude.{◌≡◌, None, Some, All, List, ℕ, IfOk, OnOk, IfErr};
+ghost use Rattle.std.specs.Prelude.{◌≡◌, None, Some, All, IfOk, OnOk, IfErr};
 ghost use Rattle.front_desk.specs.Words.{KeepsFiles, IfTold, network_held, StopsReading, StopsStating, Ends};
 ghost use Rattle.front_desk.specs.Words.{stops_held, stops_fault, tour_fault, failed_size, IsTourText, tour_meaning};
-ghost use Rattle.front_desk.specs.Words.{trip_setting, request_of, IsTimed, IsPlannable, IsTripNet, StopsAtSize};
+ghost use Rattle.front_desk.specs.Words.{request_of, IsTimed, IsPlannable, StopsAtSize};
 ghost use Rattle.front_transport.specs.CheapArcs.{HasCheapArcs};
-ghost use Rattle.front_words.specs.declared.commands.Trip.{Trip as TripModel};
-ghost use Rattle.network_tables.specs.NetworkModel.{NetworkModel};
-ghost use Rattle.route_base.specs.Net.{Net, setting_of};
+ghost use Rattle.route_base.specs.Net.{setting_of};
 ghost use Rattle.route_base.specs.declared.faults.RequestFault.TheVariants.{TooManyStates};
 ghost use Rattle.stop_tour.specs.StopTable.{stops_in};
 ghost use Rattle.stop_tour.specs.Tours.{IsGoodStop, IsStopAmong};
-ghost use Rattle.stop_tour.specs.declared.stops.Stop.{Stop};
 ghost use Rattle.table_reader.specs.Records.{rows_of};
 
+use crate::laws;
 use crate::networks::net_for;
 use crate::outcome::{Halt, Report, too_many_states};
 use crate::requests::{request_of, trip_of};
@@ -23,21 +21,7 @@ use network_tables::Network;
 use route_base::{BadInput, FileKind, Folder, Gate, Request, TableFault, TimedNet};
 use std::alloc::Global;
 use std::thread::Threads;
-use stop_tour::{Stops, TourFault, read_stops, tour_text, tour_with, tours_agree};
-
-// The law of the net of a trip: a text that reports right tours over the net reports them over the network's roads, and the size is too
-// large in both or in neither. The call does nothing.
-fn tour_texts_agree()
-    ensures text { (network : NetworkModel) (net : Net) (trip : TripModel) (stops : List Stop)
-        → (text : List ℕ) → IsTripNet network trip net
-        → IsTourText (setting_of net) (request_of trip) stops text
-        → IsTourText (trip_setting network trip) (request_of trip) stops text }
-    ensures size { (network : NetworkModel) (net : Net) (trip : TripModel) (stops : List Stop)
-        → IsTripNet network trip net
-        → failed_size (setting_of net) stops ≡ failed_size (trip_setting network trip) stops }
-{
-    tours_agree();
-}
+use stop_tour::{Stops, TourFault, read_stops, tour_text, tour_with};
 
 // The text of the tours of a request over the net of its trip, or why there is none: too many states, or no memory.
 fn text_of_tours(
@@ -119,7 +103,7 @@ pub fn report_tour<R: Threads + Sync, F: Folder, G: Gate>(
     let (network, stops) = load_tour(alloc, folder, tour)?;
     let trip = trip_of(&tour.trip);
     let net = net_for(rt, alloc, network, trip, gate)?;
-    tour_texts_agree();
+    laws::tour_texts_agree();
     let text = text_of_tours(alloc, &net, request_of(trip), &stops)?;
     Ok(Report {
         text,

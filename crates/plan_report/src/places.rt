@@ -5,7 +5,7 @@ ghost use Rattle.plan_report.specs.Stages.{road_at, price_at, position_after};
 ghost use Rattle.route_base.specs.Legs.{start_of};
 ghost use Rattle.route_base.specs.Net.{road_of, setting_of};
 
-use route_base::{ArcId, Cost, Leg, Minute, NodeId, Request, TimedArc, TimedNet, net_is_good};
+use route_base::{ArcId, Cost, Leg, Minute, NodeId, Request, TimedArc, TimedNet};
 
 /// A node, a minute and the cost so far.
 #[derive(Clone, Copy)]
@@ -49,7 +49,7 @@ fn weight_of(net: &TimedNet, v: NodeId) -> Cost
     requires { IsSome ((setting_of net.now).weight v.0) }
     ensures { result ≡ price_at (setting_of net.now) v.0 }
 {
-    net_is_good(net);
+    route_base::net_is_good(net);
     net.weight(v).unwrap()
 }
 

@@ -8,7 +8,7 @@ ghost use Rattle.route_base.specs.Net.{setting_of};
 ghost use Rattle.route_base.specs.Time.{IsInstant};
 
 use crate::places::{Stage, first_place, next_place};
-use route_base::{Leg, OutOfMemory, Pair, Request, Route, Routes, TimedNet, net_is_good};
+use route_base::{Leg, OutOfMemory, Pair, Request, Route, Routes, TimedNet};
 use std::alloc::Global;
 
 /// A form of the report that has a text for each leg of a route. It may have texts before all routes, and before and behind the legs of each.
@@ -87,7 +87,7 @@ fn push_route<F: RouteForm>(
     ensures { OnOk result (out.new.items ≡ out.old.items
         ++ route_text (F.texts form.now) (setting_of net.now) request number route.now) }
 {
-    net_is_good(net);
+    route_base::net_is_good(net);
     form.push_head(out, number, route)?;
     push_legs(
         form,

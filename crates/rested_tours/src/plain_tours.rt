@@ -6,7 +6,7 @@ ghost use Rattle.route_base.specs.declared.limits.TheConstants.{LONGEST_HORIZON}
 use crate::told_routes::told_routes;
 use crate::tours::services_of;
 use route_base::{OutOfMemory, Request, TimedNet};
-use ruled_search::{plan_ruled, ruled_costs_fit};
+use ruled_search::plan_ruled;
 use ruled_states::{NoRule, Serving};
 use std::alloc::Global;
 use stop_tour::{Stop, TourRoutes};
@@ -33,7 +33,7 @@ pub fn plan_tour(
     ensures { IfOk result (AreRightTours (setting_of net.now) request stops.now) }
 {
     let _nodes = net.node_count();
-    ruled_costs_fit();
+    ruled_search::ruled_costs_fit();
     let services = services_of(alloc, stops)?;
     let rules = NoRule {};
     let ruler = Serving {

@@ -8,7 +8,7 @@ ghost use Rattle.route_base.specs.declared.limits.TheConstants.{LONGEST_HORIZON}
 use crate::told_routes::told_routes;
 use drive_breaks::BreakRule;
 use route_base::{OutOfMemory, Request, TimedNet};
-use ruled_search::{plan_ruled, ruled_costs_fit};
+use ruled_search::plan_ruled;
 use ruled_states::{OneRule, Service, Serving};
 use std::alloc::Global;
 use stop_tour::{Stop, TourRoutes};
@@ -59,7 +59,7 @@ pub fn plan_rested_tour(
     ensures { IfOk result (AreRightRestedTours (setting_of net.now) request stops.now rule) }
 {
     let _nodes = net.node_count();
-    ruled_costs_fit();
+    ruled_search::ruled_costs_fit();
     let services = services_of(alloc, stops)?;
     let rules = OneRule {
         drive: rule.drive,

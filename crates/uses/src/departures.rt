@@ -7,7 +7,7 @@ ghost use Rattle.trip_explain.specs.Explanations.{IsRoadRequest};
 
 use crate::nets::trip_net;
 use itinerary_unpack::FunctionEngine;
-use latest_departure::{LateRoutes, late_routes_agree, latest};
+use latest_departure::{LateRoutes, latest};
 use network_tables::Network;
 use route_base::{OutOfMemory, Request};
 use std::alloc::Global;
@@ -26,7 +26,7 @@ pub fn late_departures(
     ensures { IfOk result (AreRightLate (road_setting network.now vehicle.now) request) }
 {
     let net = trip_net(alloc, network, vehicle, request)?;
-    late_routes_agree();
+    latest_departure::late_routes_agree();
     let routes = latest(alloc, &FunctionEngine, &net, request)?;
     Ok(routes)
 }

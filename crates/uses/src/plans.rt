@@ -6,9 +6,9 @@ ghost use Rattle.route_base.specs.Time.{IsInstant};
 ghost use Rattle.route_base.specs.declared.limits.TheConstants.{LONGEST_HORIZON};
 
 use ban_expansion::expand_plain;
-use itinerary_unpack::{FunctionEngine, costs_fit};
+use itinerary_unpack::FunctionEngine;
 use network_tables::Network;
-use route_base::{FrontSearch, OutOfMemory, Request, Routes, Run, net_is_good, settings_agree};
+use route_base::{FrontSearch, OutOfMemory, Request, Routes, Run};
 use std::alloc::Global;
 use vehicle_classes::Vehicle;
 
@@ -34,9 +34,9 @@ pub fn plan_trip(
         hi: request.until,
     };
     let net = expand_plain(alloc, network, vehicle, window)?;
-    net_is_good(&net);
-    costs_fit();
-    settings_agree();
+    route_base::net_is_good(&net);
+    itinerary_unpack::costs_fit();
+    route_base::settings_agree();
     let routes = FunctionEngine.front(alloc, &net, request)?;
     Ok(routes)
 }

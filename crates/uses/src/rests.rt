@@ -8,7 +8,7 @@ ghost use Rattle.route_base.specs.declared.limits.TheConstants.{LONGEST_HORIZON}
 ghost use Rattle.trip_explain.specs.Explanations.{IsRoadRequest};
 
 use crate::nets::trip_net;
-use drive_breaks::{BreakFault, BreakRule, rested_trips_agree};
+use drive_breaks::{BreakFault, BreakRule};
 use network_tables::Network;
 use rested_tours::plan_rested;
 use route_base::{Request, Routes};
@@ -39,7 +39,7 @@ pub fn rested_trip(
         Ok(net) => net,
         Err(_) => return Err(BreakFault::OutOfMemory),
     };
-    rested_trips_agree();
+    drive_breaks::rested_trips_agree();
     let routes = plan_rested(alloc, &net, request, rule)?;
     Ok(routes)
 }

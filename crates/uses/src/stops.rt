@@ -12,7 +12,7 @@ use itinerary_unpack::FunctionEngine;
 use network_tables::Network;
 use route_base::Request;
 use std::alloc::Global;
-use stop_tour::{Stop, TourFault, TourRoutes, tour_with, tours_agree};
+use stop_tour::{Stop, TourFault, TourRoutes, tour_with};
 use vehicle_classes::Vehicle;
 
 /// The Pareto front of a vehicle's tours of the stops in their order over a network, by rising arrival, each pair with lawful legs.
@@ -37,7 +37,7 @@ pub fn tour_of(
         Ok(net) => net,
         Err(_) => return Err(TourFault::OutOfMemory),
     };
-    tours_agree();
+    stop_tour::tours_agree();
     let routes = tour_with(alloc, &FunctionEngine, &net, request, stops)?;
     Ok(routes)
 }

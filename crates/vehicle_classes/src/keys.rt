@@ -35,5 +35,8 @@ pub fn key_label(key: Key) -> &'static str
 pub fn read_key(word: &[u8]) -> Option<Key>
     ensures { result ≡ key_of word.now }
 {
-    EVERY_KEY.iter().copied().find(|key| word == key_label(*key).as_bytes())
+    EVERY_KEY
+        .iter()
+        .copied()
+        .find(|key| word == key_label(*key).as_bytes())
 }

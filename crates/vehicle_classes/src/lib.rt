@@ -5,10 +5,10 @@
 //! known of it.
 //!
 //! The law is in `specs/`: `Classes` (the keys of each class) is met by `chain_at`; `Keys` (all keys, and the word of each) by
-//! `key_label` and `read_key`; `VehicleModel` (a vehicle's class,
-//! purpose, sizes and flags) by the calls of `Vehicle`; and `Vehicles` (the table `vehicles.csv`: which vehicle a row
-//! states, its schema over `Schema` of `table_reader`, and the vehicle `any` in front) by `read_vehicles` and the calls of
-//! `Vehicles`. `VehicleParts` is no law: it says how vehicles are held.
+//! `key_label` and `read_key`, which agree (`key_labels_are_read`); `VehicleModel` (a vehicle's class, purpose, sizes and
+//! flags) by the calls of `Vehicle`; and `Vehicles` (the table `vehicles.csv`: which vehicle a row states, its schema over
+//! `Schema` of `table_reader`, and the vehicle `any` in front) by `read_vehicles` and the calls of `Vehicles`. `VehicleParts`
+//! is no law: it says how vehicles are held.
 #![tactic(auto)]
 
 mod classes;

@@ -7,16 +7,17 @@ use Rattle.front_transport.specs.declared.limits.TheConstants.{MOST_STATES}
 use Rattle.front_desk.specs.Inside.Planning.{trip_window}
 use Rattle.front_desk.specs.Plan.{trip_setting}
 use Rattle.front_desk.specs.Trips.{request_of}
-use Rattle.front_desk.proofs.tour.tour_texts_agree.Goals as goal
+use Rattle.front_desk.proofs.laws.nets.rested_texts_agree.Goals as goal
 
 pub returns-clause-text : goal.returns-clause-text
-returns-clause-text c = λ network net trip stops text is right.
+returns-clause-text c = λ network net trip stops rule text is right.
     let window = trip_window trip in
     let request = request_of trip in
     let within : IsInWindow request window = (omega arith, omega arith) in
     record {
       routes = right.routes;
-      right = (c.tours_agree.ensures.right (setting_of net) (trip_setting network trip) window request stops is.stands within right.routes).0 right.right;
+      right = (c.rested_tours_agree.ensures (setting_of net) (trip_setting network trip) window request stops rule is.stands within right.routes).0
+          right.right;
       is_text = right.is_text;
     }
 

@@ -6,7 +6,7 @@ use Rattle.front_desk.specs.Inside.Planning.{trip_window}
 use Rattle.front_desk.specs.Plan.{trip_setting}
 use Rattle.front_desk.specs.Trips.{request_of}
 use Rattle.front_desk.proofs.ReadyPlans.{ready_stands}
-use Rattle.front_desk.proofs.plan.plans_agree.Goals as goal
+use Rattle.front_desk.proofs.laws.nets.plans_agree.Goals as goal
 
 pub returns : goal.returns
 returns c = λ network net plan planned is ready.

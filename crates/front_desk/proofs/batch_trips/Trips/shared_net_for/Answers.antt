@@ -1,5 +1,5 @@
 use Rattle.front_desk.proofs.Grouping.{given_groups}
-use Rattle.front_desk.proofs.batch_trips.Trips.net_for.Goals as goal
+use Rattle.front_desk.proofs.batch_trips.Trips.shared_net_for.Goals as goal
 
 pub shared_net-requires-clause-groups : goal.shared_net-requires-clause-groups
 shared_net-requires-clause-groups c =

@@ -5,7 +5,7 @@ use Rattle.front_desk.specs.Inside.Planning.{trip_window}
 use Rattle.front_desk.specs.Plan.{trip_setting}
 use Rattle.front_desk.specs.Trips.{request_of}
 use Rattle.front_desk.proofs.Judgements.{judged_there}
-use Rattle.front_desk.proofs.judgement.judgements_agree.Goals as goal
+use Rattle.front_desk.proofs.laws.nets.judgements_agree.Goals as goal
 
 pub returns : goal.returns
 returns c = λ network net trip bytes report is judged.

@@ -5,7 +5,7 @@ use Rattle.front_desk.specs.Breaks.{break_rule_of}
 use Rattle.front_desk.specs.Inside.Planning.{trip_window}
 use Rattle.front_desk.specs.Plan.{trip_setting}
 use Rattle.front_desk.specs.Trips.{request_of}
-use Rattle.front_desk.proofs.breaks.breaks_agree.Goals as goal
+use Rattle.front_desk.proofs.laws.nets.breaks_agree.Goals as goal
 
 pub returns-clause-text : goal.returns-clause-text
 returns-clause-text c = λ network net breaks text is right.

@@ -7,7 +7,7 @@ use Rattle.front_desk.specs.Inside.Planning.{trip_window}
 use Rattle.front_desk.specs.Plan.{trip_setting}
 use Rattle.front_desk.specs.Trips.{request_of, trip_in, vehicle_named}
 use Rattle.front_desk.proofs.CheapRoads.{cheap, cheap_arcs, cheap_roads}
-use Rattle.front_desk.proofs.networks.is_trip_net.Goals as goal
+use Rattle.front_desk.proofs.laws.nets.is_trip_net.Goals as goal
 
 pub returns : goal.returns
 returns c =
