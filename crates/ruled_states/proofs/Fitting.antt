@@ -137,12 +137,14 @@ module _ (s : Setting) (r : Ruler) (goal : ℕ) (minutes costs : List (List Labe
         let one : Contains r.rests rest = place_of r.rests i rest is in
         let l = least_is r (labels_at minutes v) (r.rest k rest) h.minutes parts.0 in
         let m = as_good_least r (labels_at minutes v) (l.0.value + rest) (r.rest l.0.need rest) k
-        (of_contained (λ x. HasAsGood r (labels_at minutes v) (x.value + rest) (r.rest x.need rest)) (labels_at minutes v) l.0 (subst (λ n. All (λ x. HasAsGood r (labels_at minutes v) (x.value + n) (r.rest x.need n)) (labels_at minutes v)) one.2
+        (of_contained (λ x. HasAsGood r (labels_at minutes v) (x.value + rest) (r.rest x.need rest)) (labels_at minutes v) l.0
+        (subst (λ n. All (λ x. HasAsGood r (labels_at minutes v) (x.value + n) (r.rest x.need n)) (labels_at minutes v)) one.2
         (in_time.rests v weight rated one.0 rest one.1)) l.1)
         (λ o le. fit.rest k rest l.0.need o l.2 le) in
         let w = least_is r (labels_at costs v) (r.rest k rest) h.cost parts.1 in
         let c = as_good_least r (labels_at costs v) (w.0.value + rest * weight) (r.rest w.0.need rest) k
-        (of_contained (λ x. HasAsGood r (labels_at costs v) (x.value + rest * weight) (r.rest x.need rest)) (labels_at costs v) w.0 (subst (λ n. All (λ x. HasAsGood r (labels_at costs v) (x.value + n * weight) (r.rest x.need n)) (labels_at costs v)) one.2
+        (of_contained (λ x. HasAsGood r (labels_at costs v) (x.value + rest * weight) (r.rest x.need rest)) (labels_at costs v) w.0
+        (subst (λ n. All (λ x. HasAsGood r (labels_at costs v) (x.value + n * weight) (r.rest x.need n)) (labels_at costs v)) one.2
         (at_cost.rests v weight rated one.0 rest one.1)) w.1)
         (λ o le. fit.rest k rest w.0.need o w.2 le) in (
           record { minutes = m.0; cost = c.0 },

@@ -10,6 +10,7 @@ use crate::back_star::BackStar;
 use crate::label_search::{Counted, Ground, found_labels};
 use crate::labels::{Label, Labels, count_below, labels_of};
 use crate::rulers::{Ruler, Service};
+use crate::stage_sums::{breaks_matter_little, stage_labels};
 use route_base::{ArcId, NodeId, OutOfMemory, Park, TimedArc};
 use std::alloc::Global;
 
@@ -257,6 +258,21 @@ fn lists_hold<R: Ruler>(ground: &Ground<'_, R>, counted: Counted, lists: &[Vec<L
         && places_hold(ground, counted, lists)
 }
 
+// One label for each node and stage, or all that aren't dominated.
+fn labels_by<R: Ruler>(
+    alloc: Global,
+    ground: &Ground<'_, R>,
+    star: &BackStar,
+    counted: Counted,
+    by_stage: bool,
+) -> Result<Vec<Vec<Label>>, OutOfMemory> {
+    if by_stage {
+        stage_labels(alloc, ground, star, counted)
+    } else {
+        found_labels(alloc, ground, star, counted, true)
+    }
+}
+
 /// Labels to the goal whose bounds hold along each drive and rest of each state; none, if what the search finds doesn't.
 pub fn ruled_labels<R: Ruler>(
     alloc: Global,
@@ -268,8 +284,9 @@ pub fn ruled_labels<R: Ruler>(
         (lists_of labels.minutes.items) (lists_of labels.costs.items)))) }
 {
     let star = BackStar::new(alloc, ground.net, ground.incoming)?;
-    let minutes = found_labels(alloc, ground, &star, Counted::Minutes)?;
-    let costs = found_labels(alloc, ground, &star, Counted::Cost)?;
+    let by_stage = ground.ruler.service_count() > 0 && breaks_matter_little(alloc, ground, &star)?;
+    let minutes = labels_by(alloc, ground, &star, Counted::Minutes, by_stage)?;
+    let costs = labels_by(alloc, ground, &star, Counted::Cost, by_stage)?;
     drop(star);
     if !lists_hold(ground, Counted::Minutes, minutes.as_slice()) {
         return Ok(None);

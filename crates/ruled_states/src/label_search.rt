@@ -64,11 +64,12 @@ pub struct Ground<'a, R> {
     pub goal: NodeId,
 }
 
-// The labels that are kept of each node, by rising stage and then value, and those that wait.
+// The labels that are kept of each node, by rising stage and then value, and those that wait. Services are taken backwards, or not.
 #[derive(Drop)]
 struct Search {
     kept: Vec<Vec<Label>>,
     queue: RadixQueue,
+    serves: bool,
 }
 
 // Whether a label with this need is dominated by one of the same stage among these, whose values are no larger. The last of the stage
@@ -200,36 +201,50 @@ impl Search {
             self.drive_back(ground.ruler, counted, *arc, label)?;
         }
         self.rest_before(ground, counted, node, label)?;
-        self.serve_before(ground, counted, node, label)
+        if self.serves {
+            self.serve_before(ground, counted, node, label)?;
+        }
+        Ok(())
     }
 }
 
-// The labels of each node that are not dominated, by rising stage and then value.
+// A list without labels for each of so many nodes.
+pub fn no_labels(alloc: Global, count: usize) -> Result<Vec<Vec<Label>>, OutOfMemory> {
+    let mut lists = Vec::with_capacity(alloc, count)?;
+    for _ in 0..count {
+        lists.push(Vec::new(alloc))?;
+    }
+    Ok(lists)
+}
+
+// The labels of each node that are not dominated, by rising stage and then value; without the services only those of the last stage.
 pub fn found_labels<R: Ruler>(
     alloc: Global,
     ground: &Ground<'_, R>,
     star: &BackStar,
     counted: Counted,
+    serves: bool,
 ) -> Result<Vec<Vec<Label>>, OutOfMemory> {
-    let count = ground.net.node_count() as usize + 1;
-    let mut lists = Vec::with_capacity(alloc, count)?;
-    for _ in 0..count {
-        lists.push(Vec::new(alloc))?;
-    }
     let mut search = Search {
-        kept: lists,
+        kept: no_labels(alloc, ground.net.node_count() as usize + 1)?,
         queue: RadixQueue::new(alloc)?,
+        serves,
     };
     let need = ground.ruler.last();
     search.offer(ground.ruler, ground.goal, Label { value: 0, need })?;
     for _ in 0..u64::MAX {
         let Some(Entry { value, need, node }) = search.queue.pop(alloc)? else {
-            return Ok(search.kept);
+            break;
         };
         let label = Label { value, need };
         if search.keep(ground.ruler, NodeId(node), label)? {
             search.go_back(ground, star, counted, NodeId(node), label)?;
         }
     }
-    Ok(search.kept)
+    let Search {
+        kept,
+        queue: _,
+        serves: _,
+    } = search;
+    Ok(kept)
 }

@@ -2,9 +2,10 @@
 //! of either (`Serving`); bounds to a goal for each node and state of a ruler; the states that a search under a ruler has reached, by
 //! number; and what of a state's costs no better state of its node dominates.
 //!
-//! The bounds are found by a search over labels of nodes (`label_search`), of which nothing is proved, and checked in one pass over the
-//! arcs and labels (`label_check`): for each arc and label of its head, its tail has a label that is as good. So they hold along each
-//! drive, rest and service of each state (`AreRuledBounds` of `state_dominance`), though no state is made.
+//! The bounds are found by a search over labels of nodes (`label_search`), or, where breaks take little, by one label for each stage
+//! (`stage_sums`). Nothing is proved of either: one pass over the arcs and labels checks them (`label_check`). For each arc and label of
+//! its head, its tail has a label that is as good. So they hold along each drive, rest and service of each state (`AreRuledBounds` of
+//! `state_dominance`), though no state is made.
 #![tactic(auto)]
 
 mod back_star;
@@ -18,6 +19,7 @@ mod no_rule;
 mod radix_queue;
 mod rulers;
 mod serving;
+mod stage_sums;
 mod table;
 
 pub use dominance::undominated;
