@@ -38,7 +38,8 @@ pub fn is_trip_net(network: &Network, trip: Trip<'_>, net: &TimedNet)
 pub fn plans_agree()
     ensures { (network : NetworkModel) (net : Net) (plan : PlanModel) (planned : PlannedModel)
         → IsTripNet network plan.trip net
-        → IsReady (setting_of net) plan planned → IsReady (trip_setting network plan.trip) plan planned }
+        → IsReady (setting_of net) plan planned
+        → IsReady (trip_setting network plan.trip) plan planned }
 {
     route_base::settings_agree();
     certificate_check::verdicts_agree();
