@@ -269,7 +269,7 @@ fn labels_by<R: Ruler>(
     if by_stage {
         stage_labels(alloc, ground, star, counted)
     } else {
-        found_labels(alloc, ground, star, counted, true)
+        found_labels(alloc, ground, star, counted, None)
     }
 }
 

@@ -64,12 +64,11 @@ pub struct Ground<'a, R> {
     pub goal: NodeId,
 }
 
-// The labels that are kept of each node, by rising stage and then value, and those that wait. Services are taken backwards, or not.
+// The labels that are kept of each node, by rising stage and then value, and those that wait.
 #[derive(Drop)]
 struct Search {
     kept: Vec<Vec<Label>>,
     queue: RadixQueue,
-    serves: bool,
 }
 
 // Whether a label with this need is dominated by one of the same stage among these, whose values are no larger. The last of the stage
@@ -200,11 +199,7 @@ impl Search {
         for arc in star.of(node) {
             self.drive_back(ground.ruler, counted, *arc, label)?;
         }
-        self.rest_before(ground, counted, node, label)?;
-        if self.serves {
-            self.serve_before(ground, counted, node, label)?;
-        }
-        Ok(())
+        self.rest_before(ground, counted, node, label)
     }
 }
 
@@ -217,18 +212,17 @@ pub fn no_labels(alloc: Global, count: usize) -> Result<Vec<Vec<Label>>, OutOfMe
     Ok(lists)
 }
 
-// The labels of each node that are not dominated, by rising stage and then value; without the services only those of the last stage.
+// The labels of each node that are not dominated, by rising stage and then value. With a limit only those of the last stage up to it.
 pub fn found_labels<R: Ruler>(
     alloc: Global,
     ground: &Ground<'_, R>,
     star: &BackStar,
     counted: Counted,
-    serves: bool,
+    limit: Option<u64>,
 ) -> Result<Vec<Vec<Label>>, OutOfMemory> {
     let mut search = Search {
         kept: no_labels(alloc, ground.net.node_count() as usize + 1)?,
         queue: RadixQueue::new(alloc)?,
-        serves,
     };
     let need = ground.ruler.last();
     search.offer(ground.ruler, ground.goal, Label { value: 0, need })?;
@@ -236,15 +230,17 @@ pub fn found_labels<R: Ruler>(
         let Some(Entry { value, need, node }) = search.queue.pop(alloc)? else {
             break;
         };
-        let label = Label { value, need };
-        if search.keep(ground.ruler, NodeId(node), label)? {
-            search.go_back(ground, star, counted, NodeId(node), label)?;
+        if limit.is_some_and(|most| value > most) {
+            break;
+        }
+        let (node, label) = (NodeId(node), Label { value, need });
+        if search.keep(ground.ruler, node, label)? {
+            search.go_back(ground, star, counted, node, label)?;
+            if limit.is_none() {
+                search.serve_before(ground, counted, node, label)?;
+            }
         }
     }
-    let Search {
-        kept,
-        queue: _,
-        serves: _,
-    } = search;
+    let Search { kept, queue: _ } = search;
     Ok(kept)
 }

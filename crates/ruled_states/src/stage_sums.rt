@@ -177,11 +177,39 @@ fn least_value(labels: &[Label]) -> Option<u64> {
     least
 }
 
-// With breaks the way to the goal may take so many per cent more minutes than without, on the mean of all nodes.
+// Breaks matter little if ways take at most so many per cent of their minutes without.
 const NEAR_PER_CENT: u64 = 120;
 
-// Whether ways to the goal with their breaks take about as long as without them, from all nodes together. Then one label for each stage says
-// nearly as much as all that aren't dominated. Two searches in the last stage.
+// The least sum at the last service; none where the goal isn't reached from there.
+fn last_sum<R: Ruler>(ruler: &R, least: &[u64]) -> Option<u64> {
+    let place = ruler.service_count().checked_sub(1)?;
+    let sum = sum_at(least, ruler.service(place)?.node);
+    if sum == u64::MAX { None } else { Some(sum) }
+}
+
+// Whether the labels give the nodes with sums up to a limit about these sums, all together.
+fn are_near(lists: &[Vec<Label>], least: &[u64], most: u64) -> bool {
+    let mut with: u64 = 0;
+    let mut without: u64 = 0;
+    for v in 0..least.len() {
+        if least[v] > most {
+            continue;
+        }
+        let Some(list) = lists.get(v) else {
+            return false;
+        };
+        let Some(value) = least_value(list.as_slice()) else {
+            return false;
+        };
+        with = with.saturating_add(value);
+        without = without.saturating_add(least[v]);
+    }
+    with.saturating_mul(100) <= without.saturating_mul(NEAR_PER_CENT)
+}
+
+// Whether ways to the goal from around the last service take about as long with their breaks as without. Then one label for each stage says
+// nearly as much as all that aren't dominated. If there is no way from there it is so too. One search over the net, and one as far as
+// twice the minutes from the last service.
 pub fn breaks_matter_little<R: Ruler>(
     alloc: Global,
     ground: &Ground<'_, R>,
@@ -192,20 +220,10 @@ pub fn breaks_matter_little<R: Ruler>(
         need: rested(ground.ruler),
     };
     let least = sums_to(alloc, ground, star, Counted::Minutes, ground.goal, label)?;
-    let lists = found_labels(alloc, ground, star, Counted::Minutes, false)?;
-    let mut without: u64 = 0;
-    let mut with: u64 = 0;
-    for v in 0..least.len() {
-        if least[v] < u64::MAX {
-            let Some(list) = lists.get(v) else {
-                continue;
-            };
-            let Some(value) = least_value(list.as_slice()) else {
-                return Ok(false);
-            };
-            without = without.saturating_add(least[v]);
-            with = with.saturating_add(value);
-        }
-    }
-    Ok(with.saturating_mul(100) <= without.saturating_mul(NEAR_PER_CENT))
+    let Some(most) = last_sum(ground.ruler, least.as_slice()) else {
+        return Ok(true);
+    };
+    let limit = Some(most.saturating_mul(2));
+    let lists = found_labels(alloc, ground, star, Counted::Minutes, limit)?;
+    Ok(are_near(lists.as_slice(), least.as_slice(), most))
 }
