@@ -16,13 +16,13 @@ from test_from_osm import DAYS, LAWS, OSMIUM, TESTS, TOOLS, run
 FAULTS = [
     ("a limit of height is forgotten", "tags", '    "maxheight": "height",\n', '    "maxheight": "width",\n'),
     ("a direction is turned round", "tags", 'DIRECTIONS = ("forward", "backward")', 'DIRECTIONS = ("backward", "forward")'),
-    ("a road's tags lift the law", "tables", "access.both(own, other) for own, other in zip(law, lists_of(arc))", "own for own in lists_of(arc)"),
+    ("a road's tags lift the law", "tables", "access.both(own, other) for own, other in zip(law, own_lists)", "own for own in own_lists"),
     ("a forbidden turn is taken", "turns", "                holds = way_out == turn.way_out\n", "                holds = False\n"),
     ("only_* is read as no_*", "turns", "holds = way_out not in onlys[turn.lists]", "holds = way_out in onlys[turn.lists]"),
     ("a ferry takes twice its time", "roads", "/ (minutes * 60)", "/ (minutes * 120)"),
-    ("roads are fast by night too", "convert", "                    arc.rules = self.with_rule(arc, number)\n", "                    pass\n"),
+    ("roads are fast by night too", "convert", "                    arcs.rules[at] = self.with_rule(arc, number)\n", "                    pass\n"),
     ("shapes are driven backwards", "shapes", "    is_along = pieces >= 0\n", "    is_along = pieces < -len(ends[0])\n"),
-    ("a coarse arc forgets a rule", "coarse", "                    own_rules = rules | own\n", "                    own_rules = rules\n"),
+    ("a coarse arc forgets a rule", "kinds", "self.number_of((rules | own, toll + more))", "self.number_of((rules, toll + more))"),
     ("maxspeed is passed over", "tags", "                    return min(found, float(number[1]) *", "                    return max(found, 0 * float(number[1]) *"),
 ]
 # Runs the converter with one text of one module in place of another.

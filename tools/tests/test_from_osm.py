@@ -72,15 +72,16 @@ class Polylines(unittest.TestCase):
     def test_what_is_written_is_read(self):
         script = (
             "import array, sys; sys.path.insert(0, sys.argv[1])\n"
-            "from lorry_tools.conversion import shapes\n"
-            "import random\n"
+            "from lorry_tools.conversion import arcs, shapes\n"
+            "import numpy, random\n"
             "draws = random.Random(1)\n"
             "xs = array.array('i', [draws.randint(-1800000000, 1800000000) for _ in range(500)])\n"
             "ys = array.array('i', [draws.randint(-900000000, 900000000) for _ in range(500)])\n"
             "parts = [[range(k, k + 5), range(k + 4, k - 1, -1)] for k in range(0, 490, 7)]\n"
-            "ends = list(range(0, 490, 7)), list(range(4, 494, 7))\n"
+            "ends = numpy.arange(0, 490, 7), numpy.arange(4, 494, 7)\n"
             "shapes.AT_ONCE = 30\n"
-            "shapes.write(sys.argv[2], xs, ys, ends, ((k, (k, -1 - k)) for k in range(len(parts))))\n"
+            "roads = [arcs.Arc(0, 0, 0, float(k), 0, 0.0, 0, 0, (k, -1 - k)) for k in range(len(parts))]\n"
+            "shapes.write(sys.argv[2], xs, ys, ends, arcs.of_list(roads))\n"
             "for it in parts: print([((xs[k] + 5) // 10, (ys[k] + 5) // 10) for k in [*it[0], *it[1][1:]]])\n"
         )
         with tempfile.TemporaryDirectory() as folder:

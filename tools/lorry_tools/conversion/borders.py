@@ -13,6 +13,8 @@ import numpy
 
 Line = list[tuple[int, int]]
 Cell = tuple[int, int]
+# The codes of cells without a border's way, and whether a closed border says so.
+PlainCells = dict[Cell, tuple[Optional[str], bool]]
 
 # Places are looked up by cells of a hundredth of a degree; a cell without a border's way lies in
 # one country.
@@ -165,31 +167,36 @@ class Borders:
                         best, code = distance, other_code
         return code
 
-    def countries(self, xs: Any, ys: Any) -> list[Optional[str]]:
-        """The codes of many places, given as arrays; places that no closed border has are
-        counted."""
+    def countries(self, xs: Any, ys: Any, plain: PlainCells) -> tuple[Any, list[Optional[str]]]:
+        """The codes of many places, given as arrays, as numbers of a list; places that no closed
+        border has are counted. `plain` has what was found of cells without a border's way."""
         width = 1 << 20
         cells = (xs // CELL + width // 2) * width + ys // CELL + width // 2
         names, firsts, back, counts = numpy.unique(
             cells, return_index=True, return_inverse=True, return_counts=True
         )
         is_plain = numpy.zeros(len(names), dtype=bool)
-        codes: list[Optional[str]] = [None] * len(names)
+        codes: dict[Optional[str], int] = {}
+        of_cell = numpy.zeros(len(names), dtype=numpy.intc)
         for number, first in enumerate(firsts.tolist()):
             x, y = int(xs[first]), int(ys[first])
-            if (x // CELL, y // CELL) not in self.cells:
+            cell = (x // CELL, y // CELL)
+            if cell not in self.cells:
                 is_plain[number] = True
-                codes[number], is_sure = self.find(x, y)
+                if cell not in plain:
+                    plain[cell] = self.find(x, y)
+                code, is_sure = plain[cell]
+                of_cell[number] = codes.setdefault(code, len(codes))
                 if not is_sure:
-                    self.near[codes[number]] += int(counts[number])
-        found = [codes[it] for it in back.tolist()]
+                    self.near[code] += int(counts[number])
+        found = of_cell[back]
         left = numpy.flatnonzero(~is_plain[back])
         for border in self.closed:
             inside = border.contain(xs[left], ys[left])
-            for at in left[inside].tolist():
-                found[at] = border.code
+            found[left[inside]] = codes.setdefault(border.code, len(codes))
             left = left[~inside]
         for at in left.tolist():
-            found[at] = self.nearest(int(xs[at]), int(ys[at]))
-            self.near[found[at]] += 1
-        return found
+            code = self.nearest(int(xs[at]), int(ys[at]))
+            found[at] = codes.setdefault(code, len(codes))
+            self.near[code] += 1
+        return found, list(codes)

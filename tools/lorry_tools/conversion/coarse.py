@@ -9,34 +9,22 @@ those that others replace in little more time are left out. A trip in the coarse
 over the roads too: a road that is closed for a while closes the whole arc for this while."""
 from __future__ import annotations
 
+import array
 import heapq
 import math
 import multiprocessing
-from typing import (
-    AbstractSet,
-    Any,
-    Callable,
-    Collection,
-    Iterable,
-    Iterator,
-    Mapping,
-    Optional,
-    Sequence,
-)
+from typing import Any, Callable, Collection, Iterable, Iterator, Mapping, Optional, Sequence
 
 import numpy
 
-from lorry_tools.conversion import shortcuts
-from lorry_tools.conversion.roads import Arc
-from lorry_tools.conversion.shortcuts import FREE, Ruled
+from lorry_tools.conversion import access, shortcuts
+from lorry_tools.conversion.arcs import Arcs, ranges, stars
+from lorry_tools.conversion.kinds import NO_RULES, Kinds, Ruled
+from lorry_tools.conversion.roads import Rules, sums
+from lorry_tools.conversion.shortcuts import Link, Links
 
-# What leaves a node, or comes into it: the milliseconds, the other node, and the place of the arc
-# in the list of arcs, or -1 - place for an arc with rules or a toll. These are tuples since
-# searches look at them millions of times.
-Link = tuple[int, int, int]
-Star = list[list[Link]]
-# A way between kept nodes: the places of its arcs, and its rules.
-Way = tuple[list[int], frozenset[int]]
+# The places of a way's arcs, and the number of its kind.
+Way = tuple[list[int], int]
 # The ways of a node, and whether some were given up.
 Ways = tuple[list[Way], bool]
 
@@ -46,73 +34,86 @@ MOST_KEPT = 1
 # The most ways to a junction that are followed at once, by their rules and tolls.
 MOST_WAYS = 12
 
-NO_RULES: frozenset[int] = frozenset()
-# Searches add up tolls as whole numbers, so that the order doesn't matter: of these parts of a
-# metre, whose numbers are exact.
-TOLL = 1 << 60
 FOR_EVER = 1 << 60
-# The bits of a label's number in the queue, and the kinds of labels at one millisecond.
+# The bits of a node's or a label's number in the queue, and the kinds of labels at one millisecond.
 BITS = 32
 MOST_LABELS = (1 << BITS) - 1
 KINDS = MOST_KEPT + 1
 # From how many kept junctions on several processes are worth it, and how many one takes at once.
 FEWEST_FOR_PROCESSES, CHUNK = 500, 50
+# How many roads or ways are looked at at once, and the most nodes whose links are objects.
+AT_ONCE, MOST_LINKED = 4096, 1 << 14
+
+
+class Star(dict[int, list[Link]]):
+    """The links of nodes, which are objects only around the nodes that were asked for last."""
+
+    def __init__(self, count: int, tails: Any, heads: Any, times: Any, places: Any = None) -> None:
+        super().__init__()
+        self.order, firsts = stars(count, tails)
+        self.firsts = array.array("i", firsts.astype(numpy.int32).tobytes())
+        self.heads, self.times, self.places = heads, times, places
+
+    def __missing__(self, node: int) -> list[Link]:
+        if len(self) >= MOST_LINKED:
+            self.clear()
+        at = self.order[self.firsts[node] : self.firsts[node + 1]]
+        places = at if self.places is None else self.places[at]
+        found = list(zip(self.times[at].tolist(), self.heads[at].tolist(), places.tolist()))
+        self[node] = found
+        return found
 
 
 class Stars:
-    """The arcs that leave each node, and that come into it."""
+    """The arcs that leave each node, and that come into it; and the kinds of arcs, by what they ask
+    of vehicles."""
 
-    def __init__(self, count: int, arcs: Sequence[Arc]) -> None:
-        self.arcs = arcs
-        self.out: Star = [[] for _ in range(count)]
-        self.into: Star = [[] for _ in range(count)]
-        # The rules and the toll of those arcs that have some.
-        self.ruled: dict[int, Ruled] = {}
-        for place, arc in enumerate(arcs):
-            if arc.rules or arc.toll:
-                rules = frozenset((arc.rules,)) if arc.rules else NO_RULES
-                self.ruled[place] = rules, int(arc.toll * TOLL)
-                place = -1 - place
-            self.out[arc.tail].append((arc.time, arc.head, place))
-            self.into[arc.head].append((arc.time, arc.tail, place))
+    def __init__(self, count: int, arcs: Arcs) -> None:
+        self.count, self.arcs, self.kinds = count, arcs, Kinds()
+        self.kind_of = self.kinds.of_arcs(arcs)
+        # An arc that asks something has -1 - its place in the list of arcs.
+        places = numpy.arange(len(arcs), dtype=numpy.int32)
+        places = numpy.where(self.kind_of > 0, -1 - places, places)
+        self.out = Star(count, arcs.tails, arcs.heads, arcs.times, places)
+        self.into = Star(count, arcs.heads, arcs.tails, arcs.times, places)
 
     def speeds(self) -> Any:
         """The metres a millisecond of the fastest arc at each node."""
-        found = numpy.zeros(len(self.out))
-        own = numpy.array([arc.length / arc.time for arc in self.arcs])
-        for ends in ([arc.tail for arc in self.arcs], [arc.head for arc in self.arcs]):
+        found = numpy.zeros(self.count)
+        own = self.arcs.lengths / self.arcs.times
+        for ends in (self.arcs.tails, self.arcs.heads):
             numpy.maximum.at(found, ends, own)
         return found
 
 
-def reached(start: int, star: Star, most: int) -> dict[int, int]:
+def reached(start: int, star: Mapping[int, list[Link]], most: int) -> dict[int, int]:
     """The nodes within so many milliseconds of a node."""
-    best, queue = {start: 0}, [(0, start)]
-    push, pop = heapq.heappush, heapq.heappop
+    best, queue, far = {start: 0}, [start], most + 1
+    push, pop, known = heapq.heappush, heapq.heappop, best.get
     while queue:
-        time, node = pop(queue)
+        number = pop(queue)
+        time, node = number >> BITS, number & MOST_LABELS
         if time > best[node]:
             continue
         for step, other, _ in star[node]:
             later = time + step
-            if later <= most and later < best.get(other, most + 1):
+            if later < known(other, far):
                 best[other] = later
-                push(queue, (later, other))
+                push(queue, later << BITS | other)
     return best
 
 
-def nearest(start: int, stars: Stars, nodes: AbstractSet[int], most: int) -> Optional[int]:
-    """The one of some nodes that is nearest to a node there and back, whichever takes longer; None
-    where none is within so many milliseconds in either direction."""
+def nearest(start: int, stars: Stars, is_kept: Any, most: int) -> Optional[int]:
+    """The kept node that is nearest to a node there and back, whichever takes longer; None where
+    none is within so many milliseconds in either direction."""
     for reach in (most // 8, most // 4, most // 2, most):
         near, back = (reached(start, it, reach) for it in (stars.out, stars.into))
-        if reach < most:
-            ends = [(max(near[it], back[it]), it) for it in near.keys() & back.keys() & nodes]
-        else:
-            ends = [
-                (max(near.get(it, FOR_EVER), back.get(it, FOR_EVER)), it)
-                for it in (near.keys() | back.keys()) & nodes
-            ]
+        either = near.keys() & back.keys() if reach < most else near.keys() | back.keys()
+        ends = [
+            (max(near.get(it, FOR_EVER), back.get(it, FOR_EVER)), it)
+            for it in either
+            if is_kept[it]
+        ]
         if ends:
             return min(ends)[1]
     return None
@@ -126,9 +127,8 @@ class Distances:
     AHEAD = 4
 
     def __init__(self, count: int, tails: Any, heads: Any, times: Any) -> None:
-        order = numpy.argsort(tails, kind="stable")
+        order, self.firsts = stars(count, tails)
         self.count, self.heads, self.times = count, heads[order], times[order]
-        self.firsts = numpy.searchsorted(tails[order], numpy.arange(count + 1))
         self.step = self.AHEAD * int(times.mean()) + 1
 
     def __call__(self, starts: Sequence[int]) -> Any:
@@ -149,50 +149,48 @@ class Distances:
     def nearer(self, best: Any, at: Any, times: Any) -> tuple[Any, Any]:
         """The places in `best` to which arcs from some places come earlier, with the times."""
         nodes = at % self.count
-        firsts = self.firsts[nodes]
-        counts = self.firsts[nodes + 1] - firsts
-        ends = numpy.cumsum(counts)
-        arcs = numpy.repeat(firsts - ends + counts, counts) + numpy.arange(ends[-1])
+        counts = self.firsts[nodes + 1] - self.firsts[nodes]
+        arcs, _ = ranges(self.firsts[nodes], counts)
         heads = numpy.repeat(at - nodes, counts) + self.heads[arcs]
         later = numpy.repeat(times, counts) + self.times[arcs]
         is_nearer = later < best[heads]
         return heads[is_nearer], later[is_nearer]
 
 
-def distances(count: int, arcs: Sequence[Arc], times: Iterable[int]) -> Distances:
-    ends = ([arc.tail for arc in arcs], [arc.head for arc in arcs], list(times))
-    return Distances(count, *(numpy.array(it, dtype=numpy.int64) for it in ends))
-
-
 def kept_junctions(
-    nodes: Iterable[int],
+    nodes: Any,
     stars: Stars,
     fixed: Collection[int],
     unfit: Collection[int],
     gap: int,
     progress: Callable[[int, int], None],
-) -> set[int]:
-    """The nodes that are kept: the fixed ones, and then those that none before is within the gap
-    of, in either direction."""
-    fastest = numpy.rint(stars.speeds() * 3600).astype(int).tolist()
-    order = sorted(nodes, key=lambda node: (node not in fixed, node in unfit, -fastest[node], node))
-    kept: set[int] = set()
-    covered: set[int] = set()
-    for count, node in enumerate(order, 1):
-        progress(count, len(order))
-        if node in covered and node not in fixed:
-            continue
-        kept.add(node)
-        covered.update(reached(node, stars.out, gap))
-        covered.update(reached(node, stars.into, gap))
+) -> Any:
+    """Which nodes are kept: the fixed ones, and then those that none before is within the gap of,
+    in either direction."""
+    fastest = numpy.rint(stars.speeds() * 3600).astype(int)[nodes]
+    is_fixed, is_unfit = (numpy.isin(nodes, list(it)) for it in (fixed, unfit))
+    order = nodes[numpy.lexsort((nodes, -fastest, is_unfit, ~is_fixed))]
+    kept = numpy.zeros(stars.count, dtype=bool)
+    covered = bytearray(stars.count)
+    count = 0
+    for first in range(0, len(order), AT_ONCE):
+        for node in order[first : first + AT_ONCE].tolist():
+            count += 1
+            progress(count, len(order))
+            if covered[node] and node not in fixed:
+                continue
+            kept[node] = True
+            for star in (stars.out, stars.into):
+                for other in reached(node, star, gap):
+                    covered[other] = 1
     return kept
 
 
 def ways_from(
     start: int,
-    out: Star,
-    ruled: Mapping[int, Ruled],
-    kept: Collection[int],
+    links: Links,
+    kinds: Kinds,
+    kept: Sequence[int],
     most: int,
     is_strict: bool,
 ) -> Optional[Ways]:
@@ -205,9 +203,10 @@ def ways_from(
     whether the way may still pass a kept junction, and then the number of the label. A strict
     search returns None where this last one would decide, or where some were given up."""
     push, pop = heapq.heappush, heapq.heappop
-    # The labels: their nodes, arcs, the labels before them, rules and metres with a toll.
+    out, kind_of, of, joined = links.out, links.kind_of, kinds.of, kinds.joined
+    # The labels: their nodes, arcs, the labels before them, and the kinds that aren't free.
     nodes, places, before = [start], [0], [0]
-    of_label: dict[int, Ruled] = {}
+    of_label: dict[int, int] = {}
     settled: dict[int, list[Ruled]] = {}
     # When a node was settled last, to which a second label came.
     last: dict[int, int] = {}
@@ -225,7 +224,8 @@ def ways_from(
         left = number % KINDS
         direct -= left == fresh
         node = nodes[label]
-        rules, toll = of_label.get(label, FREE)
+        kind = of_label.get(label, 0)
+        rules, toll = of[kind]
         others = settled.get(node)
         if others is None:
             settled[node] = [(rules, toll)]
@@ -241,36 +241,33 @@ def ways_from(
                 continue
             others.append((rules, toll))
         last[node] = number
-        if label and node in kept:
+        if label and kept[node]:
             if left == fresh:
-                found.append((path_of(label, places, before), rules))
+                found.append((path_of(label, places, before), kind))
             if not left:
                 continue
             left -= 1
             number -= 1
-        is_free = label not in of_label
         for step, head, place in out[node]:
             later = number + step * KINDS
             if later >= least.get(head, FOR_EVER):
                 if is_strict and later == least[head]:
                     return None
                 continue
-            if is_free and place >= 0:
+            if not kind and place >= 0:
                 if head in settled and beaten(settled[head], NO_RULES, 0):
                     continue
                 least[head] = later
             else:
                 if head == start:
                     continue
-                own_rules, own_toll = rules, toll
+                own = kind
                 if place < 0:
                     place = -1 - place
-                    own, more = ruled[place]
-                    own_rules = rules | own
-                    own_toll = toll + more
-                if head in settled and beaten(settled[head], own_rules, own_toll):
+                    own = joined(kind, int(kind_of[place]))
+                if head in settled and beaten(settled[head], *of[own]):
                     continue
-                of_label[len(nodes)] = own_rules, own_toll
+                of_label[len(nodes)] = own
             push(queue, later << BITS | len(nodes))
             nodes.append(head)
             places.append(place)
@@ -297,57 +294,49 @@ def path_of(label: int, places: Sequence[int], before: Sequence[int]) -> list[in
     return path
 
 
-def arc_of(arcs: Sequence[Arc], way: Way) -> Arc:
-    """The arc that stands for a way over some arcs, whose places are its pieces until `named`."""
-    path, rules = way
-    time, length, toll = 0, 0.0, 0.0
-    for place in path:
-        arc = arcs[place]
-        time += arc.time
-        length += arc.length
-        toll += arc.toll
-    first = arcs[path[0]]
-    head = arcs[path[-1]].head
-    return Arc(first.tail, head, time, length, rules, toll, first.area, tuple(path), "")
+def numbers_of_sets(arcs: Arcs, sets: Sequence[frozenset[int]], rules: Rules) -> Any:
+    """The number of the rules of each set that arcs have, 0 for the others."""
+    found = numpy.zeros(len(sets), dtype=numpy.int32)
+    used, firsts = numpy.unique(arcs.rules, return_index=True)
+    for at in used[numpy.argsort(firsts)].tolist():
+        found[at] = rules.all(sets[at])
+    return found
 
 
-def named(made: Iterable[Arc], arcs: Sequence[Arc]) -> None:
-    """Gives arcs that stand for ways over others the pieces of these, and the name of most of
-    their metres."""
-    for one in made:
-        names: dict[str, float] = {}
-        pieces: list[int] = []
-        for place in one.pieces:
-            arc = arcs[place]
-            names[arc.name] = names.get(arc.name, 0) + arc.length
-            pieces += arc.pieces
-        one.name = max(names, key=lambda it: (it != "", names[it]))
-        one.pieces = tuple(pieces)
+def usable(arcs: Arcs, sets: Sequence[frozenset[int]], rules: Rules) -> Arcs:
+    """Those arcs that somebody may use as a whole."""
+    numbers = numbers_of_sets(arcs, sets, rules)
+    is_shut = numpy.array([access.is_shut(it) for it in rules.lists])
+    return arcs.take(~is_shut[numbers[arcs.rules]])
 
 
-def minutes(arc: Arc) -> int:
-    """The whole minutes of an arc: the nearest, at least one."""
-    return max(1, (arc.time + 30_000) // 60_000)
+def minutes(times: Any) -> Any:
+    """The whole minutes of arcs' milliseconds: the nearest, at least one."""
+    return numpy.maximum(1, (times + 30_000) // 60_000)
 
 
 class Detours:
     """Arcs, which are added from short to long, and whether others replace a further one."""
 
-    def __init__(self, xs: Sequence[int], ys: Sequence[int], arcs: Sequence[Arc]) -> None:
+    def __init__(self, xs: Sequence[int], ys: Sequence[int], fastest: float) -> None:
         self.xs, self.ys = xs, ys
         # The fastest arc bounds how far a way may lead away from its end.
-        self.fastest = max((arc.length / arc.time for arc in arcs), default=1.0)
+        self.fastest = fastest
         self.out: dict[int, list[tuple[int, int, frozenset[int], float]]] = {}
+        # The time of the shortest arc into each node.
+        self.least: dict[int, int] = {}
 
-    def add(self, arc: Arc) -> None:
-        self.out.setdefault(arc.tail, []).append((arc.time, arc.head, arc.rules, arc.toll))
+    def add(self, tail: int, head: int, time: int, rules: frozenset[int], toll: float) -> None:
+        self.out.setdefault(tail, []).append((time, head, rules, toll))
+        self.least.setdefault(head, time)
 
-    def replace(self, arc: Arc) -> bool:
+    def replace(self, tail: int, goal: int, time: int, rules: frozenset[int], toll: float) -> bool:
         """Whether some arcs replace one, with the same rules or fewer, within a tenth and ten
         seconds."""
-        most = arc.time + arc.time // 10 + 10_000
-        rules, toll, goal, out = arc.rules, arc.toll, arc.head, self.out
-        best, queue = {arc.tail: 0}, [(0.0, 0, arc.tail)]
+        most = time + time // 10 + 10_000
+        # Whatever comes to another node first needs one more arc.
+        limit = most - self.least.get(goal, most)
+        out, best, queue = self.out, {tail: 0}, [(0.0, 0, tail)]
         push, pop, hypot = heapq.heappush, heapq.heappop, math.hypot
         xs, ys = self.xs, self.ys
         x, y = xs[goal], ys[goal]
@@ -363,56 +352,133 @@ class Detours:
                 later = time + step
                 if later > most:
                     break
-                if later < best.get(head, FOR_EVER) and own_toll <= toll and own <= rules:
-                    if head == goal:
+                if head == goal:
+                    if own_toll <= toll and own <= rules:
                         return True
-                    left = hypot((xs[head] - x) * wide, ys[head] - y) * pace
-                    if later + left <= most:
-                        best[head] = later
-                        push(queue, (later + left, later, head))
+                elif later <= limit and later < best.get(head, FOR_EVER):
+                    if own_toll <= toll and own <= rules:
+                        left = hypot((xs[head] - x) * wide, ys[head] - y) * pace
+                        if later + left <= most:
+                            best[head] = later
+                            push(queue, (later + left, later, head))
         return False
 
 
 def without_detours(
-    arcs: Sequence[Arc],
+    arcs: Arcs,
+    sets: Sequence[frozenset[int]],
     xs: Sequence[int],
     ys: Sequence[int],
     progress: Callable[[int, int], None],
-) -> list[Arc]:
+) -> Arcs:
     """Leaves out arcs that others replace, from short to long."""
-    detours = Detours(xs, ys, arcs)
-    found: list[Arc] = []
-    order = sorted(arcs, key=lambda arc: (arc.time, len(arc.rules), arc.tail, arc.head))
-    for count, arc in enumerate(order, 1):
-        progress(count, len(order))
-        if not detours.replace(arc):
-            detours.add(arc)
-            found.append(arc)
-    return found
+    fastest = float((arcs.lengths / arcs.times).max()) if len(arcs) else 1.0
+    detours = Detours(xs, ys, fastest)
+    found = array.array("i")
+    sizes = numpy.array([len(it) for it in sets])
+    order = numpy.lexsort((arcs.heads, arcs.tails, sizes[arcs.rules], arcs.times))
+    count = 0
+    for first in range(0, len(order), AT_ONCE):
+        part = order[first : first + AT_ONCE]
+        columns = (arcs.tails, arcs.heads, arcs.times, arcs.rules, arcs.tolls)
+        for at, tail, head, time, rules, toll in zip(part, *(it[part].tolist() for it in columns)):
+            count += 1
+            progress(count, len(order))
+            own = (tail, head, time, sets[rules], toll or 0.0)
+            if not detours.replace(*own):
+                detours.add(*own)
+                found.append(at)
+    return arcs.take(numpy.array(found))
 
 
-def coarse(
-    stars: Stars,
-    fixed: Collection[int],
-    unfit: Collection[int],
-    gap: int,
-    progress: Callable[[str], Callable[[int, int], None]],
-    processes: int = 1,
-) -> tuple[list[Arc], set[int], int]:
-    """The coarse arcs, the nodes that are kept, and the number of those from which ways were given
-    up. Several processes find the same ways."""
-    arcs = stars.arcs
-    nodes = sorted({arc.tail for arc in arcs})
-    kept = kept_junctions(nodes, stars, fixed, unfit, gap, progress("junctions looked at"))
-    found: list[Arc] = []
-    gave_up = 0
-    said = progress("kept junctions whose ways are found")
-    search = Search(stars, kept)
-    for number, (ways, partly) in enumerate(search.all(sorted(kept), processes), 1):
-        said(number, len(kept))
-        gave_up += partly
-        found += [arc_of(arcs, way) for way in ways]
-    return found, kept, gave_up
+class Coarse:
+    """The coarse arcs, whose pieces are the places of other arcs until `named`, and whose rules are
+    numbers of `sets`; which nodes are kept, and the number of those from which ways were given
+    up."""
+
+    def __init__(
+        self,
+        stars: Stars,
+        fixed: Collection[int],
+        unfit: Collection[int],
+        gap: int,
+        progress: Callable[[str], Callable[[int, int], None]],
+        processes: int = 1,
+    ) -> None:
+        """Several processes find the same ways."""
+        nodes = numpy.unique(stars.arcs.tails)
+        self.kept = kept_junctions(nodes, stars, fixed, unfit, gap, progress("junctions looked at"))
+        kept = numpy.flatnonzero(self.kept).tolist()
+        self.gave_up = 0
+        said = progress("kept junctions whose ways are found")
+        self.arcs = stars.arcs
+        search = Search(stars, self.kept)
+        self.paths, self.kinds = array.array("i"), array.array("i")
+        self.counts = array.array("i")
+        for number, (ways, partly) in enumerate(search.all(kept, processes), 1):
+            said(number, len(kept))
+            self.gave_up += partly
+            for path, kind in ways:
+                self.paths.extend(path)
+                self.counts.append(len(path))
+                self.kinds.append(kind)
+        self.sets, set_of_kind = stars.kinds.sets()
+        self.made = self.of_ways(search.short, set_of_kind[numpy.array(self.kinds, dtype=int)])
+
+    def of_ways(self, short: shortcuts.Graph, rules: Any) -> Arcs:
+        """The arcs that stand for the ways, for which there are shortcuts."""
+        arcs = self.arcs
+        paths, firsts = short.arcs(numpy.array(self.paths), numpy.array(self.counts))
+        begins, ends = firsts[:-1], firsts[1:]
+        one = paths[begins]
+        times, lengths, tolls = (
+            numpy.concatenate([sums(it[paths[a:b]], x, y) for a, b, x, y in parts_of(firsts)])
+            for it in (arcs.times, arcs.lengths, arcs.tolls)
+        )
+        columns = (
+            arcs.tails[one],
+            arcs.heads[paths[ends - 1]],
+            numpy.rint(times),
+            lengths,
+            rules,
+            tolls,
+            arcs.areas[one],
+            numpy.zeros(len(one)),
+        )
+        return Arcs(columns, firsts, paths)
+
+
+def parts_of(firsts: Any) -> Iterator[tuple[int, int, Any, Any]]:
+    """Some ways after others: where their pieces begin and end, and where those of each begin and
+    end from there on."""
+    for first in range(0, len(firsts) - 1, AT_ONCE):
+        own = firsts[first : first + AT_ONCE + 1]
+        yield int(own[0]), int(own[-1]), own[:-1] - own[0], own[1:] - own[0]
+
+
+def named(made: Arcs, arcs: Arcs, names: Sequence[str]) -> Arcs:
+    """Arcs that stand for ways over others with the pieces of these, and with the name of most of
+    their metres."""
+    plain = names.index("") if "" in names else -1
+    counts: list[Any] = []
+    pieces: list[Any] = []
+    own_names: list[Any] = []
+    for a, b, begins, ends in parts_of(made.firsts):
+        places = made.pieces[a:b]
+        way = numpy.repeat(numpy.arange(len(begins)), ends - begins)
+        both = way * len(names) + arcs.names[places]
+        kinds, firsts, back = numpy.unique(both, return_index=True, return_inverse=True)
+        metres = numpy.bincount(back, arcs.lengths[places])
+        name, way = kinds % len(names), kinds // len(names)
+        order = numpy.lexsort((firsts, -metres, name == plain, way))
+        own_names.append(name[order][numpy.unique(way[order], return_index=True)[1]])
+        sizes = arcs.firsts[places + 1] - arcs.firsts[places]
+        pieces.append(arcs.pieces[ranges(arcs.firsts[places], sizes)[0]])
+        counts.append(numpy.add.reduceat(sizes, begins))
+    columns = made.columns()
+    columns[-1] = numpy.concatenate(own_names)
+    firsts = numpy.concatenate(([0], numpy.cumsum(numpy.concatenate(counts))))
+    return Arcs(columns, firsts, numpy.concatenate(pieces))
 
 
 class Search:
@@ -421,16 +487,19 @@ class Search:
     # What a process that is forked inherits.
     inherited: Optional[Search] = None
 
-    def __init__(self, stars: Stars, kept: Collection[int]) -> None:
-        self.stars, self.kept, self.short = stars, kept, shortcuts.Graph(stars, kept)
+    def __init__(self, stars: Stars, is_kept: Any) -> None:
+        self.kinds, self.whole = stars.kinds, Links(stars.out, stars.kind_of)
+        self.kept = is_kept.tobytes()
+        self.short = shortcuts.Graph(stars.arcs, stars.kind_of, stars.kinds, is_kept)
+        links = self.short.links
+        self.few = Links(Star(stars.count, *links), self.short.kind_of)
 
     def ways(self, node: int) -> Ways:
         """Over the graph with shortcuts, and only where that doesn't decide over all arcs."""
-        stars, short, kept = self.stars, self.short, self.kept
-        found = ways_from(node, short.out, short.ruled, kept, shortcuts.MOST_WAYS, True)
-        if found:
-            return [(short.arcs(path), rules) for path, rules in found[0]], False
-        found = ways_from(node, stars.out, stars.ruled, kept, MOST_WAYS, False)
+        kinds, kept = self.kinds, self.kept
+        found = ways_from(node, self.few, kinds, kept, shortcuts.MOST_WAYS, True)
+        if found is None:
+            found = ways_from(node, self.whole, kinds, kept, MOST_WAYS, False)
         return found or ([], False)
 
     def all(self, nodes: list[int], processes: int) -> Iterator[Ways]:
@@ -441,12 +510,17 @@ class Search:
         Search.inherited = self
         try:
             with multiprocessing.get_context("fork").Pool(processes) as pool:
-                yield from pool.imap(inherited_ways, nodes, CHUNK)
+                for ways, partly in pool.imap(inherited_ways, nodes, CHUNK):
+                    yield [(path, self.kinds.number_of(own)) for path, own in ways], partly
         finally:
             Search.inherited = None
 
 
-def inherited_ways(node: int) -> Ways:
-    if Search.inherited is None:
+def inherited_ways(node: int) -> tuple[list[tuple[list[int], Ruled]], bool]:
+    """The ways from a node. A process numbers the kinds that it makes by itself, so it hands kinds
+    on as they are."""
+    search = Search.inherited
+    if search is None:
         raise RuntimeError("nothing was inherited")
-    return Search.inherited.ways(node)
+    ways, partly = search.ways(node)
+    return [(path, search.kinds.of[kind]) for path, kind in ways], partly

@@ -2,16 +2,18 @@
 from __future__ import annotations
 
 import argparse
+import array
 import collections
 import copy
 import csv
-import itertools
 import os
 import re
 import statistics
 import sys
 import time
-from typing import AbstractSet, Callable, Iterable, Mapping, Optional, Sequence
+from typing import AbstractSet, Any, Callable, Iterable, Mapping, Optional, Sequence
+
+import numpy
 
 from lorry_tools.conversion import (
     access,
@@ -32,9 +34,9 @@ from lorry_tools.conversion import (
     zone_rows,
 )
 from lorry_tools.conversion.access import Lists
+from lorry_tools.conversion.arcs import Arc, Arcs, of_list
 from lorry_tools.conversion.notation import Unread
 from lorry_tools.conversion.report import Report
-from lorry_tools.conversion.roads import Arc
 from lorry_tools.laws import table as laws
 from lorry_tools.laws.table import Tables
 
@@ -324,36 +326,30 @@ class Conversion:
         keys = sites.nearest_refs(found, way_rules.is_usable, self.sites)
         restricted = turns.read(found, self.reading, report)
         keys |= restricted.keys() | self.law_changes
-        self.network = roads.build(found, way_rules, keys, self.areas_of, self.default_area)
+        self.network, arcs = roads.build(found, way_rules, keys, self.areas_of, self.default_area)
         network = self.network
         expansion = turns.Expansion(network, self.rules, restricted)
-        arcs, self.split = expansion.arcs(network.arcs), expansion.split
+        arcs, self.split = expansion.arcs(arcs), expansion.split
         if self.split:
             report.number("nodes of junctions with turn restrictions", f"{len(self.split):,}")
         report.number("arcs before anything is left out", f"{len(arcs):,}")
         self.progress(f"{len(arcs):,} arcs; the largest strongly connected part ..")
-        nodes = roads.largest_component(len(network.refs), arcs)
-        lost = [arc for arc in arcs if arc.tail not in nodes or arc.head not in nodes]
-        for arc in lost:
-            report.add(
-                "left out",
-                "arcs outside the largest strongly connected part",
-                arc.name or "without a name",
-                f"way {found.ways[network.ways(arc)[0]].number}",
-            )
+        nodes = roads.largest_component(len(network.refs), arcs.tails, arcs.heads)
+        self.report_lost(arcs, numpy.flatnonzero(~(nodes[arcs.tails] & nodes[arcs.heads])))
         arcs = roads.within(arcs, nodes)
-        if not arcs:
+        if not len(arcs):
             raise Stop("no two places are connected in both directions")
         self.sites = sites.place_sites(self.sites, network, nodes, report)
         kept = {site.node for site in self.sites}
-        self.arcs = roads.without_continuations(len(network.refs), arcs, kept)
-        network.arcs = self.arcs
-        self.nodes = sorted({arc.tail for arc in self.arcs})
+        self.arcs = arcs = roads.without_continuations(len(network.refs), arcs, kept)
+        self.nodes = numpy.unique(arcs.tails)
+        # The numbers of the nodes of ways are no longer needed.
+        found.refs = array.array("q")
         report.number(
             "junctions and arcs of the largest strongly connected part",
-            f"{len(self.nodes):,}, {len(self.arcs):,}",
+            f"{len(self.nodes):,}, {len(arcs):,}",
         )
-        report.number("kilometres of arcs", f"{sum(arc.length for arc in self.arcs) / 1000:,.0f}")
+        report.number("kilometres of arcs", f"{sum(arcs.lengths.tolist()) / 1000:,.0f}")
         for area, count in self.borders.near.items():
             if area is not None:
                 report.add(
@@ -365,39 +361,51 @@ class Conversion:
                     area,
                     count=count,
                 )
-        if any(arc.area == "other" for arc in self.arcs):
+        if "other" in (network.areas[it] for it in numpy.unique(arcs.areas).tolist()):
             report.add("warning", "roads in no known country: give --country", "")
+
+    def report_lost(self, arcs: Arcs, lost: Any) -> None:
+        """Reports arcs that are left out, by their names."""
+        extract = self.extract
+        names, firsts, counts = numpy.unique(
+            arcs.names[lost], return_index=True, return_counts=True
+        )
+        for name, first, count in zip(names.tolist(), firsts.tolist(), counts.tolist()):
+            piece = arcs[int(lost[first])].pieces[0]
+            self.report.add(
+                "left out",
+                "arcs outside the largest strongly connected part",
+                extract.ways.names[name] or "without a name",
+                f"way {extract.ways.numbers[self.network.way_of_piece(piece)]}",
+                count,
+            )
 
     # Coarse
 
     def make_coarse(self) -> None:
         options, report, network = self.options, self.report, self.network
         self.fine_arcs = self.arcs
+        # In a coarse network the rules of arcs are numbers of these sets.
+        self.sets: list[frozenset[int]] = []
         if not options.coarse:
             return
-        fixed = roads.at_borders(self.arcs) | {
+        count = len(network.refs)
+        fixed = roads.at_borders(count, self.arcs) | {
             site.node for site in self.sites if site.rating in sites.EXACT
         }
-        unfit = {network.number[ref] for ref in self.extract.barriers if ref in network.number}
-        unfit |= self.split
-        count = len(network.refs)
+        unfit = network.numbers(self.extract.barriers) | self.split
         stars = coarse.Stars(count, self.arcs)
-        made, kept, gave_up = coarse.coarse(
-            stars,
-            fixed,
-            unfit,
-            options.coarse * 1000,
-            self.counted,
-            options.processes,
+        found = coarse.Coarse(
+            stars, fixed, unfit, options.coarse * 1000, self.counted, options.processes
         )
+        made, self.sets = found.made, found.sets
+        kept = f"{numpy.count_nonzero(found.kept):,}"
         self.progress(
-            f"{len(kept):,} junctions kept, {len(made):,} ways between them; leaving out what"
-            " others replace .."
+            f"{kept} junctions kept, {len(made):,} ways between them; leaving out what others"
+            " replace .."
         )
-        usable = [
-            arc for arc in made if not access.is_shut(self.rules.lists[self.rules.all(arc.rules)])
-        ]
-        report.number("junctions kept, and ways between them", f"{len(kept):,}, {len(made):,}")
+        usable = coarse.usable(made, self.sets, self.rules)
+        report.number("junctions kept, and ways between them", f"{kept}, {len(made):,}")
         if len(made) > len(usable):
             report.add(
                 "left out",
@@ -405,28 +413,29 @@ class Conversion:
                 "",
                 count=len(made) - len(usable),
             )
-        if gave_up:
+        if found.gave_up:
             report.add(
                 "warning",
                 "junctions from which ways with more rules were given up",
                 "",
-                count=gave_up,
+                count=found.gave_up,
             )
+        del found, made
         arcs = coarse.without_detours(
-            usable, network.xs, network.ys, self.counted("ways compared with others")
+            usable, self.sets, network.xs, network.ys, self.counted("ways compared with others")
         )
-        nodes = roads.largest_component(count, arcs)
-        self.arcs = roads.within(arcs, nodes)
-        if not self.arcs:
+        nodes = roads.largest_component(count, arcs.tails, arcs.heads)
+        arcs = roads.within(arcs, nodes)
+        if not len(arcs):
             raise Stop("nothing is left of so coarse a network: take fewer seconds by --coarse")
-        coarse.named(self.arcs, self.fine_arcs)
+        self.arcs = coarse.named(arcs, self.fine_arcs, self.extract.ways.names)
         self.move_sites(nodes, stars)
 
-    def move_sites(self, nodes: AbstractSet[int], stars: coarse.Stars) -> None:
+    def move_sites(self, nodes: Any, stars: coarse.Stars) -> None:
         """Parking that isn't at a kept junction moves to the nearest one by driving time."""
         gap = self.options.coarse * 1000
         for site in self.sites:
-            if site.node not in nodes:
+            if not nodes[site.node]:
                 near = coarse.nearest(site.node, stars, nodes, 2 * gap)
                 site.node = sites.NOWHERE if near is None else near
                 if site.node == sites.NOWHERE:
@@ -451,23 +460,28 @@ class Conversion:
         if not self.nights:
             return
         number = self.rules.of(speeds.night_lists())
-        found: list[Arc] = []
-        for arc in self.arcs:
-            night = self.nights.get(arc.area.split("-")[0])
+        arcs, found = self.arcs, list[Arc]()
+        self.set_numbers = {it: at for at, it in enumerate(self.sets)}
+        for at in range(len(arcs)):
+            arc = arcs[at]
+            night = self.nights.get(self.network.areas[arc.area].split("-")[0])
             slow = self.night_time(arc, night) if night else arc.time
             if slow // 1000 > arc.time // 1000:
-                twin = arc.as_slow_as(slow)
-                if coarse.minutes(twin) > coarse.minutes(arc):
-                    found.append(twin)
-                    arc.rules = self.with_rule(arc, number)
-        self.arcs += found
+                if coarse.minutes(slow) > coarse.minutes(arc.time):
+                    found.append(arc._replace(time=slow))
+                    arcs.rules[at] = self.with_rule(arc, number)
+        self.arcs = arcs.with_more(of_list(found))
         if found:
             self.report.number("slower arcs for the night", f"{len(found):,}")
 
-    def with_rule(self, arc: Arc, number: int) -> roads.RulesOf:
-        if isinstance(arc.rules, frozenset):
-            return arc.rules | {number}
-        return self.rules.both(arc.rules, number)
+    def with_rule(self, arc: Arc, number: int) -> int:
+        if not self.sets:
+            return self.rules.both(arc.rules, number)
+        own = self.sets[arc.rules] | {number}
+        if own not in self.set_numbers:
+            self.set_numbers[own] = len(self.sets)
+            self.sets.append(own)
+        return self.set_numbers[own]
 
     def night_time(self, arc: Arc, night: int) -> int:
         """The milliseconds of an arc's pieces, none faster than NIGHT kilometres an hour."""
@@ -477,7 +491,8 @@ class Conversion:
             way = self.extract.ways[self.network.way_of_piece(piece)]
             forward, backward, _ = self.way_rules.known(way.tags)[0]
             speed = (forward if piece >= 0 else backward)[1]
-            speed = min(speed, self.way_rules.most(arc.area, way.tags), night / 3.6)
+            area = self.network.areas[arc.area]
+            speed = min(speed, self.way_rules.most(area, way.tags), night / 3.6)
             length = roads.length_of(self.extract, min(places), max(places))
             time += max(1, round(length / speed * 1000))
         return time
@@ -485,24 +500,32 @@ class Conversion:
     # Numbers and tables
 
     def number(self) -> None:
-        network = self.network
-        self.nodes = sorted({arc.tail for arc in self.arcs}, key=lambda node: network.refs[node])
-        self.number_of = {node: number for number, node in enumerate(self.nodes, 1)}
-        self.arcs.sort(key=self.place_of)
+        network, arcs = self.network, self.arcs
+        # (the nodes of one place are in the order of this set)
+        nodes = sorted(set(arcs.tails.tolist()), key=network.refs.__getitem__)
+        self.nodes = numpy.array(nodes)
+        # From 1 on; 0 for other nodes.
+        self.numbers = numpy.zeros(len(network.refs), dtype=numpy.int32)
+        self.numbers[self.nodes] = numpy.arange(1, len(self.nodes) + 1)
+        places = self.numbers[arcs.tails], self.numbers[arcs.heads], arcs.times
+        order = numpy.lexsort(places[::-1])
+        if not self.sets:
+            self.fine_arcs = arcs.take(order)
         # The ways decide only between arcs that are alike.
-        groups = (list(own) for _, own in itertools.groupby(self.arcs, self.place_of))
-        self.arcs = [
-            arc
-            for own in groups
-            for arc in (sorted(own, key=network.ways) if len(own) > 1 else own)
-        ]
-        self.of_arc: list[int] = [
-            self.rules.all(arc.rules) if isinstance(arc.rules, frozenset) else arc.rules
-            for arc in self.arcs
-        ]
-
-    def place_of(self, arc: Arc) -> tuple[int, int, int]:
-        return self.number_of[arc.tail], self.number_of[arc.head], arc.time
+        is_next = numpy.ones(len(order), dtype=bool)
+        for it in places:
+            is_next[1:] &= it[order[1:]] == it[order[:-1]]
+        is_next[0] = False
+        starts = numpy.flatnonzero(~is_next)
+        ends = numpy.append(starts[1:], len(order))
+        for at in numpy.flatnonzero(ends - starts > 1).tolist():
+            first, last = int(starts[at]), int(ends[at])
+            own = order[first:last].tolist()
+            order[first:last] = sorted(own, key=lambda it: network.ways(arcs.pieces_of(it)))
+        self.arcs = arcs.take(order)
+        if self.sets:
+            numbers = coarse.numbers_of_sets(self.arcs, self.sets, self.rules)
+            self.arcs.rules = numbers[self.arcs.rules]
 
     def at_sites(self) -> dict[int, sites.Site]:
         """The site of each node that has one."""
@@ -522,18 +545,13 @@ class Conversion:
     def write(self) -> None:
         options, report, folder = self.options, self.report, self.options.dir
         areas = tables.Areas(self.laws)
-        lists = dict(zip(map(id, self.arcs), self.of_arc))
-
-        def lists_of(arc: Arc) -> Lists:
-            return self.rules.lists[lists[id(arc)]]
-
-        own = areas.divide(self.arcs, lists_of)
+        own = areas.divide(self.arcs, self.network.areas, self.rules.lists)
         tables.check_sizes(len(self.nodes), self.arcs, areas.rows)
         self.check_laws(areas)
         days = self.holidays(areas)
         park = self.at_sites()
         middle = [
-            statistics.median(values[node] for node in self.nodes) / 1e7
+            statistics.median(numpy.asarray(values)[self.nodes].tolist()) / 1e7
             for values in (self.network.ys, self.network.xs)
         ]
         zones = {
@@ -543,7 +561,7 @@ class Conversion:
         os.makedirs(folder, exist_ok=True)
         self.progress("writing the folder ..")
         tables.write_graph(
-            folder, os.path.basename(options.extract), len(self.nodes), self.arcs, self.number_of
+            folder, os.path.basename(options.extract), len(self.nodes), self.arcs, self.numbers
         )
         named = {zone for zone in zones.values() if zone != "UTC"}
         rows = [
@@ -561,18 +579,18 @@ class Conversion:
                 for name, country in areas.countries.items()
             ),
         )
-        tables.write(folder, "roads.csv", ("arc", "area"), sorted(areas.of_arc.items()))
+        tables.write(folder, "roads.csv", ("arc", "area"), areas.arcs())
         tables.write(folder, "rules.csv", ("scope", "key", "value"), areas.rows)
         tables.write(folder, "holidays.csv", ("area", "kind", "date"), days)
         with_hours = any(site.hours for site in park.values())
-        country_at = {arc.tail: arc.area for arc in self.arcs}
+        country_at = dict(zip(self.arcs.tails.tolist(), self.arcs.areas.tolist()))
         tables.write(
             folder,
             "parking.csv",
             ("node", "rating", "area", "hours") if with_hours else ("node", "rating"),
             sorted(
-                (self.number_of[node], site.rating)
-                + ((country_at[node], site.hours) if with_hours else ())
+                (int(self.numbers[node]), site.rating)
+                + ((self.network.areas[country_at[node]], site.hours) if with_hours else ())
                 for node, site in park.items()
             ),
         )
@@ -586,7 +604,7 @@ class Conversion:
             self.extract.xs,
             self.extract.ys,
             (self.network.firsts, self.network.lasts),
-            ((round(arc.length), arc.pieces) for arc in self.arcs),
+            self.arcs,
         )
         if not os.path.exists(os.path.join(folder, "vehicles.csv")):
             with open(
@@ -696,13 +714,14 @@ class Conversion:
         return given
 
     def write_tolls(self, folder: str) -> None:
-        length = sum(arc.toll for arc in self.arcs) / 1000
+        tolls = self.arcs.tolls.tolist()
+        length = sum(tolls) / 1000
         rate = self.options.toll_per_km
         if rate:
             rows = [
-                (number, f"{min(100, arc.toll / 1000 * rate):.3f}")
-                for number, arc in enumerate(self.arcs, 1)
-                if arc.toll
+                (number, f"{min(100, toll / 1000 * rate):.3f}")
+                for number, toll in enumerate(tolls, 1)
+                if toll
             ]
             tables.write(folder, "tolls.csv", ("arc", "toll"), rows)
             self.report.number(
@@ -723,11 +742,15 @@ class Conversion:
         """A name for a node: that of a place to wait, of a town, or of two roads that meet."""
         names = {}
         meet: dict[int, dict[str, bool]] = {}
-        for arc in self.fine_arcs:
-            if arc.name:
-                for node in (arc.tail, arc.head):
-                    if node in self.number_of:
-                        meet.setdefault(node, {}).setdefault(arc.name, True)
+        every, arcs = self.extract.ways.names, self.fine_arcs
+        at = numpy.flatnonzero((self.numbers[arcs.tails] > 0) | (self.numbers[arcs.heads] > 0))
+        columns = (it[at].tolist() for it in (arcs.tails, arcs.heads, arcs.names))
+        for tail, head, number in zip(*columns):
+            name = every[number]
+            if name:
+                for node in (tail, head):
+                    if self.numbers[node]:
+                        meet.setdefault(node, {}).setdefault(name, True)
         for node, found in meet.items():
             names[node] = " / ".join(list(found)[:2])
         for node, name in sites.name_towns(self.extract.places, self.network, self.nodes).items():
@@ -759,15 +782,17 @@ class Conversion:
         )
         for node, site in sorted(park.items()):
             if site.rating == "depot":
-                report.number(f"node of the depot {site.name}", self.number_of[node])
-        lorry = [
-            arc
-            for arc, rules in zip(arcs, self.of_arc)
-            if any(clause[0] == access.YES for clause in self.rules.lists[rules][0])
+                report.number(f"node of the depot {site.name}", self.numbers[node])
+        lets_in = [
+            any(clause[0] == access.YES for clause in lists[0]) for lists in self.rules.lists
         ]
-        reach = roads.largest_component(len(self.network.refs), lorry)
+        lorry = numpy.array(lets_in)[arcs.rules]
+        reach = roads.largest_component(
+            len(self.network.refs), arcs.tails[lorry], arcs.heads[lorry]
+        )
         report.number(
-            "nodes that a lorry without a delivery can reach, and leave", f"{len(reach):,}"
+            "nodes that a lorry without a delivery can reach, and leave",
+            f"{numpy.count_nonzero(reach):,}",
         )
         flags = sorted(flag for flag in self.reading.flags)
         report.number("flags of vehicles that rules speak of", ", ".join(flags) or "none")
@@ -797,12 +822,16 @@ class Conversion:
         sources = max(LEAST_SOURCES, min(MOST_SOURCES, MEASURED_ARCS // len(self.fine_arcs)))
         step = max(1, len(self.nodes) // sources)
         count = len(self.network.refs)
-        fine = coarse.distances(count, self.fine_arcs, (arc.time for arc in self.fine_arcs))
-        minutes = (coarse.minutes(arc) * 60_000 for arc in self.arcs)
-        rough = coarse.distances(count, self.arcs, minutes)
+        fine, own = (
+            coarse.Distances(count, arcs.tails, arcs.heads, times)
+            for arcs, times in (
+                (self.fine_arcs, self.fine_arcs.times),
+                (self.arcs, coarse.minutes(self.arcs.times) * 60_000),
+            )
+        )
         found: list[float] = []
-        starts = self.nodes[step // 2 :: step][:sources]
-        for exact, whole in zip(fine(starts), rough(starts)):
+        starts = self.nodes[step // 2 :: step][:sources].tolist()
+        for exact, whole in zip(fine(starts), own(starts)):
             counts = (whole < coarse.FOR_EVER) & (exact >= SHORTEST) & (exact < coarse.FOR_EVER)
             found += (whole[counts] / exact[counts]).tolist()
         found.sort()

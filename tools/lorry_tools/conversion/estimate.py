@@ -11,7 +11,8 @@ from typing import Callable, Iterable, Iterator, NamedTuple, Optional
 
 import numpy
 
-from lorry_tools.conversion import access, coarse, roads, sites
+from lorry_tools.conversion import coarse, roads, sites
+from lorry_tools.conversion.arcs import Arcs, of_list
 from lorry_tools.conversion.extract import Extract, Way
 from lorry_tools.conversion.report import Report
 from lorry_tools.conversion.sites import Site
@@ -80,7 +81,7 @@ class Estimate:
 
     def draw(self) -> Iterator[Sample]:
         ways = self.extract.ways
-        firsts = numpy.array([way.first for way in ways])
+        firsts = numpy.array(ways.firsts)
         xs = numpy.frombuffer(self.extract.xs, dtype=numpy.intc)[firsts].astype(float)
         ys = numpy.frombuffer(self.extract.ys, dtype=numpy.intc)[firsts].astype(float)
         draws = random.Random(1)
@@ -122,20 +123,17 @@ class Estimate:
             part, way_rules.is_usable, [it for it in near if it.rating in sites.EXACT]
         )
         keys = exact | sites.nearest_refs(part, way_rules.is_usable, near)
-        network = roads.build(part, way_rules, keys, self.areas_of, "other")
+        network, arcs = roads.build(part, way_rules, keys, self.areas_of, "other")
         count = len(network.refs)
-        fixed, kept = (
-            {network.number[it] for it in refs if it in network.number} for refs in (exact, keys)
-        )
-        arcs = connected(count, network.arcs)
+        fixed, kept = network.numbers(exact), network.numbers(keys)
+        arcs = connected(count, arcs)
         arcs = roads.without_continuations(count, arcs, kept)
-        if gap and arcs:
-            fixed |= roads.at_borders(arcs)
-            made, _, _ = coarse.coarse(
-                coarse.Stars(count, arcs), fixed, set(), gap * 1000, lambda _: ignore
-            )
-            usable = [it for it in made if not access.is_shut(rules.lists[rules.all(it.rules)])]
-            arcs = coarse.without_detours(usable, network.xs, network.ys, ignore)
+        if gap and len(arcs):
+            fixed |= roads.at_borders(count, arcs)
+            stars = coarse.Stars(count, arcs)
+            found = coarse.Coarse(stars, fixed, set(), gap * 1000, lambda _: ignore)
+            arcs = coarse.usable(found.made, found.sets, rules)
+            arcs = coarse.without_detours(arcs, found.sets, network.xs, network.ys, ignore)
 
         def is_inner(node: int) -> bool:
             return sample.has(network.xs[node], network.ys[node])
@@ -143,20 +141,20 @@ class Estimate:
         known = (
             network.number[it] for it in roads.junctions(part.refs).tolist() if it in network.number
         )
-        tails = [arc.tail for arc in arcs if is_inner(arc.tail)]
+        tails = list(filter(is_inner, arcs.tails.tolist()))
         return sum(map(is_inner, known)), Size(len(set(tails)), len(tails))
 
 
-def connected(count: int, arcs: list[roads.Arc]) -> list[roads.Arc]:
+def connected(count: int, arcs: Arcs) -> Arcs:
     """The arcs of the strongly connected parts that aren't small: roads outside the sample may
     connect them."""
-    found: list[roads.Arc] = []
+    found = of_list([])
     for _ in range(MOST_PARTS):
-        nodes = roads.largest_component(count, arcs)
-        if len(nodes) < SMALL_PART:
+        nodes = roads.largest_component(count, arcs.tails, arcs.heads)
+        if numpy.count_nonzero(nodes) < SMALL_PART:
             break
-        found += roads.within(arcs, nodes)
-        arcs = [arc for arc in arcs if arc.tail not in nodes and arc.head not in nodes]
+        found = found.with_more(roads.within(arcs, nodes))
+        arcs = arcs.take(~nodes[arcs.tails] & ~nodes[arcs.heads])
     return found
 
 

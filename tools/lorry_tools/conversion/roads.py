@@ -5,36 +5,25 @@ from __future__ import annotations
 import array
 import bisect
 import math
-from typing import (
-    AbstractSet,
-    Any,
-    Callable,
-    Collection,
-    Iterable,
-    Iterator,
-    Mapping,
-    Optional,
-    Sequence,
-    TypeVar,
-)
+from typing import AbstractSet, Any, Callable, Iterable, Iterator, Mapping, Optional, TypeVar
 
 import numpy
 
 from lorry_tools.conversion import access, speeds, tags as road_tags
 from lorry_tools.conversion.access import CLOSED, OPEN, Lists
+from lorry_tools.conversion.arcs import Arc, Arcs, of_list, ranges, stars
+from lorry_tools.conversion.borders import PlainCells
 from lorry_tools.conversion.extract import PASSED, WALLS, Extract, TagPairs, Way, Ways
 from lorry_tools.conversion.report import Report
 from lorry_tools.conversion.tags import Said, Tags
 
 Read = TypeVar("Read")
-# A number of rules; in a coarse network a set of numbers.
-RulesOf = Any
 # The rules and the speed of a direction; None for rules that never let anybody in.
 DirectionSays = tuple[Optional[int], float]
 # Both directions, and whether a toll is due.
 WaySays = tuple[DirectionSays, DirectionSays, bool]
-# From the coordinates of places, as arrays, to the codes of their countries.
-AreasOf = Callable[[Any, Any], list[Optional[str]]]
+# From the coordinates of places, as arrays, to the codes of their countries, as numbers of a list.
+AreasOf = Callable[[Any, Any, PlainCells], tuple[Any, list[Optional[str]]]]
 # A step of a way: the way's place in the extract's list, and that of the step's first node in the
 # arrays.
 Step = tuple[int, int]
@@ -44,6 +33,8 @@ LawOf = Callable[[TagPairs, str, Step], Lists]
 ALL_OPEN: Lists = (OPEN,) * 4
 # From how many nodes at most the largest component is looked for in a fast way.
 TRIED = 5
+# How many places of the extract's arrays are looked at at once.
+AT_ONCE = 1 << 16
 # Ferries have areas of their own, since no law for roads holds on them.
 FERRY_AREA = ".ferry"
 
@@ -53,45 +44,6 @@ def metres(x1: int, y1: int, x2: int, y2: int) -> float:
     sphere."""
     wide = math.cos(math.radians((y1 + y2) / 2e7))
     return math.hypot((x2 - x1) * wide, y2 - y1) * 0.0111194927
-
-
-class Arc:
-    """A road driven one way: its ends, driving time in milliseconds, metres, the number of its
-    rules, metres with a toll, area, pieces and name.
-
-    The pieces of ways are numbers of the network, -1 - number for one that is driven against its
-    way. In a coarse network the rules are a set of numbers, and each of them holds."""
-
-    __slots__ = ("tail", "head", "time", "length", "rules", "toll", "area", "pieces", "name")
-
-    def __init__(
-        self,
-        tail: int,
-        head: int,
-        time: int,
-        length: float,
-        rules: RulesOf,
-        toll: float,
-        area: str,
-        pieces: tuple[int, ...],
-        name: str,
-    ) -> None:
-        self.tail, self.head, self.time, self.length = tail, head, time, length
-        self.rules, self.toll, self.area, self.pieces, self.name = rules, toll, area, pieces, name
-
-    def as_slow_as(self, time: int) -> Arc:
-        """The same arc in more time."""
-        return Arc(
-            self.tail,
-            self.head,
-            time,
-            self.length,
-            self.rules,
-            self.toll,
-            self.area,
-            self.pieces,
-            self.name,
-        )
 
 
 class Rules:
@@ -276,32 +228,22 @@ class Numbers(Mapping[int, int]):
 class Network:
     """Nodes are numbered from 0 by their place in `refs`; `xs` and `ys` are their coordinates. A
     piece of a way has its first and last place in the arrays of the extract, its way, and its ends
-    `tails` and `heads`."""
+    `tails` and `heads`. Arcs have the numbers of their areas in `areas`."""
 
-    def __init__(self) -> None:
-        self.firsts, self.lasts = array.array("q"), array.array("q")
-        self.way_of = array.array("q")
-        self.refs, self.xs, self.ys = array.array("q"), array.array("i"), array.array("i")
-        self.number = Numbers(numpy.zeros(0, dtype=numpy.int64))
-        self.arcs: list[Arc] = []
-
-    def add(self, extract: Extract, pieces: Pieces) -> None:
-        """Adds the pieces of ways; their ends are numbered as they come."""
-        for column, own in (
-            (self.firsts, pieces.firsts),
-            (self.lasts, pieces.lasts),
-            (self.way_of, pieces.ways),
-        ):
-            column.frombytes(own.astype(numpy.int64).tobytes())
+    def __init__(self, extract: Extract, pieces: Pieces) -> None:
+        """Takes the pieces of ways; their ends are numbered as they come."""
+        self.firsts, self.lasts, self.way_of = pieces.firsts, pieces.lasts, pieces.ways
+        self.areas: list[str] = []
         at = numpy.column_stack((pieces.firsts, pieces.lasts)).reshape(-1)
         refs = numpy.frombuffer(extract.refs, dtype=numpy.int64)
         names, firsts, back = numpy.unique(refs[at], return_index=True, return_inverse=True)
         order = numpy.argsort(firsts)
-        number = numpy.empty(len(order), dtype=int)
-        number[order] = numpy.arange(len(order))
+        number = numpy.empty(len(order), dtype=numpy.int32)
+        number[order] = numpy.arange(len(order), dtype=numpy.int32)
         ends = number[back].reshape(-1, 2)
         self.tails, self.heads = ends[:, 0], ends[:, 1]
         places = at[firsts[order]]
+        self.refs, self.xs, self.ys = array.array("q"), array.array("i"), array.array("i")
         for column, own in (
             (self.refs, names[order]),
             (self.xs, numpy.frombuffer(extract.xs, dtype=numpy.intc)[places]),
@@ -310,12 +252,12 @@ class Network:
             column.frombytes(own.tobytes())
         self.number = Numbers(names[order])
 
-    def ways(self, arc: Arc) -> tuple[int, ...]:
-        """The ways of an arc, as places in the extract's list, each once in its order."""
-        return tuple(dict.fromkeys(map(self.way_of_piece, arc.pieces)))
+    def ways(self, pieces: Iterable[int]) -> tuple[int, ...]:
+        """The ways of an arc's pieces, as places in the extract's list, each once in its order."""
+        return tuple(dict.fromkeys(map(self.way_of_piece, pieces)))
 
     def way_of_piece(self, piece: int) -> int:
-        return self.way_of[piece if piece >= 0 else -1 - piece]
+        return int(self.way_of[piece if piece >= 0 else -1 - piece])
 
     def copy_of(self, node: int) -> int:
         """A further node at the place of another one."""
@@ -324,11 +266,15 @@ class Network:
         self.ys.append(self.ys[node])
         return len(self.refs) - 1
 
+    def numbers(self, refs: Iterable[int]) -> set[int]:
+        """The nodes of some numbers of OpenStreetMap that the network has."""
+        return {self.number[ref] for ref in refs if ref in self.number}
+
     def piece_places(self, piece: int) -> range:
         """The places of a piece's points in the arrays of the extract."""
-        if piece >= 0:
-            return range(self.firsts[piece], self.lasts[piece] + 1)
-        return range(self.lasts[-1 - piece], self.firsts[-1 - piece] - 1, -1)
+        own = piece if piece >= 0 else -1 - piece
+        first, last = int(self.firsts[own]), int(self.lasts[own])
+        return range(first, last + 1) if piece >= 0 else range(last, first - 1, -1)
 
 
 def junctions(refs: Any) -> Any:
@@ -338,12 +284,27 @@ def junctions(refs: Any) -> Any:
     return numpy.unique(ordered[1:][ordered[1:] == ordered[:-1]])
 
 
-def steps_of(extract: Extract) -> Any:
-    """The metres from each place of the extract's arrays to the next one."""
+def metres_of(extract: Extract, firsts: Any, lasts: Any) -> Any:
+    """The metres of pieces, which are in their order and don't overlap, from their first place of
+    the extract's arrays to their last one."""
+    found = numpy.zeros(len(firsts))
     xs, ys = (numpy.frombuffer(it, dtype=numpy.intc) for it in (extract.xs, extract.ys))
-    wide = numpy.cos(numpy.radians((ys[:-1].astype(float) + ys[1:]) / 2e7))
-    found = numpy.hypot((xs[1:].astype(float) - xs[:-1]) * wide, ys[1:].astype(float) - ys[:-1])
-    return found * 0.0111194927
+    for own in parts_of(lasts):
+        begin, end = int(firsts[own][0]), int(lasts[own][-1]) + 1
+        x, y = xs[begin:end].astype(float), ys[begin:end].astype(float)
+        wide = numpy.cos(numpy.radians((y[:-1] + y[1:]) / 2e7))
+        steps = numpy.hypot((x[1:] - x[:-1]) * wide, y[1:] - y[:-1]) * 0.0111194927
+        found[own] = sums(steps, firsts[own] - begin, lasts[own] - begin)
+    return found
+
+
+def parts_of(lasts: Any) -> Iterator[slice]:
+    """Parts of pieces, whose last places these are, that have about AT_ONCE places each."""
+    if not len(lasts):
+        return
+    cuts = numpy.arange(int(lasts[0]) + AT_ONCE, int(lasts[-1]), AT_ONCE)
+    ends = numpy.unique([0, *numpy.searchsorted(lasts, cuts).tolist(), len(lasts)]).tolist()
+    yield from map(slice, ends, ends[1:])
 
 
 def areas_of_steps(
@@ -351,16 +312,21 @@ def areas_of_steps(
 ) -> tuple[Any, list[str]]:
     """The number of the area in the middle of each step that is asked for, by the place where the
     step begins, and the areas by their numbers."""
-    asked = numpy.flatnonzero(is_asked)
-    xs, ys = (
-        numpy.frombuffer(it, dtype=numpy.intc).astype(numpy.int64)
-        for it in (extract.xs, extract.ys)
-    )
+    xs, ys = (numpy.frombuffer(it, dtype=numpy.intc) for it in (extract.xs, extract.ys))
     names: dict[str, int] = {}
-    codes = areas_of((xs[asked] + xs[asked + 1]) // 2, (ys[asked] + ys[asked + 1]) // 2)
-    numbers = [names.setdefault(code or default, len(names)) for code in codes]
+    plain: PlainCells = {}
     found = numpy.zeros(len(extract.refs), dtype=numpy.intc)
-    found[asked] = numbers
+    for first in range(0, len(found), AT_ONCE):
+        asked = first + numpy.flatnonzero(is_asked[first : first + AT_ONCE])
+        x, y = (it[asked].astype(numpy.int64) + it[asked + 1] for it in (xs, ys))
+        own, codes = areas_of(x // 2, y // 2, plain)
+        kinds, back = numpy.unique(own, return_inverse=True)
+        order = numpy.argsort(numpy.unique(own, return_index=True)[1])
+        numbers = numpy.zeros(len(kinds), dtype=numpy.intc)
+        for kind in order.tolist():
+            code = codes[int(kinds[kind])] or default
+            numbers[kind] = names.setdefault(code, len(names))
+        found[asked] = numbers[back]
     return found, list(names)
 
 
@@ -401,11 +367,11 @@ class Pieces:
         firsts, lasts = (
             numpy.frombuffer(it, dtype=numpy.int64) for it in (ways.firsts, ways.lasts)
         )
-        way_of = numpy.repeat(numpy.arange(len(ways)), lasts - firsts)
+        numbers = numpy.arange(len(ways), dtype=numpy.int32)
+        way_of = numpy.repeat(numbers, lasts - firsts)
         is_used = is_usable[way_of]
-        refs = numpy.frombuffer(extract.refs, dtype=numpy.int64)
-        is_break = is_in(refs, wanted)
-        is_end = numpy.zeros(len(refs), dtype=bool)
+        is_break = is_in(numpy.frombuffer(extract.refs, dtype=numpy.int64), wanted)
+        is_end = numpy.zeros(len(is_used), dtype=bool)
         is_end[firsts] = True
         is_end[lasts - 1] = True
         self.areas = [default_area]
@@ -415,22 +381,24 @@ class Pieces:
             is_step[lasts - 1] = False
             area_of, self.areas = areas_of_steps(extract, is_step, areas_of, default_area)
             is_break[1:] |= (area_of[1:] != area_of[:-1]) & ~is_end[1:]
-        at = numpy.flatnonzero((is_break | is_end) & is_used)
+        at = numpy.flatnonzero((is_break | is_end) & is_used).astype(numpy.int32)
         own = way_of[at]
         is_piece = own[1:] == own[:-1]
         self.firsts, self.lasts, self.ways = at[:-1][is_piece], at[1:][is_piece], own[1:][is_piece]
         self.area = numpy.zeros(len(self.firsts), dtype=numpy.intc)
         if area_of is not None:
             self.area = area_of[self.firsts]
-        self.metres = sums(steps_of(extract), self.firsts, self.lasts)
+        self.metres = metres_of(extract, self.firsts, self.lasts)
 
 
 def is_in(values: Any, ordered: Any) -> Any:
     """Which of some values are among others, which are in their order."""
-    if not len(ordered):
-        return numpy.zeros(len(values), dtype=bool)
-    at = numpy.minimum(numpy.searchsorted(ordered, values), len(ordered) - 1)
-    return ordered[at] == values
+    found = numpy.zeros(len(values), dtype=bool)
+    for first in range(0, len(values) if len(ordered) else 0, AT_ONCE):
+        own = values[first : first + AT_ONCE]
+        at = numpy.minimum(numpy.searchsorted(ordered, own), len(ordered) - 1)
+        found[first : first + AT_ONCE] = ordered[at] == own
+    return found
 
 
 def sums(values: Any, firsts: Any, lasts: Any) -> Any:
@@ -452,26 +420,27 @@ def build(
     keys: AbstractSet[int],
     areas_of: Optional[AreasOf],
     default_area: str,
-) -> Network:
+) -> tuple[Network, Arcs]:
     """Makes the arcs of all ways, without those that nobody may ever use. `keys` are nodes that the
     network has to have, besides junctions."""
-    network = Network()
     ways = extract.ways
     for tags in ways.tags:
         way_rules.known(tags)
-    on_roads = extract.barriers.keys() & set(extract.refs)
-    through = {ref: way_rules.of_node(ref, extract.barriers[ref]) for ref in sorted(on_roads)}
+    barriers = numpy.array(sorted(extract.barriers), dtype=numpy.int64)
+    refs = numpy.frombuffer(extract.refs, dtype=numpy.int64)
+    on_roads = numpy.unique(refs[is_in(refs, barriers)]).tolist()
+    through = {ref: way_rules.of_node(ref, extract.barriers[ref]) for ref in on_roads}
     way_rules.note(ways)
     more = numpy.fromiter(keys | extract.barriers.keys(), dtype=numpy.int64)
     tags_of = numpy.frombuffer(ways.tags_of, dtype=numpy.intc)
     is_usable = numpy.array([way_rules.is_usable(tags) for tags in ways.tags], dtype=bool)[tags_of]
     wanted = numpy.unique(numpy.concatenate((junctions(extract.refs), more)))
     pieces = Pieces(extract, is_usable, wanted, areas_of, default_area)
-    network.add(extract, pieces)
+    network = Network(extract, pieces)
     directions = Directions(extract, way_rules, pieces, network)
     directions.obey(through)
-    network.arcs = list(directions.arcs())
-    return network
+    network.areas = directions.areas
+    return network, directions.arcs()
 
 
 class Directions:
@@ -489,14 +458,14 @@ class Directions:
             network,
         )
         self.says = [way_rules.known(tags)[0] for tags in ways.tags]
-        self.tags_of = numpy.frombuffer(ways.tags_of, dtype=numpy.intc)[pieces.ways].astype(int)
+        self.tags_of = numpy.frombuffer(ways.tags_of, dtype=numpy.intc)[pieces.ways]
         ferries = ferry_speeds(extract)[pieces.ways]
         self.areas = pieces.areas + [area + FERRY_AREA for area in pieces.areas]
         self.area_of = pieces.area + len(pieces.areas) * (ferries > 0)
         most = self.most()
         count = len(pieces.ways)
-        rules = numpy.empty((count, 2), dtype=int)
-        times = numpy.empty((count, 2), dtype=int)
+        rules = numpy.empty((count, 2), dtype=numpy.int32)
+        times = numpy.empty((count, 2), dtype=numpy.int64)
         is_ring = network.tails == network.heads
         for at, says in enumerate(zip(*((it[0], it[1]) for it in self.says))):
             numbers = numpy.array([-1 if number is None else number for number, _ in says])
@@ -510,7 +479,8 @@ class Directions:
     def most(self) -> Any:
         """The highest speed of our vehicles on each piece, in metres a second."""
         tags, count = self.extract.ways.tags, len(self.areas)
-        kinds, kind_of = numpy.unique(self.tags_of * count + self.area_of, return_inverse=True)
+        both = self.tags_of.astype(numpy.int64) * count + self.area_of
+        kinds, kind_of = numpy.unique(both, return_inverse=True)
         found = [
             self.way_rules.most(self.areas[it % count], tags[it // count]) for it in kinds.tolist()
         ]
@@ -539,32 +509,24 @@ class Directions:
                     own = -1
             self.rules[at] = own
 
-    def arcs(self) -> Iterator[Arc]:
-        """Yields the arcs, of each piece first the one along its way."""
+    def arcs(self) -> Arcs:
+        """The arcs, of each piece first the one along its way."""
         network, pieces, ways = self.network, self.pieces, self.extract.ways
         is_toll = numpy.array([it[2] for it in self.says], dtype=bool)[self.tags_of]
-        tolls = numpy.where(is_toll, pieces.metres, 0.0).tolist()
-        tails, heads, metres_of = (
-            it.tolist() for it in (network.tails, network.heads, pieces.metres)
+        at = numpy.flatnonzero(self.rules >= 0)
+        piece, is_back = (at >> 1).astype(numpy.int32), (at & 1).astype(bool)
+        tails, heads = network.tails[piece], network.heads[piece]
+        columns = (
+            numpy.where(is_back, heads, tails),
+            numpy.where(is_back, tails, heads),
+            self.times[at],
+            pieces.metres[piece],
+            self.rules[at],
+            numpy.where(is_toll, pieces.metres, 0.0)[piece],
+            self.area_of[piece],
+            numpy.frombuffer(ways.names_of, dtype=numpy.intc)[pieces.ways[piece]],
         )
-        rules, times, area_of = (it.tolist() for it in (self.rules, self.times, self.area_of))
-        names_of = numpy.frombuffer(ways.names_of, dtype=numpy.intc)[pieces.ways].tolist()
-        for at in numpy.flatnonzero(self.rules >= 0).tolist():
-            piece = at >> 1
-            tail, head, driven = tails[piece], heads[piece], piece
-            if at & 1:
-                tail, head, driven = head, tail, -1 - piece
-            yield Arc(
-                tail,
-                head,
-                times[at],
-                metres_of[piece],
-                rules[at],
-                tolls[piece],
-                self.areas[area_of[piece]],
-                (driven,),
-                ways.names[names_of[piece]],
-            )
+        return Arcs(columns, numpy.arange(len(at) + 1), numpy.where(is_back, -1 - piece, piece))
 
 
 def ferry_speeds(extract: Extract) -> Any:
@@ -580,42 +542,41 @@ def ferry_speeds(extract: Extract) -> Any:
 
 def reached(count: int, tails: Any, heads: Any, start: int) -> Any:
     """Which nodes can be reached from one over some arcs."""
-    order = numpy.argsort(tails, kind="stable")
+    order, firsts = stars(count, tails)
     others = heads[order]
-    firsts = numpy.searchsorted(tails[order], numpy.arange(count + 1))
     found = numpy.zeros(count, dtype=bool)
     found[start] = True
     left = numpy.array([start])
     while len(left):
-        counts = firsts[left + 1] - firsts[left]
-        starts = numpy.cumsum(counts) - counts
-        at = numpy.repeat(firsts[left] - starts, counts) + numpy.arange(int(counts.sum()))
+        at, _ = ranges(firsts[left], firsts[left + 1] - firsts[left])
         near = others[at]
         left = numpy.unique(near[~found[near]])
         found[left] = True
     return found
 
 
-def largest_component(count: int, arcs: Sequence[Arc]) -> set[int]:
-    """The nodes of the largest strongly connected component. One that has most of all nodes with
-    arcs is found by what can be reached from one of its nodes and reaches it."""
-    tails = numpy.fromiter((arc.tail for arc in arcs), dtype=int, count=len(arcs))
-    heads = numpy.fromiter((arc.head for arc in arcs), dtype=int, count=len(arcs))
-    most = len(numpy.unique(numpy.concatenate((tails, heads)))) // 2
-    for at in range(0, len(arcs), len(arcs) // TRIED + 1):
+def largest_component(count: int, tails: Any, heads: Any) -> Any:
+    """Which nodes are in the largest strongly connected component of some arcs. One that has most
+    of all nodes with arcs is found by what can be reached from one of its nodes and reaches it."""
+    has_arcs = numpy.zeros(count, dtype=bool)
+    has_arcs[tails] = True
+    has_arcs[heads] = True
+    most = numpy.count_nonzero(has_arcs) // 2
+    for at in range(0, len(tails), len(tails) // TRIED + 1):
         start = int(tails[at])
         found = reached(count, tails, heads, start) & reached(count, heads, tails, start)
         if numpy.count_nonzero(found) > most:
-            return set(numpy.flatnonzero(found).tolist())
-    return by_tarjan(count, arcs)
+            return found
+    found = numpy.zeros(count, dtype=bool)
+    found[by_tarjan(count, tails, heads)] = True
+    return found
 
 
-def by_tarjan(count: int, arcs: Iterable[Arc]) -> set[int]:
+def by_tarjan(count: int, tails: Any, heads: Any) -> list[int]:
     """The nodes of the largest strongly connected component; of several the one whose first node
     has the least number. By Tarjan's algorithm without recursion."""
-    out: list[list[int]] = [[] for _ in range(count)]
-    for arc in arcs:
-        out[arc.tail].append(arc.head)
+    starts, firsts = stars(count, tails)
+    out = [part.tolist() for part in numpy.split(heads[starts], firsts[1:-1])]
     order, low, on_stack = [0] * count, [0] * count, bytearray(count)
     stack: list[int] = []
     best: list[int] = []
@@ -654,82 +615,148 @@ def by_tarjan(count: int, arcs: Iterable[Arc]) -> set[int]:
                             break
                     if len(component) > len(best):
                         best = component
-    return set(best)
+    return best
 
 
-def at_borders(arcs: Iterable[Arc]) -> set[int]:
+def at_borders(count: int, arcs: Arcs) -> set[int]:
     """The nodes at which roads of several areas meet."""
-    area_of: dict[int, str] = {}
+    of_node = numpy.zeros(count, dtype=numpy.int32)
+    for ends in (arcs.tails, arcs.heads):
+        of_node[ends] = arcs.areas
     found: set[int] = set()
-    for arc in arcs:
-        for node in (arc.tail, arc.head):
-            if area_of.setdefault(node, arc.area) != arc.area:
-                found.add(node)
+    for ends in (arcs.tails, arcs.heads):
+        found.update(ends[of_node[ends] != arcs.areas].tolist())
     return found
 
 
-def within(arcs: Iterable[Arc], nodes: Collection[int]) -> list[Arc]:
-    return [arc for arc in arcs if arc.tail in nodes and arc.head in nodes]
+def within(arcs: Arcs, nodes: Any) -> Arcs:
+    """The arcs between some nodes, given by whether each is one."""
+    return arcs.take(nodes[arcs.tails] & nodes[arcs.heads])
 
 
 def joined(one: Arc, other: Arc) -> Arc:
     """The arc over one arc and then another with the same rules and area."""
-    name = one.name if one.length >= other.length else other.name
-    return Arc(
-        one.tail,
-        other.head,
-        one.time + other.time,
-        one.length + other.length,
-        one.rules,
-        one.toll + other.toll,
-        one.area,
-        one.pieces + other.pieces,
-        name,
+    return one._replace(
+        head=other.head,
+        time=one.time + other.time,
+        length=one.length + other.length,
+        toll=one.toll + other.toll,
+        name=one.name if one.length >= other.length else other.name,
+        pieces=one.pieces + other.pieces,
     )
-
-
-def without_continuations(
-    count: int, arcs: Iterable[Arc], kept: Collection[Optional[int]]
-) -> list[Arc]:
-    """Drops nodes at which a road only goes on: two neighbours, and on both sides the same rules
-    and area, and a toll or none. `kept` stay."""
-    into: list[list[int]] = [[] for _ in range(count)]
-    out: list[list[int]] = [[] for _ in range(count)]
-    made = list(arcs)
-    for number, arc in enumerate(made):
-        out[arc.tail].append(number)
-        into[arc.head].append(number)
-    gone: set[int] = set()
-    work = [node for node in range(count) if out[node] and node not in kept]
-    while work:
-        node = work.pop()
-        entering, leaving = into[node], out[node]
-        if len(entering) != len(leaving) or len(entering) not in (1, 2):
-            continue
-        neighbours = {made[it].tail for it in entering} | {made[it].head for it in leaving}
-        if len(neighbours) != 2 or node in neighbours:
-            continue
-        pairs = [(a, b) for a in entering for b in leaving if made[a].tail != made[b].head]
-        if (
-            len(pairs) != len(entering)
-            or len({a for a, _ in pairs}) != len(pairs)
-            or len({b for _, b in pairs}) != len(pairs)
-        ):
-            continue
-        if any(differs(made[a], made[b]) for a, b in pairs):
-            continue
-        for a, b in pairs:
-            arc = joined(made[a], made[b])
-            for old in (a, b):
-                out[made[old].tail].remove(old)
-                into[made[old].head].remove(old)
-                gone.add(old)
-            out[arc.tail].append(len(made))
-            into[arc.head].append(len(made))
-            made.append(arc)
-        work += [it for it in neighbours if it not in kept]
-    return [arc for number, arc in enumerate(made) if number not in gone]
 
 
 def differs(one: Arc, other: Arc) -> bool:
     return one.rules != other.rules or one.area != other.area or (one.toll > 0) != (other.toll > 0)
+
+
+def without_continuations(count: int, arcs: Arcs, kept: Iterable[int]) -> Arcs:
+    """Drops nodes at which a road only goes on: two neighbours, and on both sides the same rules
+    and area, and a toll or none. `kept` stay."""
+    chains = Chains(count, arcs, kept)
+    chains.join(chains.first_nodes())
+    made = [chains.arc(it) for it in range(len(arcs), len(arcs) + len(chains.made))]
+    stays = numpy.ones(len(arcs), dtype=bool)
+    stays[[it for it in chains.gone if it < len(arcs)]] = False
+    new = [arc for at, arc in enumerate(made, len(arcs)) if at not in chains.gone]
+    return arcs.take(stays).with_more(of_list(new))
+
+
+class Chains:
+    """Roads that go on at nodes: objects are made only of arcs at nodes that may be dropped."""
+
+    def __init__(self, count: int, arcs: Arcs, kept: Iterable[int]) -> None:
+        self.arcs, self.made = arcs, list[Arc]()
+        self.stays = numpy.zeros(count, dtype=bool)
+        self.stays[list(kept)] = True
+        self.out_of, self.into_of = stars(count, arcs.tails), stars(count, arcs.heads)
+        self.seen: dict[int, Arc] = {}
+        self.out: dict[int, list[int]] = {}
+        self.into: dict[int, list[int]] = {}
+        self.gone: set[int] = set()
+
+    def arc(self, at: int) -> Arc:
+        if at >= len(self.arcs):
+            return self.made[at - len(self.arcs)]
+        if at not in self.seen:
+            self.seen[at] = self.arcs[at]
+        return self.seen[at]
+
+    def leaving(self, node: int) -> list[int]:
+        if node not in self.out:
+            order, firsts = self.out_of
+            self.out[node] = order[firsts[node] : firsts[node + 1]].tolist()
+        return self.out[node]
+
+    def entering(self, node: int) -> list[int]:
+        if node not in self.into:
+            order, firsts = self.into_of
+            self.into[node] = order[firsts[node] : firsts[node + 1]].tolist()
+        return self.into[node]
+
+    def first_nodes(self) -> list[int]:
+        """The nodes that may be dropped before any is: others may be after a neighbour is."""
+        (leaving, firsts), (entering, begins) = self.out_of, self.into_of
+        counts = numpy.diff(firsts)
+        is_even = (counts == numpy.diff(begins)) & ~self.stays
+        tails, heads = self.arcs.tails, self.arcs.heads
+        found = []
+        for degree in (1, 2):
+            nodes = numpy.flatnonzero(is_even & (counts == degree))
+            a = [entering[begins[nodes] + it] for it in range(degree)]
+            b = [leaving[firsts[nodes] + it] for it in range(degree)]
+            if degree == 2:
+                goes_back = heads[b[0]] == tails[a[0]]
+                b = [numpy.where(goes_back, b[1], b[0]), numpy.where(goes_back, b[0], b[1])]
+                goes_on = (tails[a[0]] == heads[b[1]]) & (tails[a[1]] == heads[b[0]])
+            else:
+                goes_on = numpy.ones(len(nodes), dtype=bool)
+            for one, other in zip(a, b):
+                goes_on &= (tails[one] != heads[other]) & (tails[one] != nodes)
+                goes_on &= (heads[other] != nodes) & ~self.differ(one, other)
+            found.append(nodes[goes_on])
+        return sorted(numpy.concatenate(found).tolist())
+
+    def differ(self, one: Any, other: Any) -> Any:
+        arcs = self.arcs
+        return (
+            (arcs.rules[one] != arcs.rules[other])
+            | (arcs.areas[one] != arcs.areas[other])
+            | ((arcs.tolls[one] > 0) != (arcs.tolls[other] > 0))
+        )
+
+    def join(self, work: list[int]) -> None:
+        """Drops nodes, from the last one of `work` on, and their neighbours where they may be."""
+        while work:
+            node = work.pop()
+            entering, leaving = self.entering(node), self.leaving(node)
+            if len(entering) != len(leaving) or len(entering) not in (1, 2):
+                continue
+            arc = self.arc
+            neighbours = {arc(it).tail for it in entering} | {arc(it).head for it in leaving}
+            if len(neighbours) != 2 or node in neighbours:
+                continue
+            pairs = [(a, b) for a in entering for b in leaving if arc(a).tail != arc(b).head]
+            if (
+                len(pairs) != len(entering)
+                or len({a for a, _ in pairs}) != len(pairs)
+                or len({b for _, b in pairs}) != len(pairs)
+            ):
+                continue
+            if any(differs(arc(a), arc(b)) for a, b in pairs):
+                continue
+            for a, b in pairs:
+                self.replace(a, b)
+            work += [it for it in neighbours if not self.stays[it]]
+
+    def replace(self, one: int, other: int) -> None:
+        """Puts the arc over two arcs in their place."""
+        made = joined(self.arc(one), self.arc(other))
+        for old in (one, other):
+            self.leaving(self.arc(old).tail).remove(old)
+            self.entering(self.arc(old).head).remove(old)
+            self.gone.add(old)
+        number = len(self.arcs) + len(self.made)
+        self.leaving(made.tail).append(number)
+        self.entering(made.head).append(number)
+        self.made.append(made)

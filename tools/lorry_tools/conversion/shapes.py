@@ -4,15 +4,15 @@ of them.
 Polylines are made of many arcs at once, by numpy. Coordinates are whole numbers of 1e-7 degrees."""
 from __future__ import annotations
 
-import array
-import itertools
 import os
-from typing import Any, Iterable, Sequence
+from typing import Any
 
 import numpy
 
+from lorry_tools.conversion.arcs import Arcs
+
 # Arcs whose polylines are made at once, and five bits of a number for each letter.
-AT_ONCE, BITS = 2_000, 5
+AT_ONCE, BITS = 500, 5
 MOST_LETTERS = 7
 
 
@@ -43,7 +43,7 @@ def points_of(ends: tuple[Any, Any], pieces: Any, counts: Any) -> tuple[Any, Any
     and the last place of each piece of a way; a line is made of some pieces, -1 - number for one
     that is driven against its way, and of each but the first its first point isn't repeated."""
     own = numpy.where(pieces >= 0, pieces, -1 - pieces)
-    firsts, lasts = (it[own] for it in ends)
+    firsts, lasts = (it[own].astype(numpy.int64) for it in ends)
     is_along = pieces >= 0
     begins = numpy.where(is_along, firsts, lasts)
     step = numpy.where(is_along, 1, -1)
@@ -59,29 +59,21 @@ def points_of(ends: tuple[Any, Any], pieces: Any, counts: Any) -> tuple[Any, Any
 
 def write(
     folder: str,
-    xs: Sequence[int],
-    ys: Sequence[int],
-    ends: tuple[Sequence[int], Sequence[int]],
-    rows: Iterable[tuple[int, tuple[int, ...]]],
+    xs: Any,
+    ys: Any,
+    ends: tuple[Any, Any],
+    arcs: Arcs,
 ) -> None:
-    """Writes shapes.csv. A row has the metres of an arc, and its pieces, as `points_of` says."""
-    lon, lat = numpy.asarray(xs, dtype=numpy.int64), numpy.asarray(ys, dtype=numpy.int64)
-    own = numpy.asarray(ends[0], dtype=numpy.int64), numpy.asarray(ends[1], dtype=numpy.int64)
+    """Writes shapes.csv, with the metres of arcs; their pieces are as `points_of` says."""
+    xs, ys = numpy.asarray(xs), numpy.asarray(ys)
     with open(os.path.join(folder, "shapes.csv"), "wb") as file:
         file.write(b"arc,metres,polyline\n")
-        number = 0
-        left = iter(rows)
-        while True:
-            part = list(itertools.islice(left, AT_ONCE))
-            if not part:
-                return
-            pieces = array.array("q")
-            for _, it in part:
-                pieces.extend(it)
-            counts = numpy.array([len(it) for _, it in part])
-            at, firsts = points_of(own, numpy.frombuffer(pieces, dtype=numpy.int64), counts)
-            letters, begins = polylines(lon, lat, at, firsts)
+        for first in range(0, len(arcs), AT_ONCE):
+            places = arcs.firsts[first : first + AT_ONCE + 1]
+            at, firsts = points_of(ends, arcs.pieces[places[0] : places[-1]], numpy.diff(places))
+            letters, begins = polylines(xs, ys, at, firsts)
             cuts = [*begins.tolist(), len(letters)]
-            for (length, _), begin, end in zip(part, cuts, cuts[1:]):
-                number += 1
+            lengths = [round(it) for it in arcs.lengths[first : first + AT_ONCE].tolist()]
+            numbers = range(first + 1, first + 1 + len(begins))
+            for number, length, begin, end in zip(numbers, lengths, cuts, cuts[1:]):
                 file.write(b"%d,%d,%s\n" % (number, length, letters[begin:end]))

@@ -5,46 +5,43 @@ two or three neighbours, of which each way through becomes a shortcut. The ways 
 junctions that no other beats stay the same, but for those that take as long as another one."""
 from __future__ import annotations
 
-from typing import Any, Collection, Iterable, Protocol, Sequence
+import array
+from typing import Any, Mapping, NamedTuple, Sequence
 
 import numpy
 
-from lorry_tools.conversion.roads import Arc
+from lorry_tools.conversion.arcs import Arcs, ranges, stars
+from lorry_tools.conversion.kinds import Kinds
 
 # The fewest ways that are given up at a node that is left. One that was taken out has three
 # neighbours at most, so there fewer came to it than a search over all arcs gives up.
 MOST_WAYS = 3
 # The most neighbours of a node that is taken out, and the most shortcuts that it becomes.
 NEIGHBOURS, SHORTCUTS = 3, 12
+# A step that takes out fewer nodes than this share of those that are left is the last one.
+FEWEST = 0.002
 
-Star = list[list[tuple[int, int, int]]]
-# The rules of a road, and its toll.
-Ruled = tuple[frozenset[int], int]
-FREE: Ruled = (frozenset(), 0)
-
-
-class Stars(Protocol):
-    """The arcs, those that leave each node, and the rules and the toll of some."""
-
-    arcs: Sequence[Arc]
-    out: Star
-    ruled: dict[int, Ruled]
+# What leaves a node, or comes into it: the milliseconds, the other node, and the place of the arc
+# in the list of arcs, or -1 - place for an arc that asks something. These are tuples since searches
+# look at them millions of times.
+Link = tuple[int, int, int]
 
 
-def inner_nodes(count: int, arcs: Sequence[Arc], kept: Collection[int]) -> Any:
+class Links(NamedTuple):
+    """The links of nodes, and the kind of each place."""
+
+    out: Mapping[int, list[Link]]
+    kind_of: Sequence[int]
+
+
+def inner_nodes(count: int, arcs: Arcs, is_kept: Any) -> Any:
     """Which nodes aren't on roads that end, but for kept junctions."""
-    tails, heads = (
-        numpy.fromiter(it, dtype=int, count=len(arcs))
-        for it in ((arc.tail for arc in arcs), (arc.head for arc in arcs))
-    )
-    pairs = numpy.unique(numpy.minimum(tails, heads) * count + numpy.maximum(tails, heads))
+    pairs = pairs_of(count, arcs.tails, arcs.heads)
     one, other = pairs // count, pairs % count
-    stays = numpy.zeros(count, dtype=bool)
-    stays[list(kept)] = True
     is_inner = numpy.ones(count, dtype=bool)
     while True:
         neighbours = numpy.bincount(one, minlength=count) + numpy.bincount(other, minlength=count)
-        ends = (neighbours == 1) & ~stays & is_inner
+        ends = (neighbours == 1) & ~is_kept & is_inner
         if not ends.any():
             return is_inner
         is_inner &= ~ends
@@ -52,116 +49,115 @@ def inner_nodes(count: int, arcs: Sequence[Arc], kept: Collection[int]) -> Any:
         one, other = one[goes_on], other[goes_on]
 
 
+def pairs_of(count: int, tails: Any, heads: Any) -> Any:
+    """The pairs of neighbours, each once, as numbers: the lesser one, times the count, and the
+    other one."""
+    lesser = numpy.minimum(tails, heads).astype(numpy.int64)
+    return numpy.unique(lesser * count + numpy.maximum(tails, heads))
+
+
 class Graph:
-    """What is left, in the form of stars. Shortcuts have places after those of the arcs."""
+    """What is left, as links in columns. Shortcuts have places after those of the arcs."""
 
-    def __init__(self, stars: Stars, kept: Collection[int]) -> None:
-        self.kept = kept
-        count = len(stars.out)
-        self.first = sum(map(len, stars.out))
-        # The shortcuts: the two links that each is made of.
-        self.parts: list[tuple[int, int]] = []
-        self.ruled = dict(stars.ruled)
-        # By node and neighbour: links with their places.
-        self.links: list[dict[int, list[tuple[int, int]]]] = [{} for _ in range(count)]
-        self.tails: list[set[int]] = [set() for _ in range(count)]
-        is_inner = inner_nodes(count, stars.arcs, kept).tolist()
-        for node, links in enumerate(stars.out):
-            own = self.links[node]
-            for time, head, place in links if is_inner[node] else ():
-                if head != node and is_inner[head]:
-                    own.setdefault(head, []).append((time, place if place >= 0 else -1 - place))
-                    self.tails[head].add(node)
-        self.take_out(range(count))
-        self.out: Star = [
-            [
-                (time, head, -1 - place if place in self.ruled else place)
-                for head, links in own.items()
-                for time, place in links
-            ]
-            for own in self.links
-        ]
-        del self.links, self.tails
+    def __init__(self, arcs: Arcs, kind_of: Any, kinds: Kinds, is_kept: Any) -> None:
+        self.count, self.first, self.kinds, self.is_kept = len(is_kept), len(arcs), kinds, is_kept
+        is_inner = inner_nodes(self.count, arcs, is_kept)
+        at = numpy.flatnonzero(is_inner[arcs.tails] & is_inner[arcs.heads])
+        at = at[arcs.tails[at] != arcs.heads[at]].astype(numpy.int32)
+        # The links that are left: their ends, milliseconds, places and kinds; and of shortcuts the
+        # two links that each is made of, and their kinds.
+        self.own = [arcs.tails[at], arcs.heads[at], arcs.times[at], at, kind_of[at]]
+        self.parts = [numpy.zeros((0, 2), dtype=numpy.int32)]
+        kinds_of = [kind_of]
+        self.made = 0
+        for most in (NEIGHBOURS - 1, NEIGHBOURS):
+            while self.take_out(most, kinds_of) and most < NEIGHBOURS:
+                pass
+        tails, heads, times, places, own = self.own
+        self.links = tails, heads, times, numpy.where(own > 0, -1 - places, places)
+        self.kind_of = array.array("i", numpy.concatenate(kinds_of).tobytes())
+        self.made_of = numpy.concatenate(self.parts)
+        del self.own, self.parts
 
-    def neighbours(self, node: int) -> set[int]:
-        return self.tails[node].union(self.links[node])
+    def take_out(self, most: int, kinds_of: list[Any]) -> bool:
+        """Takes out nodes of at most so many neighbours, no two of them neighbours, with a shortcut
+        for each way through them; whether it is worth it to go on."""
+        count = self.count
+        tails, heads = self.own[:2]
+        pairs = pairs_of(count, tails, heads)
+        one, other = pairs // count, pairs % count
+        around = numpy.bincount(one, minlength=count) + numpy.bincount(other, minlength=count)
+        ways = numpy.bincount(tails, minlength=count) * numpy.bincount(heads, minlength=count)
+        taken = (around > 0) & (around <= most) & ~self.is_kept & (ways <= SHORTCUTS)
+        # Of neighbours the one with the least number goes first, by numbers without an order.
+        rank = numpy.arange(count, dtype=numpy.uint32) * numpy.uint32(2654435761)
+        both = taken[one] & taken[other]
+        one, other = one[both], other[both]
+        taken[numpy.where(rank[one] > rank[other], one, other)] = False
+        found = numpy.count_nonzero(taken)
+        if found:
+            self.replace(taken, kinds_of)
+        return found > FEWEST * numpy.count_nonzero(around)
 
-    def take_out(self, nodes: Iterable[int]) -> None:
-        """Takes out what may be taken out: first nodes of one neighbour or two, until there are
-        none, and then those of three, no two of them neighbours."""
-        work = [it for it in nodes if self.links[it] and it not in self.kept]
-        left = list(work)
-        while work:
-            node = work.pop()
-            around = self.neighbours(node)
-            if 1 <= len(around) <= 2 and self.is_light(node):
-                self.replace(node, around)
-                work += [it for it in around if it not in self.kept]
-        stays: set[int] = set()
-        for node in left:
-            around = self.neighbours(node)
-            if len(around) == NEIGHBOURS and node not in stays and self.is_light(node):
-                self.replace(node, around)
-                stays |= around
+    def replace(self, taken: Any, kinds_of: list[Any]) -> None:
+        tails, heads, times, places, kinds = self.own
+        into, out = numpy.flatnonzero(taken[heads]), numpy.flatnonzero(taken[tails])
+        order, firsts = stars(self.count, tails[out])
+        counts = (firsts[1:] - firsts[:-1])[heads[into]]
+        leaving = out[order[ranges(firsts[heads[into]], counts)[0]]]
+        entering = numpy.repeat(into, counts)
+        goes_on = tails[entering] != heads[leaving]
+        entering, leaving = entering[goes_on], leaving[goes_on]
+        own = self.kinds.all_joined(kinds[entering], kinds[leaving])
+        begin = self.first + self.made
+        self.made += len(own)
+        kinds_of.append(own)
+        self.parts.append(numpy.column_stack((places[entering], places[leaving])))
+        new = (
+            tails[entering],
+            heads[leaving],
+            times[entering] + times[leaving],
+            numpy.arange(begin, begin + len(own), dtype=numpy.int32),
+            own,
+        )
+        stays = ~(taken[tails] | taken[heads])
+        self.own = [numpy.concatenate((it[stays], more)) for it, more in zip(self.own, new)]
+        self.leave_out_beaten()
 
-    def is_light(self, node: int) -> bool:
-        """Whether few shortcuts replace a node."""
-        into = sum(len(self.links[it][node]) for it in self.tails[node])
-        return into * sum(map(len, self.links[node].values())) <= SHORTCUTS
+    def leave_out_beaten(self) -> None:
+        """Leaves out links that another link of the same ends beats: one that takes less time, and
+        asks no more."""
+        tails, heads, times, _, kinds = self.own
+        ends = tails.astype(numpy.int64) * self.count + heads
+        order = numpy.lexsort((times, ends))
+        ends, times, kinds = ends[order], times[order], kinds[order]
+        stays = numpy.ones(len(order), dtype=bool)
+        apart = 1
+        while True:
+            same = numpy.flatnonzero(ends[apart:] == ends[:-apart])
+            if not len(same):
+                break
+            later = same + apart
+            beaten = (times[same] < times[later]) & self.kinds.are_within(kinds[same], kinds[later])
+            stays[later[beaten]] = False
+            apart += 1
+        at = order[stays]
+        self.own = [it[at] for it in self.own]
 
-    def replace(self, node: int, around: Collection[int]) -> None:
-        """Takes a node out, with a shortcut for each way through it."""
-        leaving = self.links[node]
-        for tail in self.tails[node]:
-            own = self.links[tail]
-            entering = own.pop(node)
-            for head, links in leaving.items():
-                if head != tail:
-                    for time, place in entering:
-                        for more, other in links:
-                            self.add(tail, head, time + more, place, other)
-        for head in leaving:
-            self.tails[head].discard(node)
-        self.links[node], self.tails[node] = {}, set()
-
-    def add(self, tail: int, head: int, time: int, one: int, other: int) -> None:
-        """Adds a shortcut, unless another link of its ends beats it."""
-        ruled = self.joined(one, other)
-        links = self.links[tail].setdefault(head, [])
-        self.tails[head].add(tail)
-        if any(it < time and self.is_within(place, ruled) for it, place in links):
-            return
-        place = self.first + len(self.parts)
-        self.parts.append((one, other))
-        if ruled != FREE:
-            self.ruled[place] = ruled
-        links[:] = [it for it in links if not (time < it[0] and self.covers(ruled, it[1]))]
-        links.append((time, place))
-
-    def joined(self, one: int, other: int) -> Ruled:
-        (rules, toll), (own, own_toll) = self.ruled.get(one, FREE), self.ruled.get(other, FREE)
-        return rules | own, toll + own_toll
-
-    def is_within(self, place: int, ruled: Ruled) -> bool:
-        """Whether a link has no further rules and no higher toll."""
-        rules, toll = self.ruled.get(place, FREE)
-        return toll <= ruled[1] and rules <= ruled[0]
-
-    def covers(self, ruled: Ruled, place: int) -> bool:
-        rules, toll = self.ruled.get(place, FREE)
-        return ruled[1] <= toll and ruled[0] <= rules
-
-    def arcs(self, path: Iterable[int]) -> list[int]:
-        """The places of the arcs of a path."""
-        found: list[int] = []
-        work = list(path)
-        work.reverse()
-        first, parts = self.first, self.parts
-        while work:
-            place = work.pop()
-            if place < first:
-                found.append(place)
-            else:
-                one, other = parts[place - first]
-                work += (other, one)
-        return found
+    def arcs(self, paths: Any, counts: Any) -> tuple[Any, Any]:
+        """The arcs of paths, of which each has so many links, and where each path begins."""
+        path_of = numpy.repeat(numpy.arange(len(counts), dtype=numpy.int32), counts)
+        while True:
+            is_short = paths >= self.first
+            if not is_short.any():
+                break
+            at = numpy.flatnonzero(is_short)
+            sizes = 1 + is_short
+            begins = numpy.cumsum(sizes) - sizes
+            found = numpy.empty(len(paths) + len(at), dtype=numpy.int32)
+            found[begins[~is_short]] = paths[~is_short]
+            found[begins[at]], found[begins[at] + 1] = self.made_of[paths[at] - self.first].T
+            paths, path_of = found, numpy.repeat(path_of, sizes)
+        firsts = numpy.zeros(len(counts) + 1, dtype=numpy.int64)
+        numpy.cumsum(numpy.bincount(path_of, minlength=len(counts)), out=firsts[1:])
+        return paths, firsts

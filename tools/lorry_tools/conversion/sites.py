@@ -1,10 +1,9 @@
 """Parking, depots and towns, and the nodes of the network that they are at."""
 from __future__ import annotations
 
-import collections
 import math
 import re
-from typing import Any, Callable, Collection, Iterable, Optional
+from typing import Any, Callable, Iterable, Optional
 
 import numpy
 
@@ -219,15 +218,25 @@ def nearest_place(site: Site, near: Any, extract: Extract) -> int:
 class Nodes:
     """Nodes of the network by their place."""
 
-    def __init__(self, network: Network, nodes: Iterable[int]) -> None:
+    def __init__(self, network: Network, nodes: Any) -> None:
         self.network = network
-        grid: dict[tuple[int, int], list[int]] = collections.defaultdict(list)
-        self.grid = grid
-        for node in nodes:
-            self.grid[network.xs[node] // CELL, network.ys[node] // CELL].append(node)
+        places = (numpy.asarray(it)[nodes].astype(numpy.int64) for it in (network.xs, network.ys))
+        codes = code_of([it // CELL for it in places])
+        order = numpy.argsort(codes, kind="stable")
+        self.codes, self.nodes = codes[order], nodes[order]
 
     def distance(self, node: int, x: int, y: int) -> float:
         return metres(x, y, self.network.xs[node], self.network.ys[node])
+
+    def around(self, x: int, y: int, reach: int) -> list[int]:
+        """The nodes in the cells around a place."""
+        column, row = x // CELL, y // CELL
+        ends = [
+            (code_of((column + it, row - reach)), code_of((column + it, row + reach)) + 1)
+            for it in range(-reach, reach + 1)
+        ]
+        cuts = numpy.searchsorted(self.codes, ends).tolist()
+        return [it for first, last in cuts for it in self.nodes[first:last].tolist()]
 
     def nearest(self, x: int, y: int, most: int) -> Optional[int]:
         """The nearest node within so many metres, or None."""
@@ -235,25 +244,23 @@ class Nodes:
         ys, farthest = self.network.ys, most * 90
         near = [
             (self.distance(node, x, y), node)
-            for cell in cells_around(x, y, reach)
-            for node in self.grid.get(cell, ())
+            for node in self.around(x, y, reach)
             if abs(ys[node] - y) <= farthest
         ]
         found = min(near, default=None)
         return found[1] if found and found[0] <= most else None
 
 
-def place_sites(
-    sites: Iterable[Site], network: Network, nodes: Collection[int], report: Report
-) -> list[Site]:
-    """Gives each site its node; those that have none are left out."""
-    index = Nodes(network, nodes)
+def place_sites(sites: Iterable[Site], network: Network, nodes: Any, report: Report) -> list[Site]:
+    """Gives each site its node, of some that are given by whether each is one; sites that have none
+    are left out."""
+    index = Nodes(network, numpy.flatnonzero(nodes))
     found = []
     for site in sites:
         own = [
             network.number[ref]
             for ref in site.refs
-            if ref in network.number and network.number[ref] in nodes
+            if ref in network.number and nodes[network.number[ref]]
         ]
         most = MOST_TO_DEPOT if site.rating == "depot" else MOST_TO_PARKING
         node = own[0] if own else index.nearest(site.x, site.y, most)
@@ -277,7 +284,7 @@ def better(one: Site, other: Site) -> Site:
 
 
 def name_towns(
-    places: Iterable[tuple[int, str, int, int]], network: Network, nodes: Iterable[int]
+    places: Iterable[tuple[int, str, int, int]], network: Network, nodes: Any
 ) -> dict[int, str]:
     """The node that is nearest to each town, with the town's name."""
     index = Nodes(network, nodes)

@@ -2,16 +2,18 @@
 is."""
 from __future__ import annotations
 
-import collections
 import csv
 import os
-from typing import AbstractSet, Callable, Iterable, Iterator, Mapping, Sequence, Sized
+from typing import AbstractSet, Any, Iterable, Iterator, Mapping, Sequence, Sized
+
+import numpy
 
 from lorry_tools.conversion import access, coarse, sites, zone_rows
 from lorry_tools.conversion.access import OPEN, Lists
+from lorry_tools.conversion.arcs import Arcs
 from lorry_tools.conversion.extract import Extract, TagPairs
 from lorry_tools.conversion.report import Report
-from lorry_tools.conversion.roads import FERRY_AREA, Arc, Network
+from lorry_tools.conversion.roads import FERRY_AREA, Network
 
 # The limits of docs/LIMITS.md.
 MOST_NODES, MOST_ARCS, MOST_AREAS, MOST_RULES, LONGEST_DRIVE = (
@@ -28,6 +30,8 @@ MAP_LICENCE = (
     "(c) OpenStreetMap contributors, Open Database License (ODbL) 1.0,"
     " https://www.openstreetmap.org/copyright"
 )
+# How many rows are made at once.
+AT_ONCE = 2_000
 # Tags that say nothing about who is let in.
 PLAIN_TAGS = ("highway", "junction", "toll", "ref", "route", "duration", "motorroad")
 
@@ -54,9 +58,7 @@ def write(folder: str, name: str, header: Iterable[str], rows: Iterable[Iterable
         writer.writerows(rows)
 
 
-def write_graph(
-    folder: str, extract: str, count: int, arcs: list[Arc], number: Mapping[int, int]
-) -> None:
+def write_graph(folder: str, extract: str, count: int, arcs: Arcs, numbers: Any) -> None:
     with open(
         os.path.join(folder, "graph.gr"), "w", encoding="ascii", errors="replace", newline="\n"
     ) as file:
@@ -64,8 +66,12 @@ def write_graph(
             f"c Roads of {extract}, by tools/from_osm\nc Map data {MAP_LICENCE}\np sp"
             f" {count} {len(arcs)}\n"
         )
-        for arc in arcs:
-            file.write(f"a {number[arc.tail]} {number[arc.head]} {coarse.minutes(arc)}\n")
+        for first in range(0, len(arcs), AT_ONCE):
+            tails, heads, times = (
+                it[first : first + AT_ONCE] for it in (arcs.tails, arcs.heads, arcs.times)
+            )
+            columns = (numbers[tails], numbers[heads], coarse.minutes(times))
+            file.writelines(["a %d %d %d\n" % it for it in zip(*(it.tolist() for it in columns))])
 
 
 class Areas:
@@ -77,7 +83,8 @@ class Areas:
         self.all_open: Lists = (OPEN,) * 4
         self.countries: dict[str, str] = {}
         self.rows: list[tuple[str, str, str]] = []
-        self.of_arc: dict[int, str] = {}
+        # The area of each arc, as a number of `countries`; the first one need not be said.
+        self.of_arc = numpy.zeros(0, dtype=numpy.int32)
         self.by_arc = 0
 
     def law(self, country: str) -> Lists:
@@ -85,44 +92,62 @@ class Areas:
             return self.all_open
         return self.laws.get(country) or self.laws.get(country.split("-")[0]) or self.all_open
 
-    def divide(self, arcs: list[Arc], lists_of: Callable[[Arc], Lists]) -> int:
-        """Sets `names` and `countries` of areas, `of_arc`, and `rows` of rules. `lists_of` gives
-        the lists of an arc's own rules."""
-        counts = collections.Counter(arc.area for arc in arcs)
+    def divide(self, arcs: Arcs, names: Sequence[str], lists_of: Sequence[Lists]) -> int:
+        """Sets `names` and `countries` of areas, `of_arc`, and `rows` of rules. Arcs have the
+        numbers of their country in `names`, and of their own rules in `lists_of`."""
+        used, counts = numpy.unique(arcs.areas, return_counts=True)
+        sizes = {names[it]: count for it, count in zip(used.tolist(), counts.tolist())}
         self.countries = {
-            name: name for name, _ in sorted(counts.items(), key=lambda it: (-it[1], it[0]))
+            name: name for name, _ in sorted(sizes.items(), key=lambda it: (-it[1], it[0]))
         }
         self.rows = [
             (f"area:{name}",) + row
             for name in self.countries
             for row in access.rows(self.law(name), False)
         ]
-        groups: dict[tuple[str, Lists], list[int]] = collections.defaultdict(list)
-        for number, arc in enumerate(arcs, 1):
-            law = self.law(arc.area)
-            lists = tuple(access.both(own, other) for own, other in zip(law, lists_of(arc)))
-            if lists != law:
-                groups[arc.area, lists].append(number)
-        self.of_arc = {}
+        numbers = {name: number for number, name in enumerate(self.countries)}
+        self.of_arc = numpy.array([numbers.get(it, 0) for it in names], dtype=int)[arcs.areas]
         self.by_arc = 0
-        ordered = sorted(groups.items(), key=lambda it: (-len(it[1]), it[1][0]))
-        for (country, lists), numbers in ordered:
+        groups, group_of = self.groups(arcs, names, lists_of)
+        at = numpy.flatnonzero(group_of >= 0)
+        order = at[numpy.argsort(group_of[at], kind="stable")]
+        members = numpy.split(order, numpy.cumsum(numpy.bincount(group_of[at]))[:-1])
+        ordered = sorted(zip(groups, members), key=lambda it: (-len(it[1]), int(it[1][0])))
+        for (country, lists), own in ordered:
             if len(self.countries) < MOST_AREAS:
-                name = f"{country}.{len(self.countries) + 1 - len(counts)}"
+                name = f"{country}.{len(self.countries) + 1 - len(used)}"
+                self.of_arc[own] = len(self.countries)
                 self.countries[name] = country
                 self.rows += [(f"area:{name}",) + row for row in access.rows(lists, False)]
-                self.of_arc.update((number, name) for number in numbers)
             else:
-                self.by_arc += len(numbers)
-                for number in numbers:
-                    self.rows += [(f"arc:{number}",) + row for row in access.rows(lists, True)]
-        first = next(iter(self.countries))
-        self.of_arc.update(
-            (number, arc.area)
-            for number, arc in enumerate(arcs, 1)
-            if number not in self.of_arc and arc.area != first
+                self.by_arc += len(own)
+                rows = access.rows(lists, True)
+                self.rows += [(f"arc:{it + 1}",) + row for it in own.tolist() for row in rows]
+        return len(order)
+
+    def groups(
+        self, arcs: Arcs, names: Sequence[str], lists_of: Sequence[Lists]
+    ) -> tuple[list[tuple[str, Lists]], Any]:
+        """The countries and lists of arcs whose lists aren't their country's law, and the number of
+        each arc's among these, -1 for other arcs."""
+        found: dict[tuple[str, Lists], int] = {}
+        kinds, kind_of = numpy.unique(
+            arcs.areas.astype(numpy.int64) * len(lists_of) + arcs.rules, return_inverse=True
         )
-        return sum(len(numbers) for numbers in groups.values())
+        numbers = numpy.full(len(kinds), -1)
+        for at, kind in enumerate(kinds.tolist()):
+            country, own_lists = names[kind // len(lists_of)], lists_of[kind % len(lists_of)]
+            law = self.law(country)
+            lists = tuple(access.both(own, other) for own, other in zip(law, own_lists))
+            if lists != law:
+                numbers[at] = found.setdefault((country, lists), len(found))
+        return list(found), numbers[kind_of]
+
+    def arcs(self) -> Iterator[tuple[int, str]]:
+        """The arcs that aren't in the first area, by their numbers, with their areas."""
+        names = list(self.countries)
+        at = numpy.flatnonzero(self.of_arc)
+        return ((it + 1, names[area]) for it, area in zip(at.tolist(), self.of_arc[at].tolist()))
 
     def holiday_areas(self) -> list[str]:
         """The areas whose rules speak of holidays, and all countries."""
@@ -181,14 +206,14 @@ def rating_rows(folder: str, used: AbstractSet[str]) -> list[list[str]]:
     ]
 
 
-def check_sizes(count: int, arcs: list[Arc], rows: Sized) -> None:
+def check_sizes(count: int, arcs: Arcs, rows: Sized) -> None:
     if count > MOST_NODES or len(arcs) > MOST_ARCS:
         raise TooLarge(
             f"{count:,} nodes and {len(arcs):,} arcs are more than the {MOST_NODES:,} and"
             f" {MOST_ARCS:,} that lorry_plan reads: take more seconds by --coarse, or only larger"
             " roads by --roads"
         )
-    if any(coarse.minutes(arc) > LONGEST_DRIVE for arc in arcs):
+    if (coarse.minutes(arcs.times) > LONGEST_DRIVE).any():
         raise TooLarge(
             "a road takes more than the week that lorry_plan reads: look at its maxspeed"
         )
@@ -209,30 +234,43 @@ def texts_of(tags: TagPairs) -> list[str]:
 
 
 def way_rows(
-    extract: Extract, network: Network, arcs: Iterable[Arc]
+    extract: Extract, network: Network, arcs: Arcs
 ) -> Iterator[tuple[int, str, str, int, int, str]]:
     """The rows of ways.csv, with each of the tags of an arc's ways once."""
     ways = extract.ways
     texts = [texts_of(tags) for tags in ways.tags]
-    for number, arc in enumerate(arcs, 1):
-        own = network.ways(arc)
-        tags = dict.fromkeys(text for way in own for text in texts[ways.tags_of[way]])
-        yield (
-            number,
-            ";".join([str(ways.numbers[way]) for way in own]),
-            arc.name,
-            round(arc.length),
-            round(arc.time / 1000),
-            " | ".join(tags),
-        )
+    number = 0
+    for first in range(0, len(arcs), AT_ONCE):
+        firsts = arcs.firsts[first : first + AT_ONCE + 1]
+        pieces = arcs.pieces[firsts[0] : firsts[-1]]
+        way_of = network.way_of[numpy.where(pieces >= 0, pieces, -1 - pieces)]
+        # Of pieces of the same way, one after the other, the first one.
+        is_other = numpy.ones(len(way_of), dtype=bool)
+        is_other[1:] = way_of[1:] != way_of[:-1]
+        is_other[firsts[:-1] - firsts[0]] = True
+        cuts = numpy.concatenate(([0], numpy.cumsum(is_other)))[firsts - firsts[0]].tolist()
+        own_ways = way_of[is_other].tolist()
+        columns = (it[first : first + AT_ONCE] for it in (arcs.names, arcs.lengths, arcs.times))
+        for a, b, name, length, time in zip(cuts, cuts[1:], *(it.tolist() for it in columns)):
+            number += 1
+            own = own_ways[a:b] if b - a == 1 else list(dict.fromkeys(own_ways[a:b]))
+            tags = dict.fromkeys(text for way in own for text in texts[ways.tags_of[way]])
+            yield (
+                number,
+                ";".join([str(ways.numbers[way]) for way in own]),
+                ways.names[name],
+                round(length),
+                round(time / 1000),
+                " | ".join(tags),
+            )
 
 
 def write_roads(
     folder: str,
     extract: Extract,
     network: Network,
-    nodes: list[int],
-    arcs: list[Arc],
+    nodes: Any,
+    arcs: Arcs,
     names: Mapping[int, str],
 ) -> None:
     """Writes nodes.csv and ways.csv."""
@@ -248,7 +286,7 @@ def write_roads(
                 f"{network.ys[node] / 1e7:.5f}",
                 names.get(node, ""),
             )
-            for number, node in enumerate(nodes, 1)
+            for number, node in enumerate(nodes.tolist(), 1)
         ),
     )
     write(

@@ -8,14 +8,17 @@ in place of a node, and those whose ways go on beyond their node, are left out a
 from __future__ import annotations
 
 import collections
-from typing import Callable, Iterable, Mapping, NamedTuple, Optional
+from typing import Callable, Mapping, NamedTuple, Optional
+
+import numpy
 
 from lorry_tools.conversion import access
 from lorry_tools.conversion.access import CLASSES, CLOSED, NO, OPEN, YES, Clauses, Lists
+from lorry_tools.conversion.arcs import Arc, Arcs, of_list
 from lorry_tools.conversion.extract import Extract, Restriction
 from lorry_tools.conversion.notation import Unread
 from lorry_tools.conversion.report import Report
-from lorry_tools.conversion.roads import Arc, Network, Rules
+from lorry_tools.conversion.roads import Network, Rules
 from lorry_tools.conversion.tags import Reading
 
 # The keys of each class, from general to special, and the words of `except` that spare it.
@@ -91,7 +94,7 @@ def with_key(
 
 def read(extract: Extract, reading: Reading, report: Report) -> dict[int, list[Turn]]:
     """The turns of each node, by its number in OpenStreetMap."""
-    places = {way.number: place for place, way in enumerate(extract.ways)}
+    places = places_of(extract)
     found: dict[int, list[Turn]] = collections.defaultdict(list)
     for one in extract.restrictions:
         said, where = said_of(one), f"relation {one.number}"
@@ -118,6 +121,14 @@ def read(extract: Extract, reading: Reading, report: Report) -> dict[int, list[T
     return found
 
 
+def places_of(extract: Extract) -> dict[int, int]:
+    """The place of each way that restrictions name, the last one of a way in several parts."""
+    named = {it for one in extract.restrictions for it in (*one.ways_in, *one.ways_out)}
+    numbers = numpy.frombuffer(extract.ways.numbers, dtype=numpy.int64)
+    at = numpy.flatnonzero(numpy.isin(numbers, numpy.fromiter(named, dtype=numpy.int64)))
+    return dict(zip(numbers[at].tolist(), at.tolist()))
+
+
 def said_of(one: Restriction) -> str:
     return next((f"{it}={one.tags[it]}" for it in one.tags if it.startswith("restriction")), "")
 
@@ -142,6 +153,18 @@ def reason_against(one: Restriction, places: Mapping[int, int], extract: Extract
     return None
 
 
+class Road:
+    """An arc whose ends and rules change."""
+
+    __slots__ = ("made_of", "tail", "head", "rules")
+
+    def __init__(self, arc: Arc) -> None:
+        self.made_of, self.tail, self.head, self.rules = arc, arc.tail, arc.head, arc.rules
+
+    def arc(self) -> Arc:
+        return self.made_of._replace(tail=self.tail, head=self.head, rules=self.rules)
+
+
 class Expansion:
     """A network in which junctions with restrictions become several nodes."""
 
@@ -150,28 +173,36 @@ class Expansion:
         self.turns = {
             network.number[ref]: found for ref, found in turns.items() if ref in network.number
         }
-        self.into: dict[int, list[Arc]] = {node: [] for node in self.turns}
-        self.out: dict[int, list[Arc]] = {node: [] for node in self.turns}
+        self.into: dict[int, list[Road]] = {node: [] for node in self.turns}
+        self.out: dict[int, list[Road]] = {node: [] for node in self.turns}
         self.split: set[int] = set()
 
-    def arcs(self, arcs: Iterable[Arc]) -> list[Arc]:
+    def arcs(self, arcs: Arcs) -> Arcs:
         """The arcs between the nodes that there are then."""
-        found = list(arcs)
-        for arc in found:
-            if arc.tail in self.out:
-                self.out[arc.tail].append(arc)
-            if arc.head in self.into:
-                self.into[arc.head].append(arc)
+        if not self.turns:
+            return arcs
+        nodes = numpy.array(sorted(self.turns))
+        near = numpy.flatnonzero(numpy.isin(arcs.tails, nodes) | numpy.isin(arcs.heads, nodes))
+        found = [Road(arcs[at]) for at in near.tolist()]
+        for road in found:
+            if road.tail in self.out:
+                self.out[road.tail].append(road)
+            if road.head in self.into:
+                self.into[road.head].append(road)
         gone: set[int] = set()
-        for node in sorted(self.turns):
-            found += self.divide(node, gone)
-        return [arc for arc in found if id(arc) not in gone]
+        made = [road for node in nodes.tolist() for road in self.divide(node, gone)]
+        arcs.heads[near] = [road.head for road in found]
+        arcs.rules[near] = [road.rules for road in found]
+        stays = numpy.ones(len(arcs), dtype=bool)
+        stays[near] = [id(road) not in gone for road in found]
+        new = [road.arc() for road in made if id(road) not in gone]
+        return arcs.take(stays).with_more(of_list(new))
 
-    def divide(self, node: int, gone: set[int]) -> list[Arc]:
+    def divide(self, node: int, gone: set[int]) -> list[Road]:
         """Gives a node's ways in that differ nodes of their own; the new arcs."""
         into = [arc for arc in self.into[node] if id(arc) not in gone]
         out = [arc for arc in self.out[node] if id(arc) not in gone]
-        groups: dict[tuple[Optional[int], ...], list[Arc]] = collections.defaultdict(list)
+        groups: dict[tuple[Optional[int], ...], list[Road]] = collections.defaultdict(list)
         for arc in into:
             groups[tuple(self.rules_of(node, arc, other) for other in out)].append(arc)
         free = (0,) * len(out)
@@ -179,7 +210,7 @@ class Expansion:
             return []
         # The node itself keeps the ways in without restrictions, or else the most.
         order = sorted(groups, key=lambda it: (it != free, -len(groups[it])))
-        made: list[Arc] = []
+        made: list[Road] = []
         for kind in order[1:]:
             copy = self.network.copy_of(node)
             self.split.add(copy)
@@ -198,10 +229,9 @@ class Expansion:
                 arc.rules = both
         return made
 
-    def followed(self, arc: Arc, tail: int, rules: int) -> Arc:
+    def followed(self, arc: Road, tail: int, rules: int) -> Road:
         """The same arc from another tail; where its head has restrictions too, they find it."""
-        copy = arc.as_slow_as(arc.time)
-        copy.tail, copy.rules = tail, rules
+        copy = Road(arc.arc()._replace(tail=tail, rules=rules))
         if copy.head in self.into:
             self.into[copy.head].append(copy)
         return copy
@@ -212,9 +242,9 @@ class Expansion:
         found = self.rules.both(one, other)
         return None if access.is_shut(self.rules.lists[found]) else found
 
-    def rules_of(self, node: int, arc: Arc, other: Arc) -> Optional[int]:
+    def rules_of(self, node: int, arc: Road, other: Road) -> Optional[int]:
         """The number of the rules of a turn; None for one that is forbidden to all."""
-        last, first = arc.pieces[-1], other.pieces[0]
+        last, first = arc.made_of.pieces[-1], other.made_of.pieces[0]
         way_in, way_out = (self.network.way_of_piece(it) for it in (last, first))
         # Several of `only_*` that hold alike let each of their ways out.
         onlys: dict[Lists, set[int]] = collections.defaultdict(set)
