@@ -42,26 +42,43 @@ KINDS = MOST_KEPT + 1
 # From how many kept junctions on several processes are worth it, and how many one takes at once.
 FEWEST_FOR_PROCESSES, CHUNK = 500, 50
 # How many roads or ways are looked at at once, and the most nodes whose links are objects.
-AT_ONCE, MOST_LINKED = 4096, 1 << 14
+AT_ONCE, MOST_LINKED, BLOCK = 4096, 1 << 13, 32
+# Longer times than searches of few nodes go.
+LONGEST = (1 << 31) - 1
+
+
+class Near:
+    """What leaves each node, or comes into it, in arrays for searches of few nodes."""
+
+    def __init__(self, count: int, ends: Any, others: Any, times: Any) -> None:
+        order, firsts = stars(count, ends)
+        self.firsts, self.others, self.times = (
+            array.array("i", numpy.minimum(it, LONGEST).astype(numpy.int32).tobytes())
+            for it in (firsts, others[order], times[order])
+        )
 
 
 class Star(dict[int, list[Link]]):
     """The links of nodes, which are objects only around the nodes that were asked for last."""
 
-    def __init__(self, count: int, tails: Any, heads: Any, times: Any, places: Any = None) -> None:
+    def __init__(self, count: int, tails: Any, heads: Any, times: Any, places: Any) -> None:
         super().__init__()
-        self.order, firsts = stars(count, tails)
-        self.firsts = array.array("i", firsts.astype(numpy.int32).tobytes())
+        self.order, self.firsts = stars(count, tails)
         self.heads, self.times, self.places = heads, times, places
 
     def __missing__(self, node: int) -> list[Link]:
+        """Makes the links of this node, and of those whose numbers are next to it."""
         if len(self) >= MOST_LINKED:
             self.clear()
-        at = self.order[self.firsts[node] : self.firsts[node + 1]]
-        places = at if self.places is None else self.places[at]
-        found = list(zip(self.times[at].tolist(), self.heads[at].tolist(), places.tolist()))
-        self[node] = found
-        return found
+        begin = node - node % BLOCK
+        firsts = self.firsts[begin : begin + BLOCK + 1].tolist()
+        at = self.order[firsts[0] : firsts[-1]]
+        columns = (self.times[at], self.heads[at], self.places[at])
+        links = list(zip(*(it.tolist() for it in columns)))
+        base = firsts[0]
+        for number, (first, last) in enumerate(zip(firsts, firsts[1:]), begin):
+            self[number] = links[first - base : last - base]
+        return self[node]
 
 
 class Stars:
@@ -74,8 +91,9 @@ class Stars:
         # An arc that asks something has -1 - its place in the list of arcs.
         places = numpy.arange(len(arcs), dtype=numpy.int32)
         places = numpy.where(self.kind_of > 0, -1 - places, places)
-        self.out = Star(count, arcs.tails, arcs.heads, arcs.times, places)
-        self.into = Star(count, arcs.heads, arcs.tails, arcs.times, places)
+        self.links = Star(count, arcs.tails, arcs.heads, arcs.times, places)
+        self.out = Near(count, arcs.tails, arcs.heads, arcs.times)
+        self.into = Near(count, arcs.heads, arcs.tails, arcs.times)
 
     def speeds(self) -> Any:
         """The metres a millisecond of the fastest arc at each node."""
@@ -86,17 +104,18 @@ class Stars:
         return found
 
 
-def reached(start: int, star: Mapping[int, list[Link]], most: int) -> dict[int, int]:
+def reached(start: int, near: Near, most: int) -> dict[int, int]:
     """The nodes within so many milliseconds of a node."""
     best, queue, far = {start: 0}, [start], most + 1
     push, pop, known = heapq.heappush, heapq.heappop, best.get
+    firsts, others, times = near.firsts, near.others, near.times
     while queue:
         number = pop(queue)
         time, node = number >> BITS, number & MOST_LABELS
         if time > best[node]:
             continue
-        for step, other, _ in star[node]:
-            later = time + step
+        for at in range(firsts[node], firsts[node + 1]):
+            later, other = time + times[at], others[at]
             if later < known(other, far):
                 best[other] = later
                 push(queue, later << BITS | other)
@@ -488,7 +507,7 @@ class Search:
     inherited: Optional[Search] = None
 
     def __init__(self, stars: Stars, is_kept: Any) -> None:
-        self.kinds, self.whole = stars.kinds, Links(stars.out, stars.kind_of)
+        self.kinds, self.whole = stars.kinds, Links(stars.links, stars.kind_of)
         self.kept = is_kept.tobytes()
         self.short = shortcuts.Graph(stars.arcs, stars.kind_of, stars.kinds, is_kept)
         links = self.short.links

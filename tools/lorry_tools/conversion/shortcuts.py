@@ -60,7 +60,7 @@ class Graph:
     """What is left, as links in columns. Shortcuts have places after those of the arcs."""
 
     def __init__(self, arcs: Arcs, kind_of: Any, kinds: Kinds, is_kept: Any) -> None:
-        self.count, self.first, self.kinds, self.is_kept = len(is_kept), len(arcs), kinds, is_kept
+        self.count, self.first, self.kinds = len(is_kept), len(arcs), kinds
         is_inner = inner_nodes(self.count, arcs, is_kept)
         at = numpy.flatnonzero(is_inner[arcs.tails] & is_inner[arcs.heads])
         at = at[arcs.tails[at] != arcs.heads[at]].astype(numpy.int32)
@@ -70,9 +70,11 @@ class Graph:
         self.parts = [numpy.zeros((0, 2), dtype=numpy.int32)]
         kinds_of = [kind_of]
         self.made = 0
-        for most in (NEIGHBOURS - 1, NEIGHBOURS):
-            while self.take_out(most, kinds_of) and most < NEIGHBOURS:
-                pass
+        self.stays = is_kept.copy()
+        while self.take_out(NEIGHBOURS - 1, kinds_of):
+            pass
+        while self.take_out(NEIGHBOURS, kinds_of):
+            pass
         tails, heads, times, places, own = self.own
         self.links = tails, heads, times, numpy.where(own > 0, -1 - places, places)
         self.kind_of = array.array("i", numpy.concatenate(kinds_of).tobytes())
@@ -81,19 +83,23 @@ class Graph:
 
     def take_out(self, most: int, kinds_of: list[Any]) -> bool:
         """Takes out nodes of at most so many neighbours, no two of them neighbours, with a shortcut
-        for each way through them; whether it is worth it to go on."""
+        for each way through them; whether it is worth it to go on. Of three neighbours the nodes
+        around them stay."""
         count = self.count
         tails, heads = self.own[:2]
         pairs = pairs_of(count, tails, heads)
         one, other = pairs // count, pairs % count
         around = numpy.bincount(one, minlength=count) + numpy.bincount(other, minlength=count)
         ways = numpy.bincount(tails, minlength=count) * numpy.bincount(heads, minlength=count)
-        taken = (around > 0) & (around <= most) & ~self.is_kept & (ways <= SHORTCUTS)
+        taken = (around > 0) & (around <= most) & ~self.stays & (ways <= SHORTCUTS)
         # Of neighbours the one with the least number goes first, by numbers without an order.
         rank = numpy.arange(count, dtype=numpy.uint32) * numpy.uint32(2654435761)
         both = taken[one] & taken[other]
-        one, other = one[both], other[both]
-        taken[numpy.where(rank[one] > rank[other], one, other)] = False
+        first, second = one[both], other[both]
+        taken[numpy.where(rank[first] > rank[second], first, second)] = False
+        if most == NEIGHBOURS:
+            self.stays[one[taken[other]]] = True
+            self.stays[other[taken[one]]] = True
         found = numpy.count_nonzero(taken)
         if found:
             self.replace(taken, kinds_of)
