@@ -22,7 +22,7 @@ FAULTS = [
     ("a ferry takes twice its time", "roads", "/ (minutes * 60)", "/ (minutes * 120)"),
     ("roads are fast by night too", "convert", "                    arcs.rules[at] = self.with_rule(arc, number)\n", "                    pass\n"),
     ("shapes are driven backwards", "shapes", "    is_along = pieces >= 0\n", "    is_along = pieces < -len(ends[0])\n"),
-    ("a coarse arc forgets a rule", "kinds", "            return one or other\n", "            return one\n"),
+    ("a coarse arc forgets a rule", "kinds", "self.number_of((rules | own, toll + more))", "self.number_of((rules, toll + more))"),
     ("maxspeed is passed over", "tags", "                    return min(found, float(number[1]) *", "                    return max(found, 0 * float(number[1]) *"),
 ]
 # Runs the converter with one text of one module in place of another.
@@ -81,7 +81,7 @@ class Faults(unittest.TestCase):
     def test_each_fault_is_found(self):
         for what, *fault in FAULTS:
             with self.subTest(what):
-                coarse = "90" if fault[0] in ("coarse", "convert") else "0"
+                coarse = "90" if fault[0] in ("convert", "kinds") else "0"
                 agree, said = self.agree(3, coarse, fault)
                 self.assertFalse(agree, said)
                 self.assertNotIn("Traceback", said)

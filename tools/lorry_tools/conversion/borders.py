@@ -6,10 +6,13 @@ that is open. Coordinates are whole numbers of 1e-7 degrees."""
 from __future__ import annotations
 
 import collections
+import itertools
 import math
 from typing import Any, Iterable, Mapping, Optional
 
 import numpy
+
+from lorry_tools.conversion.arcs import ranges
 
 Line = list[tuple[int, int]]
 Cell = tuple[int, int]
@@ -22,7 +25,7 @@ CELL = 100_000
 # How many cells away a border is looked for.
 MOST_RINGS = 200
 # Pairs of a place and an edge that are looked at at once.
-AT_ONCE = 1_000_000
+AT_ONCE = 100_000
 
 
 def cells_of_ring(column: int, row: int, ring: int) -> list[Cell]:
@@ -38,26 +41,34 @@ class Border:
     def __init__(self, code: str, lines: Iterable[Line]) -> None:
         self.code = code
         ends: collections.Counter[tuple[int, int]] = collections.Counter()
-        edges: dict[int, list[tuple[int, int, int, int]]] = collections.defaultdict(list)
-        self.edges = edges
-        self.cells: set[Cell] = set()
-        xs: list[int] = []
-        ys: list[int] = []
+        parts = []
         for line in lines:
-            if len(line) < 2:
-                continue
-            ends[line[0]] += 1
-            ends[line[-1]] += 1
-            for (x, y), (x2, y2) in zip(line, line[1:]):
-                xs += (x, x2)
-                ys += (y, y2)
-                for row in range(min(y, y2) // CELL, max(y, y2) // CELL + 1):
-                    self.edges[row].append((x, y, x2, y2))
-                for column in range(min(x, x2) // CELL, max(x, x2) // CELL + 1):
-                    for row in range(min(y, y2) // CELL, max(y, y2) // CELL + 1):
-                        self.cells.add((column, row))
-        self.closed = bool(xs) and all(count % 2 == 0 for count in ends.values())
-        self.box = (min(xs), min(ys), max(xs), max(ys)) if xs else (0, 0, -1, -1)
+            if len(line) >= 2:
+                ends[line[0]] += 1
+                ends[line[-1]] += 1
+                places = numpy.array(line, dtype=numpy.int64)
+                parts.append(numpy.concatenate((places[:-1], places[1:]), axis=1))
+        edges = numpy.concatenate(parts or [numpy.zeros((0, 4), dtype=numpy.int64)])
+        low = numpy.minimum(edges[:, :2], edges[:, 2:]) // CELL
+        high = numpy.maximum(edges[:, :2], edges[:, 2:]) // CELL
+        numbers, rows = ranges(low[:, 1], high[:, 1] - low[:, 1] + 1)
+        own = numpy.repeat(numpy.arange(len(edges)), numpy.diff(rows))
+        order = numpy.argsort(numbers, kind="stable")
+        names, firsts = numpy.unique(numbers[order], return_index=True)
+        cuts = numpy.split(edges[own[order]], firsts[1:])
+        self.edges: dict[int, Any] = dict(zip(names.tolist(), cuts))
+        self.known: dict[int, list[list[int]]] = {}
+        is_in_one = (low == high).all(axis=1)
+        self.cells: set[Cell] = {(it[0], it[1]) for it in low[is_in_one].tolist()}
+        for (column, row), (last, top) in zip(low[~is_in_one].tolist(), high[~is_in_one].tolist()):
+            every = itertools.product(range(column, last + 1), range(row, top + 1))
+            self.cells.update(every)
+        self.closed = bool(len(edges)) and all(count % 2 == 0 for count in ends.values())
+        self.box = (0, 0, -1, -1)
+        if len(edges):
+            places = edges.reshape(-1, 2)
+            west, south, east, north = *places.min(axis=0).tolist(), *places.max(axis=0).tolist()
+            self.box = (west, south, east, north)
 
     def area(self) -> int:
         return (self.box[2] - self.box[0]) * (self.box[3] - self.box[1])
@@ -66,7 +77,10 @@ class Border:
         if not (self.box[0] <= x <= self.box[2] and self.box[1] <= y <= self.box[3]):
             return False
         inside = False
-        for x1, y1, x2, y2 in self.edges.get(y // CELL, ()):
+        row = y // CELL
+        if row not in self.known:
+            self.known[row] = self.edges[row].tolist() if row in self.edges else []
+        for x1, y1, x2, y2 in self.known[row]:
             if (y1 > y) != (y2 > y) and x < (x2 - x1) * (y - y1) / (y2 - y1) + x1:
                 inside = not inside
         return inside
@@ -78,7 +92,9 @@ class Border:
         boxed = (xs >= west) & (xs <= east) & (ys >= south) & (ys <= north)
         rows = ys // CELL
         for row in numpy.unique(rows[boxed]).tolist():
-            edges = numpy.array(self.edges.get(row, []), dtype=float).reshape(-1, 4)
+            if row not in self.edges:
+                continue
+            edges = self.edges[row].astype(float)
             own = numpy.flatnonzero(boxed & (rows == row))
             for part in numpy.array_split(own, len(own) * len(edges) // AT_ONCE + 1):
                 found[part] = parities(edges, xs[part], ys[part])

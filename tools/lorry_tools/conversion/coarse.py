@@ -19,7 +19,7 @@ import numpy
 
 from lorry_tools.conversion import access, shortcuts
 from lorry_tools.conversion.arcs import Arcs, ranges, stars
-from lorry_tools.conversion.kinds import NO_RULES, Kinds, Ruled
+from lorry_tools.conversion.kinds import Kinds, Ruled
 from lorry_tools.conversion.roads import Rules, sums
 from lorry_tools.conversion.shortcuts import Link, Links
 
@@ -230,10 +230,10 @@ def ways_from(
     # When a node was settled last, to which a second label came.
     last: dict[int, int] = {}
     # The least number of a label without rules and toll at a node: it beats all later ones.
-    least: dict[int, int] = {start: 0}
+    fresh = MOST_KEPT
+    least: dict[int, int] = {start: fresh}
     found: list[Way] = []
     gave_up = False
-    fresh = MOST_KEPT
     queue = [fresh << BITS]
     direct = 1
     while queue and direct:
@@ -245,13 +245,16 @@ def ways_from(
         node = nodes[label]
         kind = of_label.get(label, 0)
         rules, toll = of[kind]
+        if not kind and number > least[node]:
+            # A label without rules and toll came after it, and is earlier.
+            continue
         others = settled.get(node)
         if others is None:
             settled[node] = [(rules, toll)]
         else:
             if is_strict and last[node] == number:
                 return None
-            if beaten(others, rules, toll):
+            if kind and beaten(others, rules, toll):
                 continue
             if len(others) >= most:
                 if is_strict:
@@ -270,12 +273,11 @@ def ways_from(
         for step, head, place in out[node]:
             later = number + step * KINDS
             if later >= least.get(head, FOR_EVER):
-                if is_strict and later == least[head]:
+                # (of ways over a kept junction it doesn't matter which one comes first)
+                if is_strict and left and later == least[head]:
                     return None
                 continue
             if not kind and place >= 0:
-                if head in settled and beaten(settled[head], NO_RULES, 0):
-                    continue
                 least[head] = later
             else:
                 if head == start:
@@ -342,19 +344,32 @@ class Detours:
         # The fastest arc bounds how far a way may lead away from its end.
         self.fastest = fastest
         self.out: dict[int, list[tuple[int, int, frozenset[int], float]]] = {}
-        # The time of the shortest arc into each node.
+        # The time of the shortest arc into each node, and the tails of all.
         self.least: dict[int, int] = {}
+        self.before: dict[int, list[int]] = {}
 
     def add(self, tail: int, head: int, time: int, rules: frozenset[int], toll: float) -> None:
         self.out.setdefault(tail, []).append((time, head, rules, toll))
         self.least.setdefault(head, time)
+        self.before.setdefault(head, []).append(tail)
+
+    def ends(self, node: int, goal: int, most: int, rules: frozenset[int], toll: float) -> bool:
+        """Whether one arc leads from a node to the goal in time, with no further rules."""
+        for step, head, own, own_toll in self.out[node]:
+            if step > most:
+                break
+            if head == goal and own_toll <= toll and own <= rules:
+                return True
+        return False
 
     def replace(self, tail: int, goal: int, time: int, rules: frozenset[int], toll: float) -> bool:
         """Whether some arcs replace one, with the same rules or fewer, within a tenth and ten
         seconds."""
         most = time + time // 10 + 10_000
+        if goal not in self.before:
+            return False
         # Whatever comes to another node first needs one more arc.
-        limit = most - self.least.get(goal, most)
+        limit, before = most - self.least[goal], self.before[goal]
         out, best, queue = self.out, {tail: 0}, [(0.0, 0, tail)]
         push, pop, hypot = heapq.heappush, heapq.heappop, math.hypot
         xs, ys = self.xs, self.ys
@@ -371,15 +386,20 @@ class Detours:
                 later = time + step
                 if later > most:
                     break
+                if own_toll > toll or not own <= rules:
+                    continue
                 if head == goal:
-                    if own_toll <= toll and own <= rules:
-                        return True
-                elif later <= limit and later < best.get(head, FOR_EVER):
-                    if own_toll <= toll and own <= rules:
-                        left = hypot((xs[head] - x) * wide, ys[head] - y) * pace
-                        if later + left <= most:
-                            best[head] = later
-                            push(queue, (later + left, later, head))
+                    return True
+                if later > limit or later >= best.get(head, FOR_EVER) or head not in out:
+                    continue
+                is_near = head in before and self.ends(head, goal, most - later, rules, toll)
+                if is_near or later + out[head][0][0] <= limit:
+                    left = hypot((xs[head] - x) * wide, ys[head] - y) * pace
+                    if later + left <= most:
+                        if is_near:
+                            return True
+                        best[head] = later
+                        push(queue, (later + left, later, head))
         return False
 
 
@@ -470,7 +490,7 @@ class Coarse:
 def parts_of(firsts: Any) -> Iterator[tuple[int, int, Any, Any]]:
     """Some ways after others: where their pieces begin and end, and where those of each begin and
     end from there on."""
-    for first in range(0, len(firsts) - 1, AT_ONCE):
+    for first in range(0, max(1, len(firsts) - 1), AT_ONCE):
         own = firsts[first : first + AT_ONCE + 1]
         yield int(own[0]), int(own[-1]), own[:-1] - own[0], own[1:] - own[0]
 
