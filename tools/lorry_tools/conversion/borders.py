@@ -8,13 +8,14 @@ from __future__ import annotations
 import collections
 import itertools
 import math
-from typing import Any, Iterable, Mapping, Optional
+from typing import AbstractSet, Any, Iterable, Mapping, Optional
 
 import numpy
 
 from lorry_tools.conversion.arcs import ranges
 
-Line = list[tuple[int, int]]
+# Places, as pairs of coordinates: a list, or an array of two columns.
+Line = Any
 Cell = tuple[int, int]
 # The codes of cells without a border's way, and whether a closed border says so.
 PlainCells = dict[Cell, tuple[Optional[str], bool]]
@@ -35,20 +36,31 @@ def cells_of_ring(column: int, row: int, ring: int) -> list[Cell]:
     return found + [(column + i, row + j) for i in (-ring, ring) for j in range(-ring + 1, ring)]
 
 
+def has_places(line: Optional[Line]) -> bool:
+    return line is not None and len(line) > 0
+
+
+def joined(lines: Iterable[Line]) -> tuple[Any, Any]:
+    """The places of lines, one after the other, and how many each has."""
+    own = list(lines)
+    sizes = numpy.array([len(it) for it in own], dtype=int)
+    return numpy.concatenate([numpy.zeros((0, 2), dtype=numpy.int32), *own]), sizes
+
+
 class Border:
     """The rings of one country: edges by the rows of cells that they cross."""
 
     def __init__(self, code: str, lines: Iterable[Line]) -> None:
         self.code = code
-        ends: collections.Counter[tuple[int, int]] = collections.Counter()
-        parts = []
-        for line in lines:
-            if len(line) >= 2:
-                ends[line[0]] += 1
-                ends[line[-1]] += 1
-                places = numpy.array(line, dtype=numpy.int64)
-                parts.append(numpy.concatenate((places[:-1], places[1:]), axis=1))
-        edges = numpy.concatenate(parts or [numpy.zeros((0, 4), dtype=numpy.int64)])
+        places, sizes = joined(line for line in lines if len(line) >= 2)
+        lasts = numpy.cumsum(sizes) - 1
+        counts = collections.Counter(
+            map(tuple, places[numpy.concatenate((lasts - sizes + 1, lasts))].tolist())
+        )
+        goes_on = numpy.ones(len(places), dtype=bool)
+        goes_on[lasts] = False
+        begins = numpy.flatnonzero(goes_on)
+        edges = numpy.concatenate((places[begins], places[begins + 1]), axis=1)
         low = numpy.minimum(edges[:, :2], edges[:, 2:]) // CELL
         high = numpy.maximum(edges[:, :2], edges[:, 2:]) // CELL
         numbers, rows = ranges(low[:, 1], high[:, 1] - low[:, 1] + 1)
@@ -63,11 +75,12 @@ class Border:
         for (column, row), (last, top) in zip(low[~is_in_one].tolist(), high[~is_in_one].tolist()):
             every = itertools.product(range(column, last + 1), range(row, top + 1))
             self.cells.update(every)
-        self.closed = bool(len(edges)) and all(count % 2 == 0 for count in ends.values())
+        self.closed = len(edges) > 0 and all(count % 2 == 0 for count in counts.values())
         self.box = (0, 0, -1, -1)
         if len(edges):
-            places = edges.reshape(-1, 2)
-            west, south, east, north = *places.min(axis=0).tolist(), *places.max(axis=0).tolist()
+            (west, south), (east, north) = (
+                it(places, axis=0).tolist() for it in (numpy.min, numpy.max)
+            )
             self.box = (west, south, east, north)
 
     def area(self) -> int:
@@ -130,11 +143,12 @@ class Borders:
         complete: set[int] = set()
         for code, numbers in sorted(members.items()):
             lines = [ways.get(number) for number in numbers]
-            border = Border(code, [line for line in lines if line])
+            is_whole = all(map(has_places, lines))
+            border = Border(code, filter(has_places, lines))
             if not border.edges:
                 continue
             self.cells |= border.cells
-            if border.closed and all(ways.get(number) for number in numbers):
+            if border.closed and is_whole:
                 self.closed.append(border)
                 complete.update(numbers)
             elif "-" not in code:
@@ -142,16 +156,34 @@ class Borders:
         # A place may be within a country and within its subdivision: the smaller one is looked at
         # first.
         self.closed.sort(key=lambda border: (("-" not in border.code), border.area()))
-        # The places of open borders, by cells.
-        sides: dict[Cell, list[tuple[int, int, str]]] = collections.defaultdict(list)
-        self.sides = sides
-        for number, line in ways.items():
-            codes = [code for code, numbers in opened.items() if number in numbers]
-            if line and len(codes) == 1:
-                for x, y in line:
-                    self.sides[x // CELL, y // CELL].append((x, y, codes[0]))
         self.opened = sorted(opened)
+        self.lay_sides(opened, ways)
         self.near: collections.Counter[Optional[str]] = collections.Counter()
+
+    def lay_sides(
+        self, opened: Mapping[str, AbstractSet[int]], ways: Mapping[int, Optional[Line]]
+    ) -> None:
+        """Finds the places of open borders that are those of one country, with the number of its
+        code; `sides` says where those of a cell begin and end."""
+        own, codes = [], []
+        for number, line in ways.items():
+            found = [at for at, code in enumerate(self.opened) if number in opened[code]]
+            if has_places(line) and len(found) == 1:
+                own.append(line)
+                codes += found
+        places, sizes = joined(own)
+        places = numpy.column_stack((places, numpy.repeat(codes, sizes))).astype(numpy.int32)
+        cells = places[:, :2] // CELL
+        order = numpy.lexsort(cells.T)
+        self.places, cells = places[order], cells[order]
+        is_first = numpy.ones(len(cells), dtype=bool)
+        is_first[1:] = (cells[1:] != cells[:-1]).any(axis=1)
+        firsts = numpy.flatnonzero(is_first)
+        lasts = numpy.append(firsts[1:], len(cells)).tolist()
+        self.sides: dict[Cell, tuple[int, int]] = {
+            (x, y): ends
+            for (x, y), ends in zip(cells[firsts].tolist(), zip(firsts.tolist(), lasts))
+        }
 
     def codes(self) -> list[str]:
         return sorted({border.code for border in self.closed} | set(self.opened))
@@ -177,10 +209,13 @@ class Borders:
             if best is not None and (ring - 1) * CELL * min(wide, 1) > best:
                 break
             for cell in cells_of_ring(column, row, ring):
-                for other_x, other_y, other_code in self.sides.get(cell, ()):
+                if cell not in self.sides:
+                    continue
+                first, last = self.sides[cell]
+                for other_x, other_y, other_code in self.places[first:last].tolist():
                     distance = math.hypot(wide * (other_x - x), other_y - y)
                     if best is None or distance < best:
-                        best, code = distance, other_code
+                        best, code = distance, self.opened[other_code]
         return code
 
     def countries(self, xs: Any, ys: Any, plain: PlainCells) -> tuple[Any, list[Optional[str]]]:

@@ -13,7 +13,7 @@ import array
 import heapq
 import math
 import multiprocessing
-from typing import Any, Callable, Collection, Iterable, Iterator, Mapping, Optional, Sequence
+from typing import Any, Callable, Collection, Iterable, Iterator, Optional, Sequence
 
 import numpy
 
@@ -464,10 +464,20 @@ class Coarse:
         self.sets, set_of_kind = stars.kinds.sets()
         self.made = self.of_ways(search.short, set_of_kind[numpy.array(self.kinds, dtype=int)])
 
+    def over_arcs(self, short: shortcuts.Graph) -> tuple[Any, Any]:
+        """The arcs of the ways, for which there are shortcuts, and where each way begins."""
+        counts = numpy.array(self.counts)
+        paths = numpy.array(self.paths)
+        cuts = numpy.concatenate(([0], numpy.cumsum(counts)))
+        parts = [short.arcs(paths[a:b], end - begin) for a, b, begin, end in parts_of(cuts)]
+        sizes = numpy.concatenate([numpy.diff(firsts) for _, firsts in parts])
+        firsts = numpy.concatenate(([0], numpy.cumsum(sizes)))
+        return numpy.concatenate([it for it, _ in parts]), firsts
+
     def of_ways(self, short: shortcuts.Graph, rules: Any) -> Arcs:
-        """The arcs that stand for the ways, for which there are shortcuts."""
+        """The arcs that stand for the ways."""
         arcs = self.arcs
-        paths, firsts = short.arcs(numpy.array(self.paths), numpy.array(self.counts))
+        paths, firsts = self.over_arcs(short)
         begins, ends = firsts[:-1], firsts[1:]
         one = paths[begins]
         times, lengths, tolls = (

@@ -413,7 +413,8 @@ def nodes_of(way: FoundWay) -> list[tuple[int, int, int]]:
 
 
 def line_of(way: FoundWay) -> Line:
-    return [(x, y) for _, x, y in nodes_of(way)]
+    is_there = way.xs != NO_PLACE
+    return numpy.column_stack((way.xs[is_there], way.ys[is_there]))
 
 
 class Handler(osmium.SimpleHandler):

@@ -67,14 +67,15 @@ def fields(data: bytes) -> Iterator[tuple[int, Any]]:
     """The fields of a message: numbers, or bytes."""
     at, end = 0, len(data)
     while at < end:
-        tag, at = varint(data, at)
+        # (most of these numbers are short)
+        tag, at = (data[at], at + 1) if data[at] < 128 else varint(data, at)
         kind = tag & 7
         if kind == VARINT:
             value, at = varint(data, at)
             yield tag >> 3, value
             continue
         if kind == BYTES:
-            size, at = varint(data, at)
+            size, at = (data[at], at + 1) if data[at] < 128 else varint(data, at)
         elif kind in (DOUBLE, FLOAT):
             size = 8 if kind == DOUBLE else 4
         else:

@@ -715,7 +715,22 @@ class Chains:
                 goes_on &= (tails[one] != heads[other]) & (tails[one] != nodes)
                 goes_on &= (heads[other] != nodes) & ~self.differ(one, other)
             found.append(nodes[goes_on])
-        return sorted(numpy.concatenate(found).tolist())
+        nodes = numpy.concatenate(found)
+        self.see(nodes)
+        return sorted(nodes.tolist())
+
+    def see(self, nodes: Any) -> None:
+        """Makes the objects of arcs at some nodes at once."""
+        arcs = self.arcs
+        around = (
+            order[ranges(firsts[nodes], firsts[nodes + 1] - firsts[nodes])[0]]
+            for order, firsts in (self.out_of, self.into_of)
+        )
+        at = numpy.unique(numpy.concatenate(list(around)))
+        cuts = zip(arcs.firsts[at].tolist(), arcs.firsts[at + 1].tolist())
+        pieces = (tuple(arcs.pieces[first:last].tolist()) for first, last in cuts)
+        columns = [column[at].tolist() for column in arcs.columns()]
+        self.seen.update(zip(at.tolist(), map(Arc, *columns, pieces)))
 
     def differ(self, one: Any, other: Any) -> Any:
         arcs = self.arcs
