@@ -102,16 +102,33 @@ class Border:
         """Which of many places are inside, as arrays."""
         west, south, east, north = self.box
         found = numpy.zeros(len(xs), dtype=bool)
-        boxed = (xs >= west) & (xs <= east) & (ys >= south) & (ys <= north)
-        rows = ys // CELL
-        for row in numpy.unique(rows[boxed]).tolist():
-            if row not in self.edges:
-                continue
-            edges = self.edges[row].astype(float)
-            own = numpy.flatnonzero(boxed & (rows == row))
-            for part in numpy.array_split(own, len(own) * len(edges) // AT_ONCE + 1):
-                found[part] = parities(edges, xs[part], ys[part])
+        boxed = numpy.flatnonzero((xs >= west) & (xs <= east) & (ys >= south) & (ys <= north))
+        if not len(boxed):
+            return found
+        order = boxed[numpy.lexsort((xs[boxed] // CELL, ys[boxed] // CELL))]
+        cells = numpy.column_stack((xs[order], ys[order])) // CELL
+        is_other = (cells[1:] != cells[:-1]).any(axis=1)
+        for own in numpy.split(order, numpy.flatnonzero(is_other) + 1):
+            edges = self.edges.get(int(ys[own[0]]) // CELL)
+            if edges is not None:
+                found[own] = odd_crossings(edges.astype(float), xs[own], ys[own])
         return found
+
+
+def odd_crossings(edges: Any, xs: Any, ys: Any) -> Any:
+    """Whether a line to the east from each of some places, which are near each other, crosses an
+    odd number of edges. An edge that is east of all is crossed if one of its ends is to the north:
+    so the number of ends to the north says whether such edges are an odd number."""
+    ends = edges[:, 0], edges[:, 2]
+    is_east = numpy.minimum(*ends) > xs.max() + 1
+    is_near = ~is_east & (numpy.maximum(*ends) >= xs.min() - 1)
+    levels = numpy.sort(edges[is_east][:, 1::2].reshape(-1))
+    to_the_north = len(levels) - numpy.searchsorted(levels, ys, side="right")
+    found = to_the_north % 2 == 1
+    near = edges[is_near]
+    for part in numpy.array_split(numpy.arange(len(xs)), len(xs) * len(near) // AT_ONCE + 1):
+        found[part] ^= parities(near, xs[part], ys[part])
+    return found
 
 
 def parities(edges: Any, xs: Any, ys: Any) -> Any:
