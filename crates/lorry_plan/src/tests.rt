@@ -196,6 +196,16 @@ fn run_to<R: Threads + Sync + AllocGlobal, F: Folder>(
     Ok((ended, sink.written() == text.as_bytes()))
 }
 
+// Fails with the name of a run that doesn't end with the status and the whole text that are due.
+fn expect_end<R: Abort>(
+    rt: &R,
+    name: &str,
+    got: Result<(Status, bool), OutOfMemory>,
+    status: Status,
+) {
+    assert!(rt; got == Ok((status, true)), "{name:?}: {got:?}");
+}
+
 // Runs the words over the folder, and compares the status and the whole text.
 fn expect_over<R: Abort + Threads + Sync + AllocGlobal, F: Folder>(
     rt: &R,
@@ -203,8 +213,7 @@ fn expect_over<R: Abort + Threads + Sync + AllocGlobal, F: Folder>(
     line: &str,
     (status, text): (Status, &str),
 ) {
-    let got = run_to(rt, folder, line, text);
-    assert!(rt; got == Ok((status, true)), "{line:?}: {got:?}");
+    expect_end(rt, line, run_to(rt, folder, line, text), status);
 }
 
 // Runs the words over the folder, when the writing call of this ordinal fails: the status, and whether the whole text is

@@ -1,7 +1,7 @@
 // Itineraries, and why they are unlawful or which pair is better.
 use super::{
-    CLOSED, Case, GRAPH, NETWORK, PARKED, RATED, TRIANGLE, Texts, expect_cases, expect_over_each,
-    expect_run, expect_texts, put_files, run_to, sure_folder,
+    CLOSED, Case, GRAPH, NETWORK, PARKED, RATED, TRIANGLE, Texts, expect_cases, expect_end,
+    expect_over_each, expect_run, expect_texts, put_files, run_to, sure_folder,
 };
 use route_base::{OutOfMemory, Status};
 use std::alloc::Global;
@@ -418,10 +418,6 @@ const LONG: &[(&str, &str)] = &[
 #[test]
 fn limits_the_bytes_of_an_itinerary(rt: HostRuntime) {
     for (more, text) in LONG {
-        let got = run_over_long(&rt, more, text);
-        assert!(rt;
-            got == Ok((Status::BadInput, true)),
-            "{text:?} is due: {got:?}"
-        );
+        expect_end(&rt, text, run_over_long(&rt, more, text), Status::BadInput);
     }
 }

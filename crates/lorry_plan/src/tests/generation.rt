@@ -1,5 +1,5 @@
 // Networks that are drawn from a number.
-use super::{Texts, expect_over, is_text, just, run_failing, run_into, sure_folder};
+use super::{Texts, expect_end, expect_over, is_text, just, run_failing, run_into, sure_folder};
 use route_base::{FileList, MemFolder, OutOfMemory, Status, SureFolder, SureSink};
 use std::process::Abort;
 use std::thread::Threads;
@@ -71,8 +71,12 @@ fn expect_start<R: Abort + Threads + Sync + AllocGlobal>(
     line: &str,
     start: &str,
 ) {
-    let got = run_to_start(rt, folder, line, start);
-    assert!(rt; got == Ok((Status::Done, true)), "{line}: {got:?}");
+    expect_end(
+        rt,
+        line,
+        run_to_start(rt, folder, line, start),
+        Status::Done,
+    );
 }
 
 // Runs these words over the folder.

@@ -1,5 +1,5 @@
 // The limits of tables.
-use super::{TRIP, put_files, run_to, sure_folder};
+use super::{TRIP, expect_end, put_files, run_to, sure_folder};
 use route_base::{OutOfMemory, Status, SureFolder};
 use std::alloc::Global;
 use std::fmt::Write;
@@ -182,7 +182,6 @@ fn run_over_tables<R: Threads + Sync + AllocGlobal>(
 #[test]
 fn limits_the_rows_of_tables(rt: HostRuntime) {
     for (tables, line, status, text) in CASES {
-        let got = run_over_tables(&rt, tables, line, text);
-        assert!(rt; got == Ok((*status, true)), "{text:?} is due: {got:?}");
+        expect_end(&rt, text, run_over_tables(&rt, tables, line, text), *status);
     }
 }
