@@ -11,3 +11,10 @@ mod plain_search_tests;
 mod plan_certificate_tests;
 mod plan_report_tests;
 mod potentials_tests;
+
+use std::process::Abort;
+
+// Fails with the name of a case that isn't right.
+fn expect_right<R: Abort>(rt: &R, is_right: bool, name: &str) {
+    assert!(rt; is_right, "{name}");
+}

@@ -1,6 +1,8 @@
 // Texts that are certificates, and texts that aren't.
+use super::expect_right;
 use certificate::{Certificate, CertificateFault, read, write};
 use route_base::{Bound, NodeId};
+use std::alloc::Global;
 
 // A certificate with all kinds of lines.
 const SAMPLE: &str = "\
@@ -44,12 +46,21 @@ const GOOD: &[&str] = &[
     "lorry-certificate 1\npairs 0\nbounds 0\npieces 0\nend\n",
 ];
 
+// Whether the text is read, and written back.
+fn is_written_back(alloc: Global, text: &str) -> bool {
+    let Ok(certificate) = read(alloc, text.as_bytes()) else {
+        return false;
+    };
+    match write(alloc, &certificate) {
+        Ok(again) => again.as_slice() == text.as_bytes(),
+        Err(_) => false,
+    }
+}
+
 #[test]
 fn reads_and_writes_back(rt: HostRuntime) {
     for text in GOOD {
-        let certificate = read(rt.alloc(), text.as_bytes()).expect(&rt, "a certificate");
-        let again = write(rt.alloc(), &certificate).expect(&rt, "memory");
-        assert!(rt; again.as_slice() == text.as_bytes(), "at {text}");
+        expect_right(&rt, is_written_back(rt.alloc(), text), text);
     }
 }
 
@@ -68,10 +79,17 @@ fn has_sample(certificate: &Certificate) -> bool {
         && function.at(26_563_742) == Some(64_000)
 }
 
+// Whether they are read.
+fn reads_sample(alloc: Global) -> bool {
+    match read(alloc, SAMPLE.as_bytes()) {
+        Ok(certificate) => has_sample(&certificate),
+        Err(_) => false,
+    }
+}
+
 #[test]
 fn finds_by_node(rt: HostRuntime) {
-    let certificate = read(rt.alloc(), SAMPLE.as_bytes()).expect(&rt, "a certificate");
-    assert!(rt; has_sample(&certificate));
+    assert!(rt; reads_sample(rt.alloc()));
 }
 
 // Texts of no certificate.
@@ -115,13 +133,17 @@ const OTHERS: &[&str] = &[
     "lorry-certificate 1\npairs 0\nbounds 0\npieces 1\npiece 1 5 6 0 0 0\nend\n",
 ];
 
+// Whether the text is refused as one of no certificate.
+fn is_refused(alloc: Global, text: &str) -> bool {
+    match read(alloc, text.as_bytes()) {
+        Ok(_) => false,
+        Err(fault) => fault == CertificateFault::NotACertificate,
+    }
+}
+
 #[test]
 fn refuses_other_texts(rt: HostRuntime) {
     for text in OTHERS {
-        let fault = read(rt.alloc(), text.as_bytes()).err();
-        assert!(rt;
-            fault == Some(CertificateFault::NotACertificate),
-            "at {text}"
-        );
+        expect_right(&rt, is_refused(rt.alloc(), text), text);
     }
 }

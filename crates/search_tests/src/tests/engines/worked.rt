@@ -1,9 +1,9 @@
 // Worked nets, with the pairs that were found by hand.
 use super::fronts::fronts_of;
 use super::nets::NetLists;
+use crate::tests::expect_right;
 use route_base::{Cost, Minute, NodeId, OutOfMemory, Park, Request, Run, TimedArc};
 use std::alloc::Global;
-use std::process::Abort;
 
 // A net, a trip from node 1, and its pairs as arrivals and costs.
 #[derive(Clone, Copy)]
@@ -174,7 +174,7 @@ const WORKED: &[Worked<'static>] = &[
     },
 ];
 
-fn arcs_of(alloc: Global, worked: Worked<'_>) -> Result<Vec<TimedArc>, OutOfMemory> {
+fn arcs_of(alloc: Global, worked: &Worked<'_>) -> Result<Vec<TimedArc>, OutOfMemory> {
     let mut arcs = Vec::new(alloc);
     for (tail, head, minutes, cost, closed) in worked.arcs {
         arcs.push(TimedArc {
@@ -188,7 +188,7 @@ fn arcs_of(alloc: Global, worked: Worked<'_>) -> Result<Vec<TimedArc>, OutOfMemo
     Ok(arcs)
 }
 
-fn runs_of(alloc: Global, worked: Worked<'_>) -> Result<Vec<(u32, Run)>, OutOfMemory> {
+fn runs_of(alloc: Global, worked: &Worked<'_>) -> Result<Vec<(u32, Run)>, OutOfMemory> {
     let mut runs = Vec::new(alloc);
     for (lo, hi) in worked.closed {
         runs.push((1, Run { lo: *lo, hi: *hi }))?;
@@ -199,7 +199,7 @@ fn runs_of(alloc: Global, worked: Worked<'_>) -> Result<Vec<(u32, Run)>, OutOfMe
     Ok(runs)
 }
 
-fn parks_of(alloc: Global, worked: Worked<'_>) -> Result<Vec<Option<Park>>, OutOfMemory> {
+fn parks_of(alloc: Global, worked: &Worked<'_>) -> Result<Vec<Option<Park>>, OutOfMemory> {
     let mut parks = Vec::new(alloc);
     for weight in worked.weights {
         parks.push(match *weight {
@@ -211,10 +211,16 @@ fn parks_of(alloc: Global, worked: Worked<'_>) -> Result<Vec<Option<Park>>, OutO
 }
 
 // Whether both engines find the pairs of the worked net.
-fn is_found<R: Abort + AllocGlobal>(rt: &R, worked: Worked<'_>) -> bool {
-    let arcs = arcs_of(rt.alloc(), worked).expect(rt, "memory");
-    let closed = runs_of(rt.alloc(), worked).expect(rt, "memory");
-    let parks = parks_of(rt.alloc(), worked).expect(rt, "memory");
+fn is_found(alloc: Global, worked: &Worked<'_>) -> bool {
+    let Ok(arcs) = arcs_of(alloc, worked) else {
+        return false;
+    };
+    let Ok(closed) = runs_of(alloc, worked) else {
+        return false;
+    };
+    let Ok(parks) = parks_of(alloc, worked) else {
+        return false;
+    };
     let lists = NetLists {
         nodes: worked.nodes,
         arcs: &arcs,
@@ -228,7 +234,7 @@ fn is_found<R: Abort + AllocGlobal>(rt: &R, worked: Worked<'_>) -> bool {
         depart: worked.depart,
         until: worked.until,
     };
-    match fronts_of(rt.alloc(), lists, request) {
+    match fronts_of(alloc, lists, request) {
         Some(fronts) => fronts.agree() && fronts.are(worked.pairs),
         None => false,
     }
@@ -237,6 +243,6 @@ fn is_found<R: Abort + AllocGlobal>(rt: &R, worked: Worked<'_>) -> bool {
 #[test]
 fn find_the_pairs_of_worked_nets(rt: HostRuntime) {
     for worked in WORKED {
-        assert!(rt; is_found(&rt, *worked), "{}", worked.name);
+        expect_right(&rt, is_found(rt.alloc(), worked), worked.name);
     }
 }

@@ -1,7 +1,7 @@
 // Tables of stops: rows as they are read, and a fault for each cause.
+use crate::tests::expect_right;
 use route_base::{Cause, NodeId, OutOfMemory, TableFault};
 use std::alloc::Global;
-use std::test::Fail;
 use stop_tour::{MOST_STOPS, Stop, read_stops};
 
 // Texts, and the stops that they state.
@@ -78,7 +78,7 @@ fn has_stops(alloc: Global, text: &str, stops: &[Stop]) -> bool {
 #[test]
 fn read_stops_in_the_order_of_rows(rt: HostRuntime) {
     for (text, stops) in READ {
-        assert!(rt; has_stops(rt.alloc(), text, stops), "{text}");
+        expect_right(&rt, has_stops(rt.alloc(), text, stops), text);
     }
 }
 
@@ -93,9 +93,10 @@ fn is_refused(alloc: Global, text: &[u8], row: u64, cause: Cause) -> bool {
 #[test]
 fn refuse_stops_with_their_first_fault(rt: HostRuntime) {
     for (text, row, cause) in REFUSED {
-        assert!(rt;
+        expect_right(
+            &rt,
             is_refused(rt.alloc(), text.as_bytes(), *row, *cause),
-            "{text}"
+            text,
         );
     }
 }
@@ -110,16 +111,18 @@ fn table_of(alloc: Global, rows: u32) -> Result<Vec<u8>, OutOfMemory> {
 }
 
 // Whether this many rows are read, and one more is refused.
-fn is_largest(alloc: Global, rows: u32) -> Result<bool, OutOfMemory> {
-    let text = table_of(alloc, rows)?;
-    let larger = table_of(alloc, rows.saturating_add(1))?;
-    let refused = is_refused(alloc, larger.as_slice(), rows as u64 + 2, Cause::SizeLimit);
-    Ok(refused && read_stops(alloc, text.as_slice(), 3).is_ok())
+fn is_largest(alloc: Global, rows: u32) -> bool {
+    let Ok(text) = table_of(alloc, rows) else {
+        return false;
+    };
+    let Ok(larger) = table_of(alloc, rows.saturating_add(1)) else {
+        return false;
+    };
+    is_refused(alloc, larger.as_slice(), rows as u64 + 2, Cause::SizeLimit)
+        && read_stops(alloc, text.as_slice(), 3).is_ok()
 }
 
 #[test]
-fn read_as_many_stops_as_the_limit_says(rt: HostRuntime) -> Result<(), Fail> {
-    let largest = is_largest(rt.alloc(), MOST_STOPS)?;
-    assert!(rt; largest);
-    Ok(())
+fn read_as_many_stops_as_the_limit_says(rt: HostRuntime) {
+    assert!(rt; is_largest(rt.alloc(), MOST_STOPS));
 }

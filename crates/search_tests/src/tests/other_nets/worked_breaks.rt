@@ -2,6 +2,7 @@
 use super::calls::breaks_over;
 use super::worked_arcs::{DEPART, FIRST, SECOND};
 use crate::tests::engines::nets::NetLists;
+use crate::tests::expect_right;
 use drive_breaks::BreakRule;
 use route_base::{ArcId, Cost, Leg, Minute, NodeId, Pair, Park, Request, Route, Run, TimedArc};
 use std::alloc::Global;
@@ -256,7 +257,7 @@ fn are_rested(routes: &[Route], wants: &[(Minute, Cost, &[Leg])]) -> bool {
     true
 }
 
-fn is_rested(alloc: Global, row: Rested<'_>) -> bool {
+fn is_rested(alloc: Global, row: &Rested<'_>) -> bool {
     let lists = NetLists {
         nodes: 3,
         arcs: LONG,
@@ -283,6 +284,6 @@ fn is_rested(alloc: Global, row: Rested<'_>) -> bool {
 #[test]
 fn take_breaks_where_waiting_is_open(rt: HostRuntime) {
     for row in RESTED {
-        assert!(rt; is_rested(rt.alloc(), *row), "{}", row.name);
+        expect_right(&rt, is_rested(rt.alloc(), row), row.name);
     }
 }

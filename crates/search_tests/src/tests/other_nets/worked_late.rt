@@ -2,6 +2,7 @@
 use super::calls::latest_over;
 use super::worked_arcs::{DEPART, FIRST, SECOND, STRAIGHT};
 use crate::tests::engines::nets::NetLists;
+use crate::tests::expect_right;
 use latest_departure::{LateRoute, LateRoutes, late_text};
 use route_base::{ArcId, Cost, Leg, Minute, NodeId, Park, Request, Run, TimedArc};
 use std::alloc::Global;
@@ -223,7 +224,7 @@ fn late_trip(alloc: Global, lists: NetLists<'_>, goal: u32) -> Option<LateRoutes
     latest_over(alloc, lists, request)
 }
 
-fn is_late(alloc: Global, row: Late<'_>) -> bool {
+fn is_late(alloc: Global, row: &Late<'_>) -> bool {
     match late_trip(alloc, row.lists, row.goal) {
         Some(routes) => are_late(routes.as_slice(), row.wants),
         None => false,
@@ -233,7 +234,7 @@ fn is_late(alloc: Global, row: Late<'_>) -> bool {
 #[test]
 fn leave_as_late_as_they_can(rt: HostRuntime) {
     for row in LATE {
-        assert!(rt; is_late(rt.alloc(), *row), "{}", row.name);
+        expect_right(&rt, is_late(rt.alloc(), row), row.name);
     }
 }
 
@@ -270,6 +271,6 @@ fn is_late_text(alloc: Global, routes: &LateRoutes, text: &str) -> bool {
 #[test]
 fn write_the_latest_departures(rt: HostRuntime) {
     for (lists, goal, text) in TEXTS {
-        assert!(rt; has_late_text(rt.alloc(), *lists, *goal, text), "{text}");
+        expect_right(&rt, has_late_text(rt.alloc(), *lists, *goal, text), text);
     }
 }

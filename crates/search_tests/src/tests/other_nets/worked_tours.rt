@@ -2,6 +2,7 @@
 use super::calls::tour_over;
 use super::worked_arcs::{DEPART, FIRST, SECOND, STRAIGHT};
 use crate::tests::engines::nets::NetLists;
+use crate::tests::expect_right;
 use route_base::{ArcId, Cost, Minute, NodeId, Pair, Park, Request, Run};
 use std::alloc::Global;
 use stop_tour::{Stop, TourLeg, TourRoute, TourRoutes, tour_text};
@@ -262,7 +263,7 @@ fn toured(alloc: Global, lists: NetLists<'_>, stops: &[Stop]) -> Option<TourRout
     tour_over(alloc, lists, request, stops, true)
 }
 
-fn is_toured(alloc: Global, row: Tour<'_>) -> bool {
+fn is_toured(alloc: Global, row: &Tour<'_>) -> bool {
     match toured(alloc, row.lists, row.stops) {
         Some(routes) => are_tours(routes.as_slice(), row.wants),
         None => false,
@@ -272,7 +273,7 @@ fn is_toured(alloc: Global, row: Tour<'_>) -> bool {
 #[test]
 fn serve_stops_within_their_windows(rt: HostRuntime) {
     for row in TOURS {
-        assert!(rt; is_toured(rt.alloc(), *row), "{}", row.name);
+        expect_right(&rt, is_toured(rt.alloc(), row), row.name);
     }
 }
 
@@ -308,6 +309,6 @@ fn is_tour_text(alloc: Global, routes: &TourRoutes, text: &str) -> bool {
 #[test]
 fn write_the_tours(rt: HostRuntime) {
     for (lists, stops, text) in TEXTS {
-        assert!(rt; has_tour_text(rt.alloc(), *lists, stops, text), "{text}");
+        expect_right(&rt, has_tour_text(rt.alloc(), *lists, stops, text), text);
     }
 }
