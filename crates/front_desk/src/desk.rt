@@ -41,7 +41,7 @@ fn refuse<S: Sink>(alloc: Global, out: &mut S, refusal: Refusal) -> Status
 ///
 /// Reading takes the time and the memory of `load_network`, and the net of a trip those of `expand`. Then a plan takes those of
 /// `propagation::search`, which are those of the cost functions' pieces and not of minutes, and for each pair what its legs take;
-/// `latest`, `tour` and `breaks` take those of `latest`, `tour_with` and `plan_rested`, and `explain` those of a plan and of
+/// `latest`, `tour` and `breaks` take those of `latest`, `plan_tour` and `plan_rested`, and `explain` those of a plan and of
 /// `trip_explain::explain`. `bans` takes those of `closed_set`, `batch` those of `expand_groups` for each net that trips share and of a
 /// search for each trip, and `gen` those of `generate` and of a plan. A judgement takes a few binary searches for
 /// each piece of a node's function and each arc that leaves the node, and for each closed run and each piece that such a step meets; beside

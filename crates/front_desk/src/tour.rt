@@ -15,13 +15,13 @@ use crate::networks::net_for;
 use crate::outcome::{Halt, Report, too_many_states};
 use crate::requests::{request_of, trip_of};
 use front_words::Tour;
-use itinerary_unpack::FunctionEngine;
 use network_folder::{FileToRead, LoadFault, load_with};
 use network_tables::Network;
+use rested_tours::plan_tour;
 use route_base::{BadInput, FileKind, Folder, Gate, Request, TableFault, TimedNet};
 use std::alloc::Global;
 use std::thread::Threads;
-use stop_tour::{Stops, TourFault, read_stops, tour_text, tour_with};
+use stop_tour::{Stops, read_stops, tour_fits, tour_text};
 
 // The text of the tours of a request over the net of its trip, or why there is none: too many states, or no memory.
 fn text_of_tours(
@@ -39,10 +39,12 @@ fn text_of_tours(
     ensures refused { IfErr result
         (StopsAtSize (failed_size (setting_of net.now) stops.now ≡ Some TooManyStates)) }
 {
-    match tour_with(alloc, &FunctionEngine, net, request, stops.as_slice()) {
+    if !tour_fits(net, stops.as_slice()) {
+        return Err(too_many_states());
+    }
+    match plan_tour(alloc, net, request, stops.as_slice()) {
         Ok(routes) => Ok(tour_text(alloc, &routes)?),
-        Err(TourFault::TooManyStates) => Err(too_many_states()),
-        Err(TourFault::OutOfMemory) => Err(Halt::NoMemory),
+        Err(_) => Err(Halt::NoMemory),
     }
 }
 
@@ -88,7 +90,7 @@ pub fn load_tour<F: Folder>(
 }
 
 /// The report of a tour of the stops in a table over the files of its folder. Several workers make the net at once; the network is given
-/// back before the search. It takes the time and memory of `stop_tour::tour` beside reading.
+/// back before the search. It takes the time and memory of `rested_tours::plan_tour` beside reading.
 pub fn report_tour<R: Threads + Sync, F: Folder, G: Gate>(
     rt: &R,
     alloc: Global,

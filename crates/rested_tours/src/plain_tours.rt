@@ -14,10 +14,8 @@ use stop_tour::{Stop, TourRoutes};
 /// The Pareto front of arrival and cost over all lawful tours of the stops in their order, by rising arrival, each pair with the legs of
 /// the first of its tours: the one answer of `stop_tour::tour` (`one_tour_answer`). The only error is out of memory.
 ///
-/// It takes the time and memory of `plan_ruled` over the number of stops that were served: on grids with 20 stops twice the time of
-/// `stop_tour::tour_with` by `FunctionEngine`, and a third to a half of its memory.
-///
-/// For other callers: the program plans tours without a rule by `stop_tour::tour_with`.
+/// It takes the time and memory of `plan_ruled` over the number of stops that were served: on grids about the time of
+/// `stop_tour::tour_with` by `FunctionEngine`, or half of it, and a fourth to a half of its memory.
 pub fn plan_tour(
     alloc: Global,
     net: &TimedNet,
