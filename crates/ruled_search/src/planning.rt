@@ -69,6 +69,8 @@ fn bounds_of<R: Ruler + Copy>(
         incoming,
         ruler,
         goal: request.goal,
+        depart: request.depart,
+        until: request.until,
     };
     let bounds = ruled_labels(alloc, &ground)?;
     Ok(bounds)

@@ -258,19 +258,15 @@ fn lists_hold<R: Ruler>(ground: &Ground<'_, R>, counted: Counted, lists: &[Vec<L
         && places_hold(ground, counted, lists)
 }
 
-// One label for each node and stage, or all that aren't dominated.
-fn labels_by<R: Ruler>(
-    alloc: Global,
-    ground: &Ground<'_, R>,
-    star: &BackStar,
-    counted: Counted,
-    by_stage: bool,
-) -> Result<Vec<Vec<Label>>, OutOfMemory> {
-    if by_stage {
-        stage_labels(alloc, ground, star, counted)
-    } else {
-        found_labels(alloc, ground, star, counted, None)
+// One label for each node and stage, if breaks take little, or all that aren't dominated.
+fn labels_of_both<R: Ruler>(alloc: Global, ground: &Ground<'_, R>) -> Result<Labels, OutOfMemory> {
+    let star = BackStar::new(alloc, ground.net, ground.incoming)?;
+    if ground.ruler.service_count() > 0 && breaks_matter_little(alloc, ground, &star)? {
+        return stage_labels(alloc, ground, &star);
     }
+    let minutes = found_labels(alloc, ground, &star, Counted::Minutes, None)?;
+    let costs = found_labels(alloc, ground, &star, Counted::Cost, None)?;
+    Ok(Labels { minutes, costs })
 }
 
 /// Labels to the goal whose bounds hold along each drive and rest of each state; none, if what the search finds doesn't.
@@ -283,16 +279,12 @@ pub fn ruled_labels<R: Ruler>(
         ground.now.goal.0 (label_bound (R.ruling ground.now.ruler.now)
         (lists_of labels.minutes.items) (lists_of labels.costs.items)))) }
 {
-    let star = BackStar::new(alloc, ground.net, ground.incoming)?;
-    let by_stage = ground.ruler.service_count() > 0 && breaks_matter_little(alloc, ground, &star)?;
-    let minutes = labels_by(alloc, ground, &star, Counted::Minutes, by_stage)?;
-    let costs = labels_by(alloc, ground, &star, Counted::Cost, by_stage)?;
-    drop(star);
-    if !lists_hold(ground, Counted::Minutes, minutes.as_slice()) {
+    let found = labels_of_both(alloc, ground)?;
+    if !lists_hold(ground, Counted::Minutes, found.minutes.as_slice()) {
         return Ok(None);
     }
-    if !lists_hold(ground, Counted::Cost, costs.as_slice()) {
+    if !lists_hold(ground, Counted::Cost, found.costs.as_slice()) {
         return Ok(None);
     }
-    Ok(Some(Labels { minutes, costs }))
+    Ok(Some(found))
 }

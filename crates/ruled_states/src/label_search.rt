@@ -9,7 +9,7 @@ use crate::labels::{Label, count_to};
 use crate::radix_queue::{Entry, RadixQueue};
 use crate::rulers::{Ruler, Service};
 use node_arcs::NodeArcs;
-use route_base::{NodeId, OutOfMemory, Park, TimedArc, TimedNet};
+use route_base::{Minute, NodeId, OutOfMemory, Park, TimedArc, TimedNet};
 use std::alloc::Global;
 
 /// The quantity of which a search finds the least sums.
@@ -55,13 +55,15 @@ impl Counted {
     }
 }
 
-/// The net, the rules and the goal.
+/// The net, the rules, the goal, and the first and the last minute.
 #[derive(Drop)]
 pub struct Ground<'a, R> {
     pub net: &'a TimedNet,
     pub incoming: &'a NodeArcs,
     pub ruler: &'a R,
     pub goal: NodeId,
+    pub depart: Minute,
+    pub until: Minute,
 }
 
 // The labels that are kept of each node, by rising stage and then value, and those that wait.
