@@ -8,8 +8,8 @@ use crate::rulers::Ruler;
 use route_base::{Minute, NodeId, OutOfMemory};
 use std::alloc::Global;
 
-// How far a search goes: not above a value, until a node has its sum, or until so many of the nodes have theirs whose other sums are within
-// a value.
+// Where a search ends: above the value `most`, at `node`, or once `count` nodes whose sums among `others` are at most `within` have their
+// own.
 #[derive(Clone, Copy)]
 struct Reach<'a> {
     most: u64,
@@ -43,7 +43,7 @@ impl Sums {
         })
     }
 
-    // Offers what a node's sum leads to backwards over the arcs that may be driven at once after a rest.
+    // Relaxes, backwards, the arcs into a node that may be driven at once after a rest.
     fn go_back<R: Ruler>(
         &mut self,
         ground: &Ground<'_, R>,
@@ -82,8 +82,8 @@ fn count_within(sums: &[u64], most: u64) -> usize {
     count
 }
 
-// The least sums from each node to one at which they begin with the value of a label. Where the search ended before, each larger one is that
-// at which it ended: it is no larger than the node's own, and by no more than any way to another.
+// The least sums from each node to one at which they begin with the value of a label. If the search ends before, each larger sum is replaced
+// by that at which it ended: lower bounds, which hold along each arc.
 fn sums_to<R: Ruler>(
     alloc: Global,
     ground: &Ground<'_, R>,
@@ -154,7 +154,7 @@ fn rested<R: Ruler>(ruler: &R) -> u64 {
     ruler.rest(ruler.last(), u64::MAX)
 }
 
-// What ends a stage: the node to which it leads, the labels there, and the latest minute for bounds to the goal in it.
+// The end of a stage: the node to which it leads, the labels there, and the latest minute for bounds to the goal in it.
 #[derive(Clone, Copy)]
 struct StageEnd {
     node: NodeId,
@@ -189,7 +189,7 @@ fn end_before<R: Ruler>(
     })
 }
 
-// The first minute of the stage with so many services.
+// The first minute of the stage in which `served` services are done.
 fn begin_of<R: Ruler>(ground: &Ground<'_, R>, served: u64) -> Minute {
     let Some(place) = served.checked_sub(1) else {
         return ground.depart;
@@ -290,7 +290,7 @@ fn least_value(labels: &[Label]) -> Option<u64> {
     least
 }
 
-// Breaks matter little if ways take at most so many per cent of their minutes without.
+// Breaks matter little if ways with them take at most this percentage of the minutes without.
 const NEAR_PER_CENT: u64 = 120;
 
 // The node of the last service.

@@ -93,7 +93,8 @@ def bare(words: list[str]) -> list[str]:
     place = 0
     while place < len(words):
         end = place + closing(words[place:])
-        before, after = "".join(words[place - 1 : place]), "".join(words[end : end + 1])
+        last, behind = place - 1, end + 1
+        before, after = "".join(words[last:place]), "".join(words[end:behind])
         side = (
             before == "≡"
             and after in {"", "→", "×", "⊎", ")"}
@@ -101,7 +102,8 @@ def bare(words: list[str]) -> list[str]:
             and before in {"", "→", "×", "⊎", "("}
         )
         if words[place] == "(" and side:
-            words = words[:place] + words[place + 1 : end - 1] + words[end:]
+            first, closed = place + 1, end - 1
+            words = words[:place] + words[first:closed] + words[end:]
         else:
             place += 1
     return words
@@ -142,7 +144,8 @@ def within(heads: Iterable[str], words: list[str]) -> list[str]:
     for head in heads:
         tokens = TOKEN.findall(head)
         begins = [place for place, word in enumerate(tokens) if word in "({"]
-        parameters += arguments(binders(tokens[min(begins, default=len(tokens)) : -1])[0])[0]
+        first = min(begins, default=len(tokens))
+        parameters += arguments(binders(tokens[first:-1])[0])[0]
     for parameter in reversed(parameters):
         if parameter[1] in {it.partition(".")[0] for it in words}:
             words = parameter + words
@@ -164,15 +167,13 @@ def statements(path: str, text: str) -> Iterator[tuple[int, str, str]]:
         elif words[0] not in OTHERS:
             equations[words[0]].append(TOKEN.findall(" ".join(item)))
     for line, heads, kind, words in found:
-        name, rest = words[0], TOKEN.findall(" ".join(words[1 if kind == "record" else 2 :]))
+        first = 1 if kind == "record" else 2
+        name, rest = words[0], TOKEN.findall(" ".join(words[first:]))
         stated, names = binders(within(heads, rest))
         if kind == "abbrev" or not names and not RELATIONS & set(stated):
             for equation in equations[name]:
-                names += [
-                    it
-                    for it in equation[1 : equation.index("=")]
-                    if NAME.match(it) and it[0].islower()
-                ]
+                equals = equation.index("=")
+                names += [it for it in equation[1:equals] if NAME.match(it) and it[0].islower()]
                 stated = stated + [";"] + equation
             if not names:
                 continue
