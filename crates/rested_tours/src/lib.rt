@@ -9,7 +9,7 @@
 //! trips is `AreRightRested` and `IsFirstRested` of `drive_breaks`, two clauses of `plan_rested`. Without stops both are the same
 //! (`no_stops_is_the_rested_trip`).
 //!
-//! All are the search of `ruled_search`, over states that are made when they are reached: the minutes driven since the last break, with
+//! All are the search of `ruled_search`, by the bounds of `ruled_bounds` (`planning`), over states that are made when they are reached: the minutes driven since the last break, with
 //! the number of stops that were served; without a rule that number alone. By the law `rested_tours_are_found` the front over these
 //! states is that of rested tours. `legs` tells the legs over states as those of a tour, in which a rest is a wait, and neighbouring
 //! waits are one; `told_routes` does so for routes.
@@ -24,6 +24,7 @@
 mod laws;
 mod legs;
 mod plain_tours;
+mod planning;
 mod told_routes;
 mod tours;
 mod trip_legs;

@@ -3,10 +3,10 @@ ghost use Rattle.std.specs.Prelude.{◌≤◌, ◌<◌, ◌-◌, ◌^◌, All, I
 ghost use Rattle.rested_tours.specs.Words.{IsGoodRequest, setting_of, HasCheapArcs, IsGoodStop, AreRightTours};
 ghost use Rattle.route_base.specs.declared.limits.TheConstants.{LONGEST_HORIZON};
 
+use crate::planning::plan_ruled;
 use crate::told_routes::told_routes;
 use crate::tours::services_of;
 use route_base::{OutOfMemory, Request, TimedNet};
-use ruled_search::plan_ruled;
 use ruled_states::{NoRule, Serving};
 use std::alloc::Global;
 use stop_tour::{Stop, TourRoutes};

@@ -5,10 +5,10 @@ ghost use Rattle.rested_tours.specs.Words.{AreRightRestedTours, stop_service};
 ghost use Rattle.ruled_states.specs.Inside.Services.{service_at};
 ghost use Rattle.route_base.specs.declared.limits.TheConstants.{LONGEST_HORIZON};
 
+use crate::planning::plan_ruled;
 use crate::told_routes::told_routes;
 use drive_breaks::BreakRule;
 use route_base::{OutOfMemory, Request, TimedNet};
-use ruled_search::plan_ruled;
 use ruled_states::{OneRule, Service, Serving};
 use std::alloc::Global;
 use stop_tour::{Stop, TourRoutes};

@@ -8,7 +8,7 @@ ghost use Rattle.state_dominance.specs.Inside.Product.{Ruler};
 ghost use Rattle.ruled_search.specs.Routes.{RuledCostsFit};
 
 /// The law that the costs of a request of at most `LONGEST_HORIZON` minutes fit over the states of any ruler, where the roads of the net cost
-/// at most `DEAREST_MINUTE` thousandths a minute. So a caller meets the premise `fit` of `plan_ruled`. The call does nothing.
+/// at most `DEAREST_MINUTE` thousandths a minute. So a caller meets the premise `fit` of `plan_with_bounds`. The call does nothing.
 pub fn ruled_costs_fit()
     ensures { (net : Net) (r : Ruler) (base : ℕ) (request : Request) → IsGoodNet net
         → ((a : ℕ) (road : Road) → (setting_of net).road a ≡ Some road

@@ -8,7 +8,7 @@
 //! cut by the better states of its node; then its state takes it.
 //!
 //! The law is `AreRoutesOf` of `specs/Routes` and the front over the states, `IsAchievedIn` of `state_dominance`: both are clauses of
-//! `plan_ruled`. The facts that the search keeps are `IsSearching` of `state_dominance`, whose laws give each step; `specs/Inside` has
+//! `plan_with_bounds`. The facts that the search keeps are `IsSearching` of `state_dominance`, whose laws give each step; `specs/Inside` has
 //! how the code holds them.
 #![tactic(auto)]
 
@@ -30,5 +30,5 @@ mod turns;
 mod ways;
 
 pub use laws::ruled_costs_fit;
-pub use planning::plan_ruled;
+pub use planning::plan_with_bounds;
 pub use routes::{RuledLeg, RuledRoute};

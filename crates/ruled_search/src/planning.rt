@@ -15,65 +15,46 @@ use crate::searching::searched;
 use crate::task::Task;
 use node_arcs::NodeArcs;
 use route_base::{Minute, OutOfMemory, Request, TimedNet};
-use ruled_states::{Ground, Labels, Ruler, latest_by_left, ruled_labels};
+use ruled_states::{Labels, Ruler, latest_by_left};
 use std::alloc::Global;
 
-/// The Pareto front of arrival (Unix minutes) and cost (thousandths) over the states of a ruler, each pair with legs that achieve it. The only
-/// error is out of memory.
-pub fn plan_ruled<R: Ruler + Copy>(
-    alloc: Global,
-    net: &TimedNet,
-    request: Request,
-    ruler: &R,
-) -> Result<Vec<RuledRoute>, OutOfMemory>
-    requires good { IsGoodRequest net.now request }
-    requires in_time { request.depart ≤ request.until }
-    requires fit { RuledCostsFit (setting_of net.now) (R.ruling ruler.now) base request }
-    requires numbers { IsBase (setting_of net.now) (R.ruling ruler.now) base }
-    ensures planned { IfOk result (λ routes. IsPlanned (setting_of net.now) (R.ruling ruler.now)
-        base request routes.items) }
-{
-    let _nodes = net.node_count();
-    let incoming = NodeArcs::incoming(alloc, net)?;
-    let bounds = bounds_of(alloc, net, &incoming, request, ruler)?;
-    let latest = latest_of_states(alloc, &bounds, ruler, request)?;
-    let outgoing = NodeArcs::outgoing(alloc, net)?;
-    let task = Task {
-        net,
-        outgoing: &outgoing,
-        ruler,
-        bounds: &bounds,
-        latest: &latest,
-        request,
-        earliest: earliest_arrival(&bounds, ruler, request),
-    };
-    let progress = searched(alloc, task)?;
-    let routes = routes_of(alloc, task, &incoming, &progress)?;
-    Ok(routes)
-}
-
-// Labels whose bounds hold; none where what is found doesn't, and then the bound of nothing holds.
-fn bounds_of<R: Ruler + Copy>(
+/// The Pareto front of arrival (Unix minutes) and cost (thousandths) over the states of a ruler, each pair with legs that achieve it, by
+/// labels whose bounds hold, or by the bound of nothing if there are none. The only error is out of memory.
+///
+/// It takes the time and memory of the costs of the states that are reached: those from which a pair may come by the bounds.
+pub fn plan_with_bounds<R: Ruler + Copy>(
     alloc: Global,
     net: &TimedNet,
     incoming: &NodeArcs,
     request: Request,
     ruler: &R,
-) -> Result<Option<Labels>, OutOfMemory>
+    bounds: &Option<Labels>,
+) -> Result<Vec<RuledRoute>, OutOfMemory>
+    requires good { IsGoodRequest net.now request }
+    requires in_time { request.depart ≤ request.until }
+    requires fit { RuledCostsFit (setting_of net.now) (R.ruling ruler.now) base request }
+    requires numbers { IsBase (setting_of net.now) (R.ruling ruler.now) base }
     requires incoming { AreIncoming net.now incoming.now }
-    ensures { IfOk result (λ bounds. AreRuledBounds (setting_of net.now) (R.ruling ruler.now)
-        request.goal.0 (state_bound (R.ruling ruler.now) bounds)) }
+    requires hold { AreRuledBounds (setting_of net.now) (R.ruling ruler.now)
+        request.goal.0 (state_bound (R.ruling ruler.now) bounds.now) }
+    ensures planned { IfOk result (λ routes. IsPlanned (setting_of net.now) (R.ruling ruler.now)
+        base request routes.items) }
 {
-    let ground = Ground {
+    let _nodes = net.node_count();
+    let latest = latest_of_states(alloc, bounds, ruler, request)?;
+    let outgoing = NodeArcs::outgoing(alloc, net)?;
+    let task = Task {
         net,
-        incoming,
+        outgoing: &outgoing,
         ruler,
-        goal: request.goal,
-        depart: request.depart,
-        until: request.until,
+        bounds,
+        latest: &latest,
+        request,
+        earliest: earliest_arrival(bounds, ruler, request),
     };
-    let bounds = ruled_labels(alloc, &ground)?;
-    Ok(bounds)
+    let progress = searched(alloc, task)?;
+    let routes = routes_of(alloc, task, incoming, &progress)?;
+    Ok(routes)
 }
 
 // The latest minutes of states; the last one where there are no labels.

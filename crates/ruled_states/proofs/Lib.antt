@@ -1,8 +1,8 @@
 pub mod Adding
 pub mod Cutting
 pub mod Fitting
-pub mod Goods
 pub mod InTime
+pub mod Least
 pub mod Lowered
 pub mod Narrow
 pub mod Numbers

@@ -1,5 +1,5 @@
 // Labels of nodes, and the bounds of states by them.
-ghost use Rattle.std.specs.Prelude.{◌≡◌, ◌≤◌, length, map};
+ghost use Rattle.std.specs.Prelude.{◌≡◌, map};
 ghost use Rattle.function_merge.specs.Least.{least_of};
 ghost use Rattle.ruled_states.specs.Inside.Labels.{fit_value, least_fit, label_bound, labels_at, lists_of};
 
@@ -48,7 +48,7 @@ fn least_within<R: Ruler>(ruler: &R, labels: &[Label], state: u64) -> Option<u64
     least
 }
 
-// The labels of a node.
+/// The labels of a node, of lists by node from 0 on; none where there is no list. In constant time.
 #[inline(always)]
 pub fn labels_of(lists: &[Vec<Label>], node: NodeId) -> &[Label]
     ensures { result.now ≡ labels_at (lists_of lists.now) node.0 }
@@ -57,22 +57,6 @@ pub fn labels_of(lists: &[Vec<Label>], node: NodeId) -> &[Label]
         Some(labels) => labels.as_slice(),
         None => &[],
     }
-}
-
-// How many of the labels, by rising stage, have this stage or a lower one; if they don't rise, some number of them.
-#[inline(always)]
-pub fn count_to<R: Ruler>(ruler: &R, labels: &[Label], stage: u64) -> usize
-    ensures { result ≤ length labels.now }
-{
-    labels.partition_point(|label| ruler.stage(label.need) <= stage)
-}
-
-// How many of the labels, by rising stage, have a lower one; if they don't rise, some number of them.
-#[inline(always)]
-pub fn count_below<R: Ruler>(ruler: &R, labels: &[Label], stage: u64) -> usize
-    ensures { result ≤ length labels.now }
-{
-    labels.partition_point(|label| ruler.stage(label.need) < stage)
 }
 
 impl Labels {

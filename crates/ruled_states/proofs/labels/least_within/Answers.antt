@@ -3,7 +3,7 @@ use Rattle.route_base.proofs.Lists.{first_and_rest}
 use Rattle.function_merge.specs.Least.{least_of}
 use Rattle.ruled_states.specs.Inside.Labels.{fit_value, least_fit}
 use Rattle.ruled_states.specs.declared.labels.Label.{Label}
-use Rattle.ruled_states.proofs.Goods.{least_of-assoc}
+use Rattle.ruled_states.proofs.Least.{least_of-assoc}
 use Rattle.ruled_states.proofs.labels.least_within.Goals as goal
 
 pub fits-preserved : goal.fits-preserved

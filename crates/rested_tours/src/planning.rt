@@ -1,0 +1,61 @@
+// Trips and tours under a ruler, with bounds to the goal.
+ghost use Rattle.std.specs.Prelude.{◌≤◌, IfOk};
+ghost use Rattle.node_arcs.specs.Stars.{AreIncoming};
+ghost use Rattle.route_base.specs.Net.{IsGoodRequest, setting_of};
+ghost use Rattle.state_dominance.specs.Inside.Product.{IsBase, AreRuledBounds};
+ghost use Rattle.ruled_states.specs.Inside.Codes.{base};
+ghost use Rattle.ruled_search.specs.Inside.Tasks.{state_bound};
+ghost use Rattle.ruled_search.specs.Routes.{IsPlanned, RuledCostsFit};
+
+use node_arcs::NodeArcs;
+use route_base::{OutOfMemory, Request, TimedNet};
+use ruled_bounds::{Ground, ruled_labels};
+use ruled_search::{RuledRoute, plan_with_bounds};
+use ruled_states::{Labels, Ruler};
+use std::alloc::Global;
+
+// Labels whose bounds hold; none where what is found doesn't, and then the bound of nothing holds.
+fn bounds_of<R: Ruler + Copy>(
+    alloc: Global,
+    net: &TimedNet,
+    incoming: &NodeArcs,
+    request: Request,
+    ruler: &R,
+) -> Result<Option<Labels>, OutOfMemory>
+    requires incoming { AreIncoming net.now incoming.now }
+    ensures { IfOk result (λ bounds. AreRuledBounds (setting_of net.now) (R.ruling ruler.now)
+        request.goal.0 (state_bound (R.ruling ruler.now) bounds)) }
+{
+    let ground = Ground {
+        net,
+        incoming,
+        ruler,
+        goal: request.goal,
+        depart: request.depart,
+        until: request.until,
+    };
+    let bounds = ruled_labels(alloc, &ground)?;
+    Ok(bounds)
+}
+
+/// The Pareto front of arrival (Unix minutes) and cost (thousandths) over the states of a ruler, each pair with legs that achieve it. The only
+/// error is out of memory.
+///
+/// It takes the time and memory of `ruled_labels`, and then of `plan_with_bounds`.
+pub fn plan_ruled<R: Ruler + Copy>(
+    alloc: Global,
+    net: &TimedNet,
+    request: Request,
+    ruler: &R,
+) -> Result<Vec<RuledRoute>, OutOfMemory>
+    requires good { IsGoodRequest net.now request }
+    requires in_time { request.depart ≤ request.until }
+    requires fit { RuledCostsFit (setting_of net.now) (R.ruling ruler.now) base request }
+    requires numbers { IsBase (setting_of net.now) (R.ruling ruler.now) base }
+    ensures planned { IfOk result (λ routes. IsPlanned (setting_of net.now) (R.ruling ruler.now)
+        base request routes.items) }
+{
+    let incoming = NodeArcs::incoming(alloc, net)?;
+    let bounds = bounds_of(alloc, net, &incoming, request, ruler)?;
+    plan_with_bounds(alloc, net, &incoming, request, ruler, &bounds)
+}

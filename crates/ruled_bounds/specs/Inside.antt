@@ -1,0 +1,2 @@
+-- What the check of labels keeps, which is no law (source: own).
+pub mod GoodLabels

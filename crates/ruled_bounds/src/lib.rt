@@ -1,0 +1,17 @@
+//! Bounds to a goal for each node and state of a ruler (`ruled_states`), by labels of nodes.
+//!
+//! They are found by a search over labels (`label_search`), or, where breaks take little, by one label for each stage (`stage_sums`).
+//! Nothing is proved of either: one pass over the arcs and labels checks them (`label_check`). For each arc and label of its head, its tail
+//! has a label that is as good. So they hold along each drive, rest and service of each state (`AreRuledBounds` of `state_dominance`),
+//! though no state is made.
+#![tactic(auto)]
+
+mod back_star;
+mod label_check;
+mod label_search;
+mod radix_queue;
+mod stage_sums;
+mod stages;
+
+pub use label_check::ruled_labels;
+pub use label_search::Ground;

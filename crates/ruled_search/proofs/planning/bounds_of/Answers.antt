@@ -1,6 +1,0 @@
-use Rattle.route_base.specs.Net.{setting_of}
-use Rattle.ruled_search.proofs.Bounding.{bounds_hold}
-use Rattle.ruled_search.proofs.planning.bounds_of.Goals as goal
-
-pub returns : goal.returns
-returns g c = bounds_hold (setting_of c.args.net.now) (g.R.Ruler.ruling c.args.ruler.now) c.args.request.goal.0 c.in_ok-bounds.bounds c.in_ok-bounds.ensures
