@@ -14,4 +14,5 @@ pub mod Breaks
 pub mod Tour
 pub mod Explain
 pub mod Commands
+pub mod Found
 pub mod Words

@@ -1,12 +1,8 @@
 // `bans DIR VEHICLE ARC DEPART UNTIL`
-ghost use Rattle.std.specs.Prelude.{◌≡◌, [], IfOk};
-ghost use Rattle.front_words.specs.Bans.{bans_places};
-ghost use Rattle.front_words.specs.ClapCommands.{made_at};
-ghost use Rattle.front_words.specs.Commands.{AsksSupported, command_in, bans_usage, to_bans};
-ghost use Rattle.front_words.specs.Inside.{IsAnswer};
+ghost use Rattle.front_words.specs.Found.{IsFound, bans_row};
 
 use crate::found::{folder_at, instant_at, number_at, vehicle_at};
-use crate::{Command, Invocation, WordsFault};
+use crate::{Invocation, WordsFault};
 use clap::ArgMatches;
 use route_base::{Minute, Text};
 use std::alloc::Global;
@@ -27,8 +23,7 @@ pub const BANS_PLACES: &[&str] = &["dir", "vehicle", "arc", "depart", "until"];
 
 // The command that the words make which `clap` found.
 pub fn bans_found(alloc: Global, matches: &ArgMatches) -> Result<Invocation, WordsFault>
-    ensures made { IsAnswer (made_at matches.now bans_usage bans_places []) result }
-    ensures supported { IfOk result AsksSupported }
+    ensures { IsFound matches.now bans_row result }
 {
     Ok(Invocation::Bans(Bans {
         dir: folder_at(alloc, matches, "dir")?,
@@ -37,17 +32,4 @@ pub fn bans_found(alloc: Global, matches: &ArgMatches) -> Result<Invocation, Wor
         depart: instant_at(matches, "depart")?,
         until: instant_at(matches, "until")?,
     }))
-}
-
-// The command with its words side by side.
-pub fn flat_bans(bans: Bans) -> Command
-    ensures { command_in result ≡ to_bans bans }
-{
-    Command::Bans {
-        dir: bans.dir,
-        vehicle: bans.vehicle,
-        arc: bans.arc,
-        depart: bans.depart,
-        until: bans.until,
-    }
 }

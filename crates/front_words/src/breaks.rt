@@ -1,14 +1,10 @@
 // `breaks DIR VEHICLE FROM TO DEPART UNTIL [--drive B] [--rest L]`
-ghost use Rattle.std.specs.Prelude.{◌≡◌, IfOk};
-ghost use Rattle.front_words.specs.Breaks.{rule_choices};
-ghost use Rattle.front_words.specs.ClapCommands.{made_at, plan_places};
-ghost use Rattle.front_words.specs.Commands.{AsksSupported, command_in, breaks_usage, to_breaks};
-ghost use Rattle.front_words.specs.Inside.{IsAnswer};
+ghost use Rattle.front_words.specs.Found.{IsFound, breaks_row};
 
 use crate::found::{count_or_usual, folder_at};
 use crate::limits::{USUAL_DRIVE, USUAL_REST};
 use crate::trip_words::trip_found;
-use crate::{Command, Invocation, Trip, WordsFault};
+use crate::{Invocation, Trip, WordsFault};
 use clap::ArgMatches;
 use route_base::Text;
 use route_base::limits::DAY_MINUTES;
@@ -31,9 +27,7 @@ pub const RULE_OPTIONS: &[&str] = &["--drive", "--rest"];
 
 // The command that the words make which `clap` found.
 pub fn breaks_found(alloc: Global, matches: &ArgMatches) -> Result<Invocation, WordsFault>
-    ensures made { IsAnswer
-        (made_at matches.now breaks_usage plan_places rule_choices) result }
-    ensures supported { IfOk result AsksSupported }
+    ensures { IsFound matches.now breaks_row result }
 {
     Ok(Invocation::Breaks(Breaks {
         dir: folder_at(alloc, matches, "dir")?,
@@ -41,26 +35,4 @@ pub fn breaks_found(alloc: Global, matches: &ArgMatches) -> Result<Invocation, W
         drive: count_or_usual(matches, "drive", DAY_MINUTES, USUAL_DRIVE)?,
         rest: count_or_usual(matches, "rest", DAY_MINUTES, USUAL_REST)?,
     }))
-}
-
-// The command with its words side by side.
-pub fn flat_breaks(breaks: Breaks) -> Command
-    ensures { command_in result ≡ to_breaks breaks }
-{
-    let Breaks {
-        dir,
-        trip,
-        drive,
-        rest,
-    } = breaks;
-    Command::Breaks {
-        dir,
-        vehicle: trip.vehicle,
-        from: trip.origin,
-        to: trip.goal,
-        depart: trip.depart,
-        until: trip.until,
-        drive,
-        rest,
-    }
 }

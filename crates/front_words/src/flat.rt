@@ -1,17 +1,9 @@
 // The commands, with the values of all their words side by side.
 ghost use Rattle.std.specs.Prelude.{◌≡◌};
-ghost use Rattle.front_words.specs.Commands.{command_in};
+ghost use Rattle.front_words.specs.Commands.{command_in, to_bans, to_batch, to_breaks, to_check, to_explain, to_gen, to_latest};
+ghost use Rattle.front_words.specs.Commands.{to_plan, to_rested_tour, to_tour};
 
-use crate::Invocation;
-use crate::bans::flat_bans;
-use crate::batch::flat_batch;
-use crate::breaks::flat_breaks;
-use crate::check::flat_check;
-use crate::explain::flat_explain;
-use crate::generate::flat_gen;
-use crate::latest::flat_latest;
-use crate::plan::flat_plan;
-use crate::tour::{flat_rested_tour, flat_tour};
+use crate::{Bans, Batch, Breaks, Check, Explain, Gen, Invocation, Latest, Plan, RestedTour, Tour};
 use route_base::{Form, Minute, Text};
 
 /// A command, with the values of its words. Nodes and arcs are numbered from 1; minutes are Unix minutes.
@@ -116,6 +108,162 @@ pub enum Command {
         until: Minute,
         itinerary: Text,
     },
+}
+
+fn flat_plan(plan: Plan) -> Command
+    ensures { command_in result ≡ to_plan plan }
+{
+    let Plan {
+        dir,
+        trip,
+        form,
+        certificate,
+    } = plan;
+    Command::Plan {
+        dir,
+        vehicle: trip.vehicle,
+        from: trip.origin,
+        to: trip.goal,
+        depart: trip.depart,
+        until: trip.until,
+        form,
+        certificate,
+    }
+}
+
+fn flat_check(check: Check) -> Command
+    ensures { command_in result ≡ to_check check }
+{
+    let Check { dir, trip, name } = check;
+    Command::Check {
+        dir,
+        vehicle: trip.vehicle,
+        from: trip.origin,
+        to: trip.goal,
+        depart: trip.depart,
+        until: trip.until,
+        name,
+    }
+}
+
+fn flat_bans(bans: Bans) -> Command
+    ensures { command_in result ≡ to_bans bans }
+{
+    Command::Bans {
+        dir: bans.dir,
+        vehicle: bans.vehicle,
+        arc: bans.arc,
+        depart: bans.depart,
+        until: bans.until,
+    }
+}
+
+fn flat_batch(batch: Batch) -> Command
+    ensures { command_in result ≡ to_batch batch }
+{
+    Command::Batch {
+        dir: batch.dir,
+        jobs: batch.jobs,
+        workers: batch.workers,
+    }
+}
+
+fn flat_gen(network: Gen) -> Command
+    ensures { command_in result ≡ to_gen network }
+{
+    Command::Gen {
+        dir: network.dir,
+        number: network.number,
+        rows: network.rows,
+        columns: network.columns,
+    }
+}
+
+fn flat_latest(latest: Latest) -> Command
+    ensures { command_in result ≡ to_latest latest }
+{
+    let Latest { dir, trip } = latest;
+    Command::Latest {
+        dir,
+        vehicle: trip.vehicle,
+        from: trip.origin,
+        to: trip.goal,
+        depart: trip.depart,
+        until: trip.until,
+    }
+}
+
+fn flat_tour(tour: Tour) -> Command
+    ensures { command_in result ≡ to_tour tour }
+{
+    let Tour { dir, trip, stops } = tour;
+    Command::Tour {
+        dir,
+        vehicle: trip.vehicle,
+        from: trip.origin,
+        to: trip.goal,
+        depart: trip.depart,
+        until: trip.until,
+        stops,
+    }
+}
+
+fn flat_rested_tour(rested: RestedTour) -> Command
+    ensures { command_in result ≡ to_rested_tour rested }
+{
+    let RestedTour { tour, drive, rest } = rested;
+    let Tour { dir, trip, stops } = tour;
+    Command::RestedTour {
+        dir,
+        vehicle: trip.vehicle,
+        from: trip.origin,
+        to: trip.goal,
+        depart: trip.depart,
+        until: trip.until,
+        stops,
+        drive,
+        rest,
+    }
+}
+
+fn flat_breaks(breaks: Breaks) -> Command
+    ensures { command_in result ≡ to_breaks breaks }
+{
+    let Breaks {
+        dir,
+        trip,
+        drive,
+        rest,
+    } = breaks;
+    Command::Breaks {
+        dir,
+        vehicle: trip.vehicle,
+        from: trip.origin,
+        to: trip.goal,
+        depart: trip.depart,
+        until: trip.until,
+        drive,
+        rest,
+    }
+}
+
+fn flat_explain(explain: Explain) -> Command
+    ensures { command_in result ≡ to_explain explain }
+{
+    let Explain {
+        dir,
+        trip,
+        itinerary,
+    } = explain;
+    Command::Explain {
+        dir,
+        vehicle: trip.vehicle,
+        from: trip.origin,
+        to: trip.goal,
+        depart: trip.depart,
+        until: trip.until,
+        itinerary,
+    }
 }
 
 // The same command, its words side by side.

@@ -1,13 +1,14 @@
 // `gen DIR NUMBER ROWS COLUMNS`
-ghost use Rattle.std.specs.Prelude.{◌≡◌, ◌*◌, [], IfOk, nat_le};
-ghost use Rattle.front_words.specs.ClapCommands.{made_at, values_at};
-ghost use Rattle.front_words.specs.Commands.{AsksSupported, command_in, gen_usage, to_gen};
+ghost use Rattle.std.specs.Prelude.{◌≡◌, ◌*◌, IfOk, nat_le};
+ghost use Rattle.front_words.specs.ClapCommands.{values_at};
+ghost use Rattle.front_words.specs.Commands.{gen_usage};
 ghost use Rattle.front_words.specs.Gen.{gen_places};
-ghost use Rattle.front_words.specs.Inside.{IsAnswer, IsAnswerWith, AreCounted, gen_values};
+ghost use Rattle.front_words.specs.Found.{IsFound, gen_row};
+ghost use Rattle.front_words.specs.Inside.{IsAnswerWith, AreCounted, gen_values};
 ghost use Rattle.net_generator.specs.declared.limits.TheConstants.{MOST_GENERATED_NODES};
 
 use crate::found::{count_at, folder_at, small_count_at};
-use crate::{Command, Invocation, WordsFault};
+use crate::{Invocation, WordsFault};
 use clap::ArgMatches;
 use net_generator::{LAST_NUMBER, MOST_GENERATED_NODES, MOST_LINES};
 use route_base::Text;
@@ -46,25 +47,12 @@ fn has_few_nodes(network: &Gen) -> bool
 
 // The network that the words say, if its nodes are few enough.
 pub fn gen_found(alloc: Global, matches: &ArgMatches) -> Result<Invocation, WordsFault>
-    ensures made { IsAnswer (made_at matches.now gen_usage gen_places []) result }
-    ensures supported { IfOk result AsksSupported }
+    ensures { IsFound matches.now gen_row result }
 {
     let network = counts_found(alloc, matches)?;
     if has_few_nodes(&network) {
         Ok(Invocation::Gen(network))
     } else {
         Err(WordsFault::NotACommand)
-    }
-}
-
-// The command with its words side by side.
-pub fn flat_gen(network: Gen) -> Command
-    ensures { command_in result ≡ to_gen network }
-{
-    Command::Gen {
-        dir: network.dir,
-        number: network.number,
-        rows: network.rows,
-        columns: network.columns,
     }
 }

@@ -1,12 +1,9 @@
 // `latest DIR VEHICLE FROM TO DEPART UNTIL`
-ghost use Rattle.std.specs.Prelude.{◌≡◌, [], IfOk};
-ghost use Rattle.front_words.specs.ClapCommands.{made_at, plan_places};
-ghost use Rattle.front_words.specs.Commands.{AsksSupported, command_in, latest_usage, to_latest};
-ghost use Rattle.front_words.specs.Inside.{IsAnswer};
+ghost use Rattle.front_words.specs.Found.{IsFound, latest_row};
 
 use crate::found::folder_at;
 use crate::trip_words::trip_found;
-use crate::{Command, Invocation, Trip, WordsFault};
+use crate::{Invocation, Trip, WordsFault};
 use clap::ArgMatches;
 use route_base::Text;
 use std::alloc::Global;
@@ -20,26 +17,10 @@ pub struct Latest {
 
 // The command that the words make which `clap` found.
 pub fn latest_found(alloc: Global, matches: &ArgMatches) -> Result<Invocation, WordsFault>
-    ensures made { IsAnswer (made_at matches.now latest_usage plan_places []) result }
-    ensures supported { IfOk result AsksSupported }
+    ensures { IsFound matches.now latest_row result }
 {
     Ok(Invocation::Latest(Latest {
         dir: folder_at(alloc, matches, "dir")?,
         trip: trip_found(alloc, matches)?,
     }))
-}
-
-// The command with its words side by side.
-pub fn flat_latest(latest: Latest) -> Command
-    ensures { command_in result ≡ to_latest latest }
-{
-    let Latest { dir, trip } = latest;
-    Command::Latest {
-        dir,
-        vehicle: trip.vehicle,
-        from: trip.origin,
-        to: trip.goal,
-        depart: trip.depart,
-        until: trip.until,
-    }
 }

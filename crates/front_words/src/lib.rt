@@ -14,7 +14,8 @@
 //! `limits` bounds the workers of a batch, and has the usual values of options; a number, rows and columns are those from which
 //! `net_generator` draws a network (`IsDrawable`).
 //!
-//! `Inside` and `ClapCommands` are no law: they have what the calls hand to one another, and the commands as `clap` has them.
+//! `Inside`, `ClapCommands` and `Found` are no law: they have what the calls hand to one another, the commands as `clap` has them, and what a
+//! command's function makes of the words that `clap` found.
 //! `proofs/ClapWalk` is the walk of `clap` over words that begin with no dash, `proofs/Plain` shows that those of a split are such, and
 //! `proofs/ClapLines` has the line of each command (`takes_row`). A command with options has a file there, such as `proofs/BreaksLines`.
 #![tactic(auto)]

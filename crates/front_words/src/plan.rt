@@ -1,13 +1,9 @@
 // `plan DIR VEHICLE FROM TO DEPART UNTIL [--form F] [--certificate NAME]`
-ghost use Rattle.std.specs.Prelude.{◌≡◌, IfOk};
-ghost use Rattle.front_words.specs.ClapCommands.{made_at, plan_places};
-ghost use Rattle.front_words.specs.Commands.{AsksSupported, command_in, plan_usage, to_plan};
-ghost use Rattle.front_words.specs.Inside.{IsAnswer};
-ghost use Rattle.front_words.specs.Plan.{plan_choices};
+ghost use Rattle.front_words.specs.Found.{IsFound, plan_row};
 
 use crate::found::{certificate_if, folder_at, report_or_plain};
 use crate::trip_words::trip_found;
-use crate::{Command, Invocation, Trip, WordsFault};
+use crate::{Invocation, Trip, WordsFault};
 use clap::ArgMatches;
 use route_base::{Form, Text};
 use std::alloc::Global;
@@ -29,9 +25,7 @@ pub const PLAN_OPTIONS: &[&str] = &["--form", "--certificate"];
 
 // The command that the words make which `clap` found.
 pub fn plan_found(alloc: Global, matches: &ArgMatches) -> Result<Invocation, WordsFault>
-    ensures made { IsAnswer
-        (made_at matches.now plan_usage plan_places plan_choices) result }
-    ensures supported { IfOk result AsksSupported }
+    ensures { IsFound matches.now plan_row result }
 {
     Ok(Invocation::Plan(Plan {
         dir: folder_at(alloc, matches, "dir")?,
@@ -39,26 +33,4 @@ pub fn plan_found(alloc: Global, matches: &ArgMatches) -> Result<Invocation, Wor
         form: report_or_plain(matches, "form")?,
         certificate: certificate_if(alloc, matches, "certificate")?,
     }))
-}
-
-// The command with its words side by side.
-pub fn flat_plan(plan: Plan) -> Command
-    ensures { command_in result ≡ to_plan plan }
-{
-    let Plan {
-        dir,
-        trip,
-        form,
-        certificate,
-    } = plan;
-    Command::Plan {
-        dir,
-        vehicle: trip.vehicle,
-        from: trip.origin,
-        to: trip.goal,
-        depart: trip.depart,
-        until: trip.until,
-        form,
-        certificate,
-    }
 }

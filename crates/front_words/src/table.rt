@@ -1,7 +1,8 @@
 // The table of the commands, and the one way from words to a command by its row.
 ghost use Rattle.std.specs.Prelude.{◌≡◌, IfOk, map, option_map};
-ghost use Rattle.front_words.specs.ClapCommands.{given_line, made_at};
+ghost use Rattle.front_words.specs.ClapCommands.{given_line};
 ghost use Rattle.front_words.specs.Commands.{AsksSupported, usages};
+ghost use Rattle.front_words.specs.Found.{IsFound};
 ghost use Rattle.front_words.specs.Inside.{IsAnswer, IsAnswerWith, IsPlainSplit, choices_in, given_in, ids_in, split_of_words, usage_in};
 ghost use Rattle.front_words.specs.Usages.{made_of, option_names, usage_named};
 
@@ -110,9 +111,7 @@ impl CommandName {
 
     // The command that the words say.
     fn found(self, alloc: Global, matches: &ArgMatches) -> Result<Invocation, WordsFault>
-        ensures made { IsAnswer
-            (made_at matches.now (usage_in self) (ids_in self) (choices_in self)) result }
-        ensures supported { IfOk result AsksSupported }
+        ensures { IsFound matches.now self result }
     {
         match self {
             CommandName::Plan => plan_found(alloc, matches),

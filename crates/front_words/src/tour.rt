@@ -1,16 +1,16 @@
 // `tour DIR VEHICLE FROM TO DEPART UNTIL STOPS [--drive B] [--rest L]`
 ghost use Rattle.std.specs.Prelude.{◌≡◌, IfOk, IfSome};
-ghost use Rattle.front_words.specs.Breaks.{rule_choices};
-ghost use Rattle.front_words.specs.ClapCommands.{check_places, made_at, values_at};
-ghost use Rattle.front_words.specs.Commands.{AsksSupported, IsTimed, command_in, tour_usage, to_rested_tour, to_tour};
-ghost use Rattle.front_words.specs.Inside.{IsAnswer, IsAnswerWith, IsUpTo, tour_values};
+ghost use Rattle.front_words.specs.ClapCommands.{check_places, values_at};
+ghost use Rattle.front_words.specs.Commands.{AsksSupported, IsTimed, tour_usage, to_rested_tour};
+ghost use Rattle.front_words.specs.Found.{IsFound, tour_row};
+ghost use Rattle.front_words.specs.Inside.{IsAnswerWith, IsUpTo, tour_values};
 ghost use Rattle.front_words.specs.Tour.{tour_under as under};
 ghost use Rattle.route_base.specs.declared.limits.TheConstants.{DAY_MINUTES};
 
 use crate::found::{count_if, file_at, folder_at};
 use crate::limits::{USUAL_DRIVE, USUAL_REST};
 use crate::trip_words::trip_found;
-use crate::{Command, Invocation, Trip, WordsFault};
+use crate::{Invocation, Trip, WordsFault};
 use clap::ArgMatches;
 use route_base::Text;
 use route_base::limits::DAY_MINUTES;
@@ -34,9 +34,7 @@ pub struct RestedTour {
 
 // The command that the words make which `clap` found: a tour under a rule if one of its numbers is given.
 pub fn tour_found(alloc: Global, matches: &ArgMatches) -> Result<Invocation, WordsFault>
-    ensures made { IsAnswer
-        (made_at matches.now tour_usage check_places rule_choices) result }
-    ensures supported { IfOk result AsksSupported }
+    ensures { IsFound matches.now tour_row result }
 {
     let tour = places_found(alloc, matches)?;
     let drive = count_if(matches, "drive", DAY_MINUTES)?;
@@ -82,39 +80,4 @@ fn ruled(tour: Tour, drive: u64, rest: u64) -> Invocation
     }) }
 {
     Invocation::RestedTour(RestedTour { tour, drive, rest })
-}
-
-// The command with its words side by side.
-pub fn flat_tour(tour: Tour) -> Command
-    ensures { command_in result ≡ to_tour tour }
-{
-    let Tour { dir, trip, stops } = tour;
-    Command::Tour {
-        dir,
-        vehicle: trip.vehicle,
-        from: trip.origin,
-        to: trip.goal,
-        depart: trip.depart,
-        until: trip.until,
-        stops,
-    }
-}
-
-// The same under a break rule.
-pub fn flat_rested_tour(rested: RestedTour) -> Command
-    ensures { command_in result ≡ to_rested_tour rested }
-{
-    let RestedTour { tour, drive, rest } = rested;
-    let Tour { dir, trip, stops } = tour;
-    Command::RestedTour {
-        dir,
-        vehicle: trip.vehicle,
-        from: trip.origin,
-        to: trip.goal,
-        depart: trip.depart,
-        until: trip.until,
-        stops,
-        drive,
-        rest,
-    }
 }
