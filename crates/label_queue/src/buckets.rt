@@ -37,11 +37,7 @@ impl Model for BucketQueue {
 // By hand, so that the drops of its parts are proved here alone.
 impl Drop for BucketQueue {
     fn drop(self) {
-        let BucketQueue {
-            ring: _,
-            keys: _,
-            count: _,
-        } = self;
+        let Self { ring, keys, count } = self;
     }
 }
 

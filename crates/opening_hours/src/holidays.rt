@@ -26,10 +26,7 @@ impl Model for Holidays {
 // By hand, so that the drops of its parts are proved here alone.
 impl Drop for Holidays {
     fn drop(self) {
-        let Holidays {
-            public: _,
-            school: _,
-        } = self;
+        let Self { public, school } = self;
     }
 }
 

@@ -65,10 +65,6 @@ pub struct HoursRule {
 // By hand, so that the drops of its parts are proved here alone.
 impl Drop for HoursRule {
     fn drop(self) {
-        let HoursRule {
-            dates: _,
-            days: _,
-            times: _,
-        } = self;
+        let Self { dates, days, times } = self;
     }
 }

@@ -39,10 +39,7 @@ impl Model for Vehicles {
 // By hand, so that the drops of its parts are proved here alone.
 impl Drop for Vehicles {
     fn drop(self) {
-        let Vehicles {
-            names: _,
-            vehicles: _,
-        } = self;
+        let Self { names, vehicles } = self;
     }
 }
 

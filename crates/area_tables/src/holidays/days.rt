@@ -31,10 +31,7 @@ impl Model for AreaDays {
 // By hand, so that the drops of its parts are proved here alone.
 impl Drop for AreaDays {
     fn drop(self) {
-        let AreaDays {
-            public: _,
-            school: _,
-        } = self;
+        let Self { public, school } = self;
     }
 }
 
