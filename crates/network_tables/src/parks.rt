@@ -50,10 +50,10 @@ impl Model for Parks {
 // By hand, so that the drops of its parts are proved here alone.
 impl Drop for Parks {
     fn drop(self) {
-        let Parks {
-            rated: _,
-            timetables: _,
-            hours: _,
+        let Self {
+            rated,
+            timetables,
+            hours,
         } = self;
     }
 }
