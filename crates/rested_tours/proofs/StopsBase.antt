@@ -27,6 +27,10 @@ pub record IsAsked (net : Net) (r : Request) (stops : List Stop) : Type 0 where
   pub each_stop : All (IsGoodStop net) stops
   pub count : length stops < 2 ^ 32
 
+pub asked_of : {net : Net} {r : Request} {stops : List Stop} → IsGoodNet net → IsGoodRequest net r → r.depart ≤ r.until → All (IsGoodStop net) stops
+    → length stops < 2 ^ 32 → IsAsked net r stops
+asked_of good ends in_time each_stop count = record { good = good; ends = ends; in_time = in_time; each_stop = each_stop; count = count }
+
 -- there are as many services as stops
 pub as_many : (services : List RuledService) (stops : List Stop) → map service_at services ≡ map stop_service stops → length services ≡ length stops
 as_many services stops same = sym (length-map services service_at) ∙ ap length same ∙ length-map stops stop_service

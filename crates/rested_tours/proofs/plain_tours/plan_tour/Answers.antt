@@ -12,7 +12,7 @@ use Rattle.state_dominance.proofs.NotRuled.{small_states}
 use Rattle.rested_tours.specs.Inside.ToldRoutes.{IsTellableRoute, IsToldBy}
 use Rattle.rested_tours.proofs.Based.{cheap_roads}
 use Rattle.rested_tours.proofs.PlainTours.{are_tellable, plain_base, right_tours}
-use Rattle.rested_tours.proofs.StopsBase.{as_many}
+use Rattle.rested_tours.proofs.StopsBase.{as_many, asked_of}
 use Rattle.rested_tours.proofs.plain_tours.plan_tour.Goals as goal
 
 pub invariant_of-ruler : goal.invariant_of-ruler
@@ -37,26 +37,14 @@ plan_ruled-requires-clause-numbers c =
     let same = ap (map service_at) c.as_slice.ensures.value ∙ c.in_ok-services.ensures in
     subst (λ (w : List ServiceAt). IsBase (setting_of c.args.net.now) (serving w no_rule) base) (sym same)
     (plain_base c.args.net.now c.args.request c.args.stops.now
-    (record {
-      good = c.node_count-nodes.ensures.good;
-      ends = c.requires.good;
-      in_time = c.requires.in_time;
-      each_stop = c.requires.stops;
-      count = c.requires.count;
-    }))
+    (asked_of c.node_count-nodes.ensures.good c.requires.good c.requires.in_time c.requires.stops c.requires.count))
 
 pub told_routes-requires : goal.told_routes-requires
 told_routes-requires c =
     let same = ap (map service_at) c.as_slice.ensures.value ∙ c.in_ok-services.ensures in
     subst (All (IsTellableRoute 1)) (sym c.as_slice-2.ensures.value)
     (are_tellable c.args.net.now c.args.request c.args.stops.now
-    (record {
-      good = c.node_count-nodes.ensures.good;
-      ends = c.requires.good;
-      in_time = c.requires.in_time;
-      each_stop = c.requires.stops;
-      count = c.requires.count;
-    })
+    (asked_of c.node_count-nodes.ensures.good c.requires.good c.requires.in_time c.requires.stops c.requires.count)
     c.in_ok-over.over.items
     (subst (λ (w : List ServiceAt). IsPlanned (setting_of c.args.net.now) (serving w no_rule) base c.args.request c.in_ok-over.over.items) same
     c.in_ok-over.ensures.planned))
@@ -65,13 +53,7 @@ pub returns : goal.returns
 returns c =
     let same = ap (map service_at) c.as_slice.ensures.value ∙ c.in_ok-services.ensures in
     right_tours c.args.net.now c.args.request c.args.stops.now
-    (record {
-      good = c.node_count-nodes.ensures.good;
-      ends = c.requires.good;
-      in_time = c.requires.in_time;
-      each_stop = c.requires.stops;
-      count = c.requires.count;
-    })
+    (asked_of c.node_count-nodes.ensures.good c.requires.good c.requires.in_time c.requires.stops c.requires.count)
     c.in_ok-over.over.items
     (subst (λ (w : List ServiceAt). IsPlanned (setting_of c.args.net.now) (serving w no_rule) base c.args.request c.in_ok-over.over.items) same
     c.in_ok-over.ensures.planned)
