@@ -24,10 +24,7 @@ impl Model for ArcGroups {
 // By hand, so that the drops of its parts are proved here alone.
 impl Drop for ArcGroups {
     fn drop(self) {
-        let ArcGroups {
-            groups: _,
-            firsts: _,
-        } = self;
+        let Self { groups, firsts } = self;
     }
 }
 

@@ -31,10 +31,10 @@ impl Model for Grouping {
 // By hand, so that the drops of its parts are proved here alone.
 impl Drop for Grouping {
     fn drop(self) {
-        let Grouping {
-            all: _,
-            shared: _,
-            by_digest: _,
+        let Self {
+            all,
+            shared,
+            by_digest,
         } = self;
     }
 }

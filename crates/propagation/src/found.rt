@@ -24,10 +24,10 @@ impl Model for Found {
 // By hand, so that the drops of its parts are proved here alone.
 impl Drop for Found {
     fn drop(self) {
-        let Found {
-            pairs: _,
-            functions: _,
-            bounds: _,
+        let Self {
+            pairs,
+            functions,
+            bounds,
         } = self;
     }
 }
