@@ -144,6 +144,10 @@ module _ {A : Type 0} (f : A → List ℕ) where
       ∙ ap (λ (x : List ℕ). number_at (map f rows ++ x ∷ []) v k) empty
       ∙ ap (λ (x : List ℕ). get_or x k 0) (row_more (map f rows) v)
 
+  -- a place among the values of rows is one among the rows
+  pub among_rows : (rows : List A) (v : ℕ) (values : List (List ℕ)) → map f rows ≡ values → v < length values → v < length rows
+  among_rows rows v values is within = omega (arith, within, ap (λ (w : List (List ℕ)). length w) is, length-map rows f)
+
   pub rows_same : (rows : List A) (v : ℕ) (row old : A) → v < length rows → get_or rows v old ≡ old
       → ((k : ℕ) → get_or (f row) k 0 ≡ get_or (f old) k 0) → (w k : ℕ) → number_at (map f (set rows v row)) w k ≡ number_at (map f rows) w k
   rows_same rows v row old within is same w k =

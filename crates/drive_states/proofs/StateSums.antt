@@ -24,11 +24,15 @@ rests_few rows limit v (Some weight) day = omega (
       (λ r low. omega (arith, bit-lt (row_of rows v) (suc r))),
 )
 
-pub all_drives_few : (s : Setting) (rows : List (List ℕ)) (limit n : ℕ) → limit ≤ DAY_MINUTES → sum_below (λ a. drives_by rows limit (s.road a)) n ≤ 1441 * n
-all_drives_few s rows limit n day = sum_small (λ a. drives_by rows limit (s.road a)) 1441 n (λ a low. drives_few rows limit (s.road a) day)
+pub all_drives_few : (s : Setting) (rows : List (List ℕ)) (limit n total : ℕ) → limit ≤ DAY_MINUTES
+    → total ≡ sum_below (λ a. drives_by rows limit (s.road a)) n → total ≤ 1441 * n
+all_drives_few s rows limit n total day is =
+    omega (arith, is, sum_small (λ a. drives_by rows limit (s.road a)) 1441 n (λ a low. drives_few rows limit (s.road a) day))
 
-pub all_rests_few : (s : Setting) (rows : List (List ℕ)) (limit n : ℕ) → limit ≤ DAY_MINUTES → sum_below (λ v. rests_by rows limit v (s.weight v)) n ≤ 1441 * n
-all_rests_few s rows limit n day = sum_small (λ v. rests_by rows limit v (s.weight v)) 1441 n (λ v low. rests_few rows limit v (s.weight v) day)
+pub all_rests_few : (s : Setting) (rows : List (List ℕ)) (limit n total : ℕ) → limit ≤ DAY_MINUTES
+    → total ≡ sum_below (λ v. rests_by rows limit v (s.weight v)) n → total ≤ 1441 * n
+all_rests_few s rows limit n total day is =
+    omega (arith, is, sum_small (λ v. rests_by rows limit v (s.weight v)) 1441 n (λ v low. rests_few rows limit v (s.weight v) day))
 
 -- the next arc by its number
 pub drives_next : (net : Net) (rows : List (List ℕ)) (limit : ℕ) (items : List TimedArc) (k : ℕ) (d : TimedArc) → items ≡ net.arcs → k < length items

@@ -26,10 +26,7 @@ impl Model for NodeQueue {
 // By hand, so that the drops of its parts are proved here alone.
 impl Drop for NodeQueue {
     fn drop(self) {
-        let NodeQueue {
-            nodes: _,
-            queued: _,
-        } = self;
+        let Self { nodes, queued } = self;
     }
 }
 

@@ -31,10 +31,7 @@ impl Model for States {
 // By hand, so that the drops of its parts are proved here alone.
 impl Drop for States {
     fn drop(self) {
-        let States {
-            held: _,
-            numbers: _,
-        } = self;
+        let Self { held, numbers } = self;
     }
 }
 

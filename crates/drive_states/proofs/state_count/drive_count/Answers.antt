@@ -1,19 +1,15 @@
-use Rattle.std.proofs.Common.{◌≡◌, ◌+◌, List, length, ap, ◌∙◌, arith}
+use Rattle.std.proofs.Common.{◌+◌, List, length, ap, ◌∙◌, arith}
 use Rattle.route_base.specs.Net.{setting_of}
 use Rattle.route_base.specs.declared.types.TimedArc.{TimedArc}
-use Rattle.drive_states.specs.Inside.BitRows.{sum_below}
 use Rattle.drive_states.specs.Inside.StateMarks.{drives_by}
 use Rattle.drive_states.proofs.StateSums.{all_drives_few, drives_next, sum_next}
 use Rattle.drive_states.proofs.state_count.drive_count.Goals as goal
 
 pub overflow_add-count : goal.overflow_add-count
 overflow_add-count c =
-    let s = setting_of c.args.plan.net.now in
-    let is : c.loop-arc.count ≡ sum_below (λ a. drives_by c.args.rows.now c.args.plan.rule.drive (s.road a)) (c.loop-arc.arc-index + 1) = c.loop-arc.invariant in
     omega (
       arith,
-      is,
-      all_drives_few s c.args.rows.now c.args.plan.rule.drive (c.loop-arc.arc-index + 1) c.requires,
+      all_drives_few (setting_of c.args.plan.net.now) c.args.rows.now c.args.plan.rule.drive (c.loop-arc.arc-index + 1) _ c.requires c.loop-arc.invariant,
       c.from-count.ensures,
       c.drives_of.type_inv,
       c.loop-arc-test.true,
@@ -30,12 +26,9 @@ loop-arc-preserved c =
 
 pub returns-clause-few : goal.returns-clause-few
 returns-clause-few c =
-    let s = setting_of c.args.plan.net.now in
-    let is : c.loop-arc.count ≡ sum_below (λ a. drives_by c.args.rows.now c.args.plan.rule.drive (s.road a)) (c.loop-arc.arc-index + 1) = c.loop-arc.invariant in
     omega (
       arith,
-      is,
-      all_drives_few s c.args.rows.now c.args.plan.rule.drive (c.loop-arc.arc-index + 1) c.requires,
+      all_drives_few (setting_of c.args.plan.net.now) c.args.rows.now c.args.plan.rule.drive (c.loop-arc.arc-index + 1) _ c.requires c.loop-arc.invariant,
       c.loop-arc.auto.arc-index-end,
       ap (λ (w : List TimedArc). length w) c.arcs-arc-items.ensures.value,
       c.arcs-arc-items.ensures.good.arcs,

@@ -1,18 +1,14 @@
-use Rattle.std.proofs.Common.{◌≡◌, ◌∙◌, arith}
+use Rattle.std.proofs.Common.{◌∙◌, arith}
 use Rattle.route_base.specs.Net.{setting_of}
-use Rattle.drive_states.specs.Inside.BitRows.{sum_below}
 use Rattle.drive_states.specs.Inside.StateMarks.{rests_by}
 use Rattle.drive_states.proofs.StateSums.{all_rests_few, sum_next}
 use Rattle.drive_states.proofs.state_count.rest_count.Goals as goal
 
 pub overflow_add-count : goal.overflow_add-count
 overflow_add-count c =
-    let s = setting_of c.args.plan.net.now in
-    let is : c.loop-v.count ≡ sum_below (λ v. rests_by c.args.rows.now c.args.plan.rule.drive v (s.weight v)) c.loop-v.v = c.loop-v.invariant in
     omega (
       arith,
-      is,
-      all_rests_few s c.args.rows.now c.args.plan.rule.drive c.loop-v.v c.requires,
+      all_rests_few (setting_of c.args.plan.net.now) c.args.rows.now c.args.plan.rule.drive c.loop-v.v _ c.requires c.loop-v.invariant,
       c.from-count.ensures,
       c.rests_of.type_inv,
       c.loop-v-test.true,
@@ -27,12 +23,9 @@ loop-v-preserved c =
 
 pub returns-clause-few : goal.returns-clause-few
 returns-clause-few c =
-    let s = setting_of c.args.plan.net.now in
-    let is : c.loop-v.count ≡ sum_below (λ v. rests_by c.args.rows.now c.args.plan.rule.drive v (s.weight v)) c.loop-v.v = c.loop-v.invariant in
     omega (
       arith,
-      is,
-      all_rests_few s c.args.rows.now c.args.plan.rule.drive c.loop-v.v c.requires,
+      all_rests_few (setting_of c.args.plan.net.now) c.args.rows.now c.args.plan.rule.drive c.loop-v.v _ c.requires c.loop-v.invariant,
       c.loop-v.auto.v-end (omega arith),
       c.node_count-v-end.ensures.value,
       c.node_count-v-end.ensures.good.nodes,
