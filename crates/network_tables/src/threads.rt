@@ -2,11 +2,7 @@
 use crate::{Files, Job, Jobs, Network, NetworkFault};
 use route_base::crosses_threads;
 
-// Names each shared type once.
+// Compiles only if all of these types cross threads.
 fn all_cross_threads() {
-    crosses_threads::<Files>();
-    crosses_threads::<Job>();
-    crosses_threads::<Jobs>();
-    crosses_threads::<Network>();
-    crosses_threads::<NetworkFault>();
+    crosses_threads::<(Files, Job, Jobs, Network, NetworkFault)>();
 }
