@@ -89,7 +89,7 @@ fn texts_of_jobs<R: Threads + Sync, G: Gate>(
 
 /// The texts of the jobs of a table over the files of the batch's folder, planned on several workers at once. Arcs are grouped once. A
 /// worker goes through its jobs by vehicle and departure and keeps one net at a time, which serves all trips of a vehicle that follow one
-/// another within four times the minutes of the first; so there are at most as many nets as workers. Beside its net a job takes the time
+/// another within eight times the minutes of the first; so there are at most as many nets as workers. Beside its net a job takes the time
 /// and memory of a search.
 pub fn report_batch<R: Threads + Sync, F: Folder, G: Gate>(
     rt: &R,

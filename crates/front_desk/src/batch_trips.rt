@@ -19,7 +19,7 @@ use trip_batch::PartPlanner;
 use vehicle_classes::Vehicle;
 
 // How often the minutes of the first trip may fit into the window of a net that trips share.
-const MOST_TIMES_FIRST: u64 = 4;
+const MOST_TIMES_FIRST: u64 = 8;
 
 /// The trips of jobs over one network, whose arcs are grouped once. `order` has the number of the job at each place. Workers share it.
 #[derive(Drop)]

@@ -7,9 +7,9 @@ ghost use Rattle.itinerary_unpack.specs.SearchArcs.{AreSearchArcs};
 
 use crate::routes::routes_of;
 use node_arcs::NodeArcs;
-use potentials::{cap_for_minutes, has_proportional_costs, to_goal_within};
+use potentials::{cap_for_minutes, has_proportional_costs, minutes_within, to_goal_within};
 use propagation::search_with;
-use route_base::{Bound, OutOfMemory, Request, Routes, TimedNet};
+use route_base::{OutOfMemory, Request, Routes, TimedNet};
 use std::alloc::Global;
 
 /// The arcs of a net by node, and whether it is known that every arc costs `COST_OF_MINUTE` for each of its minutes.
@@ -42,8 +42,8 @@ pub fn search_arcs(alloc: Global, net: &TimedNet) -> Result<SearchArcs, OutOfMem
 }
 
 // The minutes up to which bounds to the goal are looked for. A first search, over a quarter of the request's minutes, tells how far the
-// origin is. If it is that near, then half of the request's minutes and half of the way will do: who is farther from the goal than this
-// has mostly come too far to be in time. No clause fixes it, as bounds hold under any cap.
+// origin is. If it is that near, then bounds reach a quarter of the request's minutes farther than the origin. No clause fixes it, as
+// bounds hold under any cap.
 fn minutes_of_bounds(
     alloc: Global,
     net: &TimedNet,
@@ -55,21 +55,21 @@ fn minutes_of_bounds(
     requires in_time { request.depart ≤ request.until }
 {
     let minutes = (request.until - request.depart).saturating_add(1);
-    let near = Bound {
-        minutes: minutes / 4,
-        cost: 0,
-    };
-    let goal = request.goal;
-    let bounds = to_goal_within(alloc, net, &arcs.incoming, arcs.proportional, goal, near)?;
-    match bounds.get(request.origin) {
-        Some(bound) if bound.minutes < near.minutes => Ok(minutes / 2 + bound.minutes / 2),
-        _ => Ok(minutes),
-    }
+    let near = minutes / 4;
+    let way = minutes_within(
+        alloc,
+        net,
+        &arcs.incoming,
+        request.origin,
+        request.goal,
+        near,
+    )?;
+    Ok(if way < near { way + near } else { minutes })
 }
 
 /// The Pareto front of a request as `FrontSearch` has it, by arcs that searches share. Bounds end at the request's minutes, so that
 /// nodes from which the goal is farther are neither settled nor searched, or at fewer if the goal is near. Takes the time and memory of
-/// `to_goal_within` twice, of `search_with`, and of `unpack_over` for each pair. The only error is out of memory.
+/// `minutes_within`, `to_goal_within`, `search_with`, and of `unpack_over` for each pair. The only error is out of memory.
 pub fn front_over(
     alloc: Global,
     net: &TimedNet,

@@ -16,7 +16,7 @@ use Rattle.potentials.proofs.LeastBounds.{no_bound}
 
 module _ (roads : ℕ → Option Road) (count : Road → ℕ) (goal cap : ℕ) where
   -- a sum that a search finds, capped where it ends
-  capped_sum : (v : ℕ) (o : Option ℕ) → IsSumBelow roads count goal (IsPastCap (Some cap)) v o → IsCappedSum roads count goal v cap (capped_at cap o)
+  pub capped_sum : (v : ℕ) (o : Option ℕ) → IsSumBelow roads count goal (IsPastCap (Some cap)) v o → IsCappedSum roads count goal v cap (capped_at cap o)
   capped_sum v None below = record { within = omega arith; least = λ arcs sum leads. below arcs sum leads; is = inl refl }
   capped_sum v (Some x) below = record {
     within = omega arith;

@@ -2,7 +2,7 @@
 ghost use Rattle.std.specs.Prelude.{◌≡◌, ◌≤◌, ◌<◌, ◌+◌, length, IfOk, OnOk, IsTrue};
 ghost use Rattle.route_base.specs.Net.{IsGoodNet, setting_of};
 ghost use Rattle.node_arcs.specs.Stars.{AreIncoming};
-ghost use Rattle.potentials.specs.Sums.{AreBoundsTo, AreCappedBoundsTo};
+ghost use Rattle.potentials.specs.Sums.{AreBoundsTo, AreCappedBoundsTo, IsCappedSum};
 ghost use Rattle.potentials.specs.Proportion.{AreProportional};
 ghost use Rattle.label_queue.specs.Keys.{key_at};
 ghost use Rattle.potentials.specs.Inside.Caps.{bound_in, bound_of_sums, capped_at, costs_of, HaveCosts, AreSumsTo, AreBoundsIn, IsCapForBoth};
@@ -92,6 +92,27 @@ pub fn to_goal_within(
 {
     let sums = sums_to(alloc, net, incoming, proportional, goal, Some(most))?;
     bounds_of(alloc, &sums, Some(most))
+}
+
+/// The lesser of the cap and the least sum of minutes over walks of arcs from a node to the goal; the cap where there is no walk. It takes
+/// the time and memory of the search for minutes of `to_goal_within`, and makes no list of bounds.
+pub fn minutes_within(
+    alloc: Global,
+    net: &TimedNet,
+    incoming: &NodeArcs,
+    origin: NodeId,
+    goal: NodeId,
+    cap: u64,
+) -> Result<u64, OutOfMemory>
+    requires incoming { AreIncoming net.now incoming.now }
+    requires origin_low { 1 ≤ origin.0 }
+    requires origin_high { origin.0 ≤ net.now.nodes }
+    requires low { 1 ≤ goal.0 }
+    requires high { goal.0 ≤ net.now.nodes }
+    ensures { IfOk result (IsCappedSum (setting_of net.now).road (λ r. r.minutes) goal.0 origin.0 cap) }
+{
+    let sums = minutes_below(alloc, net, incoming, goal, cap)?;
+    Ok(capped(sums[origin.0 as usize - 1], cap))
 }
 
 /// The cap for trips of at most these minutes: they, and their cost where costs are in proportion to minutes, or twice that otherwise.

@@ -23,5 +23,5 @@ mod searches;
 mod sums;
 
 pub use bounded_search::{BoundedSearch, WithoutBounds};
-pub use bounds::{cap_for_minutes, to_goal, to_goal_over, to_goal_within};
+pub use bounds::{cap_for_minutes, minutes_within, to_goal, to_goal_over, to_goal_within};
 pub use proportion::has_proportional_costs;
