@@ -5,6 +5,9 @@ from typing import Any, Iterable, NamedTuple, Sequence
 
 import numpy
 
+# How many roads are looked at at once.
+AT_ONCE = 4096
+
 
 class Arc(NamedTuple):
     """One road: its ends, driving time in milliseconds, metres, the number of its rules, metres
@@ -64,13 +67,22 @@ class Arcs:
         return found
 
     def take(self, at: Any) -> Arcs:
-        """Some of them, by their places or by whether each is taken."""
+        """Some of them, by their places or by whether each is taken; these themselves where all
+        are."""
         at = numpy.asarray(at)
         if at.dtype == bool:
+            if at.all():
+                return self
             at = numpy.flatnonzero(at)
-        counts = self.firsts[at + 1] - self.firsts[at]
-        places, firsts = ranges(self.firsts[at], counts)
-        return Arcs((it[at] for it in self.columns()), firsts, self.pieces[places])
+        begins = self.firsts[at]
+        counts = self.firsts[at + 1] - begins
+        firsts = numpy.concatenate(([0], numpy.cumsum(counts)))
+        pieces = numpy.empty(firsts[-1], dtype=numpy.int32)
+        for first in range(0, len(at), AT_ONCE):
+            own = slice(first, first + AT_ONCE)
+            places, _ = ranges(begins[own], counts[own])
+            pieces[firsts[first] : firsts[first] + len(places)] = self.pieces[places]
+        return Arcs((it[at] for it in self.columns()), firsts, pieces)
 
     def with_more(self, others: Arcs) -> Arcs:
         """These and then others."""

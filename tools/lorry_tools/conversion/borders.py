@@ -6,7 +6,6 @@ that is open. Coordinates are whole numbers of 1e-7 degrees."""
 from __future__ import annotations
 
 import collections
-import itertools
 import math
 from typing import AbstractSet, Any, Iterable, Mapping, Optional
 
@@ -17,12 +16,15 @@ from lorry_tools.conversion.arcs import ranges
 # Places, as pairs of coordinates: a list, or an array of two columns.
 Line = Any
 Cell = tuple[int, int]
-# The codes of cells without a border's way, and whether a closed border says so.
-PlainCells = dict[Cell, tuple[Optional[str], bool]]
+# The codes of cells without a border's way, by the cells' numbers, and whether a closed border says
+# so.
+PlainCells = dict[int, tuple[Optional[str], bool]]
 
 # Places are looked up by cells of a hundredth of a degree; a cell without a border's way lies in
 # one country.
 CELL = 100_000
+# More rows and columns of cells than the globe has.
+WIDEST = 1 << 20
 # How many cells away a border is looked for.
 MOST_RINGS = 200
 # Pairs of a place and an edge that are looked at at once.
@@ -34,6 +36,11 @@ def cells_of_ring(column: int, row: int, ring: int) -> list[Cell]:
         return [(column, row)]
     found = [(column + i, row + j) for i in range(-ring, ring + 1) for j in (-ring, ring)]
     return found + [(column + i, row + j) for i in (-ring, ring) for j in range(-ring + 1, ring)]
+
+
+def number_of(cell: Any) -> Any:
+    """The number of a cell, or of many, given as arrays."""
+    return (cell[0] + WIDEST // 2) * WIDEST + cell[1] + WIDEST // 2
 
 
 def has_places(line: Optional[Line]) -> bool:
@@ -70,11 +77,11 @@ class Border:
         cuts = numpy.split(edges[own[order]], firsts[1:])
         self.edges: dict[int, Any] = dict(zip(names.tolist(), cuts))
         self.known: dict[int, list[list[int]]] = {}
-        is_in_one = (low == high).all(axis=1)
-        self.cells: set[Cell] = {(it[0], it[1]) for it in low[is_in_one].tolist()}
-        for (column, row), (last, top) in zip(low[~is_in_one].tolist(), high[~is_in_one].tolist()):
-            every = itertools.product(range(column, last + 1), range(row, top + 1))
-            self.cells.update(every)
+        # The numbers of the cells around edges, in their order.
+        wide, high = (high - low + 1).astype(numpy.int64).T
+        within, _ = ranges(numpy.zeros(len(edges), dtype=int), wide * high)
+        columns, rows, wide = numpy.repeat((*low.T, wide), wide * high, axis=1)
+        self.cells = numpy.unique(number_of((columns + within % wide, rows + within // wide)))
         self.closed = len(edges) > 0 and all(count % 2 == 0 for count in counts.values())
         self.box = (0, 0, -1, -1)
         if len(edges):
@@ -155,7 +162,7 @@ class Borders:
             if subdivisions or "-" not in code:
                 members[code].update(dict.fromkeys(own))
         self.closed: list[Border] = []
-        self.cells: set[Cell] = set()
+        cells = [numpy.zeros(0, dtype=int)]
         opened: dict[str, set[int]] = {}
         complete: set[int] = set()
         for code, numbers in sorted(members.items()):
@@ -164,12 +171,13 @@ class Borders:
             border = Border(code, filter(has_places, lines))
             if not border.edges:
                 continue
-            self.cells |= border.cells
+            cells.append(border.cells)
             if border.closed and is_whole:
                 self.closed.append(border)
                 complete.update(numbers)
             elif "-" not in code:
                 opened[code] = set(numbers)
+        self.cells = numpy.unique(numpy.concatenate(cells))
         # A place may be within a country and within its subdivision: the smaller one is looked at
         # first.
         self.closed.sort(key=lambda border: (("-" not in border.code), border.area()))
@@ -238,25 +246,23 @@ class Borders:
     def countries(self, xs: Any, ys: Any, plain: PlainCells) -> tuple[Any, list[Optional[str]]]:
         """The codes of many places, given as arrays, as numbers of a list; places that no closed
         border has are counted. `plain` has what was found of cells without a border's way."""
-        width = 1 << 20
-        cells = (xs // CELL + width // 2) * width + ys // CELL + width // 2
         names, firsts, back, counts = numpy.unique(
-            cells, return_index=True, return_inverse=True, return_counts=True
+            number_of((xs // CELL, ys // CELL)),
+            return_index=True,
+            return_inverse=True,
+            return_counts=True,
         )
-        is_plain = numpy.zeros(len(names), dtype=bool)
+        is_plain = ~numpy.isin(names, self.cells)
         codes: dict[Optional[str], int] = {}
         of_cell = numpy.zeros(len(names), dtype=numpy.intc)
-        for number, first in enumerate(firsts.tolist()):
-            x, y = int(xs[first]), int(ys[first])
-            cell = (x // CELL, y // CELL)
-            if cell not in self.cells:
-                is_plain[number] = True
-                if cell not in plain:
-                    plain[cell] = self.find(x, y)
-                code, is_sure = plain[cell]
-                of_cell[number] = codes.setdefault(code, len(codes))
-                if not is_sure:
-                    self.near[code] += int(counts[number])
+        for number in numpy.flatnonzero(is_plain).tolist():
+            cell, first = int(names[number]), firsts[number]
+            if cell not in plain:
+                plain[cell] = self.find(int(xs[first]), int(ys[first]))
+            code, is_sure = plain[cell]
+            of_cell[number] = codes.setdefault(code, len(codes))
+            if not is_sure:
+                self.near[code] += int(counts[number])
         found = of_cell[back]
         left = numpy.flatnonzero(~is_plain[back])
         for border in self.closed:

@@ -18,7 +18,7 @@ from typing import Any, Callable, Collection, Iterable, Iterator, Optional, Sequ
 import numpy
 
 from lorry_tools.conversion import access, shortcuts
-from lorry_tools.conversion.arcs import Arcs, ranges, stars
+from lorry_tools.conversion.arcs import AT_ONCE, Arcs, ranges, stars
 from lorry_tools.conversion.kinds import Kinds, Ruled
 from lorry_tools.conversion.roads import Rules, sums
 from lorry_tools.conversion.shortcuts import Link, Links
@@ -41,8 +41,8 @@ MOST_LABELS = (1 << BITS) - 1
 KINDS = MOST_KEPT + 1
 # From how many kept junctions on several processes are worth it, and how many one takes at once.
 FEWEST_FOR_PROCESSES, CHUNK = 500, 50
-# How many roads or ways are looked at at once, and the most nodes whose links are objects.
-AT_ONCE, MOST_LINKED, BLOCK = 4096, 1 << 13, 32
+# The most nodes whose links are objects, and how many get theirs at once.
+MOST_LINKED, BLOCK = 1 << 13, 32
 # Longer times than searches of few nodes go.
 LONGEST = (1 << 31) - 1
 
@@ -462,7 +462,12 @@ class Coarse:
                 self.counts.append(len(path))
                 self.kinds.append(kind)
         self.sets, set_of_kind = stars.kinds.sets()
-        self.made = self.of_ways(search.short, set_of_kind[numpy.array(self.kinds, dtype=int)])
+        paths, firsts = self.over_arcs(search.short)
+        rules = set_of_kind[numpy.array(self.kinds, dtype=int)]
+        # What only the search needed.
+        stars.links.clear()
+        del search, self.paths, self.kinds, self.counts
+        self.made = self.of_ways(paths, firsts, rules)
 
     def over_arcs(self, short: shortcuts.Graph) -> tuple[Any, Any]:
         """The arcs of the ways, for which there are shortcuts, and where each way begins."""
@@ -474,10 +479,9 @@ class Coarse:
         firsts = numpy.concatenate(([0], numpy.cumsum(sizes)))
         return numpy.concatenate([it for it, _ in parts]), firsts
 
-    def of_ways(self, short: shortcuts.Graph, rules: Any) -> Arcs:
-        """The arcs that stand for the ways."""
+    def of_ways(self, paths: Any, firsts: Any, rules: Any) -> Arcs:
+        """The arcs that stand for the ways, which are lists of other arcs."""
         arcs = self.arcs
-        paths, firsts = self.over_arcs(short)
         begins, ends = firsts[:-1], firsts[1:]
         one = paths[begins]
         times, lengths, tolls = (

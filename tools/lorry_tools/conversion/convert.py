@@ -237,7 +237,7 @@ class Conversion:
             raise Stop(f"--country {options.country}: not a code such as de or de-by")
         self.borders = borders.Borders(given, ways, options.subdivisions)
         # Their lines are no longer needed.
-        self.extract.border_ways = {}
+        self.extract.borders, self.extract.border_ways = [], {}
         codes = self.borders.codes()
         report.number(
             "borders",
@@ -361,6 +361,8 @@ class Conversion:
                     area,
                     count=count,
                 )
+        # Nothing is asked of the borders from here on.
+        self.borders, self.areas_of = borders.Borders([], {}, False), None
         if "other" in (network.areas[it] for it in numpy.unique(arcs.areas).tolist()):
             report.add("warning", "roads in no known country: give --country", "")
 

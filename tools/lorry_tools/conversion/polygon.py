@@ -12,7 +12,7 @@ from __future__ import annotations
 
 import re
 
-from lorry_tools.conversion.borders import CELL, Border, Cell, Line
+from lorry_tools.conversion.borders import CELL, Border, Line, number_of
 
 
 class NoPolygon(Exception):
@@ -50,11 +50,12 @@ class Polygon:
 
     def __init__(self, rings: list[Line]) -> None:
         self.border = Border("", rings)
-        self.known: dict[Cell, bool] = {}
+        self.cells = set(self.border.cells.tolist())
+        self.known: dict[int, bool] = {}
 
     def contains(self, x: int, y: int) -> bool:
-        cell = (x // CELL, y // CELL)
-        if cell in self.border.cells:
+        cell = number_of((x // CELL, y // CELL))
+        if cell in self.cells:
             return self.border.contains(x, y)
         if cell not in self.known:
             self.known[cell] = self.border.contains(x, y)

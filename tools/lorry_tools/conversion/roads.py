@@ -35,6 +35,8 @@ ALL_OPEN: Lists = (OPEN,) * 4
 TRIED = 5
 # How many places of the extract's arrays are looked at at once.
 AT_ONCE = 1 << 16
+# How many nodes of roads that go on are looked at at once.
+CHAINED = 2000
 # Ferries have areas of their own, since no law for roads holds on them.
 FERRY_AREA = ".ferry"
 
@@ -654,33 +656,36 @@ def without_continuations(count: int, arcs: Arcs, kept: Iterable[int]) -> Arcs:
     """Drops nodes at which a road only goes on: two neighbours, and on both sides the same rules
     and area, and a toll or none. `kept` stay."""
     chains = Chains(count, arcs, kept)
-    chains.join(chains.first_nodes())
-    made = [chains.arc(it) for it in range(len(arcs), len(arcs) + len(chains.made))]
-    stays = numpy.ones(len(arcs), dtype=bool)
-    stays[[it for it in chains.gone if it < len(arcs)]] = False
-    new = [arc for at, arc in enumerate(made, len(arcs)) if at not in chains.gone]
-    return arcs.take(stays).with_more(of_list(new))
+    nodes = chains.first_nodes()
+    # From the last node on, some of them after others.
+    for first in reversed(range(0, len(nodes), CHAINED)):
+        own = nodes[first : first + CHAINED]
+        chains.see(own)
+        chains.join(own.tolist())
+    return arcs.take(chains.stays_arc).with_more(of_list(list(filter(None, chains.made))))
 
 
 class Chains:
     """Roads that go on at nodes: objects are made only of arcs at nodes that may be dropped."""
 
     def __init__(self, count: int, arcs: Arcs, kept: Iterable[int]) -> None:
-        self.arcs, self.made = arcs, list[Arc]()
+        # What was made, None for what went into a longer one.
+        self.arcs, self.made = arcs, list[Optional[Arc]]()
+        self.stays_arc = numpy.ones(len(arcs), dtype=bool)
         self.stays = numpy.zeros(count, dtype=bool)
         self.stays[list(kept)] = True
         self.out_of, self.into_of = stars(count, arcs.tails), stars(count, arcs.heads)
         self.seen: dict[int, Arc] = {}
         self.out: dict[int, list[int]] = {}
         self.into: dict[int, list[int]] = {}
-        self.gone: set[int] = set()
+        # The nodes whose lists have changed.
+        self.changed: set[int] = set()
 
     def arc(self, at: int) -> Arc:
-        if at >= len(self.arcs):
-            return self.made[at - len(self.arcs)]
-        if at not in self.seen:
-            self.seen[at] = self.arcs[at]
-        return self.seen[at]
+        found = self.made[at - len(self.arcs)] if at >= len(self.arcs) else self.seen.get(at)
+        if found is None:
+            found = self.seen[at] = self.arcs[at]
+        return found
 
     def leaving(self, node: int) -> list[int]:
         if node not in self.out:
@@ -694,7 +699,7 @@ class Chains:
             self.into[node] = order[firsts[node] : firsts[node + 1]].tolist()
         return self.into[node]
 
-    def first_nodes(self) -> list[int]:
+    def first_nodes(self) -> Any:
         """The nodes that may be dropped before any is: others may be after a neighbour is."""
         (leaving, firsts), (entering, begins) = self.out_of, self.into_of
         counts = numpy.diff(firsts)
@@ -715,13 +720,15 @@ class Chains:
                 goes_on &= (tails[one] != heads[other]) & (tails[one] != nodes)
                 goes_on &= (heads[other] != nodes) & ~self.differ(one, other)
             found.append(nodes[goes_on])
-        nodes = numpy.concatenate(found)
-        self.see(nodes)
-        return sorted(nodes.tolist())
+        return numpy.sort(numpy.concatenate(found))
 
     def see(self, nodes: Any) -> None:
-        """Makes the objects of arcs at some nodes at once."""
+        """Makes the objects of arcs at some nodes at once, in place of earlier ones."""
         arcs = self.arcs
+        self.seen.clear()
+        for lists in (self.out, self.into):
+            for node in lists.keys() - self.changed:
+                del lists[node]
         around = (
             order[ranges(firsts[nodes], firsts[nodes + 1] - firsts[nodes])[0]]
             for order, firsts in (self.out_of, self.into_of)
@@ -770,7 +777,11 @@ class Chains:
         for old in (one, other):
             self.leaving(self.arc(old).tail).remove(old)
             self.entering(self.arc(old).head).remove(old)
-            self.gone.add(old)
+            self.changed.update(self.arc(old)[:2])
+            if old < len(self.arcs):
+                self.stays_arc[old] = False
+            else:
+                self.made[old - len(self.arcs)] = None
         number = len(self.arcs) + len(self.made)
         self.leaving(made.tail).append(number)
         self.entering(made.head).append(number)

@@ -8,15 +8,13 @@ from typing import Any, Callable, Iterable, Optional
 import numpy
 
 from lorry_tools.conversion import notation, tags as road_tags
+from lorry_tools.conversion.borders import CELL, number_of
 from lorry_tools.conversion.extract import Extract, TagPairs
 from lorry_tools.conversion.notation import Unread
 from lorry_tools.conversion.report import Report
-from lorry_tools.conversion.roads import Network, metres
+from lorry_tools.conversion.roads import AT_ONCE, Network, metres
 from lorry_tools.conversion.tags import Tags
 
-CELL = 100_000
-# More rows and columns of cells than the globe has.
-WIDEST = 1 << 20
 # The farthest node that is taken, in metres.
 MOST_TO_PARKING, MOST_TO_DEPOT, MOST_TO_TOWN = 300, 1000, 2000
 # Ratings, the best first, each with an invented price of a minute's wait.
@@ -162,34 +160,19 @@ def cells_around(x: int, y: int, reach: int = 1) -> list[tuple[int, int]]:
     ]
 
 
-def code_of(cells: Any) -> Any:
-    """The number of a cell, or of many, given as arrays."""
-    return (cells[0] + WIDEST // 2) * WIDEST + cells[1] + WIDEST // 2
-
-
 def nearest_refs(
     extract: Extract, usable: Callable[[TagPairs], bool], sites: Iterable[Site]
 ) -> set[int]:
     """The node of a usable way that is nearest to each site, so that the network has it."""
-    wanted = {code_of(cell) for site in sites for cell in cells_around(site.x, site.y)}
+    wanted = {number_of(cell) for site in sites for cell in cells_around(site.x, site.y)}
     if not wanted:
         return set()
-    ways = extract.ways
-    is_usable = numpy.array([usable(tags) for tags in ways.tags], dtype=bool)
-    counts = numpy.subtract(ways.lasts, ways.firsts)
-    at = numpy.flatnonzero(numpy.repeat(is_usable[numpy.asarray(ways.tags_of)], counts))
+    grid = places_in_cells(extract, usable, numpy.array(sorted(wanted)))
     xs, ys = (numpy.frombuffer(it, dtype=numpy.intc) for it in (extract.xs, extract.ys))
     refs = numpy.frombuffer(extract.refs, dtype=numpy.int64)
-    codes = code_of((xs[at].astype(numpy.int64) // CELL, ys[at].astype(numpy.int64) // CELL))
-    near_some = numpy.isin(codes, numpy.fromiter(wanted, dtype=numpy.int64))
-    at, codes = at[near_some], codes[near_some]
-    order = numpy.argsort(codes, kind="stable")
-    at, codes = at[order], codes[order]
-    names, starts = numpy.unique(codes, return_index=True)
-    grid = dict(zip(names.tolist(), numpy.split(at, starts[1:])))
     found: set[int] = set()
     for site in sites:
-        cells = [code_of(cell) for cell in cells_around(site.x, site.y)]
+        cells = [number_of(cell) for cell in cells_around(site.x, site.y)]
         parts = [grid[code] for code in cells if code in grid]
         if parts:
             near = numpy.concatenate(parts)
@@ -203,6 +186,30 @@ def nearest_refs(
             if len(own):
                 found.add(int(refs[own[0]]))
     return found
+
+
+def places_in_cells(
+    extract: Extract, usable: Callable[[TagPairs], bool], wanted: Any
+) -> dict[int, Any]:
+    """The places of usable ways in the extract's arrays, by some cells, whose numbers are in their
+    order."""
+    ways = extract.ways
+    is_usable = numpy.array([usable(tags) for tags in ways.tags], dtype=bool)
+    counts = numpy.subtract(ways.lasts, ways.firsts)
+    is_used = numpy.repeat(is_usable[numpy.asarray(ways.tags_of)], counts)
+    xs, ys = (numpy.frombuffer(it, dtype=numpy.intc) for it in (extract.xs, extract.ys))
+    parts, cells = [], []
+    for first in range(0, len(is_used), AT_ONCE):
+        at = first + numpy.flatnonzero(is_used[first : first + AT_ONCE])
+        codes = number_of([it[at].astype(numpy.int64) // CELL for it in (xs, ys)])
+        near = numpy.minimum(numpy.searchsorted(wanted, codes), len(wanted) - 1)
+        is_near = wanted[near] == codes
+        parts.append(at[is_near].astype(numpy.int32))
+        cells.append(near[is_near].astype(numpy.int32))
+    own = numpy.concatenate(cells)
+    at = numpy.concatenate(parts)[numpy.argsort(own, kind="stable")]
+    names, counts = numpy.unique(own, return_counts=True)
+    return dict(zip(wanted[names].tolist(), numpy.split(at, numpy.cumsum(counts)[:-1])))
 
 
 def nearest_place(site: Site, near: Any, extract: Extract) -> int:
@@ -221,7 +228,7 @@ class Nodes:
     def __init__(self, network: Network, nodes: Any) -> None:
         self.network = network
         places = (numpy.asarray(it)[nodes].astype(numpy.int64) for it in (network.xs, network.ys))
-        codes = code_of([it // CELL for it in places])
+        codes = number_of([it // CELL for it in places])
         order = numpy.argsort(codes, kind="stable")
         self.codes, self.nodes = codes[order], nodes[order]
 
@@ -232,7 +239,7 @@ class Nodes:
         """The nodes in the cells around a place."""
         column, row = x // CELL, y // CELL
         ends = [
-            (code_of((column + it, row - reach)), code_of((column + it, row + reach)) + 1)
+            (number_of((column + it, row - reach)), number_of((column + it, row + reach)) + 1)
             for it in range(-reach, reach + 1)
         ]
         cuts = numpy.searchsorted(self.codes, ends).tolist()
