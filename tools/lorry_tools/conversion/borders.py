@@ -27,8 +27,8 @@ CELL = 100_000
 WIDEST = 1 << 20
 # How many cells away a border is looked for.
 MOST_RINGS = 200
-# Pairs of a place and an edge that are looked at at once.
-AT_ONCE = 100_000
+# Pairs of a place and an edge, and edges, that are looked at at once.
+PAIRS_AT_ONCE, AT_ONCE = 100_000, 1 << 14
 
 
 def cells_of_ring(column: int, row: int, ring: int) -> list[Cell]:
@@ -41,6 +41,14 @@ def cells_of_ring(column: int, row: int, ring: int) -> list[Cell]:
 def number_of(cell: Any) -> Any:
     """The number of a cell, or of many, given as arrays."""
     return (cell[0] + WIDEST // 2) * WIDEST + cell[1] + WIDEST // 2
+
+
+def cells_of_boxes(low: Any, high: Any) -> Any:
+    """The numbers of the cells of some boxes, each once."""
+    wide, high = (high - low + 1).astype(numpy.int64).T
+    within, _ = ranges(numpy.zeros(len(low), dtype=int), wide * high)
+    columns, rows, wide = numpy.repeat((*low.T, wide), wide * high, axis=1)
+    return numpy.unique(number_of((columns + within % wide, rows + within // wide)))
 
 
 def has_places(line: Optional[Line]) -> bool:
@@ -78,10 +86,9 @@ class Border:
         self.edges: dict[int, Any] = dict(zip(names.tolist(), cuts))
         self.known: dict[int, list[list[int]]] = {}
         # The numbers of the cells around edges, in their order.
-        wide, high = (high - low + 1).astype(numpy.int64).T
-        within, _ = ranges(numpy.zeros(len(edges), dtype=int), wide * high)
-        columns, rows, wide = numpy.repeat((*low.T, wide), wide * high, axis=1)
-        self.cells = numpy.unique(number_of((columns + within % wide, rows + within // wide)))
+        every = range(0, len(edges), AT_ONCE)
+        found = [cells_of_boxes(low[it : it + AT_ONCE], high[it : it + AT_ONCE]) for it in every]
+        self.cells = numpy.unique(numpy.concatenate([numpy.zeros(0, dtype=int), *found]))
         self.closed = len(edges) > 0 and all(count % 2 == 0 for count in counts.values())
         self.box = (0, 0, -1, -1)
         if len(edges):
@@ -133,7 +140,7 @@ def odd_crossings(edges: Any, xs: Any, ys: Any) -> Any:
     to_the_north = len(levels) - numpy.searchsorted(levels, ys, side="right")
     found = to_the_north % 2 == 1
     near = edges[is_near]
-    for part in numpy.array_split(numpy.arange(len(xs)), len(xs) * len(near) // AT_ONCE + 1):
+    for part in numpy.array_split(numpy.arange(len(xs)), len(xs) * len(near) // PAIRS_AT_ONCE + 1):
         found[part] ^= parities(near, xs[part], ys[part])
     return found
 

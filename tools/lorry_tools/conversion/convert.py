@@ -23,6 +23,7 @@ from lorry_tools.conversion import (
     extract,
     holiday_rows,
     law_sections,
+    memory,
     polygon,
     roads,
     shapes,
@@ -150,14 +151,18 @@ class Conversion:
         return Counted(what, self.progress)
 
     def run(self) -> Report:
-        self.read()
-        self.find_countries()
-        self.estimate()
-        self.make_network()
-        self.make_coarse()
-        self.make_nights()
-        self.number()
-        self.write()
+        for step in (
+            self.read,
+            self.find_countries,
+            self.estimate,
+            self.make_network,
+            self.make_coarse,
+            self.make_nights,
+            self.number,
+            self.write,
+        ):
+            step()
+            memory.give_back()
         return self.report
 
     # Reading
@@ -336,7 +341,7 @@ class Conversion:
         self.progress(f"{len(arcs):,} arcs; the largest strongly connected part ..")
         nodes = roads.largest_component(len(network.refs), arcs.tails, arcs.heads)
         self.report_lost(arcs, numpy.flatnonzero(~(nodes[arcs.tails] & nodes[arcs.heads])))
-        arcs = roads.within(arcs, nodes)
+        arcs.keep(nodes[arcs.tails] & nodes[arcs.heads])
         if not len(arcs):
             raise Stop("no two places are connected in both directions")
         self.sites = sites.place_sites(self.sites, network, nodes, report)

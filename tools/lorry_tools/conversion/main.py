@@ -10,22 +10,16 @@ has an example, and says what the folder isn't good for."""
 from __future__ import annotations
 
 import argparse
-import ctypes
 import gc
 import os
 
-from lorry_tools.conversion import holiday_rows
+from lorry_tools.conversion import holiday_rows, memory
 from lorry_tools.problems import Problem
 
 MISSING = (
     "pyosmium or numpy is missing: apt-get install python3-pyosmium python3-numpy, and run this by "
     "the system's own Python, /usr/bin/python3"
 )
-
-
-# The option M_MMAP_THRESHOLD of mallopt(3), and from how many bytes on memory has pages of its own,
-# which go back to the system as soon as it is freed.
-MAPPED, MAPPED_BYTES = -3, 1 << 17
 
 
 def parser() -> argparse.ArgumentParser:
@@ -203,8 +197,7 @@ def main() -> int:
         raise Problem(f"there is no file {options.extract}", 1)
     # A conversion makes no cycles, and each look for some would pass millions of objects.
     gc.disable()
-    if hasattr(ctypes.CDLL(None), "mallopt"):
-        ctypes.CDLL(None).mallopt(MAPPED, MAPPED_BYTES)
+    memory.map_large()
     try:
         report = convert.Conversion(options, convert.say).run()
     except (convert.Stop, tables.TooLarge) as error:

@@ -654,7 +654,7 @@ def differs(one: Arc, other: Arc) -> bool:
 
 def without_continuations(count: int, arcs: Arcs, kept: Iterable[int]) -> Arcs:
     """Drops nodes at which a road only goes on: two neighbours, and on both sides the same rules
-    and area, and a toll or none. `kept` stay."""
+    and area, and a toll or none. `kept` stay. The arcs given are changed."""
     chains = Chains(count, arcs, kept)
     nodes = chains.first_nodes()
     # From the last node on, some of them after others.
@@ -662,7 +662,10 @@ def without_continuations(count: int, arcs: Arcs, kept: Iterable[int]) -> Arcs:
         own = nodes[first : first + CHAINED]
         chains.see(own)
         chains.join(own.tolist())
-    return arcs.take(chains.stays_arc).with_more(of_list(list(filter(None, chains.made))))
+    made, stays = of_list(list(filter(None, chains.made))), chains.stays_arc
+    del chains
+    arcs.keep(stays, made)
+    return arcs
 
 
 class Chains:
@@ -678,8 +681,9 @@ class Chains:
         self.seen: dict[int, Arc] = {}
         self.out: dict[int, list[int]] = {}
         self.into: dict[int, list[int]] = {}
-        # The nodes whose lists have changed.
+        # The nodes whose lists have changed, but for those that were dropped.
         self.changed: set[int] = set()
+        self.is_dropped = bytearray(count)
 
     def arc(self, at: int) -> Arc:
         found = self.made[at - len(self.arcs)] if at >= len(self.arcs) else self.seen.get(at)
@@ -751,6 +755,8 @@ class Chains:
         """Drops nodes, from the last one of `work` on, and their neighbours where they may be."""
         while work:
             node = work.pop()
+            if self.is_dropped[node]:
+                continue
             entering, leaving = self.entering(node), self.leaving(node)
             if len(entering) != len(leaving) or len(entering) not in (1, 2):
                 continue
@@ -769,6 +775,9 @@ class Chains:
                 continue
             for a, b in pairs:
                 self.replace(a, b)
+            self.is_dropped[node] = 1
+            self.changed.discard(node)
+            del self.out[node], self.into[node]
             work += [it for it in neighbours if not self.stays[it]]
 
     def replace(self, one: int, other: int) -> None:
