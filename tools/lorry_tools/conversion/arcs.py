@@ -89,11 +89,11 @@ class Arcs:
             pieces[firsts[first] : firsts[first] + len(places)] = self.pieces[places]
         return firsts, pieces
 
-    def keep(self, is_kept: Any, more: Optional[Arcs] = None) -> None:
-        """Keeps those of which that is said, and adds others, column by column: it takes less
-        memory than `take` and `with_more`."""
+    def keep(self, at: Any, more: Optional[Arcs] = None) -> None:
+        """Keeps some, as `take` has them, and adds others, column by column: it takes less memory
+        than `take` and `with_more`."""
         others = of_list([]) if more is None else more
-        at = numpy.flatnonzero(is_kept)
+        at = numpy.flatnonzero(at) if at.dtype == bool else at
         firsts, pieces = self.pieces_at(at)
         self.firsts = numpy.concatenate((firsts, firsts[-1] + others.firsts[1:]))
         self.pieces = numpy.concatenate((pieces, others.pieces))

@@ -410,7 +410,7 @@ def without_detours(
     ys: Sequence[int],
     progress: Callable[[int, int], None],
 ) -> Arcs:
-    """Leaves out arcs that others replace, from short to long."""
+    """Leaves out arcs that others replace, from short to long. The arcs given are changed."""
     fastest = float((arcs.lengths / arcs.times).max()) if len(arcs) else 1.0
     detours = Detours(xs, ys, fastest)
     found = array.array("i")
@@ -427,7 +427,9 @@ def without_detours(
             if not detours.replace(*own):
                 detours.add(*own)
                 found.append(at)
-    return arcs.take(numpy.array(found))
+    del detours
+    arcs.keep(numpy.array(found, dtype=int))
+    return arcs
 
 
 class Coarse:
@@ -471,13 +473,16 @@ class Coarse:
 
     def over_arcs(self, short: shortcuts.Graph) -> tuple[Any, Any]:
         """The arcs of the ways, for which there are shortcuts, and where each way begins."""
-        counts = numpy.array(self.counts)
-        paths = numpy.array(self.paths)
-        cuts = numpy.concatenate(([0], numpy.cumsum(counts)))
-        parts = [short.arcs(paths[a:b], end - begin) for a, b, begin, end in parts_of(cuts)]
-        sizes = numpy.concatenate([numpy.diff(firsts) for _, firsts in parts])
-        firsts = numpy.concatenate(([0], numpy.cumsum(sizes)))
-        return numpy.concatenate([it for it, _ in parts]), firsts
+        paths = numpy.frombuffer(self.paths, dtype=numpy.intc)
+        cuts: Any = numpy.cumsum([0, *self.counts])
+        found, sizes = array.array("i"), array.array("i")
+        for a, b, begin, end in parts_of(cuts):
+            own, firsts = short.arcs(paths[a:b], end - begin)
+            found.frombytes(own.tobytes())
+            sizes.frombytes(numpy.diff(firsts).astype(numpy.intc).tobytes())
+        firsts = numpy.zeros(len(sizes) + 1, dtype=numpy.int64)
+        numpy.cumsum(sizes, out=firsts[1:])
+        return numpy.frombuffer(found, dtype=numpy.intc), firsts
 
     def of_ways(self, paths: Any, firsts: Any, rules: Any) -> Arcs:
         """The arcs that stand for the ways, which are lists of other arcs."""
@@ -514,7 +519,7 @@ def named(made: Arcs, arcs: Arcs, names: Sequence[str]) -> Arcs:
     their metres."""
     plain = names.index("") if "" in names else -1
     counts: list[Any] = []
-    pieces: list[Any] = []
+    pieces = array.array("i")
     own_names: list[Any] = []
     for a, b, begins, ends in parts_of(made.firsts):
         places = made.pieces[a:b]
@@ -526,12 +531,12 @@ def named(made: Arcs, arcs: Arcs, names: Sequence[str]) -> Arcs:
         order = numpy.lexsort((firsts, -metres, name == plain, way))
         own_names.append(name[order][numpy.unique(way[order], return_index=True)[1]])
         sizes = arcs.firsts[places + 1] - arcs.firsts[places]
-        pieces.append(arcs.pieces[ranges(arcs.firsts[places], sizes)[0]])
+        pieces.frombytes(arcs.pieces[ranges(arcs.firsts[places], sizes)[0]].tobytes())
         counts.append(numpy.add.reduceat(sizes, begins))
     columns = made.columns()
     columns[-1] = numpy.concatenate(own_names)
     firsts = numpy.concatenate(([0], numpy.cumsum(numpy.concatenate(counts))))
-    return Arcs(columns, firsts, numpy.concatenate(pieces))
+    return Arcs(columns, firsts, numpy.frombuffer(pieces, dtype=numpy.intc))
 
 
 class Search:

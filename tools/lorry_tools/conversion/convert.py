@@ -345,6 +345,7 @@ class Conversion:
         if not len(arcs):
             raise Stop("no two places are connected in both directions")
         self.sites = sites.place_sites(self.sites, network, nodes, report)
+        found.parking = []
         kept = {site.node for site in self.sites}
         self.arcs = arcs = roads.without_continuations(len(network.refs), arcs, kept)
         self.nodes = numpy.unique(arcs.tails)
@@ -411,14 +412,14 @@ class Conversion:
             f"{kept} junctions kept, {len(made):,} ways between them; leaving out what others"
             " replace .."
         )
-        usable = coarse.usable(made, self.sets, self.rules)
+        arcs = coarse.usable(made, self.sets, self.rules)
         report.number("junctions kept, and ways between them", f"{kept}, {len(made):,}")
-        if len(made) > len(usable):
+        if len(made) > len(arcs):
             report.add(
                 "left out",
                 "ways between junctions that nobody may use as a whole",
                 "",
-                count=len(made) - len(usable),
+                count=len(made) - len(arcs),
             )
         if found.gave_up:
             report.add(
@@ -429,21 +430,25 @@ class Conversion:
             )
         del found, made
         arcs = coarse.without_detours(
-            usable, self.sets, network.xs, network.ys, self.counted("ways compared with others")
+            arcs, self.sets, network.xs, network.ys, self.counted("ways compared with others")
         )
         nodes = roads.largest_component(count, arcs.tails, arcs.heads)
         arcs = roads.within(arcs, nodes)
         if not len(arcs):
             raise Stop("nothing is left of so coarse a network: take fewer seconds by --coarse")
-        self.arcs = coarse.named(arcs, self.fine_arcs, self.extract.ways.names)
         self.move_sites(nodes, stars)
+        del stars
+        self.arcs = coarse.named(arcs, self.fine_arcs, self.extract.ways.names)
 
     def move_sites(self, nodes: Any, stars: coarse.Stars) -> None:
         """Parking that isn't at a kept junction moves to the nearest one by driving time."""
         gap = self.options.coarse * 1000
+        known: dict[int, Optional[int]] = {}
         for site in self.sites:
             if not nodes[site.node]:
-                near = coarse.nearest(site.node, stars, nodes, 2 * gap)
+                if site.node not in known:
+                    known[site.node] = coarse.nearest(site.node, stars, nodes, 2 * gap)
+                near = known[site.node]
                 site.node = sites.NOWHERE if near is None else near
                 if site.node == sites.NOWHERE:
                     self.report.add(

@@ -36,8 +36,7 @@ class Links(NamedTuple):
 
 def inner_nodes(count: int, arcs: Arcs, is_kept: Any) -> Any:
     """Which nodes aren't on roads that end, but for kept junctions."""
-    pairs = pairs_of(count, arcs.tails, arcs.heads)
-    one, other = pairs // count, pairs % count
+    one, other = pairs_of(count, arcs.tails, arcs.heads)
     is_inner = numpy.ones(count, dtype=bool)
     while True:
         neighbours = numpy.bincount(one, minlength=count) + numpy.bincount(other, minlength=count)
@@ -49,11 +48,16 @@ def inner_nodes(count: int, arcs: Arcs, is_kept: Any) -> Any:
         one, other = one[goes_on], other[goes_on]
 
 
-def pairs_of(count: int, tails: Any, heads: Any) -> Any:
-    """The pairs of neighbours, each once, as numbers: the lesser one, times the count, and the
-    other one."""
-    lesser = numpy.minimum(tails, heads).astype(numpy.int64)
-    return numpy.unique(lesser * count + numpy.maximum(tails, heads))
+def pairs_of(count: int, tails: Any, heads: Any) -> tuple[Any, Any]:
+    """The pairs of neighbours, each once: the lesser ones, and the others."""
+    pairs = numpy.minimum(tails, heads).astype(numpy.int64)
+    pairs *= count
+    pairs += numpy.maximum(tails, heads)
+    pairs.sort()
+    is_first = numpy.ones(len(pairs), dtype=bool)
+    is_first[1:] = pairs[1:] != pairs[:-1]
+    pairs = pairs[is_first]
+    return (pairs // count).astype(numpy.int32), (pairs % count).astype(numpy.int32)
 
 
 class Graph:
@@ -85,10 +89,17 @@ class Graph:
         """Takes out nodes of at most so many neighbours, no two of them neighbours, with a shortcut
         for each way through them; whether it is worth it to go on. Of three neighbours the nodes
         around them stay."""
+        taken, left = self.taken(most)
+        found = numpy.count_nonzero(taken)
+        if found:
+            self.replace(taken, kinds_of)
+        return found > FEWEST * left
+
+    def taken(self, most: int) -> tuple[Any, int]:
+        """Which nodes are taken out next, and how many are left before."""
         count = self.count
         tails, heads = self.own[:2]
-        pairs = pairs_of(count, tails, heads)
-        one, other = pairs // count, pairs % count
+        one, other = pairs_of(count, tails, heads)
         around = numpy.bincount(one, minlength=count) + numpy.bincount(other, minlength=count)
         ways = numpy.bincount(tails, minlength=count) * numpy.bincount(heads, minlength=count)
         taken = (around > 0) & (around <= most) & ~self.stays & (ways <= SHORTCUTS)
@@ -100,14 +111,11 @@ class Graph:
         if most == NEIGHBOURS:
             self.stays[one[taken[other]]] = True
             self.stays[other[taken[one]]] = True
-        found = numpy.count_nonzero(taken)
-        if found:
-            self.replace(taken, kinds_of)
-        return found > FEWEST * numpy.count_nonzero(around)
+        return taken, numpy.count_nonzero(around)
 
     def replace(self, taken: Any, kinds_of: list[Any]) -> None:
         tails, heads, times, places, kinds = self.own
-        into, out = numpy.flatnonzero(taken[heads]), numpy.flatnonzero(taken[tails])
+        into, out = (numpy.flatnonzero(taken[it]).astype(numpy.int32) for it in (heads, tails))
         order, firsts = stars(self.count, tails[out])
         counts = (firsts[1:] - firsts[:-1])[heads[into]]
         leaving = out[order[ranges(firsts[heads[into]], counts)[0]]]

@@ -227,34 +227,35 @@ class Nodes:
 
     def __init__(self, network: Network, nodes: Any) -> None:
         self.network = network
-        places = (numpy.asarray(it)[nodes].astype(numpy.int64) for it in (network.xs, network.ys))
-        codes = number_of([it // CELL for it in places])
+        places = [numpy.asarray(it)[nodes] for it in (network.xs, network.ys)]
+        codes = number_of([it.astype(numpy.int64) // CELL for it in places])
         order = numpy.argsort(codes, kind="stable")
         self.codes, self.nodes = codes[order], nodes[order]
+        self.xs, self.ys = (it[order] for it in places)
 
     def distance(self, node: int, x: int, y: int) -> float:
         return metres(x, y, self.network.xs[node], self.network.ys[node])
 
-    def around(self, x: int, y: int, reach: int) -> list[int]:
-        """The nodes in the cells around a place."""
+    def around(self, x: int, y: int, reach: int) -> Any:
+        """The places, in the columns, of the nodes in the cells around a place."""
         column, row = x // CELL, y // CELL
         ends = [
             (number_of((column + it, row - reach)), number_of((column + it, row + reach)) + 1)
             for it in range(-reach, reach + 1)
         ]
         cuts = numpy.searchsorted(self.codes, ends).tolist()
-        return [it for first, last in cuts for it in self.nodes[first:last].tolist()]
+        return numpy.concatenate([numpy.arange(*it) for it in cuts])
 
     def nearest(self, x: int, y: int, most: int) -> Optional[int]:
         """The nearest node within so many metres, or None."""
-        reach = 1 + int(most / 350)
-        ys, farthest = self.network.ys, most * 90
-        near = [
-            (self.distance(node, x, y), node)
-            for node in self.around(x, y, reach)
-            if abs(ys[node] - y) <= farthest
-        ]
-        found = min(near, default=None)
+        at = self.around(x, y, 1 + int(most / 350))
+        if not len(at):
+            return None
+        wide = math.cos(math.radians(y / 1e7))
+        away = ((self.xs[at] - float(x)) * wide) ** 2 + (self.ys[at] - float(y)) ** 2
+        # The circle of latitude hardly matters so near by, but where it does, it decides.
+        nodes = self.nodes[at[away <= away.min() * 1.01 + 1]].tolist()
+        found = min(((self.distance(node, x, y), node) for node in nodes), default=None)
         return found[1] if found and found[0] <= most else None
 
 
