@@ -5,7 +5,7 @@ import ctypes
 
 # The option M_MMAP_THRESHOLD of mallopt(3), and from how many bytes on memory has pages of its own,
 # which go back as soon as it is freed.
-MAPPED, MAPPED_BYTES = -3, 1 << 17
+MAPPED, MAPPED_BYTES = -3, 3 << 18
 
 library = ctypes.CDLL(None)
 
