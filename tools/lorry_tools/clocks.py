@@ -115,7 +115,8 @@ def minutes_showing(clock: Clock, shown: datetime.datetime) -> list[int]:
 
 def shown_text(clock: Clock, minute: int) -> str:
     """Returns a minute as a local time with its offset, such as 2026-07-10T21:45+02:00."""
-    return f"{local_of(clock, minute):%Y-%m-%dT%H:%M}{offset_text(clock.offset(minute))}"
+    offset = clock.offset(minute)
+    return moment_of(minute + offset).isoformat(timespec="minutes") + offset_text(offset)
 
 
 def local_text(

@@ -42,7 +42,7 @@ def moment_of(minute: int) -> datetime.datetime:
 
 
 def instant_text(minute: int) -> str:
-    return f"{moment_of(minute):%Y-%m-%dT%H:%MZ}"
+    return moment_of(minute).isoformat(timespec="minutes") + "Z"
 
 
 def span_text(minutes: int) -> str:

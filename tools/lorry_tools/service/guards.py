@@ -14,6 +14,8 @@ Send = Callable[[Message], Awaitable[None]]
 Application = Callable[[Message, Receive, Send], Awaitable[None]]
 
 PROBLEM = "application/problem+json"
+# No value that is written has itself as a part.
+ENCODER = json.JSONEncoder(ensure_ascii=False, check_circular=False)
 LARGE = 1 << 16  # bytes of an answer that a client may not take at once
 WAIT_A_SECOND = {"Retry-After": "1"}
 TITLES = {
@@ -71,7 +73,7 @@ def problem_of(
 def json_bytes(value: object) -> bytes:
     """Returns a value as JSON, with a line's end behind it."""
     try:
-        return (json.dumps(value, ensure_ascii=False) + "\n").encode()
+        return (ENCODER.encode(value) + "\n").encode()
     except UnicodeEncodeError:  # of half a pair of surrogates, which a request may have
         return (json.dumps(value) + "\n").encode()
 
