@@ -3,8 +3,7 @@
 A plan that comes alone is planned at once. Otherwise it waits some milliseconds for others, so that
 those who were answered together, and ask again, are planned together again. It waits longer only
 while two batches over its folder are at work, or one that has far more plans than there are
-waiting, or, where many wait, began a short while ago. Where a batch fails, each of its plans is
-planned by itself."""
+waiting. Where a batch fails, each of its plans is planned by itself."""
 from __future__ import annotations
 
 import asyncio
@@ -30,7 +29,6 @@ from lorry_tools.trips.request import Request
 BATCHES_AT_ONCE = 2  # over one folder: while one searches the other one reads
 LONGEST_WAIT = 0.05  # seconds that a plan waits for others while another batch may begin
 PART_OF_BATCH = 20  # such a wait is up to this part of the time that the last batch took
-MANY = 24  # plans that wait, which two batches share, one half a batch's time after the other
 
 Planned = Union[list[Pair], RefusedTrip]
 # What is made of a plan where it was planned, and what a request gets.
@@ -54,10 +52,9 @@ class Line:
     def __init__(self) -> None:
         self.waiting: Deque[Asked] = collections.deque()
         self.at_work: list[int] = []  # how many plans each of those has
-        self.timer: Optional[asyncio.TimerHandle] = None  # of the next look at those that wait
+        self.has_timer = False
         self.last = 0.0  # when a plan came, or a batch was answered, for the last time
-        self.begun = 0.0  # when the last batch began
-        self.took = 0.0  # the seconds of the last batch that ended
+        self.took = 0.0  # the seconds of the last batch
 
     def may_begin(self) -> bool:
         """Whether a batch of those that wait is worth its reading of the folder."""
@@ -65,19 +62,12 @@ class Line:
             return False
         return not self.at_work or 4 * len(self.waiting) >= 3 * max(self.at_work)
 
-    def pause(self, now: float) -> float:
-        """Returns the seconds until a batch of many may begin beside another one."""
-        if not self.at_work or 2 * len(self.waiting) < MANY:
-            return 0.0
-        return self.begun + self.took / BATCHES_AT_ONCE - now
-
     def rows(self) -> int:
-        """Returns how many of those that wait the next batch takes. Beside another batch, or if
-        they are many, it is at most half of all plans, so that two batches become alike, and one
-        reads while the other plans."""
+        """Returns how many of those that wait the next batch takes. Beside another batch it is at
+        most half of all plans, so that the two become alike, and one reads while the other plans.
+        """
         waiting, at_work = len(self.waiting), sum(self.at_work)
-        has_other = at_work or waiting >= MANY
-        return min(waiting, (waiting + at_work + 1) // 2) if has_other else waiting
+        return min(waiting, (waiting + at_work + 1) // 2) if at_work else waiting
 
 
 class Gatherer:
@@ -111,28 +101,20 @@ class Gatherer:
         return max(usual, min(LONGEST_WAIT, line.took / PART_OF_BATCH)) if usual else 0.0
 
     def begin_soon(self, copy: Copy, line: Line, wait: float) -> None:
-        loop = asyncio.get_running_loop()
-        if not line.waiting or (line.timer and line.timer.when() <= loop.time() + wait):
-            return
-        if line.timer:
-            line.timer.cancel()
-        line.timer = loop.call_later(wait, self.begin, copy, line)
+        if line.waiting and not line.has_timer:
+            line.has_timer = True
+            asyncio.get_running_loop().call_later(wait, self.begin, copy, line)
 
     def begin(self, copy: Copy, line: Line) -> None:
         """Starts a batch of those that wait, unless enough are at work: their ends start it."""
-        line.timer, loop = None, asyncio.get_running_loop()
+        line.has_timer = False
         while line.may_begin():
-            pause = line.pause(loop.time())
-            if pause > 0:
-                self.begin_soon(copy, line, pause)
-                return
             most = min(line.rows(), self.limits.batch_rows)
             batch = [line.waiting.popleft() for _ in range(most)]
             batch = [it for it in batch if not it.future.done()]
             if batch:
                 line.at_work.append(len(batch))
-                line.begun = loop.time()
-                task = loop.create_task(self.work(copy, line, batch))
+                task = asyncio.get_running_loop().create_task(self.work(copy, line, batch))
                 self._tasks.add(task)
                 task.add_done_callback(self._tasks.discard)
 
