@@ -217,7 +217,7 @@ class Extract:
 
 def restriction_of(relation: Any, kind: str, tags: Tags) -> Restriction:
     own = {key: tags[key] for key in tags if key.startswith("restriction") or key == "except"}
-    mode = kind[len("restriction") :]
+    mode = kind.removeprefix("restriction")
     if mode and "restriction" in own:
         # An older form: the type says which vehicles it is about.
         own["restriction" + mode] = own.pop("restriction")

@@ -44,7 +44,7 @@ def written(crate: str) -> list[tuple[float, str]]:
         for name in names:
             if name.startswith(prefix) and name.endswith(".oantt"):
                 time = os.stat(os.path.join(at, name)).st_mtime_ns / 1e9
-                found.append((time, name[len(prefix) : -len(".oantt")]))
+                found.append((time, name.removeprefix(prefix).removesuffix(".oantt")))
     return sorted(found)
 
 

@@ -137,7 +137,8 @@ def planned(jobs: list[Job], program: NotedProgram) -> list[Union[list[Pair], Re
     requests = [job.request for job in jobs if job.request]
     found: list[Union[list[Pair], RefusedTrip]] = []
     for first in range(0, len(requests), MOST_JOBS):
-        rows = [row_of(it) for it in requests[first : first + MOST_JOBS]]
+        last = first + MOST_JOBS
+        rows = [row_of(it) for it in requests[first:last]]
         name = program.write("jobs.csv", "\n".join([*JOBS.headers, *rows, ""]))
         found += program.batch(program.work(), name)
     return found

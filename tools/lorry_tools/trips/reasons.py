@@ -59,7 +59,7 @@ class Reasons:
         rule, wait = self.answer.request.rule, option.steps[index]
         if rule is None or wait.end - wait.start < rule.rest:
             return False
-        others = [*option.steps[:index], *option.steps[index + 1 :]]
+        others = [it for place, it in enumerate(option.steps) if place != index]
         return longest_drive(others, rule.rest) > rule.drive
 
     def window_that_opens(self, after: Optional[Step]) -> list[WaitReason]:
@@ -119,7 +119,8 @@ class Reasons:
 def stage_after(steps: list[Step], index: int) -> tuple[list[Step], Optional[Step]]:
     """Returns the drives after a wait, and the leg that follows them, if any."""
     drives: list[Step] = []
-    for step in steps[index + 1 :]:
+    after = index + 1
+    for step in steps[after:]:
         if step.kind != DRIVE:
             return drives, step
         drives.append(step)

@@ -105,7 +105,8 @@ class Text:
             rows.append(row)
         if all(option.metres is None for option in self.answer.options):
             place = rows[0].index("km")
-            rows = [row[:place] + row[place + 1 :] for row in rows]
+            for row in rows:
+                del row[place]
         return aligned(rows)
 
     def option_lines(self, option: Option) -> list[str]:
