@@ -30,6 +30,7 @@ fn bounds_of<R: Ruler + Copy>(
         net,
         incoming,
         ruler,
+        origin: request.origin,
         goal: request.goal,
         depart: request.depart,
         until: request.until,

@@ -1,10 +1,10 @@
 // Labels to a goal, and a check that they hold along each arc and rest.
-ghost use Rattle.std.specs.Prelude.{◌≡◌, ◌+◌, ◌≤◌, ℕ, slice_get, Some, All, IsTrue, IfOk, IfSome};
+ghost use Rattle.std.specs.Prelude.{◌≡◌, ◌+◌, ◌++◌, ◌≤◌, ℕ, slice_get, Some, All, IsTrue, IfOk, IfSome};
 ghost use Rattle.route_base.specs.Net.{setting_of, road_of};
 ghost use Rattle.route_base.specs.Setting.{Road};
 ghost use Rattle.state_dominance.specs.Inside.Product.{AreRuledBounds};
-ghost use Rattle.ruled_states.specs.Inside.Labels.{labels_at, lists_of, label_bound};
-ghost use Rattle.ruled_bounds.specs.Inside.GoodLabels.{HasAsGood, HoldsAlong, HoldsAt, AreGoodLabels, counting_of, HoldsBy, RestsHold, HoldsServed, ServesBy};
+ghost use Rattle.ruled_states.specs.Inside.Labels.{labels_at, far_labels, labels_for, lists_of, label_bound};
+ghost use Rattle.ruled_bounds.specs.Inside.GoodLabels.{HasAsGood, HoldsAlong, HoldsAt, AreGoodLabels, NeedsNoRest, counting_of, HoldsBy, RestsHold, HoldsServed, ServesAt, ServesBy};
 ghost use Rattle.ruled_states.specs.Inside.Services.{service_at};
 
 use crate::back_star::BackStar;
@@ -12,7 +12,7 @@ use crate::label_search::{Counted, Ground, found_labels};
 use crate::stage_sums::{breaks_matter_little, stage_labels};
 use crate::stages::count_below;
 use route_base::{ArcId, NodeId, OutOfMemory, Park, TimedArc};
-use ruled_states::{Label, Labels, Ruler, Service, labels_of};
+use ruled_states::{Label, Labels, Ruler, Service, far_labels_of, labels_of};
 use std::alloc::Global;
 
 // Whether some label from the need's stage on is worth no more and needs no more. The labels are by rising stage.
@@ -29,34 +29,53 @@ fn has_as_good<R: Ruler>(ruler: &R, labels: &[Label], value: u64, need: u64) -> 
     false
 }
 
-// Whether some label of the tail is as good as that of the head behind the arc, where the arc may be driven.
+// The same for a node's own labels and those that count for every node.
+#[inline(always)]
+fn either_has_as_good<R: Ruler>(
+    ruler: &R,
+    own: &[Label],
+    far: &[Label],
+    value: u64,
+    need: u64,
+) -> bool
+    ensures { IsTrue result → HasAsGood (R.ruling ruler.now) (own.now ++ far.now) value need }
+{
+    if has_as_good(ruler, own, value, need) {
+        return true;
+    }
+    has_as_good(ruler, far, value, need)
+}
+
+// Whether some label that counts for the tail is as good as that of the head behind the arc, where the arc may be driven.
 #[inline(always)]
 fn is_held<R: Ruler>(
     ruler: &R,
     counted: Counted,
     tails: &[Label],
+    far: &[Label],
     label: Label,
     arc: TimedArc,
 ) -> bool
     ensures { IsTrue result → (m : ℕ) → (R.ruling ruler.now).drive label.need arc.minutes ≡ Some m
-        → HasAsGood (R.ruling ruler.now) tails.now
+        → HasAsGood (R.ruling ruler.now) (tails.now ++ far.now)
         (label.value + (counting_of counted).of_drive (road_of arc)) m }
 {
     let Some(need) = ruler.drive(label.need, arc.minutes) else {
         return true;
     };
     let value = label.value.saturating_add(counted.of_drive(arc));
-    has_as_good(ruler, tails, value, need)
+    either_has_as_good(ruler, tails, far, value, need)
 }
 
-// Whether the labels hold along the arc.
+// Whether the labels hold along the arc. Those that count for every node do by themselves.
 fn holds_along<R: Ruler>(ruler: &R, counted: Counted, lists: &[Vec<Label>], arc: TimedArc) -> bool
     ensures { IsTrue result → HoldsAlong (R.ruling ruler.now) (counting_of counted)
         (lists_of lists.now) (road_of arc) }
 {
     let tails = labels_of(lists, arc.tail);
+    let far = far_labels_of(lists);
     for label in labels_of(lists, arc.head) {
-        if !is_held(ruler, counted, tails, *label, arc) {
+        if !is_held(ruler, counted, tails, far, *label, arc) {
             return false;
         }
     }
@@ -167,44 +186,89 @@ fn nodes_hold<R: Ruler>(ground: &Ground<'_, R>, counted: Counted, lists: &[Vec<L
     true
 }
 
-// Whether a label of the node is as good as another behind the service at a place, where it may be taken back.
+// Whether no rest makes the need of the label a better one.
+fn needs_no_rest<R: Ruler>(ruler: &R, label: Label) -> bool
+    ensures { IsTrue result → NeedsNoRest (R.ruling ruler.now) label }
+{
+    for rest in ruler.rests() {
+        if !ruler.is_no_worse(label.need, ruler.rest(label.need, *rest)) {
+            return false;
+        }
+    }
+    true
+}
+
+// The same for each of these labels.
+fn need_no_rest<R: Ruler>(ruler: &R, labels: &[Label]) -> bool
+    ensures { IsTrue result → All (NeedsNoRest (R.ruling ruler.now)) labels.now }
+{
+    for label in labels {
+        if !needs_no_rest(ruler, *label) {
+            return false;
+        }
+    }
+    true
+}
+
+// Whether a label that counts for the node is as good as another behind the service at a place, where it may be taken back.
 #[inline(always)]
 fn is_served<R: Ruler>(
     ruler: &R,
     counted: Counted,
     own: &[Label],
+    far: &[Label],
     label: Label,
     service: Service,
     place: u64,
 ) -> bool
     ensures { IsTrue result → (m : ℕ) → (R.ruling ruler.now).unserve label.need place ≡ Some m
-        → HasAsGood (R.ruling ruler.now) own.now
+        → HasAsGood (R.ruling ruler.now) (own.now ++ far.now)
         (label.value + (counting_of counted).of_service (service_at service)) m }
 {
     let Some(need) = ruler.unserve(label.need, place) else {
         return true;
     };
     let value = label.value.saturating_add(counted.of_service(service));
-    has_as_good(ruler, own, value, need)
+    either_has_as_good(ruler, own, far, value, need)
 }
 
-// Whether the labels of the node hold behind the service at a place.
+// Whether these labels of the node hold behind the service at a place.
 fn service_holds<R: Ruler>(
     ruler: &R,
     counted: Counted,
     own: &[Label],
+    far: &[Label],
+    labels: &[Label],
     service: Service,
     place: u64,
 ) -> bool
-    ensures { IsTrue result → HoldsServed (R.ruling ruler.now) (counting_of counted) own.now place
-        (service_at service) }
+    ensures { IsTrue result → HoldsServed (R.ruling ruler.now) (counting_of counted)
+        (own.now ++ far.now) labels.now place (service_at service) }
 {
-    for label in own {
-        if !is_served(ruler, counted, own, *label, service, place) {
+    for label in labels {
+        if !is_served(ruler, counted, own, far, *label, service, place) {
             return false;
         }
     }
     true
+}
+
+// Whether the labels of the node, and those that count for every node, hold behind the service at a place.
+fn serves_at<R: Ruler>(
+    ruler: &R,
+    counted: Counted,
+    own: &[Label],
+    far: &[Label],
+    service: Service,
+    place: u64,
+) -> bool
+    ensures { IsTrue result → ServesAt (R.ruling ruler.now) (counting_of counted) own.now far.now
+        place (service_at service) }
+{
+    if !service_holds(ruler, counted, own, far, own, service, place) {
+        return false;
+    }
+    service_holds(ruler, counted, own, far, far, service, place)
 }
 
 // Whether the labels hold behind the service at a place, if there is one.
@@ -218,10 +282,11 @@ fn place_holds<R: Ruler>(
         (lists_of lists.now) place (slice_get (R.ruling ground.now.ruler.now).services place) }
 {
     match ground.ruler.service(place) {
-        Some(service) => service_holds(
+        Some(service) => serves_at(
             ground.ruler,
             counted,
             labels_of(lists, service.node),
+            far_labels_of(lists),
             service,
             place,
         ),
@@ -249,12 +314,14 @@ fn lists_hold<R: Ruler>(ground: &Ground<'_, R>, counted: Counted, lists: &[Vec<L
         (R.ruling ground.now.ruler.now) ground.now.goal.0 (counting_of counted)
         (lists_of lists.now) }
 {
-    has_as_good(
+    either_has_as_good(
         ground.ruler,
         labels_of(lists, ground.goal),
+        far_labels_of(lists),
         0,
         ground.ruler.last(),
-    ) && arcs_hold(ground, counted, lists)
+    ) && need_no_rest(ground.ruler, far_labels_of(lists))
+        && arcs_hold(ground, counted, lists)
         && nodes_hold(ground, counted, lists)
         && places_hold(ground, counted, lists)
 }
@@ -280,6 +347,7 @@ pub fn ruled_labels<R: Ruler>(
         ground.now.goal.0 (label_bound (R.ruling ground.now.ruler.now)
         (lists_of labels.minutes.items) (lists_of labels.costs.items)))) }
 {
+    ground.ruler.drives_tire();
     let found = labels_of_both(alloc, ground)?;
     if !lists_hold(ground, Counted::Minutes, found.minutes.as_slice()) {
         return Ok(None);

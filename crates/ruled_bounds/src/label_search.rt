@@ -55,12 +55,13 @@ impl Counted {
     }
 }
 
-/// The net, the rules, the goal, and the first and the last minute.
+/// The net, the rules, the origin and the goal, and the first and the last minute.
 #[derive(Drop)]
 pub struct Ground<'a, R> {
     pub net: &'a TimedNet,
     pub incoming: &'a NodeArcs,
     pub ruler: &'a R,
+    pub origin: NodeId,
     pub goal: NodeId,
     pub depart: Minute,
     pub until: Minute,

@@ -1,9 +1,9 @@
 //! Bounds to a goal for each node and state of a ruler (`ruled_states`), by labels of nodes.
 //!
-//! They are found by a search over labels (`label_search`), or, where breaks take little, by one label for each stage (`stage_sums`).
-//! Nothing is proved of either: one pass over the arcs and labels checks them (`label_check`). For each arc and label of its head, its tail
-//! has a label that is as good. So they hold along each drive, rest and service of each state (`AreRuledBounds` of `state_dominance`),
-//! though no state is made.
+//! They are found by a search over labels (`label_search`), or, where breaks take little, by one label for each stage (`stage_sums`), which nodes
+//! far from where the stage ends share. Nothing is proved of either: one pass over the arcs and labels checks them (`label_check`). For each arc
+//! and label of its head's own, one that counts for its tail is as good; those that are shared hold along each arc. So they hold along each drive,
+//! rest and service of each state (`AreRuledBounds` of `state_dominance`), though no state is made.
 #![tactic(auto)]
 
 mod back_star;

@@ -1,5 +1,5 @@
-// One label for each node and stage: the least sum of drives and services, as if no rest were needed. Nothing is proved of them here:
-// `label_check` tests them.
+// One label for each stage at each node that isn't far from where the stage ends: the least sum of drives and services, as if no rest were
+// needed. Nothing is proved of them here: `label_check` tests them.
 use crate::back_star::BackStar;
 use crate::label_search::{Counted, Ground, found_labels, no_labels};
 use crate::radix_queue::{Entry, RadixQueue};
@@ -7,39 +7,127 @@ use route_base::{Minute, NodeId, OutOfMemory};
 use ruled_states::{Label, Labels, Ruler};
 use std::alloc::Global;
 
-// Where a search ends: above the value `most`, at `node`, or once `count` nodes whose sums among `others` are at most `within` have their
-// own.
+// How far a stage's labels go: so many per cent of the minutes from where it begins, or so many minutes, if that is more.
+const FAR_PER_CENT: u64 = 150;
+const FAR_MINUTES: u64 = 60;
+
+// Where a search over minutes ends: above the value `most`; and, once `node` has its sum, farther away than `per_cent` of its minutes and
+// `minutes` are.
 #[derive(Clone, Copy)]
-struct Reach<'a> {
+struct Reach {
     most: u64,
     node: NodeId,
-    others: &'a [u64],
-    within: u64,
-    count: usize,
+    per_cent: u64,
+    minutes: u64,
 }
 
-// The least sum of each node so far, `u64::MAX` where no way is known, and the sums that wait.
+impl Reach {
+    // The largest value of a search that began at one value, and found the node at another.
+    fn limit(self, begin: u64, found: u64) -> u64 {
+        let away = found.saturating_sub(begin);
+        let far = away.saturating_mul(self.per_cent) / 100;
+        begin.saturating_add(far.max(self.minutes))
+    }
+}
+
+// The least sum of each node so far, `u64::MAX` where no way is known; the nodes that have one; the sums that wait; and the value at which the
+// search ended, `u64::MAX` if it found all. Lesser sums are final, and no node that has none of these is nearer than that value.
 #[derive(Drop)]
 struct Sums {
     least: Vec<u64>,
+    reached: Vec<NodeId>,
     queue: RadixQueue,
+    end: u64,
 }
 
 impl Sums {
+    // No sums, for nodes below a count.
+    fn new(alloc: Global, count: usize) -> Result<Sums, OutOfMemory> {
+        let mut least = Vec::with_capacity(alloc, count)?;
+        for _ in 0..count {
+            least.push(u64::MAX)?;
+        }
+        Ok(Sums {
+            least,
+            reached: Vec::new(alloc),
+            queue: RadixQueue::new(alloc)?,
+            end: u64::MAX,
+        })
+    }
+
+    // Forgets the sums of a search, and keeps the memory. Linear in the nodes that it reached.
+    fn clear(&mut self) {
+        for node in self.reached.as_slice() {
+            if let Some(least) = self.least.get_mut(node.0 as usize) {
+                *least = u64::MAX;
+            }
+        }
+        self.reached.clear();
+        self.queue.clear();
+        self.end = u64::MAX;
+    }
+
+    // The sum of a node so far; `u64::MAX` where there is none.
+    #[inline(always)]
+    fn sum(&self, node: NodeId) -> u64 {
+        match self.least.get(node.0 as usize) {
+            Some(value) => *value,
+            None => u64::MAX,
+        }
+    }
+
+    // A lower bound of the sum of a node: its sum, or the value at which the search ended.
+    fn bound(&self, node: NodeId) -> u64 {
+        self.sum(node).min(self.end)
+    }
+
+    #[inline(always)]
+    fn is_near(&self, node: NodeId) -> bool {
+        self.sum(node) < self.end
+    }
+
+    // The number of nodes whose sums are final.
+    fn near_count(&self) -> usize {
+        let mut count: usize = 0;
+        for node in self.reached.as_slice() {
+            if self.is_near(*node) {
+                count = count.saturating_add(1);
+            }
+        }
+        count
+    }
+
     #[inline(always)]
     fn offer(&mut self, node: NodeId, value: u64) -> Result<(), OutOfMemory> {
+        let known = self.sum(node);
+        if known <= value {
+            return Ok(());
+        }
         let Some(least) = self.least.get_mut(node.0 as usize) else {
             return Ok(());
         };
-        if *least <= value {
-            return Ok(());
-        }
         *least = value;
+        if known == u64::MAX {
+            self.reached.push(node)?;
+        }
         self.queue.push(Entry {
             value,
             need: 0,
             node: node.0,
         })
+    }
+
+    // Takes out the least sum that waits and is still that of its node.
+    fn next(&mut self, alloc: Global) -> Result<Option<Entry>, OutOfMemory> {
+        for _ in 0..u64::MAX {
+            let Some(entry) = self.queue.pop(alloc)? else {
+                return Ok(None);
+            };
+            if self.sum(NodeId(entry.node)) == entry.value {
+                return Ok(Some(entry));
+            }
+        }
+        Ok(None)
     }
 
     // Relaxes, backwards, the arcs into a node that may be driven at once after a rest.
@@ -59,93 +147,106 @@ impl Sums {
         }
         Ok(())
     }
-}
 
-// The sum of a node; `u64::MAX` where there is none.
-#[inline(always)]
-fn sum_at(sums: &[u64], node: NodeId) -> u64 {
-    match sums.get(node.0 as usize) {
-        Some(value) => *value,
-        None => u64::MAX,
+    // The least sums of minutes from each node to one at which they begin with the value of a label.
+    fn find_minutes<R: Ruler>(
+        &mut self,
+        alloc: Global,
+        ground: &Ground<'_, R>,
+        star: &BackStar,
+        node: NodeId,
+        label: Label,
+        reach: Reach,
+    ) -> Result<(), OutOfMemory> {
+        self.clear();
+        self.offer(node, label.value)?;
+        let mut most = reach.most;
+        for _ in 0..u64::MAX {
+            let Some(entry) = self.next(alloc)? else {
+                break;
+            };
+            if entry.value > most {
+                self.end = entry.value;
+                break;
+            }
+            if entry.node == reach.node.0 {
+                most = most.min(reach.limit(label.value, entry.value));
+            }
+            self.go_back(ground, star, Counted::Minutes, label.need, entry)?;
+        }
+        Ok(())
     }
-}
 
-// The number of sums within a value.
-fn count_within(sums: &[u64], most: u64) -> usize {
-    let mut count: usize = 0;
-    for sum in sums {
-        if *sum <= most {
-            count = count.saturating_add(1);
+    // The least sums of costs. The search ends once all nodes that are near by minutes have theirs, if there are others.
+    fn find_costs<R: Ruler>(
+        &mut self,
+        alloc: Global,
+        ground: &Ground<'_, R>,
+        star: &BackStar,
+        node: NodeId,
+        label: Label,
+        minutes: &Sums,
+    ) -> Result<(), OutOfMemory> {
+        self.clear();
+        self.offer(node, label.value)?;
+        let mut left = minutes.near_count();
+        for _ in 0..u64::MAX {
+            let Some(entry) = self.next(alloc)? else {
+                break;
+            };
+            if minutes.is_near(NodeId(entry.node)) {
+                left = left.saturating_sub(1);
+            }
+            if left == 0 && minutes.end < u64::MAX {
+                self.end = entry.value;
+                break;
+            }
+            self.go_back(ground, star, Counted::Cost, label.need, entry)?;
         }
+        Ok(())
     }
-    count
-}
 
-// The least sums from each node to one at which they begin with the value of a label. If the search ends before, each larger sum is replaced
-// by that at which it ended: lower bounds, which hold along each arc.
-fn sums_to<R: Ruler>(
-    alloc: Global,
-    ground: &Ground<'_, R>,
-    star: &BackStar,
-    counted: Counted,
-    node: NodeId,
-    label: Label,
-    reach: Reach<'_>,
-) -> Result<Vec<u64>, OutOfMemory> {
-    let count = ground.net.node_count() as usize + 1;
-    let mut least = Vec::with_capacity(alloc, count)?;
-    for _ in 0..count {
-        least.push(u64::MAX)?;
-    }
-    let mut sums = Sums {
-        least,
-        queue: RadixQueue::new(alloc)?,
-    };
-    let mut left = reach.count;
-    let mut end = u64::MAX;
-    sums.offer(node, label.value)?;
-    for _ in 0..u64::MAX {
-        let Some(entry) = sums.queue.pop(alloc)? else {
-            break;
-        };
-        if entry.value > reach.most {
-            end = reach.most;
-            break;
-        }
-        let at = NodeId(entry.node);
-        if sum_at(sums.least.as_slice(), at) != entry.value {
-            continue;
-        }
-        if sum_at(reach.others, at) <= reach.within {
-            left = left.saturating_sub(1);
-        }
-        if left == 0 || at.0 == reach.node.0 {
-            end = entry.value;
-            break;
-        }
-        sums.go_back(ground, star, counted, label.need, entry)?;
-    }
-    let Sums {
-        mut least,
-        queue: _,
-    } = sums;
-    for v in 0..least.len() {
-        least[v] = least[v].min(end);
-    }
-    Ok(least)
-}
-
-// Adds a label with this need to each node that has a sum.
-fn add_labels(lists: &mut Vec<Vec<Label>>, least: &[u64], need: u64) -> Result<(), OutOfMemory> {
-    for v in 0..least.len() {
-        let value = least[v];
-        if value < u64::MAX {
-            if let Some(list) = lists.get_mut(v) {
-                list.push(Label { value, need })?;
+    // Adds a label with this need to each node whose sum is final, and one that counts for every node, if there are others.
+    fn add_labels(&self, lists: &mut Vec<Vec<Label>>, need: u64) -> Result<(), OutOfMemory> {
+        for node in self.reached.as_slice() {
+            let value = self.sum(*node);
+            if value < self.end {
+                if let Some(list) = lists.get_mut(node.0 as usize) {
+                    list.push(Label { value, need })?;
+                }
             }
         }
+        if self.end < u64::MAX {
+            if let Some(list) = lists.get_mut(0) {
+                list.push(Label {
+                    value: self.end,
+                    need,
+                })?;
+            }
+        }
+        Ok(())
     }
-    Ok(())
+
+    // Whether labels give the nodes with sums below a limit about these sums, all together.
+    fn are_about(&self, lists: &[Vec<Label>], most: u64) -> bool {
+        let mut with: u64 = 0;
+        let mut without: u64 = 0;
+        for node in self.reached.as_slice() {
+            let sum = self.sum(*node);
+            if sum >= most {
+                continue;
+            }
+            let Some(list) = lists.get(node.0 as usize) else {
+                return false;
+            };
+            let Some(value) = least_value(list.as_slice()) else {
+                return false;
+            };
+            with = with.saturating_add(value);
+            without = without.saturating_add(sum);
+        }
+        with.saturating_mul(100) <= without.saturating_mul(NEAR_PER_CENT)
+    }
 }
 
 // The need of the goal after a rest: none is less.
@@ -166,14 +267,14 @@ struct StageEnd {
 fn end_before<R: Ruler>(
     ground: &Ground<'_, R>,
     after: StageEnd,
-    minutes: &[u64],
-    costs: &[u64],
+    minutes: &Sums,
+    costs: &Sums,
     place: u64,
 ) -> Option<StageEnd> {
     let service = ground.ruler.service(place)?;
     let need = ground.ruler.unserve(after.minutes.need, place)?;
-    let behind = sum_at(minutes, service.node);
-    let cost = sum_at(costs, service.node);
+    let behind = minutes.bound(service.node);
+    let cost = costs.bound(service.node);
     if behind == u64::MAX || cost == u64::MAX {
         return None;
     }
@@ -199,82 +300,85 @@ fn begin_of<R: Ruler>(ground: &Ground<'_, R>, served: u64) -> Minute {
     }
 }
 
-// For each node the labels of all stages, by rising stage: of minutes, and of costs. In each stage the sums go as far as its bounds can be in
-// time: a state that is farther away is late, whatever its bound is beyond that.
+// The node at which the stage begins in which `served` services are done.
+fn begin_node<R: Ruler>(ground: &Ground<'_, R>, served: u64) -> NodeId {
+    let Some(place) = served.checked_sub(1) else {
+        return ground.origin;
+    };
+    match ground.ruler.service(place) {
+        Some(service) => service.node,
+        None => ground.origin,
+    }
+}
+
+// How far the labels of a stage go: a state whose bound can't be in time is late, whatever its bound is beyond that.
+fn reach_of<R: Ruler>(ground: &Ground<'_, R>, end: StageEnd, served: u64) -> Reach {
+    let begin = begin_of(ground, served);
+    Reach {
+        most: end.latest.saturating_sub(begin).saturating_add(1),
+        node: begin_node(ground, served),
+        per_cent: FAR_PER_CENT,
+        minutes: FAR_MINUTES,
+    }
+}
+
+// The end of the last stage.
+fn last_end<R: Ruler>(ground: &Ground<'_, R>) -> StageEnd {
+    let label = Label {
+        value: 0,
+        need: rested(ground.ruler),
+    };
+    StageEnd {
+        node: ground.goal,
+        minutes: label,
+        cost: label,
+        latest: ground.until,
+    }
+}
+
+// Turns the order of each list round.
+fn reverse_all(lists: &mut Vec<Vec<Label>>) {
+    for v in 0..lists.len() {
+        lists[v].reverse();
+    }
+}
+
+// For each node the labels of all stages in which it isn't far from where the stage ends, by rising stage: of minutes, and of costs. At place 0
+// each stage that has nodes farther away has a label for all of these: the value at which its search ended, so no larger than what they would
+// have.
 pub fn stage_labels<R: Ruler>(
     alloc: Global,
     ground: &Ground<'_, R>,
     star: &BackStar,
 ) -> Result<Labels, OutOfMemory> {
     let count = ground.net.node_count() as usize + 1;
-    let mut minutes = no_labels(alloc, count)?;
-    let mut costs = no_labels(alloc, count)?;
-    let label = Label {
-        value: 0,
-        need: rested(ground.ruler),
-    };
-    let mut end = StageEnd {
-        node: ground.goal,
-        minutes: label,
-        cost: label,
-        latest: ground.until,
-    };
+    let mut minute_lists = no_labels(alloc, count)?;
+    let mut cost_lists = no_labels(alloc, count)?;
+    let mut minutes = Sums::new(alloc, count)?;
+    let mut costs = Sums::new(alloc, count)?;
+    let mut end = last_end(ground);
     let mut served = ground.ruler.service_count();
     for _ in 0..u64::MAX {
-        let begin = begin_of(ground, served);
-        let most = end.latest.saturating_sub(begin).saturating_add(1);
-        let near = Reach {
-            most,
-            node: NodeId(0),
-            others: &[],
-            within: 0,
-            count: usize::MAX,
-        };
-        let own = sums_to(
-            alloc,
-            ground,
-            star,
-            Counted::Minutes,
-            end.node,
-            end.minutes,
-            near,
-        )?;
-        let wanted = Reach {
-            most: u64::MAX,
-            node: NodeId(0),
-            others: own.as_slice(),
-            within: most - 1,
-            count: count_within(own.as_slice(), most - 1),
-        };
-        let dear = sums_to(
-            alloc,
-            ground,
-            star,
-            Counted::Cost,
-            end.node,
-            end.cost,
-            wanted,
-        )?;
-        add_labels(&mut minutes, own.as_slice(), end.minutes.need)?;
-        add_labels(&mut costs, dear.as_slice(), end.cost.need)?;
+        let reach = reach_of(ground, end, served);
+        minutes.find_minutes(alloc, ground, star, end.node, end.minutes, reach)?;
+        costs.find_costs(alloc, ground, star, end.node, end.cost, &minutes)?;
+        minutes.add_labels(&mut minute_lists, end.minutes.need)?;
+        costs.add_labels(&mut cost_lists, end.cost.need)?;
         let Some(place) = served.checked_sub(1) else {
             break;
         };
-        let Some(before) = end_before(ground, end, own.as_slice(), dear.as_slice(), place) else {
+        let Some(before) = end_before(ground, end, &minutes, &costs, place) else {
             break;
         };
         served = place;
         end = before;
     }
-    for v in 0..count {
-        if let Some(list) = minutes.get_mut(v) {
-            list.reverse();
-        }
-        if let Some(list) = costs.get_mut(v) {
-            list.reverse();
-        }
-    }
-    Ok(Labels { minutes, costs })
+    reverse_all(&mut minute_lists);
+    reverse_all(&mut cost_lists);
+    Ok(Labels {
+        minutes: minute_lists,
+        costs: cost_lists,
+    })
 }
 
 // The least value of a label; none without labels.
@@ -298,26 +402,6 @@ fn last_node<R: Ruler>(ruler: &R) -> Option<NodeId> {
     Some(ruler.service(place)?.node)
 }
 
-// Whether the labels give the nodes with sums up to a limit about these sums, all together.
-fn are_near(lists: &[Vec<Label>], least: &[u64], most: u64) -> bool {
-    let mut with: u64 = 0;
-    let mut without: u64 = 0;
-    for v in 0..least.len() {
-        if least[v] >= most {
-            continue;
-        }
-        let Some(list) = lists.get(v) else {
-            return false;
-        };
-        let Some(value) = least_value(list.as_slice()) else {
-            return false;
-        };
-        with = with.saturating_add(value);
-        without = without.saturating_add(least[v]);
-    }
-    with.saturating_mul(100) <= without.saturating_mul(NEAR_PER_CENT)
-}
-
 // Whether ways to the goal from around the last service take about as long with their breaks as without. Then one label for each stage says
 // nearly as much as all that aren't dominated. If there is no way from there it is so too. Two searches, of which one goes as far as the last
 // service, and one twice as far.
@@ -336,24 +420,16 @@ pub fn breaks_matter_little<R: Ruler>(
     let reach = Reach {
         most: u64::MAX,
         node,
-        others: &[],
-        within: 0,
-        count: usize::MAX,
+        per_cent: 100,
+        minutes: 0,
     };
-    let least = sums_to(
-        alloc,
-        ground,
-        star,
-        Counted::Minutes,
-        ground.goal,
-        label,
-        reach,
-    )?;
-    let most = sum_at(least.as_slice(), node);
+    let mut sums = Sums::new(alloc, ground.net.node_count() as usize + 1)?;
+    sums.find_minutes(alloc, ground, star, ground.goal, label, reach)?;
+    let most = sums.sum(node);
     if most == u64::MAX {
         return Ok(true);
     }
     let limit = Some(most.saturating_mul(2));
     let lists = found_labels(alloc, ground, star, Counted::Minutes, limit)?;
-    Ok(are_near(lists.as_slice(), least.as_slice(), most))
+    Ok(sums.are_about(lists.as_slice(), most))
 }

@@ -1,14 +1,14 @@
 -- The least value of a label that fits.
-use Rattle.std.proofs.Common.{◌≡◌, ◌⊎◌, inl, inr, ⊎_elim, ℕ, zero, suc, ◌+◌, ◌*◌, ◌≤◌, ◌<◌, min, Bool, true, false, Option, Some, None, List, [], ◌∷◌, All, refl, ◌∙◌, ap, subst, arith}
-use Rattle.std.specs.Prelude.{if◌then◌else◌, Contains, slice_get}
+use Rattle.std.proofs.Common.{◌≡◌, ◌⊎◌, inl, inr, ⊎_elim, ℕ, zero, suc, ◌≤◌, ◌<◌, min, Bool, true, false, Option, Some, None, List, [], ◌∷◌, ◌++◌, refl, sym, ◌∙◌, ap, arith}
+use Rattle.std.specs.Prelude.{if◌then◌else◌, Contains}
 use Rattle.std.proofs.lemmas.Bool.{cases_lt}
-use Rattle.std.proofs.lemmas.Option.{same_Some, slice_get_within, get_or_from_slice_get}
-use Rattle.route_base.specs.Setting.{Setting}
+use Rattle.std.proofs.lemmas.Option.{same_Some}
 use Rattle.route_base.specs.declared.types.Bound.{Bound}
 use Rattle.function_merge.specs.Least.{least_of}
 use Rattle.state_dominance.specs.Inside.Product.{Ruler}
 use Rattle.ruled_states.specs.Inside.Labels.{fit_value, least_fit, both_parts}
 use Rattle.ruled_states.specs.declared.labels.Label.{Label}
+use Rattle.ruled_states.proofs.Least.{least_of-assoc}
 
 least_left : (a : ℕ) (b : Option ℕ) → (y : ℕ) × (least_of (Some a) b ≡ Some y) × (y ≤ a)
 least_left a None = (a, refl, omega arith)
@@ -66,6 +66,13 @@ module _ (r : Ruler) where
       (λ (here : fit_value r k x ≡ Some y). let h = fit_cases k x y here in (x, (0, omega arith, refl), h.0, h.1))
       (λ (later : least_fit r xs k ≡ Some y). let h = least_is xs k y later in (h.0, (suc h.1.0, omega (arith, h.1.1), h.1.2), h.2, h.3))
       (least_cases (fit_value r k x) (least_fit r xs k) y is)
+
+-- the least of two lists is the lesser of those of each
+pub least_append : (r : Ruler) (xs ys : List Label) (k : ℕ) → least_fit r (xs ++ ys) k ≡ least_of (least_fit r xs k) (least_fit r ys k)
+least_append r [] ys k = refl
+least_append r (x ∷ xs) ys k =
+    ap (λ o. least_of (fit_value r k x) o) (least_append r xs ys k)
+    ∙ sym (least_of-assoc (fit_value r k x) (least_fit r xs k) (least_fit r ys k))
 
 pub both_is : (m c : Option ℕ) (b : Bound) → both_parts m c ≡ Some b → (m ≡ Some b.minutes) × (c ≡ Some b.cost)
 both_is None c b is = let bad : None ≡ Some b = is in cc

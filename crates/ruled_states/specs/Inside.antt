@@ -5,3 +5,4 @@ pub mod Labels
 pub mod Latest
 pub mod Services
 pub mod Tables
+pub mod Tiring

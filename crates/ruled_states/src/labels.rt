@@ -1,7 +1,7 @@
 // Labels of nodes, and the bounds of states by them.
 ghost use Rattle.std.specs.Prelude.{◌≡◌, map};
 ghost use Rattle.function_merge.specs.Least.{least_of};
-ghost use Rattle.ruled_states.specs.Inside.Labels.{fit_value, least_fit, label_bound, labels_at, lists_of};
+ghost use Rattle.ruled_states.specs.Inside.Labels.{fit_value, least_fit, far_labels, label_bound, labels_at, labels_for, lists_of};
 
 use crate::rulers::Ruler;
 use route_base::{Bound, NodeId};
@@ -13,7 +13,8 @@ pub struct Label {
     pub need: u64,
 }
 
-/// For each node, from 0 on, the labels of least minutes and of least costs.
+/// For each node, from 1 on, the labels of least minutes and of least costs. Those at place 0, where no node is, count for every node: so a node
+/// that is far from where a stage ends needs none of its own for that stage.
 #[derive(Drop)]
 pub struct Labels {
     pub minutes: Vec<Vec<Label>>,
@@ -59,6 +60,37 @@ pub fn labels_of(lists: &[Vec<Label>], node: NodeId) -> &[Label]
     }
 }
 
+/// The labels that count for every node, of lists by node from 1 on: those at place 0. In constant time.
+#[inline(always)]
+pub fn far_labels_of(lists: &[Vec<Label>]) -> &[Label]
+    ensures { result.now ≡ far_labels (lists_of lists.now) }
+{
+    labels_of(lists, NodeId(0))
+}
+
+// The lesser of values that may be missing.
+#[inline(always)]
+fn lesser(first: Option<u64>, second: Option<u64>) -> Option<u64>
+    ensures { result ≡ least_of first second }
+{
+    match (first, second) {
+        (Some(one), Some(other)) => Some(one.min(other)),
+        (Some(one), None) => Some(one),
+        (None, other) => other,
+    }
+}
+
+// The least value of a label that fits after a state, of those that count for a node.
+#[inline(always)]
+fn least_for<R: Ruler>(ruler: &R, lists: &[Vec<Label>], node: NodeId, state: u64) -> Option<u64>
+    ensures { result ≡ least_fit (R.ruling ruler.now) (labels_for (lists_of lists.now) node.0)
+        state }
+{
+    let own = least_within(ruler, labels_of(lists, node), state);
+    let far = least_within(ruler, far_labels_of(lists), state);
+    lesser(own, far)
+}
+
 impl Labels {
     /// The bound of a state at a node; none where no label fits.
     #[inline(always)]
@@ -66,8 +98,8 @@ impl Labels {
         ensures { result ≡ label_bound (R.ruling ruler.now) (lists_of self.now.minutes.items)
             (lists_of self.now.costs.items) node.0 state }
     {
-        let minutes = least_within(ruler, labels_of(&self.minutes, node), state)?;
-        let cost = least_within(ruler, labels_of(&self.costs, node), state)?;
+        let minutes = least_for(ruler, &self.minutes, node, state)?;
+        let cost = least_for(ruler, &self.costs, node, state)?;
         Some(Bound { minutes, cost })
     }
 }

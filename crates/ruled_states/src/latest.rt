@@ -1,11 +1,11 @@
 // The latest minutes for bounds to the goal, by the number of services that are left.
-ghost use Rattle.std.specs.Prelude.{◌≡◌, ◌≤◌, ℕ, suc, Some, IfOk, length};
+ghost use Rattle.std.specs.Prelude.{◌≡◌, ◌≤◌, ℕ, suc, Some, IfOk, IsTrue, length};
 ghost use Rattle.route_base.specs.declared.types.Bound.{Bound};
 ghost use Rattle.state_dominance.specs.Inside.Product.{AreLatest, IsStaged};
 ghost use Rattle.ruled_states.specs.Inside.Labels.{least_fit, label_bound, lists_of};
-ghost use Rattle.ruled_states.specs.Inside.Latest.{latest_by, IsLargest, IsInTime};
+ghost use Rattle.ruled_states.specs.Inside.Latest.{latest_by, HasNeed, IsLargeFor, IsLargest, IsLargestFar, IsInTime};
 
-use crate::labels::{Label, Labels, labels_of};
+use crate::labels::{Label, Labels, far_labels_of, labels_of};
 use crate::rulers::Ruler;
 use route_base::{Minute, OutOfMemory};
 use std::alloc::Global;
@@ -23,6 +23,44 @@ fn largest_value<R: Ruler>(ruler: &R, labels: &[Label], served: u64) -> u64
     largest
 }
 
+// Whether some label has this need.
+fn has_need(labels: &[Label], need: u64) -> bool
+    ensures { IsTrue result → HasNeed labels.now need }
+{
+    for label in labels {
+        if label.need == need {
+            return true;
+        }
+    }
+    false
+}
+
+// The larger of a value and that of a label, if its need has more than `served` services and no label near has it.
+fn larger_far<R: Ruler>(ruler: &R, near: &[Label], served: u64, label: Label, largest: u64) -> u64
+    ensures low { largest ≤ result }
+    ensures large { IsLargeFor (R.ruling ruler.now) near.now served result label }
+{
+    if ruler.stage(label.need) <= served {
+        return largest;
+    }
+    if has_need(near, label.need) {
+        return largest;
+    }
+    label.value.max(largest)
+}
+
+// The largest value of a label that counts for every node, whose need has more than `served` services and is that of no label near; 0 if
+// there is none.
+fn largest_far<R: Ruler>(ruler: &R, near: &[Label], far: &[Label], served: u64) -> u64
+    ensures { IsLargestFar (R.ruling ruler.now) near.now far.now served result }
+{
+    let mut largest = 0;
+    for label in far {
+        largest = larger_far(ruler, near, served, *label, largest);
+    }
+    largest
+}
+
 // The latest minute before the service at a place, by that after it: whoever comes to the goal later than its window and the largest bound
 // after it allow has missed the window.
 fn latest_before<R: Ruler>(ruler: &R, labels: &Labels, after: Minute, place: u64) -> Minute
@@ -34,7 +72,9 @@ fn latest_before<R: Ruler>(ruler: &R, labels: &Labels, after: Minute, place: u64
         return after;
     };
     let behind = labels_of(&labels.minutes, service.node);
-    let largest = largest_value(ruler, behind, place);
+    let far = far_labels_of(&labels.minutes);
+    let near = largest_value(ruler, behind, place);
+    let largest = largest_far(ruler, behind, far, place).max(near);
     let to = service.to.saturating_add(largest);
     to.min(after)
 }

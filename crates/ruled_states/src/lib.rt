@@ -15,7 +15,7 @@ mod serving;
 mod table;
 
 pub use dominance::undominated;
-pub use labels::{Label, Labels, labels_of};
+pub use labels::{Label, Labels, far_labels_of, labels_of};
 pub use latest::{latest_by_left, latest_of};
 pub use laws::{cuts_are_narrow, merges_by_code};
 pub use no_rule::NoRule;

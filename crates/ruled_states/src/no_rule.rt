@@ -76,6 +76,9 @@ impl Ruler for NoRule {
         0
     }
 
+    #[inline(always)]
+    fn drives_tire(&self) {}
+
     ghost simulates = { λ x. simulates };
 
     ghost fitting = { λ x. fitting };

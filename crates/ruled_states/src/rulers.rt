@@ -5,6 +5,7 @@ ghost use Rattle.ruled_states.specs.Inside.Services.{service_at};
 ghost use Rattle.state_dominance.specs.OneRule.{one_rule};
 ghost use Rattle.state_dominance.specs.Inside.Product.{Ruler as Ruling, IsSimulating, IsFitting, IsStaged};
 ghost use Rattle.state_dominance.proofs.OneRuled.{simulates, fitting, staged};
+ghost use Rattle.ruled_states.specs.Inside.Tiring.{DrivesTire};
 
 use route_base::NodeId;
 use std::slice;
@@ -74,6 +75,10 @@ pub trait Ruler {
     /// The number of services that were done in the state.
     fn stage(&self, state: u64) -> u64
         ensures { result ≡ (ruling self.now).stage state };
+
+    /// The law that drives tire: a need that fits after a drive fits before it. The call does nothing.
+    fn drives_tire(&self)
+        ensures { DrivesTire (ruling self.now) };
 
     ghost simulates: { (x : Self) → IsSimulating (ruling x) };
 
@@ -156,6 +161,9 @@ impl Ruler for OneRule {
     fn stage(&self, state: u64) -> u64 {
         0
     }
+
+    #[inline(always)]
+    fn drives_tire(&self) {}
 
     ghost simulates = { λ x. simulates x.drive x.rest };
 

@@ -136,6 +136,11 @@ impl<R: Ruler> Ruler for Serving<'_, R> {
         served_of(state)
     }
 
+    #[inline(always)]
+    fn drives_tire(&self) {
+        self.rules.drives_tire();
+    }
+
     ghost simulates = { λ x. made_simulates service_at x.services.now (R.ruling x.rules.now) x.few (R.simulates x.rules.now) };
 
     ghost fitting = { λ x. made_fits service_at x.services.now (R.ruling x.rules.now) x.few (R.fitting x.rules.now) };

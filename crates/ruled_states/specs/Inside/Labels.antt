@@ -1,5 +1,5 @@
 -- Labels of nodes, and the bounds of states by them (source: own; no law).
-use Rattle.std.specs.Prelude.{ℕ, if◌then◌else◌, Option, Some, None, List, [], ◌∷◌, map, slice_get, unwrap_or, Vec}
+use Rattle.std.specs.Prelude.{ℕ, if◌then◌else◌, Option, Some, None, List, [], ◌∷◌, ◌++◌, map, slice_get, unwrap_or, Vec}
 use Rattle.std.specs.declared.alloc.Global.{Global}
 use Rattle.route_base.specs.declared.types.Bound.{Bound}
 use Rattle.function_merge.specs.Least.{least_of}
@@ -21,6 +21,14 @@ lists_of lists = map (λ v. v.items) lists
 abbrev pub labels_at : List (List Label) → ℕ → List Label
 labels_at lists v = unwrap_or (slice_get lists v) []
 
+-- the labels at place 0, where no node is, which count for every node
+abbrev pub far_labels : List (List Label) → List Label
+far_labels lists = labels_at lists 0
+
+-- the labels that count for a node: its own, and those that count for every node
+abbrev pub labels_for : List (List Label) → ℕ → List Label
+labels_for lists v = labels_at lists v ++ far_labels lists
+
 -- the bound of two parts, if both are there
 abbrev pub both_parts : Option ℕ → Option ℕ → Option Bound
 both_parts None cost = None
@@ -29,4 +37,4 @@ both_parts (Some m) (Some c) = Some (record { minutes = m; cost = c })
 
 -- the bound of a state at a node by the labels
 abbrev pub label_bound : Ruler → List (List Label) → List (List Label) → ℕ → ℕ → Option Bound
-label_bound r minutes costs v k = both_parts (least_fit r (labels_at minutes v) k) (least_fit r (labels_at costs v) k)
+label_bound r minutes costs v k = both_parts (least_fit r (labels_for minutes v) k) (least_fit r (labels_for costs v) k)

@@ -12,6 +12,20 @@ latest_by r minutes until k = unwrap_or (slice_get minutes (length r.services - 
 abbrev pub IsLargest : Ruler → List Label → ℕ → ℕ → Type 0
 IsLargest r labels served value = (l : Label) → Contains labels l → served < r.stage l.need → l.value ≤ value
 
+-- some label has this need
+pub record HasNeed (labels : List Label) (need : ℕ) : Type 0 where
+  pub label : Label
+  pub is_one : Contains labels label
+  pub same : label.need ≡ need
+
+-- the value is no less than that of the label, if its need has more than `served` services, or some label near has its need
+abbrev pub IsLargeFor : Ruler → List Label → ℕ → ℕ → Label → Type 0
+IsLargeFor r near served value l = served < r.stage l.need → (l.value ≤ value) ⊎ HasNeed near l.need
+
+-- the same for each label that counts for every node
+abbrev pub IsLargestFar : Ruler → List Label → List Label → ℕ → ℕ → Type 0
+IsLargestFar r near far served value = (l : Label) → Contains far l → IsLargeFor r near served value l
+
 -- before the service at a place the minute is that behind it, or it leaves time for the service's whole window
 abbrev pub IsInTime : Ruler → (ℕ → ℕ → Option Bound) → ℕ → ℕ → ℕ → Type 0
 IsInTime r bound i after before = (next : ℕ) (c : Service) (h : Bound) → slice_get r.services i ≡ Some c → r.stage next ≡ suc i → bound c.node next ≡ Some h

@@ -11,7 +11,7 @@ returns g c =
     let r = g.R.Ruler.ruling ruler in
     let s = setting_of c.args.ground.now.net.now in
     let end = c.args.ground.now.goal.0 in
-    label_bounds_hold s r end (lists_of c.in_ok-found.found.minutes.items) (lists_of c.in_ok-found.found.costs.items) (g.met.R.Ruler.simulates ruler)
-    (g.met.R.Ruler.fitting ruler)
+    label_bounds_hold s r end (lists_of c.in_ok-found.found.minutes.items) (lists_of c.in_ok-found.found.costs.items) (g.met.R.Ruler.fitting ruler)
+    c.drives_tire.ensures
     (subst (λ lists. AreGoodLabels s r end in_minutes (lists_of lists)) c.as_slice.ensures.value (c.lists_hold.ensures c.if-not-lists_hold.false))
     (subst (λ lists. AreGoodLabels s r end in_cost (lists_of lists)) c.as_slice-2.ensures.value (c.lists_hold-2.ensures c.if-not-lists_hold-2.false))
