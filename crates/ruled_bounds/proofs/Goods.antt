@@ -1,5 +1,5 @@
 -- A label that is as good at a value is so at a larger one, and among more labels.
-use Rattle.std.proofs.Common.{◌≡◌, ℕ, ◌≤◌, ◌++◌, List, arith}
+use Rattle.std.proofs.Common.{ℕ, ◌≤◌, ◌++◌, List, arith}
 use Rattle.std.proofs.lemmas.List.Elements.{Contains-append_left, Contains-append_right}
 use Rattle.state_dominance.specs.Inside.Product.{Ruler}
 use Rattle.ruled_states.specs.declared.labels.Label.{Label}

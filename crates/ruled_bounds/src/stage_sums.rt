@@ -9,6 +9,7 @@ use std::alloc::Global;
 
 // How far a stage's labels go: so many per cent of the minutes from where it begins, or so many minutes, if that is more.
 const FAR_PER_CENT: u64 = 150;
+
 const FAR_MINUTES: u64 = 60;
 
 // Where a search over minutes ends: above the value `most`; and, once `node` has its sum, farther away than `per_cent` of its minutes and
