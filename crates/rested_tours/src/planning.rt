@@ -1,6 +1,5 @@
 // Trips and tours under a ruler, with bounds to the goal.
 ghost use Rattle.std.specs.Prelude.{◌≤◌, IfOk};
-ghost use Rattle.node_arcs.specs.Stars.{AreIncoming};
 ghost use Rattle.route_base.specs.Net.{IsGoodRequest, setting_of};
 ghost use Rattle.state_dominance.specs.Inside.Product.{IsBase, AreRuledBounds};
 ghost use Rattle.ruled_states.specs.Inside.Codes.{base};
@@ -9,7 +8,7 @@ ghost use Rattle.ruled_search.specs.Routes.{IsPlanned, RuledCostsFit};
 
 use node_arcs::NodeArcs;
 use route_base::{OutOfMemory, Request, TimedNet};
-use ruled_bounds::{Ground, ruled_labels};
+use ruled_bounds::{Ground, reduced_sums, ruled_labels};
 use ruled_search::{RuledRoute, plan_with_bounds};
 use ruled_states::{Labels, Ruler};
 use std::alloc::Global;
@@ -17,32 +16,20 @@ use std::alloc::Global;
 // Labels whose bounds hold; none where what is found doesn't, and then the bound of nothing holds.
 fn bounds_of<R: Ruler + Copy>(
     alloc: Global,
-    net: &TimedNet,
-    incoming: &NodeArcs,
-    request: Request,
-    ruler: &R,
+    ground: &Ground<'_, R>,
 ) -> Result<Option<Labels>, OutOfMemory>
-    requires incoming { AreIncoming net.now incoming.now }
-    ensures { IfOk result (λ bounds. AreRuledBounds (setting_of net.now) (R.ruling ruler.now)
-        request.goal.0 (state_bound (R.ruling ruler.now) bounds)) }
+    ensures { IfOk result (λ bounds. AreRuledBounds (setting_of ground.now.net.now)
+        (R.ruling ground.now.ruler.now) ground.now.goal.0
+        (state_bound (R.ruling ground.now.ruler.now) bounds)) }
 {
-    let ground = Ground {
-        net,
-        incoming,
-        ruler,
-        origin: request.origin,
-        goal: request.goal,
-        depart: request.depart,
-        until: request.until,
-    };
-    let bounds = ruled_labels(alloc, &ground)?;
+    let bounds = ruled_labels(alloc, ground)?;
     Ok(bounds)
 }
 
 /// The Pareto front of arrival (Unix minutes) and cost (thousandths) over the states of a ruler, each pair with legs that achieve it. The only
 /// error is out of memory.
 ///
-/// It takes the time and memory of `ruled_labels`, and then of `plan_with_bounds`.
+/// It takes the time and memory of `ruled_labels` and `reduced_sums`, and then of `plan_with_bounds`.
 pub fn plan_ruled<R: Ruler + Copy>(
     alloc: Global,
     net: &TimedNet,
@@ -57,6 +44,24 @@ pub fn plan_ruled<R: Ruler + Copy>(
         base request routes.items) }
 {
     let incoming = NodeArcs::incoming(alloc, net)?;
-    let bounds = bounds_of(alloc, net, &incoming, request, ruler)?;
-    plan_with_bounds(alloc, net, &incoming, request, ruler, &bounds)
+    let ground = Ground {
+        net,
+        incoming: &incoming,
+        ruler,
+        origin: request.origin,
+        goal: request.goal,
+        depart: request.depart,
+        until: request.until,
+    };
+    let bounds = bounds_of(alloc, &ground)?;
+    let reduced = reduced_sums(alloc, &ground)?;
+    plan_with_bounds(
+        alloc,
+        net,
+        &incoming,
+        request,
+        ruler,
+        &bounds,
+        &reduced,
+    )
 }

@@ -31,3 +31,6 @@ pub mod FirstSteps
 pub mod Best
 pub mod FirstLegs
 pub mod EarlierArcs
+pub mod Charging
+pub mod LeftBelow
+pub mod Outdone

@@ -1,5 +1,6 @@
 // The bounds of states, and their latest minutes.
-ghost use Rattle.std.specs.Prelude.{◌≡◌};
+ghost use Rattle.std.specs.Prelude.{◌≡◌, ◌≤◌, ℕ, IfSome, Some};
+ghost use Rattle.route_base.specs.declared.types.Bound.{Bound as BoundAt};
 ghost use Rattle.ruled_search.specs.Inside.Tasks.{latest_in, state_bound};
 
 use crate::task::Task;
@@ -21,6 +22,22 @@ pub fn bound_at<R: Ruler>(
             minutes: 0,
             cost: 0,
         }),
+    }
+}
+
+// Minutes than which no bound of a state of the stage at the node has more, where there are such.
+pub fn most_minutes<R: Ruler>(
+    bounds: &Option<Labels>,
+    ruler: &R,
+    node: NodeId,
+    stage: u64,
+) -> Option<u64>
+    ensures { IfSome result (λ most. (k : ℕ) (b : BoundAt) → (R.ruling ruler.now).stage k ≡ stage
+        → state_bound (R.ruling ruler.now) bounds.now node.0 k ≡ Some b → b.minutes ≤ most) }
+{
+    match bounds {
+        Some(labels) => labels.most_minutes(ruler, node, stage),
+        None => Some(0),
     }
 }
 

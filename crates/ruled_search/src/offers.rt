@@ -25,8 +25,7 @@ use cost_functions::CostFn;
 use function_merge::{into_pruned, wait_with_spare};
 use propagation::ready_set;
 use route_base::{Bound, Minute, NodeId, OutOfMemory, Park};
-use ruled_states::{Ruler, cuts_are_narrow, undominated};
-use state_dominance::{drives_are_wide, rulers_simulate, wide_offers_narrow};
+use ruled_states::{Ruler, undominated};
 use std::alloc::Global;
 
 // The costs of a state from which the goal is still worth reaching, by its bound and the borders of the pairs.
@@ -151,7 +150,7 @@ pub fn narrowed<R: Ruler + Copy>(
         (progress_of progress.now) (code base node.0 state) (value_at costs) (value_at g)) }
     ensures small { IfOk result AreSmallPieces }
 {
-    cuts_are_narrow();
+    ruled_states::cuts_are_narrow();
     let places = progress.table.places(node);
     let left = undominated(alloc, task.ruler, &progress.functions, places, state, costs)?;
     Ok(left)
@@ -181,9 +180,9 @@ pub fn offered<R: Ruler + Copy>(
     ensures entries { OnOk result
         (AreEntrySets task.entry.net.now task.entry.request.until tools.new.sets) }
 {
-    rulers_simulate();
-    drives_are_wide();
-    wide_offers_narrow();
+    state_dominance::rulers_simulate();
+    state_dominance::drives_are_wide();
+    state_dominance::wide_offers_narrow();
     let clear = moved(alloc, task, tools, progress, part, way)?;
     let wide = with_waits(
         alloc, task, tools, progress, way.head, way.after, way.bound, clear,

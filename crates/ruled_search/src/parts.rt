@@ -10,11 +10,12 @@ ghost use Rattle.ruled_states.specs.Inside.Tables.{code_of};
 ghost use Rattle.ruled_search.specs.Inside.Tasks.{task_of, progress_of, HasLeft, IsGoodTask, IsShapedFor};
 
 use crate::bounds::latest_at;
+use crate::order::end_of;
 use crate::progress::{Progress, Tools};
 use crate::task::Task;
 use cost_functions::CostFn;
 use function_merge::shift_and_prune;
-use propagation::{Split, end_of_turn, requeue, split_at};
+use propagation::{Split, requeue, split_at};
 use route_base::{Minute, NodeId, OutOfMemory};
 use ruled_states::{Info, Ruler};
 use std::alloc::Global;
@@ -47,7 +48,8 @@ pub fn part_of<R: Ruler + Copy>(
     ensures sets { tools.new.sets ≡ tools.old.sets }
 {
     let place = number as usize - 1;
-    let end = end_of_turn(
+    let end = end_of(
+        task,
         progress.functions[place].pieces(),
         progress.pending[place].runs(),
         first,

@@ -5,6 +5,7 @@ ghost use Rattle.route_base.specs.Net.{IsGoodRequest, setting_of};
 ghost use Rattle.state_dominance.specs.Inside.Product.{IsBase, AreLatest, AreRuledBounds};
 ghost use Rattle.ruled_states.specs.Inside.Codes.{base};
 ghost use Rattle.ruled_states.specs.Inside.Latest.{latest_by};
+ghost use Rattle.ruled_states.specs.Inside.Reduced.{HoldsReduced};
 ghost use Rattle.ruled_search.specs.Inside.Tasks.{state_bound};
 ghost use Rattle.ruled_search.specs.Routes.{IsPlanned, RuledCostsFit};
 
@@ -15,7 +16,7 @@ use crate::searching::searched;
 use crate::task::Task;
 use node_arcs::NodeArcs;
 use route_base::{Minute, OutOfMemory, Request, TimedNet};
-use ruled_states::{Labels, Ruler, latest_by_left};
+use ruled_states::{Labels, ReducedSums, Ruler, latest_by_left};
 use std::alloc::Global;
 
 /// The Pareto front of arrival (Unix minutes) and cost (thousandths) over the states of a ruler, each pair with legs that achieve it, by
@@ -29,6 +30,7 @@ pub fn plan_with_bounds<R: Ruler + Copy>(
     request: Request,
     ruler: &R,
     bounds: &Option<Labels>,
+    reduced: &Option<ReducedSums>,
 ) -> Result<Vec<RuledRoute>, OutOfMemory>
     requires good { IsGoodRequest net.now request }
     requires in_time { request.depart ≤ request.until }
@@ -37,6 +39,7 @@ pub fn plan_with_bounds<R: Ruler + Copy>(
     requires incoming { AreIncoming net.now incoming.now }
     requires hold { AreRuledBounds (setting_of net.now) (R.ruling ruler.now)
         request.goal.0 (state_bound (R.ruling ruler.now) bounds.now) }
+    requires reduced { HoldsReduced (setting_of net.now) (R.ruling ruler.now) reduced.now }
     ensures planned { IfOk result (λ routes. IsPlanned (setting_of net.now) (R.ruling ruler.now)
         base request routes.items) }
 {
@@ -48,6 +51,7 @@ pub fn plan_with_bounds<R: Ruler + Copy>(
         outgoing: &outgoing,
         ruler,
         bounds,
+        reduced,
         latest: &latest,
         request,
         earliest: earliest_arrival(bounds, ruler, request),

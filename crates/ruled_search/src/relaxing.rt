@@ -17,7 +17,6 @@ use cost_functions::CostFn;
 use function_merge::is_shown_no_better;
 use route_base::OutOfMemory;
 use ruled_states::{Info, Place, Ruler};
-use state_dominance::{drives_are_relaxed, offers_are_kept, rulers_simulate};
 use std::alloc::Global;
 
 // Whether the state of the place is no worse than that behind the way, and is shown to cost no more wherever drives of the part end.
@@ -97,9 +96,9 @@ pub fn relax<R: Ruler + Copy>(
     if is_shown_covered(task, progress, part, way) {
         return Ok(());
     }
-    rulers_simulate();
-    offers_are_kept();
-    drives_are_relaxed();
+    state_dominance::rulers_simulate();
+    state_dominance::offers_are_kept();
+    state_dominance::drives_are_relaxed();
     let offer = offered(alloc, task, tools, progress, part, way)?;
     let info = Info {
         node: way.head,

@@ -10,12 +10,13 @@ ghost use Rattle.ruled_states.specs.Inside.Tables.{IsStateOf};
 ghost use Rattle.ruled_search.specs.Inside.Steps.{IsAlike};
 ghost use Rattle.ruled_search.specs.Inside.Tasks.{task_of, progress_of, state_bound, IsGoodTask, IsShapedFor};
 
+use crate::order::key_of;
 use crate::progress::{Progress, Tools};
 use crate::task::Task;
 use cost_functions::CostFn;
 use label_queue::LabelQueue;
 use minute_sets::MinuteSet;
-use propagation::{add_pairs, await_at, first_of, lower_at, turn_key};
+use propagation::{add_pairs, await_at, first_of, lower_at};
 use route_base::{Bound, NodeId, OutOfMemory};
 use ruled_states::{Info, Ruler};
 use std::alloc::Global;
@@ -165,6 +166,7 @@ fn take_at<R: Ruler + Copy>(
         tools.spares.put_set(improved)?;
         return Ok(());
     };
+    let key = key_of(task, offer, info, first);
     await_at(
         alloc,
         &mut tools.spares,
@@ -172,7 +174,7 @@ fn take_at<R: Ruler + Copy>(
         &mut progress.queue,
         place,
         improved,
-        turn_key(task.earliest, first, info.bound),
+        key,
     )?;
     Ok(())
 }

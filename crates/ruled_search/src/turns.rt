@@ -9,23 +9,23 @@ ghost use Rattle.state_dominance.specs.Inside.Dominance.{IsSearching, IsResting}
 ghost use Rattle.state_dominance.specs.Inside.Product.{code};
 ghost use Rattle.state_dominance.specs.Inside.Widening.{IsKnownPart};
 ghost use Rattle.ruled_states.specs.Inside.Codes.{base};
-ghost use Rattle.ruled_search.specs.Inside.Tasks.{task_of, progress_of, work_of, Improves, IsGoodTask, IsKindRelaxed, IsRoadRelaxed, IsShapedFor};
+ghost use Rattle.ruled_search.specs.Inside.Tasks.{task_of, progress_of, state_bound, work_of, Improves, IsGoodTask, IsKindRelaxed, IsRoadRelaxed, IsShapedFor};
 ghost use Rattle.ruled_search.specs.Inside.Ways.{IsWay, road_in};
 
 use crate::offers::narrowed;
 use crate::parts::part_of;
 use crate::progress::{Progress, Tools};
 use crate::relaxing::relax;
+use crate::surpassing::unsurpassed;
 use crate::task::Task;
 use crate::ways::{Way, drive_way, rest_way, service_way};
 use cost_functions::CostFn;
 use propagation::first_of;
 use route_base::{OutOfMemory, Park};
 use ruled_states::{Info, Ruler};
-use state_dominance::parts_are_kept;
 use std::alloc::Global;
 
-// A turn of a state that has left the queue. (`parts_are_kept.takes` by `part_of`, `.narrows` by `narrowed`, then the ways, `.narrows` again
+// A turn of a state that has left the queue. (`parts_are_kept.takes` by `part_of`, `.narrows` and `.surpasses` by `undone`, then the ways, `.narrows` again
 // behind the rests, and `.done`, since each road from the state is a rest, a service or a drive by `road_kinds`. Rests come first: the second
 // cut drops what the rests dominate.)
 pub fn turn<R: Ruler + Copy>(
@@ -58,10 +58,10 @@ pub fn turn<R: Ruler + Copy>(
         return Ok(());
     };
     is_small(info);
-    parts_are_kept();
+    state_dominance::parts_are_kept();
     let part = part_of(alloc, task, tools, progress, number, info, first)?;
-    let clear = narrowed(alloc, task, progress, info.node, info.state, part)?;
-    let left = rest_all(alloc, task, tools, progress, info, clear)?;
+    let live = undone(alloc, task, progress, info, part)?;
+    let left = rest_all(alloc, task, tools, progress, info, live)?;
     serve_next(alloc, task, tools, progress, info, &left)?;
     drive_each(alloc, task, tools, progress, info, &left)?;
     tools.spares.put(left)?;
@@ -73,6 +73,35 @@ pub fn turn<R: Ruler + Copy>(
 fn is_small(info: Info)
     ensures { info.state < base }
 {}
+
+// What of a part is neither dominated nor surpassed: no more is to be done for the rest.
+fn undone<R: Ruler + Copy>(
+    alloc: Global,
+    task: Task<'_, R>,
+    progress: &Progress,
+    info: Info,
+    part: CostFn,
+) -> Result<CostFn, OutOfMemory>
+    requires asked { IsGoodTask R R.ruling task }
+    requires low { 1 ≤ info.node.0 }
+    requires high { info.node.0 ≤ task.net.now.nodes }
+    requires bound { state_bound (R.ruling task.ruler.now) task.bounds.now info.node.0 info.state
+        ≡ Some info.bound }
+    requires shape { (n : ℕ) × IsShapedFor R R.ruling task n progress.now }
+    requires small { AreSmallPieces part }
+    requires facts { IsSearching (task_of R R.ruling task) (progress_of progress.now)
+        (code base info.node.0 info.state) (value_at part) }
+    ensures small { IfOk result AreSmallPieces }
+    ensures kept { IfOk result (λ live. (t x : ℕ) → value_at live t ≡ Some x
+        → value_at part t ≡ Some x) }
+    ensures facts { IfOk result (λ live. IsSearching (task_of R R.ruling task.entry)
+        (progress_of progress.now) (code base info.node.0 info.state) (value_at live)) }
+{
+    state_dominance::parts_are_kept();
+    let clear = narrowed(alloc, task, progress, info.node, info.state, part)?;
+    let live = unsurpassed(alloc, task, progress, info, clear)?;
+    Ok(live)
+}
 
 // Relaxes the rests at a state, and answers what of the part isn't dominated by where they lead.
 fn rest_all<R: Ruler + Copy>(
@@ -109,7 +138,7 @@ fn rest_all<R: Ruler + Copy>(
     let Some(park) = task.net.park(info.node) else {
         return Ok(part);
     };
-    parts_are_kept();
+    state_dominance::parts_are_kept();
     rest_each(alloc, task, tools, progress, info, park, &part)?;
     let left = narrowed(alloc, task, progress, info.node, info.state, part)?;
     Ok(left)

@@ -1,12 +1,12 @@
 -- The least value of a label that fits.
 use Rattle.std.proofs.Common.{◌≡◌, ◌⊎◌, inl, inr, ⊎_elim, ℕ, zero, suc, ◌≤◌, ◌<◌, min, Bool, true, false, Option, Some, None, List, [], ◌∷◌, ◌++◌, refl, sym, ◌∙◌, ap, arith}
-use Rattle.std.specs.Prelude.{if◌then◌else◌, Contains}
+use Rattle.std.specs.Prelude.{if◌then◌else◌, Contains, IfSome}
 use Rattle.std.proofs.lemmas.Bool.{cases_lt}
 use Rattle.std.proofs.lemmas.Option.{same_Some}
 use Rattle.route_base.specs.declared.types.Bound.{Bound}
 use Rattle.function_merge.specs.Least.{least_of}
 use Rattle.state_dominance.specs.Inside.Product.{Ruler}
-use Rattle.ruled_states.specs.Inside.Labels.{fit_value, least_fit, both_parts}
+use Rattle.ruled_states.specs.Inside.Labels.{fit_value, least_fit, both_parts, far_labels, label_bound, labels_at, labels_for, IsSure}
 use Rattle.ruled_states.specs.declared.labels.Label.{Label}
 use Rattle.ruled_states.proofs.Least.{least_of-assoc}
 
@@ -81,3 +81,19 @@ both_is (Some m) (Some c) b is =
     let made : Bound = record { minutes = m; cost = c } in
     let same : made ≡ b = same_Some made b is in
     (ap (λ (w : Bound). Some w.minutes) same, ap (λ (w : Bound). Some w.cost) same)
+
+-- no bound of a stage has more minutes than an own label that is sure to fit
+sure_most : (r : Ruler) (own far : List Label) (costs : Option ℕ) (stage value : ℕ) → IsSure r own stage value → (k : ℕ) (b : Bound) → r.stage k ≡ stage
+    → both_parts (least_fit r (own ++ far) k) costs ≡ Some b → b.minutes ≤ value
+sure_most r own far costs stage value sure k b at is =
+    let y = fit_least r own k sure.label sure.is_one (sure.fits k at) in
+    let m = least_left y.0 (least_fit r far k) in
+    let whole : least_fit r (own ++ far) k ≡ Some m.0 = least_append r own far k ∙ (ap (λ o. least_of o (least_fit r far k)) y.1 ∙ m.1) in
+    let same : m.0 ≡ b.minutes = same_Some m.0 b.minutes (sym whole ∙ (both_is (least_fit r (own ++ far) k) costs b is).0) in
+    omega (arith, same, m.2, y.2, sure.value_is)
+
+pub sure_bounds : (r : Ruler) (minutes costs : List (List Label)) (v stage : ℕ) (o : Option ℕ) → IfSome o (IsSure r (labels_at minutes v) stage)
+    → IfSome o (λ most. (k : ℕ) (b : Bound) → r.stage k ≡ stage → label_bound r minutes costs v k ≡ Some b → b.minutes ≤ most)
+sure_bounds r minutes costs v stage None sure = tt
+sure_bounds r minutes costs v stage (Some most) sure = λ k b at is.
+    sure_most r (labels_at minutes v) (far_labels minutes) (least_fit r (labels_for costs v) k) stage most sure k b at is

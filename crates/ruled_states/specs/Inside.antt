@@ -3,6 +3,7 @@ pub mod Codes
 pub mod Cuts
 pub mod Labels
 pub mod Latest
+pub mod Reduced
 pub mod Services
 pub mod Tables
 pub mod Tiring

@@ -1,7 +1,8 @@
 // Labels of nodes, and the bounds of states by them.
-ghost use Rattle.std.specs.Prelude.{◌≡◌, map};
+ghost use Rattle.std.specs.Prelude.{◌≡◌, ◌≤◌, ℕ, IfSome, Some, map};
+ghost use Rattle.route_base.specs.declared.types.Bound.{Bound as BoundAt};
 ghost use Rattle.function_merge.specs.Least.{least_of};
-ghost use Rattle.ruled_states.specs.Inside.Labels.{fit_value, least_fit, far_labels, label_bound, labels_at, labels_for, lists_of};
+ghost use Rattle.ruled_states.specs.Inside.Labels.{fit_value, least_fit, far_labels, label_bound, labels_at, labels_for, lists_of, IsSure};
 
 use crate::rulers::Ruler;
 use route_base::{Bound, NodeId};
@@ -91,7 +92,28 @@ fn least_for<R: Ruler>(ruler: &R, lists: &[Vec<Label>], node: NodeId, state: u64
     lesser(own, far)
 }
 
+// The value of the first label that is sure to fit after each state of the stage.
+fn sure_value<R: Ruler>(ruler: &R, labels: &[Label], stage: u64) -> Option<u64>
+    ensures { IfSome result (IsSure (R.ruling ruler.now) labels.now stage) }
+{
+    for label in labels {
+        if ruler.stage(label.need) == stage && ruler.fits_all(label.need) {
+            return Some(label.value);
+        }
+    }
+    None
+}
+
 impl Labels {
+    /// Minutes than which no bound of a state of the stage at the node has more; none where no label of the node's own is sure to fit.
+    pub fn most_minutes<R: Ruler>(&self, ruler: &R, node: NodeId, stage: u64) -> Option<u64>
+        ensures { IfSome result (λ most. (k : ℕ) (b : BoundAt) → (R.ruling ruler.now).stage k ≡ stage
+            → label_bound (R.ruling ruler.now) (lists_of self.now.minutes.items)
+            (lists_of self.now.costs.items) node.0 k ≡ Some b → b.minutes ≤ most) }
+    {
+        sure_value(ruler, labels_of(&self.minutes, node), stage)
+    }
+
     /// The bound of a state at a node; none where no label fits.
     #[inline(always)]
     pub fn bound<R: Ruler>(&self, ruler: &R, node: NodeId, state: u64) -> Option<Bound>

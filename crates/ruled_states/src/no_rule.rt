@@ -1,6 +1,6 @@
 // The ruler without a rule.
 ghost use Rattle.state_dominance.specs.NoRule.{no_rule};
-ghost use Rattle.state_dominance.proofs.NotRuled.{simulates, fitting, staged};
+ghost use Rattle.state_dominance.proofs.NotRuled.{simulates, fitting, staged, has_best};
 
 use crate::rulers::{Ruler, Service};
 
@@ -33,7 +33,7 @@ impl Ruler for NoRule {
 
     #[inline(always)]
     fn is_no_worse(&self, state: u64, other: u64) -> bool {
-        state == other
+        state <= other
     }
 
     #[inline(always)]
@@ -77,6 +77,16 @@ impl Ruler for NoRule {
     }
 
     #[inline(always)]
+    fn best(&self, stage: u64) -> u64 {
+        0
+    }
+
+    #[inline(always)]
+    fn fits_all(&self, need: u64) -> bool {
+        true
+    }
+
+    #[inline(always)]
     fn drives_tire(&self) {}
 
     ghost simulates = { λ x. simulates };
@@ -84,4 +94,6 @@ impl Ruler for NoRule {
     ghost fitting = { λ x. fitting };
 
     ghost staged = { λ x. staged };
+
+    ghost bests = { λ x. has_best };
 }

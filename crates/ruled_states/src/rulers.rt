@@ -1,10 +1,10 @@
 // Rulers: what a driver may do after what was done so far.
-ghost use Rattle.std.specs.Prelude.{◌≡◌, length, slice_get};
+ghost use Rattle.std.specs.Prelude.{◌≡◌, ◌≤◌, ℕ, true, IsTrue, length, slice_get};
 ghost use Rattle.std.specs.Option.{option_map};
 ghost use Rattle.ruled_states.specs.Inside.Services.{service_at};
 ghost use Rattle.state_dominance.specs.OneRule.{one_rule};
-ghost use Rattle.state_dominance.specs.Inside.Product.{Ruler as Ruling, IsSimulating, IsFitting, IsStaged};
-ghost use Rattle.state_dominance.proofs.OneRuled.{simulates, fitting, staged};
+ghost use Rattle.state_dominance.specs.Inside.Product.{Ruler as Ruling, IsSimulating, IsFitting, IsStaged, HasBest};
+ghost use Rattle.state_dominance.proofs.OneRuled.{simulates, fitting, staged, has_best};
 ghost use Rattle.ruled_states.specs.Inside.Tiring.{DrivesTire};
 
 use route_base::NodeId;
@@ -76,6 +76,16 @@ pub trait Ruler {
     fn stage(&self, state: u64) -> u64
         ensures { result ≡ (ruling self.now).stage state };
 
+    /// The state after so many services that is no worse than any other.
+    fn best(&self, stage: u64) -> u64
+        requires { stage ≤ length (ruling self.now).services }
+        ensures { result ≡ (ruling self.now).best stage };
+
+    /// Whether the need is sure to fit after each state of its stage.
+    fn fits_all(&self, need: u64) -> bool
+        ensures { IsTrue result → (k : ℕ) → (ruling self.now).stage k ≡ (ruling self.now).stage need
+            → (ruling self.now).fits k need ≡ true };
+
     /// The law that drives tire: a need that fits after a drive fits before it. The call does nothing.
     fn drives_tire(&self)
         ensures { DrivesTire (ruling self.now) };
@@ -85,6 +95,8 @@ pub trait Ruler {
     ghost fitting: { (x : Self) → IsFitting (ruling x) };
 
     ghost staged: { (x : Self) → IsStaged (ruling x) };
+
+    ghost bests: { (x : Self) → HasBest (ruling x) };
 }
 
 /// One rule, at most so many minutes of driving since the last unbroken wait of so many: the state is the minutes driven since then.
@@ -163,6 +175,16 @@ impl Ruler for OneRule {
     }
 
     #[inline(always)]
+    fn best(&self, stage: u64) -> u64 {
+        0
+    }
+
+    #[inline(always)]
+    fn fits_all(&self, need: u64) -> bool {
+        need == 0
+    }
+
+    #[inline(always)]
     fn drives_tire(&self) {}
 
     ghost simulates = { λ x. simulates x.drive x.rest };
@@ -170,6 +192,8 @@ impl Ruler for OneRule {
     ghost fitting = { λ x. fitting x.drive x.rest };
 
     ghost staged = { λ x. staged x.drive x.rest };
+
+    ghost bests = { λ x. has_best x.drive x.rest };
 }
 
 // The sum, if it is within the limit.

@@ -1,8 +1,8 @@
 // The ruler of a trip that serves stops in their order and keeps another ruler's rules.
 ghost use Rattle.std.specs.Prelude.{◌≡◌, ◌/◌, ◌%◌, ◌<◌, ⊤, length, map};
 ghost use Rattle.ruled_states.specs.Inside.Services.{service_at};
-ghost use Rattle.state_dominance.specs.Serving.{HasSmallStates, joint, served_limit, serving};
-ghost use Rattle.state_dominance.proofs.Served.{made_simulates, made_fits, made_staged};
+ghost use Rattle.state_dominance.specs.Serving.{IsFirstBest, HasSmallStates, joint, served_limit, serving};
+ghost use Rattle.state_dominance.proofs.Served.{made_simulates, made_fits, made_staged, made_best};
 
 use crate::rulers::{Ruler, Service};
 use std::alloc::AllocError;
@@ -13,6 +13,7 @@ pub struct Serving<'a, R: Ruler> {
     pub rules: &'a R,
     pub services: &'a [Service],
     pub ghost small: { HasSmallStates (R.ruling rules.now) },
+    pub ghost first: { IsFirstBest (R.ruling rules.now) },
     pub ghost few: { length services.now < served_limit },
 }
 
@@ -137,6 +138,16 @@ impl<R: Ruler> Ruler for Serving<'_, R> {
     }
 
     #[inline(always)]
+    fn best(&self, stage: u64) -> u64 {
+        with_served(self.rules.first(), stage)
+    }
+
+    #[inline(always)]
+    fn fits_all(&self, need: u64) -> bool {
+        self.rules.fits_all(state_of(need))
+    }
+
+    #[inline(always)]
     fn drives_tire(&self) {
         self.rules.drives_tire();
     }
@@ -146,4 +157,6 @@ impl<R: Ruler> Ruler for Serving<'_, R> {
     ghost fitting = { λ x. made_fits service_at x.services.now (R.ruling x.rules.now) x.few (R.fitting x.rules.now) };
 
     ghost staged = { λ x. made_staged service_at x.services.now (R.ruling x.rules.now) x.few };
+
+    ghost bests = { λ x. made_best service_at x.services.now (R.ruling x.rules.now) x.few x.first };
 }

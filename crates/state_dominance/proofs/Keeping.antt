@@ -7,12 +7,12 @@ use Rattle.route_base.specs.Front.{RiseAndFall}
 use Rattle.route_base.specs.Relaxing.{HasWithin, HasPair}
 use Rattle.route_base.specs.declared.types.Pair.{Pair}
 use Rattle.propagation.specs.Inside.Invariants.{Progress, point, HasIn, InPart, IsBlank, IsLabel, IsLower, no_part}
-use Rattle.state_dominance.specs.Inside.Dominance.{Task, IsSimulation, AreBoundsAlong, Reaches, IsCovered, IsDominated, IsPrunable, IsRelaxedIn, DrivesRelaxed}
-use Rattle.state_dominance.specs.Inside.Dominance.{IsStart, ComesBy, IsPairKnown, IsSettledIn, IsSearching, IsResting}
+use Rattle.state_dominance.specs.Inside.Dominance.{Task, IsSimulation, AreBoundsAlong, Reaches, IsCovered, IsDominated, IsBeaten, IsSurpassed, IsPrunable, IsRelaxedIn, DrivesRelaxed}
+use Rattle.state_dominance.specs.Inside.Dominance.{IsStart, ComesBy, IsPairKnown, IsDone, IsSettledIn, IsSearching, IsResting}
 use Rattle.state_dominance.specs.Inside.Taking.{IsOffer, IsFirstOffer, TakesOffer, WaitsFrom}
 use Rattle.state_dominance.proofs.Pruned.{dominated_covered, prunable_behind, prunable_kept}
 
--- what is covered or dominated stays so, where costs only fall and pairs only get better
+-- what is covered, dominated or surpassed stays so, where costs only fall and pairs only get better
 module _ (k : Task) (old new : Progress) (less : (p : Position) → HasWithin old.cost p → HasWithin new.cost p)
     (pairs : (t x : ℕ) → HasPair old.pairs t x → HasPair new.pairs t x) where
   pub covered_kept : (p : Position) → IsCovered k old p → IsCovered k new p
@@ -27,18 +27,33 @@ module _ (k : Task) (old new : Progress) (less : (p : Position) → HasWithin ol
       (λ (e : IsPrunable k old.pairs p). inr (prunable_kept k old.pairs new.pairs p pairs e))
       landed
 
+  beaten_kept : (p : Position) → IsBeaten k old p → IsBeaten k new p
+  beaten_kept p h =
+      let n = less (point h.node p.minute h.cost) (record { least = h.cost; is = h.known; within = omega arith }) in
+      record { node = h.node; better = h.better; cost = n.least; known = n.is; less = omega (arith, n.within, h.less) }
+
+  surpassed_kept : (p : Position) → IsSurpassed k old p → IsSurpassed k new p
+  surpassed_kept p all = λ steps end goal walk. let h = all steps end goal walk in
+      record { at = h.at; beaten = beaten_kept h.at h.beaten; after = h.after; walk = h.walk; fewer = h.fewer }
+
+  pub done_kept : (p : Position) → IsDone k old p → IsDone k new p
+  done_kept p done = ⊎_elim
+      (λ (d : IsDominated k old p). inl (dominated_kept p d))
+      (λ (other : IsSurpassed k old p ⊎ DrivesRelaxed k old p). inr (⊎_elim
+      (λ (b : IsSurpassed k old p). inl (surpassed_kept p b))
+      (λ (all : DrivesRelaxed k old p). inr (λ a q step. relaxed_kept q (all a q step)))
+      other))
+      done
+
   pub settled_kept : (v : ℕ) (part : ℕ → Option ℕ) (p : Position) → ((u t : ℕ) → old.pending u t ≡ true → new.pending u t ≡ true)
       → IsSettledIn k old v part p → IsSettledIn k new v part p
   settled_kept v part p stays settled = ⊎_elim
       (λ (e : IsPrunable k old.pairs p). inl (prunable_kept k old.pairs new.pairs p pairs e))
-      (λ (rest : (old.pending p.node p.minute ≡ true) ⊎ (InPart v part p ⊎ (IsDominated k old p ⊎ DrivesRelaxed k old p))). inr (⊎_elim
+      (λ (rest : (old.pending p.node p.minute ≡ true) ⊎ (InPart v part p ⊎ IsDone k old p)). inr (⊎_elim
       (λ (w : old.pending p.node p.minute ≡ true). inl (stays _ _ w))
-      (λ (more : InPart v part p ⊎ (IsDominated k old p ⊎ DrivesRelaxed k old p)). inr (⊎_elim
+      (λ (more : InPart v part p ⊎ IsDone k old p). inr (⊎_elim
       (λ (i : InPart v part p). inl i)
-      (λ (last : IsDominated k old p ⊎ DrivesRelaxed k old p). inr (⊎_elim
-      (λ (d : IsDominated k old p). inl (dominated_kept p d))
-      (λ (all : DrivesRelaxed k old p). inr (λ a q step. relaxed_kept q (all a q step)))
-      last))
+      (λ (last : IsDone k old p). inr (done_kept p last))
       more))
       rest))
       settled
@@ -151,9 +166,9 @@ module _ (k : Task) (old new : Progress) (h : ℕ) (offer : ℕ → Option ℕ) 
     drives = λ p is. ⊎_elim
         (λ (same : IsLabel old p). settled_kept k old new less takes.pairs v part p takes.stays (drives p same))
         (λ (low : (p.node ≡ h) × (offer p.minute ≡ Some p.cost) × IsLower (Some p.cost) (old.cost h p.minute)). ⊎_elim
-        (λ (goal : k.goal h ≡ true). inr (inr (inr (inr (λ a q move.
+        (λ (goal : k.goal h ≡ true). inr (inr (inr (inr (inr (λ a q move.
         inr (prunable_behind k new.pairs p.minute p.cost q (takes.matched p.minute p.cost goal low.1)
-        (omega (arith, move.minute, bound.time a move.road move.is)) (omega (arith, move.cost))))))))
+        (omega (arith, move.minute, bound.time a move.road move.is)) (omega (arith, move.cost)))))))))
         (λ (away : k.goal h ≡ false).
         inr (inl (subst (λ w. new.pending w p.minute ≡ true) (sym low.0) (takes.awaits away p.minute p.cost low.1 low.2))))
         (goal_or_not (k.goal h)))

@@ -11,3 +11,4 @@ pub mod OneRuled
 pub mod Served
 pub mod Widening
 pub mod Relaxing
+pub mod NextStops

@@ -1,17 +1,17 @@
 -- The ruler without a rule simulates and fits, and has one stage.
-use Rattle.std.proofs.Common.{◌≡◌, Some, None, refl, ◌∙◌, arith}
-use Rattle.std.proofs.lemmas.Bool.{eqb-true, eq-eqb}
+use Rattle.std.proofs.Common.{◌≡◌, Some, None, refl, arith}
+use Rattle.std.proofs.lemmas.Bool.{leb-true, le-leb}
 use Rattle.std.proofs.lemmas.Option.{same_Some}
-use Rattle.state_dominance.specs.Inside.Product.{IsSimulating, IsFitting, IsStaged}
+use Rattle.state_dominance.specs.Inside.Product.{IsSimulating, IsFitting, IsStaged, HasBest}
 use Rattle.state_dominance.specs.NoRule.{no_rule}
-use Rattle.state_dominance.specs.Serving.{HasSmallStates}
+use Rattle.state_dominance.specs.Serving.{IsFirstBest, HasSmallStates}
 
 pub simulates : IsSimulating no_rule
 simulates = record {
-  same = λ k. eq-eqb k k refl;
-  on = λ i j k one two. eq-eqb i k (eqb-true i j one ∙ eqb-true j k two);
-  low = λ j k is. let same = eqb-true j k is in omega (arith, same);
-  drive = λ j k minutes next better is. (0, refl, eq-eqb 0 next (same_Some 0 next is));
+  same = λ k. le-leb k k (omega arith);
+  on = λ i j k one two. le-leb i k (omega (arith, leb-true i j one, leb-true j k two));
+  low = λ j k is. leb-true j k is;
+  drive = λ j k minutes next better is. (0, refl, le-leb 0 next (omega arith));
   rest = λ j k minutes better. refl;
   serve = λ j k i next better is. (let bad : None ≡ Some next = is in cc);
   ends = λ j k better is. refl;
@@ -36,6 +36,12 @@ staged = record {
   falls = λ j k better. refl;
   fits = λ k n fits. refl;
 }
+
+pub has_best : HasBest no_rule
+has_best = record { best = λ k. le-leb 0 k (omega arith) }
+
+pub first_best : IsFirstBest no_rule
+first_best = record { first = λ k. le-leb 0 k (omega arith) }
 
 -- its state is small
 pub small_states : HasSmallStates no_rule

@@ -4,9 +4,9 @@ use Rattle.std.specs.Prelude.{if◌then◌else◌}
 use Rattle.std.proofs.lemmas.Bool.{leb-true, le-leb, eqb-true, eq-eqb}
 use Rattle.std.proofs.lemmas.Option.{same_Some}
 use Rattle.route_base.proofs.Logic.{behind_test}
-use Rattle.state_dominance.specs.Inside.Product.{IsSimulating, IsFitting, IsStaged}
+use Rattle.state_dominance.specs.Inside.Product.{IsSimulating, IsFitting, IsStaged, HasBest}
 use Rattle.state_dominance.specs.OneRule.{one_rule}
-use Rattle.state_dominance.specs.Serving.{served_limit, HasSmallStates}
+use Rattle.state_dominance.specs.Serving.{served_limit, IsFirstBest, HasSmallStates}
 
 module _ (drive rest : ℕ) where
   allowed : (k minutes next : ℕ) → (one_rule drive rest).drive k minutes ≡ Some next → (k + minutes ≤ drive) × (k + minutes ≡ next)
@@ -87,6 +87,12 @@ module _ (drive rest : ℕ) where
         (λ (within : k + o ≤ drive). fits_within k o within)
         (rest_fits (leb rest minutes) k n o (fit_kinds (if leb rest minutes then 0 else k) n fits) low);
   }
+
+  pub has_best : HasBest (one_rule drive rest)
+  has_best = record { best = λ k. le-leb 0 k (omega arith) }
+
+  pub first_best : IsFirstBest (one_rule drive rest)
+  first_best = record { first = λ k. le-leb 0 k (omega arith) }
 
   pub staged : IsStaged (one_rule drive rest)
   staged = record {

@@ -1,13 +1,13 @@
--- A part is taken, loses what is dominated, and is done.
+-- A part is taken, loses what is dominated or surpassed, and is done.
 use Rattle.std.proofs.Common.{◌≡◌, ◌⊎◌, inl, inr, ⊎_elim, ℕ, true, Option, Some, None, sym, ◌∙◌, subst}
 use Rattle.std.specs.Prelude.{Contains}
 use Rattle.route_base.specs.Itinerary.{Position}
 use Rattle.route_base.specs.Front.{RiseAndFall}
 use Rattle.route_base.specs.Relaxing.{HasWithin, HasPair}
 use Rattle.propagation.specs.Inside.Invariants.{Progress, point, InPart, IsLabel, no_part}
-use Rattle.state_dominance.specs.Inside.Dominance.{Task, IsDominated, IsPrunable, DrivesRelaxed, IsStart, ComesBy, IsSettledIn, IsSearching, IsResting}
+use Rattle.state_dominance.specs.Inside.Dominance.{Task, IsPrunable, DrivesRelaxed, IsStart, ComesBy, IsDone, IsSettledIn, IsSearching, IsResting}
 use Rattle.state_dominance.specs.Inside.Taking.{TakesPart}
-use Rattle.state_dominance.proofs.Keeping.{comes_kept, dominated_kept, relaxed_kept}
+use Rattle.state_dominance.proofs.Keeping.{comes_kept, done_kept, relaxed_kept}
 
 module _ (k : Task) where
   module _ (v : ℕ) (part : ℕ → Option ℕ) (old new : Progress) (facts : IsResting k old) (parts : TakesPart k v part old new) where
@@ -26,7 +26,7 @@ module _ (k : Task) where
     settled : (p : Position) → IsLabel old p → IsSettledIn k old 0 no_part p → IsSettledIn k new v part p
     settled p is held = ⊎_elim
         (λ (e : IsPrunable k old.pairs p). inl (excused p e))
-        (λ (rest : (old.pending p.node p.minute ≡ true) ⊎ (InPart 0 no_part p ⊎ (IsDominated k old p ⊎ DrivesRelaxed k old p))). ⊎_elim
+        (λ (rest : (old.pending p.node p.minute ≡ true) ⊎ (InPart 0 no_part p ⊎ IsDone k old p)). ⊎_elim
         (λ (w : old.pending p.node p.minute ≡ true). ⊎_elim
         (λ (still : new.pending p.node p.minute ≡ true). inr (inl still))
         (λ (here : (p.node ≡ v) × ((x : ℕ) → old.cost v p.minute ≡ Some x → (part p.minute ≡ Some x) ⊎ IsPrunable k old.pairs (point v p.minute x))). ⊎_elim
@@ -35,12 +35,9 @@ module _ (k : Task) where
         inl (excused p (subst (λ w. IsPrunable k old.pairs (point w p.minute p.cost)) (sym here.0) e)))
         (here.1 p.cost (subst (λ w. old.cost w p.minute ≡ Some p.cost) here.0 is)))
         (parts.pending p.node p.minute w))
-        (λ (more : InPart 0 no_part p ⊎ (IsDominated k old p ⊎ DrivesRelaxed k old p)). ⊎_elim
+        (λ (more : InPart 0 no_part p ⊎ IsDone k old p). ⊎_elim
         (λ (i : InPart 0 no_part p). let bad : None ≡ Some p.cost = i.1 in cc)
-        (λ (last : IsDominated k old p ⊎ DrivesRelaxed k old p). inr (inr (inr (⊎_elim
-        (λ (d : IsDominated k old p). inl (dominated_kept k old new less pairs p d))
-        (λ (all : DrivesRelaxed k old p). inr (λ a q step. relaxed_kept k old new less pairs q (all a q step)))
-        last))))
+        (λ (last : IsDone k old p). inr (inr (inr (done_kept k old new less pairs p last))))
         more)
         rest)
         held
@@ -62,22 +59,25 @@ module _ (k : Task) where
       known = λ u t is. let h = facts.known u t (parts.less u t is) in (h.0, parts.cost u t ∙ h.1);
     }
 
-  -- a part whose drives are relaxed is at work no more
-  pub settle : (now : Progress) (v : ℕ) (part : ℕ → Option ℕ) → IsSearching k now v part → ((t x : ℕ) → part t ≡ Some x → DrivesRelaxed k now (point v t x))
-      → IsResting k now
-  settle now v part facts all = record {
+  -- what a part loses is done
+  pub lessen : (now : Progress) (v : ℕ) (wide narrow : ℕ → Option ℕ) → IsSearching k now v wide
+      → ((t x : ℕ) → wide t ≡ Some x → (narrow t ≡ Some x) ⊎ IsDone k now (point v t x)) → IsSearching k now v narrow
+  lessen now v wide narrow facts lost = record {
     start = facts.start;
     reached = facts.reached;
     comes = facts.comes;
     waits = facts.waits;
     drives = λ p is. ⊎_elim
         (λ (e : IsPrunable k now.pairs p). inl e)
-        (λ (rest : (now.pending p.node p.minute ≡ true) ⊎ (InPart v part p ⊎ (IsDominated k now p ⊎ DrivesRelaxed k now p))). inr (⊎_elim
+        (λ (rest : (now.pending p.node p.minute ≡ true) ⊎ (InPart v wide p ⊎ IsDone k now p)). inr (⊎_elim
         (λ (w : now.pending p.node p.minute ≡ true). inl w)
-        (λ (more : InPart v part p ⊎ (IsDominated k now p ⊎ DrivesRelaxed k now p)). inr (inr (⊎_elim
-        (λ (i : InPart v part p). inr (subst (λ w. DrivesRelaxed k now (point w p.minute p.cost)) (sym i.0) (all p.minute p.cost i.1)))
-        (λ (last : IsDominated k now p ⊎ DrivesRelaxed k now p). last)
-        more)))
+        (λ (more : InPart v wide p ⊎ IsDone k now p). inr (⊎_elim
+        (λ (i : InPart v wide p). ⊎_elim
+        (λ (stays : narrow p.minute ≡ Some p.cost). inl (i.0, stays))
+        (λ (done : IsDone k now (point v p.minute p.cost)). inr (subst (λ w. IsDone k now (point w p.minute p.cost)) (sym i.0) done))
+        (lost p.minute p.cost i.1))
+        (λ (done : IsDone k now p). inr done)
+        more))
         rest))
         (facts.drives p is);
     trade = facts.trade;
@@ -85,3 +85,29 @@ module _ (k : Task) where
     matched = facts.matched;
     known = facts.known;
   }
+
+  -- a part whose drives are relaxed is at work no more
+  pub settle : (now : Progress) (v : ℕ) (part : ℕ → Option ℕ) → IsSearching k now v part → ((t x : ℕ) → part t ≡ Some x → DrivesRelaxed k now (point v t x))
+      → IsResting k now
+  settle now v part facts all =
+      let left = lessen now v part no_part facts (λ t x is. inr (inr (inr (all t x is)))) in
+      record {
+        start = left.start;
+        reached = left.reached;
+        comes = left.comes;
+        waits = left.waits;
+        drives = λ p is. ⊎_elim
+            (λ (e : IsPrunable k now.pairs p). inl e)
+            (λ (rest : (now.pending p.node p.minute ≡ true) ⊎ (InPart v no_part p ⊎ IsDone k now p)). inr (⊎_elim
+            (λ (w : now.pending p.node p.minute ≡ true). inl w)
+            (λ (more : InPart v no_part p ⊎ IsDone k now p). inr (⊎_elim
+            (λ (i : InPart v no_part p). let bad : None ≡ Some p.cost = i.1 in cc)
+            (λ (done : IsDone k now p). inr done)
+            more))
+            rest))
+            (left.drives p is);
+        trade = left.trade;
+        achieved = left.achieved;
+        matched = left.matched;
+        known = left.known;
+      }

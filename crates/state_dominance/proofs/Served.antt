@@ -8,8 +8,8 @@ use Rattle.std.proofs.lemmas.Nat.{div-mul-add, mod-mul-add, div-add-mod'}
 use Rattle.std.proofs.lemmas.Option.{same_Some}
 use Rattle.std.proofs.Math.Nat.{mul-le-mul_right, mod-lt}
 use Rattle.route_base.proofs.Logic.{behind_test, map_some}
-use Rattle.state_dominance.specs.Inside.Product.{Ruler, Service, IsSimulating, IsFitting, IsStaged}
-use Rattle.state_dominance.specs.Serving.{served_limit, joint, serving}
+use Rattle.state_dominance.specs.Inside.Product.{Ruler, Service, IsSimulating, IsFitting, IsStaged, HasBest}
+use Rattle.state_dominance.specs.Serving.{served_limit, joint, serving, IsFirstBest}
 
 two_parts : (a b : Bool) → (a && b) ≡ true → (a ≡ true) × (b ≡ true)
 two_parts true b is = (refl, is)
@@ -172,6 +172,12 @@ module _ (services : List Service) (r : Ruler) where
     fits = λ k n fits. sym (fit_served k n fits);
   }
 
+  pub serving_best : IsFirstBest r → HasBest (serving services r)
+  serving_best least = record {
+    best = λ k. better_by (joint r.first (served k)) k (joint_served r.first (served k) (served_low k))
+        (subst (λ n. r.no_worse n (state k) ≡ true) (sym (joint_state r.first (served k) (served_low k))) (least.first (state k)));
+  }
+
 -- the same for services that are made of a list
 module _ {A : Type 0} (service : A → Service) (all : List A) (r : Ruler) (few : length all < served_limit) where
   few_services : length (map service all) < served_limit
@@ -182,6 +188,9 @@ module _ {A : Type 0} (service : A → Service) (all : List A) (r : Ruler) (few 
 
   pub made_fits : IsFitting r → IsFitting (serving (map service all) r)
   made_fits fit = serving_fits (map service all) r few_services fit
+
+  pub made_best : IsFirstBest r → HasBest (serving (map service all) r)
+  made_best least = serving_best (map service all) r least
 
   pub made_staged : IsStaged (serving (map service all) r)
   made_staged = serving_staged (map service all) r few_services

@@ -1,5 +1,5 @@
 -- The ruler without a rule: it has one state, each drive is allowed, and no rest matters (source: own).
-use Rattle.std.specs.Prelude.{nat_eq, true, Some, None, []}
+use Rattle.std.specs.Prelude.{nat_le, true, Some, None, []}
 use Rattle.state_dominance.specs.Inside.Product.{Ruler}
 
 abbrev pub no_rule : Ruler
@@ -8,7 +8,7 @@ no_rule = record {
   drive = λ k minutes. Some 0;
   rest = λ k minutes. 0;
   rests = [];
-  no_worse = λ j k. nat_eq j k;
+  no_worse = λ j k. nat_le j k;
   fits = λ k n. true;
   services = [];
   serve = λ k i. None;
@@ -16,4 +16,5 @@ no_rule = record {
   last = 0;
   unserve = λ n i. None;
   stage = λ k. 0;
+  best = λ i. 0;
 }

@@ -17,4 +17,5 @@ one_rule drive rest = record {
   last = 0;
   unserve = λ n i. None;
   stage = λ k. 0;
+  best = λ i. 0;
 }

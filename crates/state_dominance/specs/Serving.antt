@@ -1,6 +1,6 @@
 -- The ruler of a trip that serves stops in their order and keeps another ruler's rules: its states are those of the other with the number of
 -- stops that were served (source: own, after SEA 2020).
-use Rattle.std.specs.Prelude.{◌≡◌, ℕ, suc, ◌+◌, ◌*◌, ◌/◌, ◌%◌, ◌^◌, ◌<◌, ◌&&◌, nat_eq, nat_lt, if◌then◌else◌, Some, None, List, length}
+use Rattle.std.specs.Prelude.{◌≡◌, ℕ, suc, ◌+◌, ◌*◌, ◌/◌, ◌%◌, ◌^◌, ◌<◌, ◌&&◌, nat_eq, nat_lt, if◌then◌else◌, true, Some, None, List, length}
 use Rattle.std.specs.Option.{option_map}
 use Rattle.state_dominance.specs.Inside.Product.{Ruler, Service}
 
@@ -27,7 +27,12 @@ serving services r = record {
   last = joint r.last (length services);
   unserve = λ n i. if nat_lt i (length services) && nat_eq (n % served_limit) (suc i) then Some (joint (n / served_limit) i) else None;
   stage = λ n. n % served_limit;
+  best = λ i. joint r.first i;
 }
+
+-- the first state is no worse than any other
+pub record IsFirstBest (r : Ruler) : Type 0 where
+  pub first : (k : ℕ) → r.no_worse r.first k ≡ true
 
 -- with a number of served stops each state that a search comes to is one of 64 bits
 pub record HasSmallStates (r : Ruler) : Type 0 where

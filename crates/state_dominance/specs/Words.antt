@@ -4,4 +4,5 @@ pub use Rattle.state_dominance.specs.Inside.Dominance.{Task, IsSimulation, AreBo
 pub use Rattle.state_dominance.specs.Inside.Taking.{TakesOffer, TakesPart, IsOffer, IsWide, IsNarrowed, IsFirstOffer}
 pub use Rattle.front_transport.specs.ParetoFronts.{IsParetoFront, ArrivesBefore}
 pub use Rattle.route_base.specs.Front.{IsNoWorse}
-pub use Rattle.state_dominance.specs.Inside.Product.{Ruler, IsSimulating, IsFitting, IsStaged, IsBase, AreLatest, AreRuledBounds, task_by_latest, task_over}
+pub use Rattle.state_dominance.specs.Inside.NextStops.{AreReducedSums, IsOutdone}
+pub use Rattle.state_dominance.specs.Inside.Product.{Ruler, IsSimulating, IsFitting, IsStaged, HasBest, IsBase, AreLatest, AreRuledBounds, task_by_latest, task_over}

@@ -1,9 +1,9 @@
 // What a search with dominance keeps, and what it has found where nothing is pending.
-ghost use Rattle.std.specs.Prelude.{◌≡◌, ◌⊎◌, ◌≤◌, ◌<◌, ℕ, List, Option, Some, None, true, false, Contains, length};
+ghost use Rattle.std.specs.Prelude.{◌≡◌, ◌⊎◌, ◌≤◌, ◌<◌, ℕ, List, Option, Some, None, true, false, Contains, length, slice_get};
 ghost use Rattle.state_dominance.specs.Words.{Task, Progress, IsSimulation, AreBoundsAlong, IsSearching, IsResting};
 ghost use Rattle.state_dominance.specs.Words.{IsAchievedIn, IsParetoFront, IsNoWorse, ArrivesBefore, no_part, point};
 ghost use Rattle.state_dominance.specs.Words.{TakesOffer, TakesPart, IsOffer, IsWide, IsNarrowed, IsFirstOffer, IsDominated, DrivesRelaxed};
-ghost use Rattle.state_dominance.specs.Inside.Dominance.{IsRelaxedIn, Reaches};
+ghost use Rattle.state_dominance.specs.Inside.Dominance.{IsRelaxedIn, IsSurpassed, Reaches};
 ghost use Rattle.route_base.specs.Itinerary.{Position, Step, Drives, Walks};
 ghost use Rattle.route_base.specs.declared.types.Pair.{Pair};
 ghost use Rattle.state_dominance.specs.Inside.Widening.{IsKnownPart, IsDriven, IsStartAlone, IsCleared, IsClosed};
@@ -11,7 +11,9 @@ ghost use Rattle.propagation.specs.Inside.Invariants.{IsBlank};
 ghost use Rattle.state_dominance.specs.NoRule.{no_rule};
 ghost use Rattle.state_dominance.specs.OneRule.{one_rule};
 ghost use Rattle.state_dominance.specs.Inside.Product.{Service};
-ghost use Rattle.state_dominance.specs.Serving.{serving, served_limit};
+ghost use Rattle.state_dominance.specs.Words.{HasBest, AreReducedSums, IsOutdone};
+ghost use Rattle.state_dominance.specs.Inside.Product.{code};
+ghost use Rattle.state_dominance.specs.Serving.{serving, served_limit, IsFirstBest};
 ghost use Rattle.state_dominance.specs.Words.{Ruler, IsSimulating, IsFitting, IsStaged, IsBase, AreLatest, AreRuledBounds, task_by_latest};
 ghost use Rattle.route_base.specs.Setting.{Setting};
 ghost use Rattle.route_base.specs.declared.types.Bound.{Bound};
@@ -55,13 +57,17 @@ pub fn offers_are_kept()
         → TakesOffer k h offer old new → IsResting k new }
 {}
 
-/// The law that the facts are kept where a part is taken, loses what is dominated, and is done. The call does nothing.
+/// The law that the facts are kept where a part is taken, loses what is dominated or surpassed, and is done. The call does nothing.
 pub fn parts_are_kept()
     ensures takes { (k : Task) (old new : Progress) (v : ℕ) (part : ℕ → Option ℕ)
         → IsResting k old → TakesPart k v part old new → IsSearching k new v part }
     ensures narrows { (k : Task) (now : Progress) (v : ℕ) (wide narrow : ℕ → Option ℕ)
         → IsSearching k now v wide
         → ((t x : ℕ) → wide t ≡ Some x → (narrow t ≡ Some x) ⊎ IsDominated k now (point v t x))
+        → IsSearching k now v narrow }
+    ensures surpasses { (k : Task) (now : Progress) (v : ℕ) (wide narrow : ℕ → Option ℕ)
+        → IsSearching k now v wide
+        → ((t x : ℕ) → wide t ≡ Some x → (narrow t ≡ Some x) ⊎ IsSurpassed k now (point v t x))
         → IsSearching k now v narrow }
     ensures done { (k : Task) (now : Progress) (v : ℕ) (part : ℕ → Option ℕ)
         → IsSearching k now v part
@@ -82,22 +88,25 @@ pub fn rulers_simulate()
         → AreBoundsAlong (task_by_latest s r base origin goal depart until bound latest) }
 {}
 
-/// The law that the ruler of one break rule simulates and fits, and has one stage. The call does nothing.
+/// The law that the ruler of one break rule simulates and fits, has one stage, and a best state. The call does nothing.
 pub fn one_rule_simulates()
     ensures simulates { (drive rest : ℕ) → IsSimulating (one_rule drive rest) }
     ensures fits { (drive rest : ℕ) → IsFitting (one_rule drive rest) }
     ensures staged { (drive rest : ℕ) → IsStaged (one_rule drive rest) }
+    ensures best { (drive rest : ℕ) → HasBest (one_rule drive rest) }
 {}
 
-/// The law that the ruler without a rule simulates and fits, and has one stage. The call does nothing.
+/// The law that the ruler without a rule simulates and fits, has one stage, and a best state. The call does nothing.
 pub fn no_rule_simulates()
     ensures simulates { IsSimulating no_rule }
     ensures fits { IsFitting no_rule }
     ensures staged { IsStaged no_rule }
+    ensures best { HasBest no_rule }
 {}
 
 /// The law that the ruler of a trip that serves stops, of which there are fewer than 2^32, simulates and fits if that of its rules does, and
-/// that its stage is the number of served stops. The call does nothing.
+/// that its stage is the number of served stops, after each of which the first state is the best if it is so for the rules. The call does
+/// nothing.
 pub fn servings_simulate()
     ensures simulates { (services : List Service) (r : Ruler)
         → length services < served_limit → IsSimulating r
@@ -107,6 +116,8 @@ pub fn servings_simulate()
         → IsFitting (serving services r) }
     ensures staged { (services : List Service) (r : Ruler)
         → length services < served_limit → IsStaged (serving services r) }
+    ensures best { (services : List Service) (r : Ruler) → IsFirstBest r
+        → HasBest (serving services r) }
 {}
 
 /// The law that what drives of a known part over a road end with, pruned and waited on, is wide. The call does nothing.
@@ -139,4 +150,16 @@ pub fn drives_are_relaxed()
         → IsNarrowed k old h wide narrow → IsOffer k old h narrow → TakesOffer k h narrow old new
         → (t x : ℕ) (q : Position) → part t ≡ Some x
         → Drives k.setting k.until a (point v t x) q → IsRelaxedIn k new q }
+{}
+
+/// The law that a cost of a state is surpassed if behind the next stop, at each minute at which one may come there, the best state is known
+/// for less. The call does nothing.
+pub fn next_stops_surpass()
+    ensures { (s : Setting) (r : Ruler) (base origin goal depart until : ℕ)
+        (bound : ℕ → ℕ → Option Bound) (latest : ℕ → ℕ) (now : Progress) (price : ℕ) (sum : ℕ → ℕ → ℕ)
+        → IsSimulating r → HasBest r → IsStaged r → IsBase s r base
+        → AreRuledBounds s r goal bound → AreLatest r until bound latest → AreReducedSums s r price sum
+        → (c : Service) (v k t x : ℕ) → slice_get r.services (r.stage k) ≡ Some c → v < base → t ≤ until
+        → IsOutdone r base until bound latest now price sum c v k t x
+        → IsSurpassed (task_by_latest s r base origin goal depart until bound latest) now (point (code base v k) t x) }
 {}

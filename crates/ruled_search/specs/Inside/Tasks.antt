@@ -13,10 +13,11 @@ use Rattle.propagation.specs.Inside.Pairs.{AreBorders}
 use Rattle.propagation.specs.Inside.States.{is_pending}
 use Rattle.propagation.specs.Inside.Measures.{work}
 use Rattle.state_dominance.specs.Inside.Dominance.{Task, IsPrunable, IsRelaxedIn, Reaches}
-use Rattle.state_dominance.specs.Inside.Product.{Ruler, IsSimulating, IsStaged, IsBase, AreLatest, AreRuledBounds, code, road_code, task_by_latest}
+use Rattle.state_dominance.specs.Inside.Product.{Ruler, HasBest, IsSimulating, IsStaged, IsBase, AreLatest, AreRuledBounds, code, road_code, task_by_latest}
 use Rattle.ruled_states.specs.Inside.Codes.{base, found_by}
 use Rattle.ruled_states.specs.Inside.Labels.{label_bound, lists_of}
 use Rattle.ruled_states.specs.Inside.Latest.{latest_by}
+use Rattle.ruled_states.specs.Inside.Reduced.{HoldsReduced}
 use Rattle.ruled_states.specs.Inside.Tables.{IsStateOf}
 use Rattle.ruled_states.specs.declared.labels.Labels.{Labels}
 use Rattle.ruled_states.specs.declared.table.Info.{Info}
@@ -50,10 +51,12 @@ pub record IsGoodTask (R : Type 0) (ruling : R → Ruler) (task : TaskHeld R) : 
   pub fit : RuledCostsFit (setting_of task.net.now) (ruling task.ruler.now) base task.request
   pub rules : IsSimulating (ruling task.ruler.now)
   pub stages : IsStaged (ruling task.ruler.now)
+  pub best : HasBest (ruling task.ruler.now)
   pub numbers : IsBase (setting_of task.net.now) (ruling task.ruler.now) base
   pub bound : AreRuledBounds (setting_of task.net.now) (ruling task.ruler.now) task.request.goal.0 (state_bound (ruling task.ruler.now) task.bounds.now)
   pub latest : AreLatest (ruling task.ruler.now) task.request.until (state_bound (ruling task.ruler.now) task.bounds.now) (latest_in R ruling task)
   pub outgoing : AreOutgoing task.net.now task.outgoing.now
+  pub reduced : HoldsReduced (setting_of task.net.now) (ruling task.ruler.now) task.reduced.now
 
 -- a state in the table: its node is one of the net, and its bound is the one it has by the bounds
 pub record IsGoodInfo (nodes : ℕ) (bounds : ℕ → ℕ → Option Bound) (info : Info) : Type 0 where

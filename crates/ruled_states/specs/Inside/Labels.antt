@@ -1,5 +1,5 @@
 -- Labels of nodes, and the bounds of states by them (source: own; no law).
-use Rattle.std.specs.Prelude.{ℕ, if◌then◌else◌, Option, Some, None, List, [], ◌∷◌, ◌++◌, map, slice_get, unwrap_or, Vec}
+use Rattle.std.specs.Prelude.{◌≡◌, ℕ, if◌then◌else◌, true, Contains, Option, Some, None, List, [], ◌∷◌, ◌++◌, map, slice_get, unwrap_or, Vec}
 use Rattle.std.specs.declared.alloc.Global.{Global}
 use Rattle.route_base.specs.declared.types.Bound.{Bound}
 use Rattle.function_merge.specs.Least.{least_of}
@@ -38,3 +38,10 @@ both_parts (Some m) (Some c) = Some (record { minutes = m; cost = c })
 -- the bound of a state at a node by the labels
 abbrev pub label_bound : Ruler → List (List Label) → List (List Label) → ℕ → ℕ → Option Bound
 label_bound r minutes costs v k = both_parts (least_fit r (labels_for minutes v) k) (least_fit r (labels_for costs v) k)
+
+-- the value is that of a label which fits after each state of the stage
+pub record IsSure (r : Ruler) (labels : List Label) (stage value : ℕ) : Type 0 where
+  pub label : Label
+  pub is_one : Contains labels label
+  pub value_is : label.value ≡ value
+  pub fits : (k : ℕ) → r.stage k ≡ stage → r.fits k label.need ≡ true

@@ -1,6 +1,6 @@
 -- What a search keeps whose nodes are codes of states, of which some are no worse than others: label correcting with dominance between
 -- states (source: own; no law).
-use Rattle.std.specs.Prelude.{◌≡◌, ◌⊎◌, ℕ, ◌+◌, ◌≤◌, ◌<◌, Bool, true, Option, Some, List, Contains}
+use Rattle.std.specs.Prelude.{◌≡◌, ◌⊎◌, ℕ, ◌+◌, ◌≤◌, ◌<◌, Bool, true, Option, Some, List, Contains, length}
 use Rattle.route_base.specs.Setting.{Setting, Road}
 use Rattle.route_base.specs.Itinerary.{Position, Step, Drives, Waits, Walks}
 use Rattle.route_base.specs.Front.{RiseAndFall}
@@ -76,6 +76,26 @@ pub record IsDominated (k : Task) (now : Progress) (p : Position) : Type 0 where
   pub other : node < p.node
   pub known : HasWithin now.cost (point node p.minute p.cost)
 
+-- at the minute a state that is no worse is known to cost less
+pub record IsBeaten (k : Task) (now : Progress) (p : Position) : Type 0 where
+  pub node : ℕ
+  pub better : k.no_worse node p.node ≡ true
+  pub cost : ℕ
+  pub known : now.cost node p.minute ≡ Some cost
+  pub less : cost < p.cost
+
+-- the steps to the end go by a position that is beaten, behind which fewer are left
+pub record IsBeatenOn (k : Task) (now : Progress) (steps : List Step) (end : Position) : Type 0 where
+  pub at : Position
+  pub beaten : IsBeaten k now at
+  pub after : List Step
+  pub walk : Walks k.setting k.until after at end
+  pub fewer : length after < length steps
+
+-- every way on from the position to the goal is beaten
+abbrev pub IsSurpassed : Task → Progress → Position → Type 0
+IsSurpassed k now p = (steps : List Step) (end : Position) → k.goal end.node ≡ true → Walks k.setting k.until steps p end → IsBeatenOn k now steps end
+
 -- every way on from the position is late, or some pair is better
 abbrev pub IsPrunable : Task → List Pair → Position → Type 0
 IsPrunable k pairs p = IsWorseOrLate (k.latest p.node) pairs (k.bounds p.node) p
@@ -100,10 +120,13 @@ pub record IsPairKnown (k : Task) (now : Progress) (p : Pair) : Type 0 where
   pub reached : Reaches k (point node p.arrival p.cost)
   pub known : HasWithin now.cost (point node p.arrival p.cost)
 
--- where a label's drives go: it is prunable, or pending, or in the part at node v that is at work, or dominated, or they are relaxed
+-- no more is to be done for the position's drives: it is dominated or surpassed, or they are relaxed
+abbrev pub IsDone : Task → Progress → Position → Type 0
+IsDone k now p = IsDominated k now p ⊎ (IsSurpassed k now p ⊎ DrivesRelaxed k now p)
+
+-- where a label's drives go: it is prunable, or pending, or in the part at node v that is at work, or they are done
 abbrev pub IsSettledIn : Task → Progress → ℕ → (ℕ → Option ℕ) → Position → Type 0
-IsSettledIn k now v part p = IsPrunable k now.pairs p
-    ⊎ ((now.pending p.node p.minute ≡ true) ⊎ (InPart v part p ⊎ (IsDominated k now p ⊎ DrivesRelaxed k now p)))
+IsSettledIn k now v part p = IsPrunable k now.pairs p ⊎ ((now.pending p.node p.minute ≡ true) ⊎ (InPart v part p ⊎ IsDone k now p))
 
 -- all that the search keeps
 pub record IsSearching (k : Task) (now : Progress) (v : ℕ) (part : ℕ → Option ℕ) : Type 0 where

@@ -14,8 +14,8 @@ pub record Service : Type 0 where
 -- states, of which the first is that of the start; what a drive of some minutes leads to, if it is allowed; what an unbroken wait of some
 -- minutes leads to; the waits that matter; which states are no worse than which; and after which a need fits: the state from which the same
 -- drives, taken backwards, lead to the goal or to a rest. Then the services; what the service at a place leads to, if it is allowed; in which
--- states a trip may end; the need at the goal; what a need becomes when a service is taken backwards; and the number of services that were
--- done in a state
+-- states a trip may end; the need at the goal; what a need becomes when a service is taken backwards; the number of services that were done in
+-- a state; and after so many services the state that is no worse than any
 pub record Ruler : Type 0 where
   pub first : ℕ
   pub drive : ℕ → ℕ → Option ℕ
@@ -29,6 +29,7 @@ pub record Ruler : Type 0 where
   pub last : ℕ
   pub unserve : ℕ → ℕ → Option ℕ
   pub stage : ℕ → ℕ
+  pub best : ℕ → ℕ
 
 -- whatever a state allows, each that is no worse allows too, and leads to what is no worse; it has the smaller number
 pub record IsSimulating (r : Ruler) : Type 0 where
@@ -63,6 +64,10 @@ pub record IsStaged (r : Ruler) : Type 0 where
   pub ends : (k : ℕ) → r.ends k ≡ true → r.stage k ≡ length r.services
   pub falls : (j k : ℕ) → r.no_worse j k ≡ true → r.stage j ≡ r.stage k
   pub fits : (k n : ℕ) → r.fits k n ≡ true → r.stage n ≡ r.stage k
+
+-- the best state after so many services is no worse than any other after as many
+pub record HasBest (r : Ruler) : Type 0 where
+  pub best : (k : ℕ) → r.no_worse (r.best (r.stage k)) k ≡ true
 
 -- the code of a node and a state, where nodes are below the base
 abbrev pub code : ℕ → ℕ → ℕ → ℕ

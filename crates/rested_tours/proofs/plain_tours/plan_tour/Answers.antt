@@ -8,7 +8,7 @@ use Rattle.ruled_states.specs.Inside.Services.{service_at}
 use Rattle.state_dominance.specs.Inside.Product.{IsBase, Service as ServiceAt}
 use Rattle.state_dominance.specs.NoRule.{no_rule}
 use Rattle.state_dominance.specs.Serving.{serving}
-use Rattle.state_dominance.proofs.NotRuled.{small_states}
+use Rattle.state_dominance.proofs.NotRuled.{first_best, small_states}
 use Rattle.rested_tours.specs.Inside.ToldRoutes.{IsTellableRoute, IsToldBy}
 use Rattle.rested_tours.proofs.Based.{cheap_roads}
 use Rattle.rested_tours.proofs.PlainTours.{are_tellable, plain_base, right_tours}
@@ -18,6 +18,7 @@ use Rattle.rested_tours.proofs.plain_tours.plan_tour.Goals as goal
 pub invariant_of-ruler : goal.invariant_of-ruler
 invariant_of-ruler c = record {
   small = small_states;
+  first = first_best;
   few = omega (
     arith,
     as_many c.as_slice.result.now c.args.stops.now

@@ -8,7 +8,7 @@ use Rattle.ruled_states.specs.Inside.Services.{service_at}
 use Rattle.state_dominance.specs.Inside.Product.{IsBase, Service as ServiceAt}
 use Rattle.state_dominance.specs.OneRule.{one_rule}
 use Rattle.state_dominance.specs.Serving.{serving}
-use Rattle.state_dominance.proofs.OneRuled.{small_states}
+use Rattle.state_dominance.proofs.OneRuled.{first_best, small_states}
 use Rattle.rested_tours.specs.Inside.ToldRoutes.{IsTellableRoute, IsToldBy}
 use Rattle.rested_tours.proofs.Based.{based, cheap_roads}
 use Rattle.rested_tours.proofs.RightTours.{are_tellable, right_tours}
@@ -18,6 +18,7 @@ use Rattle.rested_tours.proofs.tours.plan_rested_tour.Goals as goal
 pub invariant_of-ruler : goal.invariant_of-ruler
 invariant_of-ruler c = record {
   small = small_states c.args.rule.drive c.args.rule.rest (omega (arith, c.requires.rule.drive));
+  first = first_best c.args.rule.drive c.args.rule.rest;
   few = omega (
     arith,
     as_many c.as_slice.result.now c.args.stops.now

@@ -15,12 +15,14 @@ searched-requires g c = record {
     fit = c.requires.fit;
     rules = g.met.R.Ruler.simulates c.args.ruler.now;
     stages = g.met.R.Ruler.staged c.args.ruler.now;
+    best = g.met.R.Ruler.bests c.args.ruler.now;
     numbers = c.requires.numbers;
     bound = c.requires.hold;
     latest = subst (λ (w : List ℕ). AreLatest (g.R.Ruler.ruling c.args.ruler.now) c.args.request.until
         (state_bound (g.R.Ruler.ruling c.args.ruler.now) c.args.bounds.now) (latest_by (g.R.Ruler.ruling c.args.ruler.now) w c.args.request.until))
         (sym c.deref.ensures.value) c.in_ok-latest.ensures;
     outgoing = c.in_ok-outgoing.ensures;
+    reduced = c.requires.reduced;
   };
 }
 
@@ -34,12 +36,14 @@ routes_of-requires g c = record {
       fit = c.requires.fit;
       rules = g.met.R.Ruler.simulates c.args.ruler.now;
       stages = g.met.R.Ruler.staged c.args.ruler.now;
+      best = g.met.R.Ruler.bests c.args.ruler.now;
       numbers = c.requires.numbers;
       bound = c.requires.hold;
       latest = subst (λ (w : List ℕ). AreLatest (g.R.Ruler.ruling c.args.ruler.now) c.args.request.until
           (state_bound (g.R.Ruler.ruling c.args.ruler.now) c.args.bounds.now) (latest_by (g.R.Ruler.ruling c.args.ruler.now) w c.args.request.until))
           (sym c.deref.ensures.value) c.in_ok-latest.ensures;
       outgoing = c.in_ok-outgoing.ensures;
+      reduced = c.requires.reduced;
     };
     shape = c.in_ok-progress.ensures.shape;
     arcs = c.requires.incoming;

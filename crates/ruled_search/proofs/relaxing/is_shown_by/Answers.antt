@@ -37,3 +37,8 @@ returns g c = λ yes.
     (λ t. ap (λ n. cost_at now.functions.items n t) number
     ∙ value_is now.functions.items place.number own here.0 (omega (arith, here.1, shape.functions)) c.index-own.ensures t)
     (λ t y there. c.is_shown_no_better.ensures yes t y (ap (λ (ps : List Piece). value_at ps t) c.pieces.ensures.items ∙ there))
+
+pub index-own-requires : goal.index-own-requires
+index-own-requires g c =
+    let here = number_within c.args.progress.now.table.infos c.args.place.number c.requires.place.info c.requires.place.at in
+    omega (arith, here.0, here.1, c.requires.shape.functions)

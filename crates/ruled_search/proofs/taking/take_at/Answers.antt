@@ -1,6 +1,7 @@
-use Rattle.std.proofs.Common.{◌≡◌, true, refl, sym, ◌∙◌, subst}
+use Rattle.std.proofs.Common.{◌≡◌, true, refl, sym, ◌∙◌, subst, arith}
 use Rattle.std.specs.Prelude.{IfSome, IsNone}
 use Rattle.route_base.specs.Runs.{any_has}
+use Rattle.route_base.proofs.Numbered.{number_within}
 use Rattle.cost_functions.specs.Pieces.{value_at}
 use Rattle.propagation.specs.Found.{cost_at}
 use Rattle.propagation.specs.Inside.States.{is_pending}
@@ -73,3 +74,8 @@ returns-clause-shape g c =
     shaped_awaited _ _ c.args.progress.now _ c.requires.shape c.args.number (any_has c.in_ok-improved.improved) c.in_ok-improved.ensures.nodes
     c.in_ok-improved.ensures.built refl refl refl c.requires.shape.borders c.in_ok-await_at.ensures.nodes c.in_ok-await_at.ensures.awaits
     c.in_ok-await_at.ensures.queue (c.in-Some.first, some)
+
+pub await_at-requires-clause-high : goal.await_at-requires-clause-high
+await_at-requires-clause-high g c =
+    let here = number_within c.args.progress.now.table.infos c.args.number c.requires.state.info c.requires.state.at in
+    omega (arith, here.1, c.requires.shape.pending)

@@ -60,15 +60,32 @@ part_of-requires-clause-early g c =
     (ap (λ n. is_pending now.pending.items n first) own ∙ there) in
     omega (arith, early, c.requires.asked.ends.until)
 
-pub narrowed-requires-clause-node : goal.narrowed-requires-clause-node
-narrowed-requires-clause-node g c =
+pub undone-requires-clause-low : goal.undone-requires-clause-low
+undone-requires-clause-low g c =
     let bound = state_bound (g.R.Ruler.ruling c.args.task.ruler.now) c.args.task.bounds.now in
-    let good = good_info c.args.task.net.now.nodes bound c.args.number c.args.progress.now c.requires.shape c.args.number c.in-Some.info
-    (sym c.info.ensures ∙ c.in-Some.is) in
-    omega (arith, good.node.1, c.requires.asked.good.nodes)
+    (good_info c.args.task.net.now.nodes bound c.args.number c.args.progress.now c.requires.shape c.args.number c.in-Some.info
+    (sym c.info.ensures ∙ c.in-Some.is)).node.0
 
-pub narrowed-requires-clause-shape : goal.narrowed-requires-clause-shape
-narrowed-requires-clause-shape g c = (0, c.in_ok-part.ensures.shape)
+pub undone-requires-clause-high : goal.undone-requires-clause-high
+undone-requires-clause-high g c =
+    let bound = state_bound (g.R.Ruler.ruling c.args.task.ruler.now) c.args.task.bounds.now in
+    (good_info c.args.task.net.now.nodes bound c.args.number c.args.progress.now c.requires.shape c.args.number c.in-Some.info
+    (sym c.info.ensures ∙ c.in-Some.is)).node.1
+
+pub undone-requires-clause-bound : goal.undone-requires-clause-bound
+undone-requires-clause-bound g c =
+    let bound = state_bound (g.R.Ruler.ruling c.args.task.ruler.now) c.args.task.bounds.now in
+    (good_info c.args.task.net.now.nodes bound c.args.number c.args.progress.now c.requires.shape c.args.number c.in-Some.info
+    (sym c.info.ensures ∙ c.in-Some.is)).bound
+
+pub undone-requires-clause-shape : goal.undone-requires-clause-shape
+undone-requires-clause-shape g c = (0, c.in_ok-part.ensures.shape)
+
+pub undone-requires-clause-facts : goal.undone-requires-clause-facts
+undone-requires-clause-facts g c =
+    let k = task_of _ g.R.Ruler.ruling c.args.task in
+    parts_keep k (code_of c.in-Some.info) (value_at c.in_ok-part.part) (progress_of c.args.progress.now) (progress_of c.part_of.new.progress)
+    c.requires.facts c.in_ok-part.ensures.parts
 
 pub rest_all-requires-clause-low : goal.rest_all-requires-clause-low
 rest_all-requires-clause-low g c =
@@ -106,20 +123,12 @@ drive_each-requires-clause-high g c =
     (good_info c.args.task.net.now.nodes bound c.args.number c.args.progress.now c.requires.shape c.args.number c.in-Some.info
     (sym c.info.ensures ∙ c.in-Some.is)).node.1
 
-pub rest_all-requires-clause-facts : goal.rest_all-requires-clause-facts
-rest_all-requires-clause-facts g c =
-    let k = task_of _ g.R.Ruler.ruling c.args.task in
-    let now = progress_of c.part_of.new.progress in
-    let code = code_of c.in-Some.info in
-    let facts = parts_keep k code (value_at c.in_ok-part.part) (progress_of c.args.progress.now) now c.requires.facts c.in_ok-part.ensures.parts in
-    c.parts_are_kept.ensures.narrows k now code (value_at c.in_ok-part.part) (value_at c.in_ok-clear.clear) facts c.in_ok-clear.ensures.narrowed.left
-
 pub rest_all-requires-clause-part : goal.rest_all-requires-clause-part
 rest_all-requires-clause-part g c =
     let k = task_of _ g.R.Ruler.ruling c.args.task in
     let now = progress_of c.part_of.new.progress in
     let code = code_of c.in-Some.info in
-    part_less k code (value_at c.in_ok-part.part) now (value_at c.in_ok-clear.clear) c.in_ok-clear.ensures.narrowed.kept
+    part_less k code (value_at c.in_ok-part.part) now (value_at c.in_ok-live.live) c.in_ok-live.ensures.kept
     (part_known k (progress_of c.args.progress.now) now 0 code no_part (value_at c.in_ok-part.part) c.requires.facts c.in_ok-part.ensures.parts)
 
 pub drive_each-requires-clause-part : goal.drive_each-requires-clause-part

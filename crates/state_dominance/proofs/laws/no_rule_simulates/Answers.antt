@@ -1,4 +1,4 @@
-use Rattle.state_dominance.proofs.NotRuled.{simulates, fitting, staged}
+use Rattle.state_dominance.proofs.NotRuled.{simulates, fitting, staged, has_best}
 use Rattle.state_dominance.proofs.laws.no_rule_simulates.Goals as goal
 
 pub returns-clause-simulates : goal.returns-clause-simulates
@@ -9,3 +9,6 @@ returns-clause-fits c = fitting
 
 pub returns-clause-staged : goal.returns-clause-staged
 returns-clause-staged c = staged
+
+pub returns-clause-best : goal.returns-clause-best
+returns-clause-best c = has_best

@@ -1,4 +1,4 @@
-use Rattle.state_dominance.proofs.OneRuled.{simulates, fitting, staged}
+use Rattle.state_dominance.proofs.OneRuled.{simulates, fitting, staged, has_best}
 use Rattle.state_dominance.proofs.laws.one_rule_simulates.Goals as goal
 
 pub returns-clause-simulates : goal.returns-clause-simulates
@@ -9,3 +9,6 @@ returns-clause-fits c = λ drive rest. fitting drive rest
 
 pub returns-clause-staged : goal.returns-clause-staged
 returns-clause-staged c = λ drive rest. staged drive rest
+
+pub returns-clause-best : goal.returns-clause-best
+returns-clause-best c = λ drive rest. has_best drive rest

@@ -1,0 +1,16 @@
+use Rattle.std.proofs.Common.{ℕ, Option, subst}
+use Rattle.route_base.specs.Setting.{Road}
+use Rattle.state_dominance.specs.Inside.Product.{Service}
+use Rattle.ruled_states.specs.Inside.Reduced.{reduced_in, sums_of}
+use Rattle.ruled_bounds.specs.Inside.Reducing.{EndsBy, IsPricedBy, IsReducedBy}
+use Rattle.ruled_bounds.proofs.stop_sums.reduced_sums.Goals as goal
+
+pub returns-then-stages_hold : goal.returns-then-stages_hold
+returns-then-stages_hold g c =
+    let sums = c.in_ok-sums.sums in
+    let sum = reduced_in (sums_of sums.sums.items) in
+    record {
+      waits = λ v weight is. subst (λ (o : Option ℕ). IsPricedBy sums.price o) is (c.are_priced.ensures c.if-are_priced.true v);
+      drives = λ i a over few is. subst (λ (o : Option Road). IsReducedBy sums.price sum i o) is (c.stages_hold.ensures.arcs c.if-stages_hold.true i few a);
+      stops = λ i stop is. subst (λ (o : Option Service). EndsBy sum i o) is (c.stages_hold.ensures.stops c.if-stages_hold.true i);
+    }
