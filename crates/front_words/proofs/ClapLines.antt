@@ -10,11 +10,8 @@ use Rattle.front_words.specs.Inside.{ArePlain, TakesRow, choices_in, ids_in, usa
 use Rattle.front_words.specs.Usages.{OptionUsage, Usage, option_names}
 use Rattle.front_words.specs.declared.table.CommandName.{CommandName}
 use Rattle.front_words.specs.declared.table.CommandName.TheVariants as row
-use Rattle.front_words.proofs.BatchLines.{batch_row}
-use Rattle.front_words.proofs.BreaksLines.{breaks_row}
 use Rattle.front_words.proofs.ClapWalk.{IsLeaf, due_from, held_behind, met_from, passes_at, passes_line, texts_in, walks_nowhere}
-use Rattle.front_words.proofs.PlanLines.{plan_row}
-use Rattle.front_words.proofs.TourLines.{tour_row}
+use Rattle.front_words.proofs.OptionRows.{batch_row, breaks_row, plan_row, tour_row}
 
 -- the line of a command without options, by where the walk over its words ends
 passes_alone : (name : Text) (ids words : List Text) → IsLeaf (written_out name ids []) → ArePlain words

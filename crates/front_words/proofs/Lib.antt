@@ -1,13 +1,10 @@
-pub mod BatchLines
-pub mod BreaksLines
 pub mod ClapLines
 pub mod ClapWalk
 pub mod Dividing
 pub mod GivenLines
 pub mod Made
 pub mod OptionLines
+pub mod OptionRows
 pub mod Places
 pub mod Plain
-pub mod PlanLines
-pub mod TourLines
 pub mod TourWords

@@ -1,15 +1,16 @@
 -- The lines of the commands with one or two options pass `clap`, where the options open and the positional words fill their places.
-use Rattle.std.proofs.Common.{◌≡◌, false, true, map, List, Option, Some, [], ◌∷◌, ◌++◌, length, arith, subst, sym, ◌∙◌}
+use Rattle.std.proofs.Common.{◌≡◌, refl, false, true, map, List, Option, Some, [], ◌∷◌, ◌++◌, length, arith, subst, sym, ◌∙◌}
 use Rattle.std.specs.Prelude.{IfSome}
-use Rattle.clap.specs.Walk.{Held, Text, nothing_held}
-use Rattle.clap.specs.Simple.{App, built}
+use Rattle.clap.specs.Walk.{Held, Text, after_step, arg_by_id, next, nothing_held, option_word, pushed, walked}
+use Rattle.clap.specs.Simple.{App, Shape, built}
+use Rattle.clap.specs.Takes.{turn_passes}
 use Rattle.front_words.specs.ClapCommands.{Passes, app_with, option_line, options_line, written_out}
 use Rattle.front_words.specs.Commands.{Command}
 use Rattle.front_words.specs.Inside.{ArePlain, ArePlainIf, TakesRow}
 use Rattle.front_words.specs.Splitting.{is_dashed}
 use Rattle.front_words.specs.Usages.{Usage, option_names}
-use Rattle.front_words.proofs.ClapWalk.{IsLeaf, Opens, WalksOn, due_from, held_behind, met_from, passes_at, passes_line, texts_in}
-use Rattle.front_words.proofs.ClapWalk.{then_reaches, walk_at, walks_option, with_option}
+use Rattle.front_words.proofs.ClapWalk.{IsLeaf, Opens, WalksOn, awaiting, due_from, held_behind, met_from, opened, passes_at, passes_line}
+use Rattle.front_words.proofs.ClapWalk.{rule_by_id, texts_in, then_reaches, walk_at, walks_option, with_option}
 
 -- behind what is held, the words fill the places, and `clap` finds them and the values of the options
 pub record Fills (app : App) (h : Held) (ids words choices : List Text) (values : List (Option Text)) : Type 0 where
@@ -31,6 +32,14 @@ behind_one app id value = with_option (built app).top id value nothing_held
 
 abbrev pub behind_two : App → Text → Text → Option Text → Option Text → Held
 behind_two app id second v w = with_option (built app).top second w (behind_one app id v)
+
+-- an option opens, by what `clap` finds of its name
+pub opened_by : (s : Shape) (flag id : Text) (h : Held) → arg_by_id s.rules id ≡ Some (rule_by_id s id) → turn_passes s [] (walk_at 1 h) flag ≡ true
+    → walked s.rules [] (walk_at 1 h) flag ≡ awaiting id 1 (opened s id h)
+    → ((word : Text) → after_step s.rules word (awaiting id 1 (opened s id h)) (option_word (Some (rule_by_id s id)) id word (opened s id h)).0
+    (next (option_word (Some (rule_by_id s id)) id word (opened s id h)).1) ≡ walk_at 1 (pushed id word (opened s id h)))
+    → Opens s flag id h
+opened_by s flag id h found turns walks closes = record { rule = rule_by_id s id; found = found; turns = turns; walks = walks; closes = closes }
 
 -- a command with one option, the value of which `clap` has by this name
 module _ (usage : Usage Command) (ids : List Text) (flag id : Text) where

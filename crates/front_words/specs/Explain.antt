@@ -1,13 +1,11 @@
 -- The words of `explain` (source: own).
-use Rattle.std.specs.Prelude.{[], ◌∷◌, ◌++◌, codes}
-use Rattle.front_words.specs.Forms.{file, folder}
-use Rattle.front_words.specs.Trips.{Command, named_trip_of, trip_forms}
-use Rattle.front_words.specs.Usages.{Usage, without_options}
+use Rattle.std.specs.Prelude.{codes}
+use Rattle.front_words.specs.Forms.{file}
+use Rattle.front_words.specs.Trips.{Command, named_trip_usage}
+use Rattle.front_words.specs.Usages.{Usage}
 pub use Rattle.front_words.specs.declared.explain.Explain.{Explain}
 pub use Rattle.front_words.specs.declared.commands.Invocation.TheVariants.{Explain as to_explain}
 
 -- `explain DIR VEHICLE FROM TO DEPART UNTIL ITINERARY`
 abbrev pub explain_usage : Usage Command
-explain_usage =
-    without_options (codes "explain") (folder ∷ (trip_forms ++ file ∷ []))
-    (named_trip_of (λ dir trip name. to_explain (record { dir = dir; trip = trip; itinerary = name })))
+explain_usage = named_trip_usage (codes "explain") file (λ dir trip name. to_explain (record { dir = dir; trip = trip; itinerary = name }))

@@ -17,7 +17,7 @@
 //! `Inside`, `ClapCommands` and `Found` are no law: they have what the calls hand to one another, the commands as `clap` has them, and what a
 //! command's function makes of the words that `clap` found.
 //! `proofs/ClapWalk` is the walk of `clap` over words that begin with no dash, `proofs/Plain` shows that those of a split are such, and
-//! `proofs/ClapLines` has the line of each command (`takes_row`). A command with options has a file there, such as `proofs/BreaksLines`.
+//! `proofs/ClapLines` has the line of each command (`takes_row`). The rows of the commands with options are in `proofs/OptionRows`.
 #![tactic(auto)]
 
 mod bans;
