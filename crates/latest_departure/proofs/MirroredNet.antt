@@ -159,19 +159,22 @@ module _ (net : Net) (good : IsGoodNet net) (goal sum : ℕ) where
         sym (runs_mirror sum t u pair (shut_runs_at net v)) ∙ ap (λ (l : List Run). any_has l t) (sym (shut_turned v p.0 p.1 fine)) ∙ no);
   }
 
+  -- what is said of the roads of all arcs turned round and of the last one is said of each road
+  road_turned : (P : Road → Type 0) → ((arc : TimedArc) → IsGoodArc net arc → P (road_of (turned arc))) → P (road_of last)
+      → (a : ℕ) (road : Road) → (setting_of z).road a ≡ Some road → P road
+  road_turned P each at_last a road is =
+      let found = map_some (at_number z.arcs a) road_of road is in
+      ⊎_elim
+      (λ (old : (arc : TimedArc) × (at_number net.arcs a ≡ Some arc) × (turned arc ≡ found.0)).
+      subst P (ap road_of old.2 ∙ found.2) (each old.0 (good_arc net good a old.0 old.1)))
+      (λ (new : (a ≡ length net.arcs + 1) × (last ≡ found.0)). subst P (ap road_of new.1 ∙ found.2) at_last)
+      (turned_from a found.0 found.1)
+
   module _ (low : 1 ≤ goal) (high : goal ≤ net.nodes) where
     -- no road leads to the further node
     pub head_inner : (a : ℕ) (road : Road) → (setting_of z).road a ≡ Some road → road.head ≤ net.nodes
     unfolding last
-    head_inner a road is =
-        let found = map_some (at_number z.arcs a) road_of road is in
-        ⊎_elim
-        (λ (old : (arc : TimedArc) × (at_number net.arcs a ≡ Some arc) × (turned arc ≡ found.0)).
-        (let fine : IsGoodArc net old.0 = good_arc net good a old.0 old.1 in
-        omega (arith, fine.tail.1, ap (λ (w : TimedArc). w.head.0) old.2, ap (λ (w : Road). w.head) found.2)))
-        (λ (new : (a ≡ length net.arcs + 1) × (last ≡ found.0)).
-        omega (arith, high, ap (λ (w : TimedArc). w.head.0) new.1, ap (λ (w : Road). w.head) found.2))
-        (turned_from a found.0 found.1)
+    head_inner = road_turned (λ road. road.head ≤ net.nodes) (λ arc fine. fine.tail.1) high
 
     good_turned : (arc : TimedArc) → IsGoodArc net arc → IsGoodArc z (turned arc)
     unfolding z
@@ -271,15 +274,7 @@ module _ (net : Net) (good : IsGoodNet net) (goal sum : ℕ) where
   -- each road of the mirrored net takes time
   pub takes_mirrored : TakesTime (setting_of z)
   unfolding last
-  takes_mirrored a road is =
-      let found = map_some (at_number z.arcs a) road_of road is in
-      ⊎_elim
-      (λ (old : (arc : TimedArc) × (at_number net.arcs a ≡ Some arc) × (turned arc ≡ found.0)).
-      (let fine : IsGoodArc net old.0 = good_arc net good a old.0 old.1 in
-      omega (arith, fine.minutes.0, ap (λ (w : TimedArc). w.minutes) old.2, ap (λ (w : Road). w.minutes) found.2)))
-      (λ (new : (a ≡ length net.arcs + 1) × (last ≡ found.0)).
-      omega (arith, ap (λ (w : TimedArc). w.minutes) new.1, ap (λ (w : Road). w.minutes) found.2))
-      (turned_from a found.0 found.1)
+  takes_mirrored = road_turned (λ road. 1 ≤ road.minutes) (λ arc fine. fine.minutes.0) (omega arith)
 
   -- and is one of its arcs
   pub numbers_mirrored : IsNumberedUpTo (setting_of z) (length z.arcs)
