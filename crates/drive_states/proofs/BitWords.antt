@@ -195,23 +195,19 @@ later_within from by most r low = both (leb by r) (leb r most) (bit_of from (r -
     both true false x is = absurd (cc)
     both false false x is = absurd (cc)
 
+-- nothing where one of two tests fails
+neither : (b c : Bool) (x : ℕ) → (b ≡ false) ⊎ (c ≡ false) → cond (b && c) x 0 ≡ 0
+neither false false x fails = refl
+neither false true x fails = refl
+neither true false x fails = refl
+neither true true x (inl fails) = absurd (cc)
+neither true true x (inr fails) = absurd (cc)
+
 pub later_past : (from : List ℕ) (by most r : ℕ) → most < r → later_bit from by most r ≡ 0
-later_past from by most r past = neither (leb by r) (leb r most) (bit_of from (r - by)) (lt-leb r most past)
-  where
-    neither : (b c : Bool) (x : ℕ) → c ≡ false → cond (b && c) x 0 ≡ 0
-    neither true false x is = refl
-    neither false false x is = refl
-    neither true true x is = absurd (cc)
-    neither false true x is = absurd (cc)
+later_past from by most r past = neither (leb by r) (leb r most) (bit_of from (r - by)) (inr (lt-leb r most past))
 
 pub later_early : (from : List ℕ) (by most r : ℕ) → r < by → later_bit from by most r ≡ 0
-later_early from by most r early = neither (leb by r) (leb r most) (bit_of from (r - by)) (lt-leb by r early)
-  where
-    neither : (b c : Bool) (x : ℕ) → b ≡ false → cond (b && c) x 0 ≡ 0
-    neither false true x is = refl
-    neither false false x is = refl
-    neither true true x is = absurd (cc)
-    neither true false x is = absurd (cc)
+later_early from by most r early = neither (leb by r) (leb r most) (bit_of from (r - by)) (inl (lt-leb by r early))
 
 later_is : (from : List ℕ) (by most r : ℕ) → by ≤ r → r ≤ most → later_bit from by most r ≡ bit_of from (r - by)
 later_is from by most r high low = later_within from by most r low ∙ sym (cond_true (leb by r) (bit_of from (r - by)) 0 _ (le-leb by r high) refl)

@@ -2,6 +2,7 @@ pub mod AgreeingStates
 pub mod BitWords
 pub mod Counting
 pub mod Found
+pub mod LeavingArcs
 pub mod Marked
 pub mod RowPlaces
 pub mod SameStates

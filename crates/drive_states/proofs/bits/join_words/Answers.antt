@@ -1,4 +1,4 @@
-use Rattle.std.proofs.Common.{◌≡◌, ◌+◌, ◌*◌, ◌/◌, ◌≤◌, ◌<◌, ℕ, inl, inr, ⊎_elim, get_or, ap, ◌∙◌, arith, refl}
+use Rattle.std.proofs.Common.{◌/◌, ◌≤◌, ◌<◌, ℕ, inl, inr, ⊎_elim, get_or, ap, ◌∙◌, arith, refl}
 use Rattle.std.specs.Int.{bit_at}
 use Rattle.std.proofs.lemmas.Bool.{cases_lt}
 use Rattle.drive_states.proofs.BitWords.{joined_none, joined_few, joined_step, joined_all, joined_count, later_any}

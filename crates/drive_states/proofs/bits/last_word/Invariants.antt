@@ -1,4 +1,4 @@
-use Rattle.std.proofs.Common.{◌≡◌, ℕ, ◌<◌, ◌≤◌, get_or, length}
+use Rattle.std.proofs.Common.{◌≡◌, ℕ, ◌≤◌, get_or, length}
 use Rattle.drive_states.proofs.bits.last_word.Given as goal
 
 abbrev pub invariant-words : goal.invariant-words

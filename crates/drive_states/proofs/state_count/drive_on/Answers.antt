@@ -1,27 +1,19 @@
-use Rattle.std.proofs.Common.{take, get_or, List, sym, subst, arith}
+use Rattle.std.proofs.Common.{take, List, sym, subst, arith}
 use Rattle.std.proofs.lemmas.List.{map_more}
-use Rattle.std.proofs.lemmas.List.Elements.{Contains-get_or}
 use Rattle.route_base.specs.Net.{setting_of}
 use Rattle.route_base.specs.declared.types.ArcId.{ArcId}
 use Rattle.route_base.specs.declared.types.Leg.{Leg}
 use Rattle.route_base.specs.declared.types.Leg.TheVariants.{Drive}
-use Rattle.node_arcs.specs.Stars.{EndsAt, AreArcs}
-use Rattle.node_arcs.specs.declared.links.End.TheVariants.{Tail}
 use Rattle.drive_states.specs.Inside.StateMarks.{IsVisiting}
 use Rattle.drive_states.specs.Inside.StateSearch.{drives_over}
+use Rattle.drive_states.proofs.LeavingArcs.{leaves, none}
 use Rattle.drive_states.proofs.Marked.{marks_few}
 use Rattle.drive_states.proofs.state_count.drive_on.Goals as goal
-
-none : ArcId
-none = record { 0 = 0 }
 
 pub drive_over-requires-clause-tail : goal.drive_over-requires-clause-tail
 unfolding none
 drive_over-requires-clause-tail c =
-    let arcs : List ArcId = c.of-a-items.result.now in
-    let are : AreArcs (EndsAt c.args.plan.net.now Tail c.args.visit.node.0) arcs =
-    subst (AreArcs (EndsAt c.args.plan.net.now Tail c.args.visit.node.0)) (sym c.of-a-items.ensures) (c.requires.outgoing c.args.visit.node.0) in
-    are.each (get_or arcs c.loop-a.a-index none) (Contains-get_or arcs c.loop-a.a-index none c.loop-a-test.true)
+    leaves c.args.plan.net.now _ c.requires.outgoing c.args.visit.node.0 _ c.of-a-items.ensures c.loop-a.a-index c.loop-a-test.true
 
 pub drive_over-requires-clause-room : goal.drive_over-requires-clause-room
 drive_over-requires-clause-room c = omega (

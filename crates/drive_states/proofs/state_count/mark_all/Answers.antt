@@ -1,7 +1,6 @@
-use Rattle.std.proofs.Common.{inr, ⊎_elim, ℕ, List, length, ap, subst, arith}
+use Rattle.std.proofs.Common.{inr, ℕ, List, length, ap, subst, arith}
 use Rattle.std.specs.Prelude.{Contains}
 use Rattle.route_base.specs.Net.{setting_of}
-use Rattle.drive_states.specs.Inside.StateMarks.{IsSettled}
 use Rattle.drive_states.proofs.Marked.{all_settled, marks_few, opened}
 use Rattle.drive_states.proofs.state_count.mark_all.Goals as goal
 
