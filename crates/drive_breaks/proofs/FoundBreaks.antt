@@ -93,32 +93,40 @@ module _ (s z : Setting) (rule : BreakRule) (origin goal : ℕ) (states : List S
         }),
       )
 
+  -- the same where nothing was waited since the walk's end
+  tracked_here : (back : List Step) (q : Position) (i : ℕ) (state : State) → at_number states i ≡ Some state → q.node ≡ state.node.0
+      → (xs : List Step) → Walks z until xs start (at_place i q) → q.minute ≤ until → IsLeast s.road rule back state.driven
+      → (state.driven ≡ 0) ⊎ (EndsWaiting back 0 × (0 < rule.rest)) → IsTracked back q
+  tracked_here back q i state is node xs walk in_time least few = record {
+    i = i;
+    state = state;
+    is = is;
+    node = node;
+    xs = xs;
+    big = at_place i q;
+    at = refl;
+    walk = walk;
+    k = 0;
+    weight = 0;
+    rated = inl refl;
+    is_open = λ u early late. absurd (omega (arith, early, late));
+    minute = omega arith;
+    cost = omega arith;
+    in_time = in_time;
+    least = least;
+    few = few;
+  }
+
   tracks_drive : (back : List Step) (p q : Position) (a : ℕ) → IsTracked back p → Moves s until (drive a) p q
       → IsWithinRule s.road rule back (minutes_of (s.road a))
       → IsTracked (drive a ∷ back) q
   tracks_drive back p q a t move within =
       let next = made.drives t.i a t.state move.road (can back p q a t move within) in
       let walk = driven_on back p q a next.0 t move next.5 next.6 in
-      record {
-        i = next.0;
-        state = next.1;
-        is = next.2;
-        node = move.node ∙ sym next.3;
-        xs = walk.0;
-        big = at_place next.0 q;
-        at = refl;
-        walk = walk.1;
-        k = 0;
-        weight = 0;
-        rated = inl refl;
-        is_open = λ u early late. absurd (omega (arith, early, late));
-        minute = omega arith;
-        cost = omega arith;
-        in_time = omega (arith, move.in_time, move.minute);
-        least = subst (IsLeast s.road rule (drive a ∷ back)) (omega (arith, next.4, minutes_is (s.road a) move.road move.is))
-            (least_drive s.road rule back t.state.driven a some t.least);
-        few = inr (record { front = drive a ∷ back; is = refl; driven = by_drive a back }, some);
-      }
+      tracked_here (drive a ∷ back) q next.0 next.1 next.2 (move.node ∙ sym next.3) walk.0 walk.1 (omega (arith, move.in_time, move.minute))
+      (subst (IsLeast s.road rule (drive a ∷ back)) (omega (arith, next.4, minutes_is (s.road a) move.road move.is))
+      (least_drive s.road rule back t.state.driven a some t.least))
+      (inr (record { front = drive a ∷ back; is = refl; driven = by_drive a back }, some))
 
   -- the waits before the position, and one more, are open
   open_more : (back : List Step) (p q : Position) (t : IsTracked back p) → Moves s until wait p q → IsWaitOpen s t.state.node.0 t.big.minute (t.k + 1)
@@ -171,34 +179,20 @@ module _ (s z : Setting) (rule : BreakRule) (origin goal : ℕ) (states : List S
       t.rated in
       let next = made.breaks t.i move.weight t.state t.is rated loaded in
       let cost : t.big.cost + (t.k + 1) * move.weight ≡ q.cost = cost_more t.k t.weight move.weight t.big.cost p.cost q.cost either t.cost move.cost in
-      record {
-        i = next.0;
-        state = next.1;
-        is = next.2;
-        node = move.node ∙ t.node ∙ sym next.3;
-        xs = t.xs ++ drive next.5.x ∷ [];
-        big = at_place next.0 q;
-        at = refl;
-        walk = walk-push z until t.xs (drive next.5.x) start t.big (at_place next.0 q) t.walk (record {
-          road = record { tail = t.i; head = next.0; minutes = rule.rest; cost = rule.rest * move.weight };
-          is = next.5.is;
-          tail = sym t.at;
-          is_open = λ m early late. next.6 m ∙ open_more back p q t move m early (omega (arith, late, full));
-          in_time = omega (arith, move.in_time, t.minute, full);
-          node = refl;
-          minute = omega (arith, move.minute, t.minute, full);
-          cost = sym cost ∙ ap (λ (n : ℕ). t.big.cost + n * move.weight) full;
-        });
-        k = 0;
-        weight = 0;
-        rated = inl refl;
-        is_open = λ u early late. absurd (omega (arith, early, late));
-        minute = omega arith;
-        cost = omega arith;
-        in_time = omega (arith, move.in_time, move.minute);
-        least = record { all = omega (arith, next.4); each = λ late since. omega (arith, next.4) };
-        few = inl next.4;
-      }
+      tracked_here (wait ∷ back) q next.0 next.1 next.2 (move.node ∙ t.node ∙ sym next.3) (t.xs ++ drive next.5.x ∷ [])
+      (walk-push z until t.xs (drive next.5.x) start t.big (at_place next.0 q) t.walk (record {
+        road = record { tail = t.i; head = next.0; minutes = rule.rest; cost = rule.rest * move.weight };
+        is = next.5.is;
+        tail = sym t.at;
+        is_open = λ m early late. next.6 m ∙ open_more back p q t move m early (omega (arith, late, full));
+        in_time = omega (arith, move.in_time, t.minute, full);
+        node = refl;
+        minute = omega (arith, move.minute, t.minute, full);
+        cost = sym cost ∙ ap (λ (n : ℕ). t.big.cost + n * move.weight) full;
+      }))
+      (omega (arith, move.in_time, move.minute))
+      (record { all = omega (arith, next.4); each = λ late since. omega (arith, next.4) })
+      (inl next.4)
 
   tracks_wait : (back : List Step) (p q : Position) → IsTracked back p → Moves s until wait p q → IsTracked (wait ∷ back) q
   tracks_wait back p q t move = ⊎_elim
@@ -263,22 +257,7 @@ module _ (s z : Setting) (rule : BreakRule) (origin goal : ℕ) (states : List S
   arrives xs p q one minute cost node in_time away walk rested at = ⊎_elim
       (λ (only : IsWaitedFrom p q). absurd (away (sym node ∙ sym only.node ∙ at)))
       (λ (arrives : Arrives q). arrives)
-      (found xs [] p q (record {
-        i = 1;
-        state = made.first;
-        is = made.at_first;
-        node = node ∙ sym made.first_node;
-        xs = [];
-        big = start;
-        at = one;
-        walk = refl;
-        k = 0;
-        weight = 0;
-        rated = inl refl;
-        is_open = λ u early late. absurd (omega (arith, early, late));
-        minute = omega (arith, minute);
-        cost = omega (arith, cost);
-        in_time = in_time;
-        least = record { all = omega (arith, made.first_driven); each = λ late since. omega (arith, made.first_driven) };
-        few = inl made.first_driven;
-      }) walk rested at)
+      (found xs [] p q
+      (tracked_here [] p 1 made.first made.at_first (node ∙ sym made.first_node) [] (same_position start (at_place 1 p) one minute cost) in_time
+      (record { all = omega (arith, made.first_driven); each = λ late since. omega (arith, made.first_driven) }) (inl made.first_driven))
+      walk rested at)

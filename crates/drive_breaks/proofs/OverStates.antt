@@ -51,22 +51,22 @@ module _ (net : Net) (good : IsGoodNet net) (rule : BreakRule) (origin goal : �
   big : Net
   big = net_over net states arcs
 
+  -- an arc is shut where the list that it names says so
+  shut_by_list : (x t k : ℕ) (arc : TimedArc) → at_number arcs x ≡ Some arc → arc.closed ≡ k
+      → (setting_of big).shut x t ≡ any_has (unwrap_or (slice_get net.closed k) []) t
+  unfolding big
+  shut_by_list x t k arc at same =
+      ap (λ (o : Option TimedArc). any_has (runs_by (net_over net states arcs) o) t) at
+      ∙ ap (λ (i : ℕ). any_has (unwrap_or (slice_get net.closed i) []) t) same
+
   shut_as : (x t : ℕ) (arc base : TimedArc) (a : ℕ) → at_number arcs x ≡ Some arc → at_number net.arcs a ≡ Some base → arc.closed ≡ base.closed
       → (setting_of big).shut x t ≡ (setting_of net).shut a t
-  unfolding big
-  shut_as x t arc base a at is same =
-      ap (λ (o : Option TimedArc). any_has (runs_by (net_over net states arcs) o) t) at
-      ∙ ap (λ (k : ℕ). any_has (unwrap_or (slice_get net.closed k) []) t) same
-      ∙ ap (λ (o : Option TimedArc). any_has (runs_by net o) t) (sym is)
+  shut_as x t arc base a at is same = shut_by_list x t base.closed arc at same ∙ ap (λ (o : Option TimedArc). any_has (runs_by net o) t) (sym is)
 
   -- a break is shut where waiting is
   shut_with : (x t v : ℕ) (arc : TimedArc) (park : Park) → at_number arcs x ≡ Some arc → park_at net v ≡ Some park → arc.closed ≡ park.shut
       → (setting_of big).shut x t ≡ (setting_of net).wait_shut v t
-  unfolding big
-  shut_with x t v arc park at is same =
-      ap (λ (o : Option TimedArc). any_has (runs_by (net_over net states arcs) o) t) at
-      ∙ ap (λ (k : ℕ). any_has (unwrap_or (slice_get net.closed k) []) t) same
-      ∙ ap (λ (o : Option Park). any_has (shut_by net o) t) (sym is)
+  shut_with x t v arc park at is same = shut_by_list x t park.shut arc at same ∙ ap (λ (o : Option Park). any_has (shut_by net o) t) (sym is)
 
   park_of : (at from : State) (park : Park) → at ≡ from → park_at net at.node.0 ≡ Some park → park_at net from.node.0 ≡ Some park
   park_of at from park same is = ap (λ (w : State). park_at net w.node.0) (sym same) ∙ is

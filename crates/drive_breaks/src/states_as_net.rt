@@ -19,6 +19,17 @@ pub struct Ground<'a> {
     pub states: &'a [State],
 }
 
+// An arc of one minute without a cost, where the net has none.
+fn free_arc(tail: NodeId, head: NodeId) -> TimedArc {
+    TimedArc {
+        tail,
+        head,
+        minutes: 1,
+        cost: 0,
+        closed: 0,
+    }
+}
+
 // A drive over states.
 fn drive_arc(ground: Ground<'_>, way: Way, a: ArcId) -> TimedArc
     requires sound { IsSoundWay (setting_of ground.net.now) ground.rule ground.states.now way }
@@ -30,13 +41,7 @@ fn drive_arc(ground: Ground<'_>, way: Way, a: ArcId) -> TimedArc
     let head = NodeId(way.to);
     match ground.net.arc(a) {
         Some(base) => TimedArc { tail, head, ..base },
-        None => TimedArc {
-            tail,
-            head,
-            minutes: 1,
-            cost: 0,
-            closed: 0,
-        },
+        None => free_arc(tail, head),
     }
 }
 
@@ -59,13 +64,7 @@ fn break_arc(ground: Ground<'_>, way: Way, minutes: u64) -> TimedArc
             cost: minutes * park.weight,
             closed: park.shut,
         },
-        None => TimedArc {
-            tail,
-            head,
-            minutes: 1,
-            cost: 0,
-            closed: 0,
-        },
+        None => free_arc(tail, head),
     }
 }
 
