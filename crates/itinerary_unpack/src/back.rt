@@ -1,12 +1,9 @@
 // Back from a pair to the start.
-ghost use Rattle.std.specs.Prelude.{◌<◌, length, reverse, Contains, IfOk, slice_index_or};
-ghost use Rattle.route_base.specs.Net.{setting_of};
+ghost use Rattle.std.specs.Prelude.{◌<◌, length, reverse, Contains, IfOk};
 ghost use Rattle.route_base.specs.Itinerary.{Walks};
-ghost use Rattle.route_base.specs.Legs.{steps_of, start_of, end_of, Achieves, HasNoNeighbouringWaits};
-ghost use Rattle.route_base.specs.declared.types.Pair.{Pair};
+ghost use Rattle.route_base.specs.Legs.{steps_of, start_of, end_of};
 ghost use Rattle.route_base.specs.FirstItinerary.{IsFirst};
-ghost use Rattle.node_arcs.specs.Stars.{AreIncoming};
-ghost use Rattle.itinerary_unpack.specs.Answered.{IsAnswered};
+ghost use Rattle.itinerary_unpack.specs.Words.{AreIncoming, AreUnpacked, IsAnswered};
 ghost use Rattle.itinerary_unpack.specs.Inside.Requests.{IsSolved, setting_in};
 ghost use Rattle.tidy_legs.specs.Words.{IsTidy};
 
@@ -31,11 +28,7 @@ pub fn unpack(
 ) -> Result<Legs, OutOfMemory>
     requires found { IsAnswered net.now request found.now }
     requires one { k < length found.now.pairs }
-    ensures achieves { IfOk result (λ legs. (d : Pair)
-        → Achieves (setting_of net.now) request legs (slice_index_or found.now.pairs k d)) }
-    ensures tidy { IfOk result HasNoNeighbouringWaits }
-    ensures first { IfOk result (λ legs. (d : Pair)
-        → IsFirst (setting_of net.now) request legs (slice_index_or found.now.pairs k d)) }
+    ensures { IfOk result (AreUnpacked net.now request found.now k) }
 {
     let incoming = NodeArcs::incoming(alloc, net)?;
     unpack_over(alloc, net, &incoming, request, found, k)
@@ -53,11 +46,7 @@ pub fn unpack_over(
     requires incoming { AreIncoming net.now incoming.now }
     requires found { IsAnswered net.now request found.now }
     requires one { k < length found.now.pairs }
-    ensures achieves { IfOk result (λ legs. (d : Pair)
-        → Achieves (setting_of net.now) request legs (slice_index_or found.now.pairs k d)) }
-    ensures tidy { IfOk result HasNoNeighbouringWaits }
-    ensures first { IfOk result (λ legs. (d : Pair)
-        → IsFirst (setting_of net.now) request legs (slice_index_or found.now.pairs k d)) }
+    ensures { IfOk result (AreUnpacked net.now request found.now k) }
 {
     let solved = Solved {
         net,

@@ -1,9 +1,6 @@
 // The routes of what was found.
 ghost use Rattle.std.specs.Prelude.{◌≡◌, IfOk};
-ghost use Rattle.node_arcs.specs.Stars.{AreIncoming};
-ghost use Rattle.route_base.specs.Front.{IsRight, pairs_of};
-ghost use Rattle.route_base.specs.Net.{setting_of};
-ghost use Rattle.itinerary_unpack.specs.Answered.{IsAnswered};
+ghost use Rattle.itinerary_unpack.specs.Words.{AreIncoming, IsAnswered, IsRight, pairs_of, setting_of};
 
 use crate::back::unpack_over;
 use node_arcs::NodeArcs;

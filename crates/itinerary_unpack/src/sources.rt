@@ -7,7 +7,7 @@ ghost use Rattle.route_base.specs.declared.types.Leg.TheVariants.{Drive};
 ghost use Rattle.route_base.specs.StepsBack.{HasSource, HasNoMove};
 ghost use Rattle.propagation.specs.Inside.Invariants.{point};
 ghost use Rattle.itinerary_unpack.specs.Inside.Sources.{ComesFrom, ComesFirst};
-ghost use Rattle.itinerary_unpack.specs.Inside.Requests.{IsSolved, setting_in, solved_cost};
+ghost use Rattle.itinerary_unpack.specs.Inside.Requests.{IsSolved, IsSolvedAt, setting_in, solved_cost};
 
 use crate::solved::Solved;
 use cost_functions::Piece;
@@ -77,10 +77,7 @@ fn drive_into(solved: Solved<'_>, a: ArcId, v: NodeId, t: Minute, x: Cost) -> Op
 // The wait by which the cost comes, where one does: from the first minute of the piece on, or from the last minute before which it is
 // shut, or else of one minute.
 fn wait_into(solved: Solved<'_>, v: NodeId, t: Minute, x: Cost) -> Option<Source>
-    requires solved { IsSolved solved }
-    requires low { 1 ≤ v.0 }
-    requires high { v.0 ≤ solved.net.now.nodes }
-    requires upto { t ≤ solved.request.until }
+    requires { IsSolvedAt solved v.0 t }
     ensures some { IfSome result (ComesFirst (setting_in solved.entry)
         solved.entry.request.until (solved_cost solved.entry) v.0 t x) }
     ensures none { IsNone result → HasNoMove (setting_in solved.entry)
@@ -128,10 +125,7 @@ fn end_before(runs: &[Run], t: Minute) -> Minute {
 
 // A wait since an earlier minute, where it ends here at exactly this cost.
 fn wait_since(solved: Solved<'_>, v: NodeId, since: Minute, t: Minute, x: Cost) -> Option<Source>
-    requires solved { IsSolved solved }
-    requires low { 1 ≤ v.0 }
-    requires high { v.0 ≤ solved.net.now.nodes }
-    requires upto { t ≤ solved.request.until }
+    requires { IsSolvedAt solved v.0 t }
     ensures some { IfSome result (ComesFirst (setting_in solved.entry)
         solved.entry.request.until (solved_cost solved.entry) v.0 t x) }
     ensures none { IsNone result → since + 1 ≡ t → HasNoMove (setting_in solved.entry)

@@ -15,6 +15,13 @@ pub record IsSolved (solved : Solved) : Type 0 where
   pub incoming : AreIncoming solved.net.now solved.incoming.now
   pub found : IsFoundFor solved.net.now solved.request solved.found.now
 
+-- the same at a node of the net, and at a minute by which the request ends
+pub record IsSolvedAt (s : Solved) (v t : ℕ) : Type 0 where
+  pub solved : IsSolved s
+  pub low : 1 ≤ v
+  pub high : v ≤ s.net.now.nodes
+  pub upto : t ≤ s.request.until
+
 -- the setting of the net
 abbrev pub setting_in : Solved → Setting
 setting_in solved = setting_of solved.net.now

@@ -15,6 +15,9 @@ use Rattle.itinerary_unpack.proofs.sources.source_of.Goals as goal
 abbrev no_arc : ArcId
 no_arc = record { 0 = 0 }
 
+pub wait_into-requires : goal.wait_into-requires
+wait_into-requires c = record { solved = c.requires.solved; low = c.requires.low; high = c.requires.high; upto = c.requires.upto }
+
 pub drive_into-requires-clause-ends : goal.drive_into-requires-clause-ends
 drive_into-requires-clause-ends c = place_ends c.args.solved.net.now Head c.args.solved.incoming.now c.requires.solved.incoming c.args.v.0
     c.of-a-items.result.now c.of-a-items.ensures c.loop-a.a-index no_arc c.loop-a-test.true
