@@ -1,5 +1,5 @@
 -- The lines of the commands with one or two options pass `clap`, where the options open and the positional words fill their places.
-use Rattle.std.proofs.Common.{◌≡◌, refl, false, true, map, List, Option, Some, [], ◌∷◌, ◌++◌, length, arith, subst, sym, ◌∙◌}
+use Rattle.std.proofs.Common.{◌≡◌, false, true, map, List, Option, Some, [], ◌∷◌, ◌++◌, length, arith, subst, sym, ◌∙◌}
 use Rattle.std.specs.Prelude.{IfSome}
 use Rattle.clap.specs.Walk.{Held, Text, after_step, arg_by_id, next, nothing_held, option_word, pushed, walked}
 use Rattle.clap.specs.Simple.{App, Shape, built}

@@ -25,14 +25,14 @@ node_of word = at_most 4294967295 (plain_number_of word)
 abbrev pub count_of : ℕ → List ℕ → Option ℕ
 count_of limit word = option_and_then (λ n. if is_from_to 1 limit n then Some n else None) (plain_number_of word)
 
+-- the value beside the first of these names that a word is
+abbrev pub named_in : {A : Type 0} → List (List ℕ × A) → List ℕ → Option A
+named_in [] word = None
+named_in (row ∷ rows) word = if bytes_eq word row.0 then Some row.1 else named_in rows word
+
 -- the form of a report, by its name in small letters
 abbrev pub report_of : List ℕ → Option Form
-report_of word =
-    if bytes_eq word (codes "plain") then Some Plain
-    else if bytes_eq word (codes "table") then Some Table
-    else if bytes_eq word (codes "csv") then Some Csv
-    else if bytes_eq word (codes "json") then Some Json
-    else None
+report_of = named_in ((codes "plain", Plain) ∷ (codes "table", Table) ∷ (codes "csv", Csv) ∷ (codes "json", Json) ∷ [])
 
 -- the forms that words have
 pub data WordForm : Type 0 where
