@@ -1,10 +1,11 @@
-// What is paid above the least price of a minute on the way to each stop. How the sums are found isn't proved: one pass over the arcs of
-// each stage, and one over the parks, checks them.
-ghost use Rattle.std.specs.Prelude.{◌≡◌, ◌≤◌, ◌<◌, ℕ, IsTrue, IfOk, length, slice_get};
+// What is paid above the least price of a minute on the way to each stop. How the sums are found isn't proved: a pass over the arcs and
+// parks, and for each stage one over the arcs that lead into near nodes, checks them. At place 0, where no node is, stands what is far.
+ghost use Rattle.std.specs.Prelude.{◌≡◌, ◌≤◌, ◌<◌, ℕ, All, IsTrue, IfOk, length, slice_get};
 ghost use Rattle.route_base.specs.Net.{setting_of, road_of};
 ghost use Rattle.ruled_states.specs.Inside.Reduced.{HoldsReduced, reduced_in, sums_of};
 ghost use Rattle.ruled_states.specs.Inside.Services.{service_at};
-ghost use Rattle.ruled_bounds.specs.Inside.Reducing.{IsPricedBy, IsReducedAlong, IsReducedBy, EndsBy};
+ghost use Rattle.ruled_bounds.specs.Inside.Reducing.{EndsBy, HoldsInto, IsDearBy, IsPricedBy, IsReducedAlong, IsReducedBy};
+ghost use Rattle.node_arcs.specs.Stars.{AreIncoming};
 
 use crate::back_star::BackStar;
 use crate::label_search::Ground;
@@ -39,13 +40,66 @@ fn arc_holds(net: &TimedNet, sums: &ReducedSums, stage: u64, a: ArcId) -> bool
     }
 }
 
-// Whether the sums of a stage hold along each arc.
-fn arcs_hold(net: &TimedNet, sums: &ReducedSums, stage: u64) -> bool
-    ensures { IsTrue result → (a : ℕ) → IsReducedBy sums.now.price
-        (reduced_in (sums_of sums.now.sums.items)) stage ((setting_of net.now).road a) }
+// Whether the sums of a stage hold along each of the arcs.
+fn each_holds(net: &TimedNet, sums: &ReducedSums, stage: u64, arcs: &[ArcId]) -> bool
+    ensures { IsTrue result → All (λ a. IsReducedBy sums.now.price
+        (reduced_in (sums_of sums.now.sums.items)) stage ((setting_of net.now).road a.0)) arcs.now }
+{
+    for a in arcs {
+        if !arc_holds(net, sums, stage, *a) {
+            return false;
+        }
+    }
+    true
+}
+
+// Whether the sums of a stage hold along each arc into a node; where it is far, as far as any other, whether nothing comes from farther.
+fn node_holds<R: Ruler>(ground: &Ground<'_, R>, sums: &ReducedSums, stage: u64, v: NodeId) -> bool
+    ensures { IsTrue result → HoldsInto (setting_of ground.now.net.now) ground.now.incoming.now
+        sums.now.price (reduced_in (sums_of sums.now.sums.items)) stage v.0 }
+{
+    let far = sums.of(NodeId(0), stage);
+    let own = sums.of(v, stage);
+    if own >= far {
+        return own == far;
+    }
+    each_holds(ground.net, sums, stage, ground.incoming.of(v))
+}
+
+// Whether the sums of a stage hold along the arcs into each node.
+fn nodes_hold<R: Ruler>(ground: &Ground<'_, R>, sums: &ReducedSums, stage: u64) -> bool
+    ensures { IsTrue result → (v : ℕ) → 1 ≤ v → v ≤ ground.now.net.now.nodes
+        → HoldsInto (setting_of ground.now.net.now) ground.now.incoming.now
+        sums.now.price (reduced_in (sums_of sums.now.sums.items)) stage v }
+{
+    for k in 0..ground.net.node_count() {
+        if !node_holds(ground, sums, stage, NodeId(k + 1)) {
+            return false;
+        }
+    }
+    true
+}
+
+// Whether the arc of this number costs no less than the price of its minutes, if there is one.
+#[inline(always)]
+fn is_dear(net: &TimedNet, price: u64, a: ArcId) -> bool
+    ensures { IsTrue result → IsDearBy price ((setting_of net.now).road a.0) }
+{
+    match net.arc(a) {
+        Some(arc) => match price.checked_mul(arc.minutes) {
+            Some(priced) => priced <= arc.cost,
+            None => false,
+        },
+        None => true,
+    }
+}
+
+// Whether each arc costs no less than the price of its minutes.
+fn are_dear(net: &TimedNet, price: u64) -> bool
+    ensures { IsTrue result → (a : ℕ) → IsDearBy price ((setting_of net.now).road a) }
 {
     for k in 0..net.arc_count() {
-        if !arc_holds(net, sums, stage, ArcId(k + 1)) {
+        if !is_dear(net, price, ArcId(k + 1)) {
             return false;
         }
     }
@@ -74,6 +128,14 @@ fn are_priced(net: &TimedNet, price: u64) -> bool
     true
 }
 
+// Whether no minute is below the price, on an arc or at a node.
+fn is_low(net: &TimedNet, price: u64) -> bool
+    ensures waits { IsTrue result → (v : ℕ) → IsPricedBy price ((setting_of net.now).weight v) }
+    ensures drives { IsTrue result → (a : ℕ) → IsDearBy price ((setting_of net.now).road a) }
+{
+    are_priced(net, price) && are_dear(net, price)
+}
+
 // Whether the sum at the stage's stop is nothing.
 fn ends_in_nothing<R: Ruler>(ruler: &R, sums: &ReducedSums, stage: u64) -> bool
     ensures { IsTrue result → EndsBy (reduced_in (sums_of sums.now.sums.items)) stage
@@ -87,15 +149,16 @@ fn ends_in_nothing<R: Ruler>(ruler: &R, sums: &ReducedSums, stage: u64) -> bool
 
 // Whether the sums of each stage hold.
 fn stages_hold<R: Ruler>(ground: &Ground<'_, R>, sums: &ReducedSums) -> bool
-    ensures arcs { IsTrue result → (i : ℕ) → i < length (R.ruling ground.now.ruler.now).services
-        → (a : ℕ) → IsReducedBy sums.now.price (reduced_in (sums_of sums.now.sums.items)) i
-        ((setting_of ground.now.net.now).road a) }
+    ensures nodes { IsTrue result → (i : ℕ) → i < length (R.ruling ground.now.ruler.now).services
+        → (v : ℕ) → 1 ≤ v → v ≤ ground.now.net.now.nodes
+        → HoldsInto (setting_of ground.now.net.now) ground.now.incoming.now
+        sums.now.price (reduced_in (sums_of sums.now.sums.items)) i v }
     ensures stops { IsTrue result → (i : ℕ)
         → EndsBy (reduced_in (sums_of sums.now.sums.items)) i
         (slice_get (R.ruling ground.now.ruler.now).services i) }
 {
     for stage in 0..ground.ruler.service_count() {
-        if !arcs_hold(ground.net, sums, stage) || !ends_in_nothing(ground.ruler, sums, stage) {
+        if !nodes_hold(ground, sums, stage) || !ends_in_nothing(ground.ruler, sums, stage) {
             return false;
         }
     }
@@ -200,12 +263,13 @@ fn found_sums<R: Ruler>(
 }
 
 /// The least price of a minute, and for each node and stop what is paid above it on any way there; none where there are no stops, where rests
-/// matter, or if what is found doesn't hold. In each stage a search backwards from the stop goes as far as where the stage begins, and a pass
-/// over all arcs checks it: `O((n + m) k + s log s)` for n nodes, m arcs, k stops and s nodes in the searches.
+/// matter, or if what is found doesn't hold. In each stage a search backwards from the stop goes as far as where the stage begins, and the arcs
+/// into the nodes that it reached are checked: `O(m + n k + s log s)` for n nodes, m arcs, k stops and s such arcs.
 pub fn reduced_sums<R: Ruler>(
     alloc: Global,
     ground: &Ground<'_, R>,
 ) -> Result<Option<ReducedSums>, OutOfMemory>
+    requires incoming { AreIncoming ground.now.net.now ground.now.incoming.now }
     ensures { IfOk result (HoldsReduced (setting_of ground.now.net.now)
         (R.ruling ground.now.ruler.now)) }
 {
@@ -213,7 +277,8 @@ pub fn reduced_sums<R: Ruler>(
         return Ok(None);
     }
     let sums = found_sums(alloc, ground)?;
-    if are_priced(ground.net, sums.price) && stages_hold(ground, &sums) {
+    let _nodes = ground.net.node_count();
+    if is_low(ground.net, sums.price) && stages_hold(ground, &sums) {
         return Ok(Some(sums));
     }
     Ok(None)

@@ -5,22 +5,23 @@ use Rattle.std.proofs.lemmas.Option.{slice_get_past}
 use Rattle.route_base.specs.Net.{setting_of}
 use Rattle.state_dominance.specs.Inside.Product.{Service}
 use Rattle.ruled_states.specs.Inside.Reduced.{reduced_in, sums_of}
-use Rattle.ruled_bounds.specs.Inside.Reducing.{EndsBy, IsReducedBy}
+use Rattle.ruled_bounds.specs.Inside.Reducing.{EndsBy, HoldsInto}
 use Rattle.ruled_bounds.proofs.stop_sums.stages_hold.Goals as goal
 
 pub loop-stage-preserved : goal.loop-stage-preserved
 loop-stage-preserved g c =
     let sums = c.args.sums.now in
-    let held : ℕ → Type 0 = λ i. ((a : ℕ) → IsReducedBy sums.price (reduced_in (sums_of sums.sums.items)) i ((setting_of c.args.ground.now.net.now).road a))
+    let held : ℕ → Type 0 = λ i. ((v : ℕ) → 1 ≤ v → v ≤ c.args.ground.now.net.now.nodes
+    → HoldsInto (setting_of c.args.ground.now.net.now) c.args.ground.now.incoming.now sums.price (reduced_in (sums_of sums.sums.items)) i v)
     × EndsBy (reduced_in (sums_of sums.sums.items)) i (slice_get (g.R.Ruler.ruling c.args.ground.now.ruler.now).services i) in
     λ i below. ⊎_elim
     (λ (before : i < c.loop-stage.stage). c.loop-stage.invariant i before)
     (λ (here : c.loop-stage.stage ≤ i). subst held (omega (arith, here, below))
-    (c.arcs_hold.ensures c.if-not-arcs_hold.false, c.ends_in_nothing.ensures c.if-not-ends_in_nothing.false))
+    (c.nodes_hold.ensures c.if-not-nodes_hold.false, c.ends_in_nothing.ensures c.if-not-ends_in_nothing.false))
     (cases_lt i c.loop-stage.stage)
 
-pub returns-clause-arcs : goal.returns-clause-arcs
-returns-clause-arcs g c = λ yes i few.
+pub returns-clause-nodes : goal.returns-clause-nodes
+returns-clause-nodes g c = λ yes i few.
     (c.loop-stage.invariant i (omega (arith, few, c.service_count-stage-end.ensures, c.loop-stage-test.false))).0
 
 pub returns-clause-stops : goal.returns-clause-stops
