@@ -1,5 +1,5 @@
 -- Positions that are carried along over lawful legs.
-use Rattle.std.proofs.Common.{◌≡◌, ◌≢◌, ℕ, zero, suc, ◌+◌, ◌*◌, ◌≤◌, ◌<◌, List, [], ◌∷◌, ◌++◌}
+use Rattle.std.proofs.Common.{◌≡◌, ◌≢◌, ℕ, zero, suc, ◌+◌, ◌*◌, ◌≤◌, ◌<◌, List, ◌∷◌, ◌++◌}
 use Rattle.std.proofs.Common.{flat_map, drop, get_or, length, replicate, Some, refl, sym, ◌∙◌, ap, subst, append_assoc, arith}
 use Rattle.std.specs.Prelude.{◌^◌, Option, unwrap_or, IsSome}
 use Rattle.std.proofs.lemmas.List.{drop_more}

@@ -11,3 +11,4 @@ pub mod Routes
 pub mod Stages
 pub mod Summary
 pub mod Table
+pub mod Words

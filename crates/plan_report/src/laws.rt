@@ -1,12 +1,6 @@
 // Settings of which one stands for the other have the same texts.
 ghost use Rattle.std.specs.Prelude.{◌≡◌, List};
-ghost use Rattle.plan_report.specs.Reports.{report_text};
-ghost use Rattle.route_base.specs.Matching.{StandsFor};
-ghost use Rattle.route_base.specs.Setting.{Setting};
-ghost use Rattle.route_base.specs.declared.types.Form.{Form};
-ghost use Rattle.route_base.specs.declared.types.Request.{Request};
-ghost use Rattle.route_base.specs.declared.types.Route.{Route};
-ghost use Rattle.route_base.specs.declared.types.Run.{Run};
+ghost use Rattle.plan_report.specs.Words.{Form, Request, Route, Run, Setting, StandsFor, report_text};
 
 /// The law of two settings of which one stands for the other within a window: the text of routes is the same over both, in each
 /// form. The call does nothing.

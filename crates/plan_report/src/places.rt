@@ -2,8 +2,7 @@
 ghost use Rattle.std.specs.Prelude.{◌≡◌, IsSome};
 ghost use Rattle.plan_report.specs.Inside.{position_at, IsPassable};
 ghost use Rattle.plan_report.specs.Stages.{road_at, price_at, position_after};
-ghost use Rattle.route_base.specs.Legs.{start_of};
-ghost use Rattle.route_base.specs.Net.{road_of, setting_of};
+ghost use Rattle.plan_report.specs.Words.{road_of, setting_of, start_of};
 
 use route_base::{ArcId, Cost, Leg, Minute, NodeId, Request, TimedArc, TimedNet};
 
