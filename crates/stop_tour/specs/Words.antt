@@ -1,5 +1,8 @@
 -- The words of the crate's clauses, from its own specs and from the crates below (source: own).
-pub use Rattle.route_base.specs.Net.{IsGoodRequest, setting_of}
+pub use Rattle.route_base.specs.Front.{IsFront}
+pub use Rattle.route_base.specs.Matching.{IsInWindow, StandsFor}
+pub use Rattle.route_base.specs.Net.{IsGoodNet, IsGoodRequest, Net, setting_of}
+pub use Rattle.route_base.specs.Setting.{Setting}
 pub use Rattle.table_reader.specs.Words.{fields_of, records_of, rows_of, ReadsRows, first_table_fault}
 pub use Rattle.front_transport.specs.CheapArcs.{HasCheapArcs}
 pub use Rattle.stop_tour.specs.Tours.{AreRightTours, IsStopAmong, IsGoodStop, IsTourFront, tour_size_in, tour_size_of}

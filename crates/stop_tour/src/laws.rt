@@ -1,17 +1,13 @@
 // Laws of the definitions that need no call.
 ghost use Rattle.std.specs.List.{AllZip};
 ghost use Rattle.std.specs.Prelude.{◌≡◌, ◌↔◌, ◌-◌, ◌≤◌, ℕ, All, List, [], Some, None};
-ghost use Rattle.route_base.specs.Front.{IsFront};
-ghost use Rattle.route_base.specs.Matching.{StandsFor, IsInWindow};
-ghost use Rattle.route_base.specs.Setting.{Setting};
 ghost use Rattle.route_base.specs.declared.types.Pair.{Pair};
 ghost use Rattle.route_base.specs.declared.types.Request.{Request};
 ghost use Rattle.route_base.specs.declared.types.Run.{Run};
 ghost use Rattle.front_transport.specs.declared.limits.TheConstants.{MOST_STATES};
-ghost use Rattle.route_base.specs.Net.{IsGoodNet, Net};
 ghost use Rattle.route_base.specs.declared.limits.TheConstants.{LONGEST_HORIZON};
-ghost use Rattle.stop_tour.specs.Words.{AreRightTours, IsTourFront, tour_size_in, tour_size_of};
-ghost use Rattle.stop_tour.specs.Words.{HasCheapArcs, IsGoodRequest, IsGoodStop, setting_of};
+ghost use Rattle.stop_tour.specs.Words.{AreRightTours, IsFront, IsInWindow, IsTourFront, Setting, StandsFor, tour_size_in, tour_size_of};
+ghost use Rattle.stop_tour.specs.Words.{HasCheapArcs, IsGoodNet, IsGoodRequest, IsGoodStop, Net, setting_of};
 ghost use Rattle.stop_tour.specs.Words.{first_table_fault, records_of, rows_of};
 ghost use Rattle.stop_tour.specs.Words.{stop_of, stops_in, stops_schema};
 ghost use Rattle.stop_tour.specs.declared.stops.Stop.{Stop};
