@@ -55,13 +55,5 @@ pub fn plan_ruled<R: Ruler + Copy>(
     };
     let bounds = bounds_of(alloc, &ground)?;
     let reduced = reduced_sums(alloc, &ground)?;
-    plan_with_bounds(
-        alloc,
-        net,
-        &incoming,
-        request,
-        ruler,
-        &bounds,
-        &reduced,
-    )
+    plan_with_bounds(alloc, net, &incoming, request, ruler, &bounds, &reduced)
 }

@@ -222,7 +222,9 @@ fn sums_to(
             break;
         }
         for arc in star.of(NodeId(entry.node)) {
-            let paid = arc.cost.saturating_sub(price.saturating_mul(u64::from(arc.minutes)));
+            let paid = arc
+                .cost
+                .saturating_sub(price.saturating_mul(u64::from(arc.minutes)));
             let value = entry.value.saturating_add(paid);
             if let Some(sum) = sums.get_mut(arc.tail.0 as usize) {
                 if value < *sum {
@@ -243,10 +245,7 @@ fn sums_to(
 }
 
 // The sums of each stage, at the least price.
-fn found_sums<R: Ruler>(
-    alloc: Global,
-    ground: &Ground<'_, R>,
-) -> Result<ReducedSums, OutOfMemory> {
+fn found_sums<R: Ruler>(alloc: Global, ground: &Ground<'_, R>) -> Result<ReducedSums, OutOfMemory> {
     let star = BackStar::new(alloc, ground.net, ground.incoming)?;
     let price = least_price(ground.net);
     let count = ground.net.node_count() as usize + 1;

@@ -31,8 +31,12 @@ pub fn key_of<R: Ruler + Copy>(
     };
     let stage = task.ruler.stage(info.state);
     let cost = costs.at(first).unwrap_or(0);
-    let paid = charge.of(first, cost).saturating_add(reduced.of(info.node, stage));
-    stage.saturating_mul(STAGE).saturating_add(paid.min(STAGE - 1))
+    let paid = charge
+        .of(first, cost)
+        .saturating_add(reduced.of(info.node, stage));
+    stage
+        .saturating_mul(STAGE)
+        .saturating_add(paid.min(STAGE - 1))
 }
 
 /// The end of what a turn takes of pending minutes: all of them, where there are reduced sums.

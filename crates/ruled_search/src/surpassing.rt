@@ -45,7 +45,8 @@ fn bar_of<R: Ruler + Copy>(
         ≡ Some info.bound }
     requires shape { (at_work : ℕ) × IsShapedFor R R.ruling task at_work progress.now }
     ensures { IfSome result (IsBar R R.ruling task.entry progress.now info reduced.now.price
-        (reduced_in (sums_of reduced.now.sums.items) info.node.0 ((R.ruling task.entry.ruler.now).stage info.state)) first) }
+        (reduced_in (sums_of reduced.now.sums.items) info.node.0
+        ((R.ruling task.entry.ruler.now).stage info.state)) first) }
 {
     let stage = task.ruler.stage(info.state);
     if stage >= task.ruler.service_count() {
@@ -59,7 +60,9 @@ fn bar_of<R: Ruler + Copy>(
     let most = most_minutes(task.bounds, task.ruler, service.node, next)?;
     let begun = service.from.saturating_add(service.minutes);
     let since = first.saturating_add(service.minutes);
-    let way = first.saturating_add(info.bound.minutes).saturating_sub(most);
+    let way = first
+        .saturating_add(info.bound.minutes)
+        .saturating_sub(most);
     let timely = latest_at(task, after).saturating_sub(bound.minutes);
     let charge = Charge {
         price: reduced.price,
@@ -116,7 +119,8 @@ pub fn unsurpassed<R: Ruler + Copy>(
     requires facts { IsSearching (task_of R R.ruling task) (progress_of progress.now)
         (code base info.node.0 info.state) (value_at part) }
     ensures small { IfOk result AreSmallPieces }
-    ensures kept { IfOk result (λ left. (t x : ℕ) → value_at left t ≡ Some x → value_at part t ≡ Some x) }
+    ensures kept { IfOk result (λ left. (t x : ℕ) → value_at left t ≡ Some x
+        → value_at part t ≡ Some x) }
     ensures facts { IfOk result (λ left. IsSearching (task_of R R.ruling task.entry)
         (progress_of progress.now) (code base info.node.0 info.state) (value_at left)) }
 {

@@ -107,8 +107,8 @@ fn sure_value<R: Ruler>(ruler: &R, labels: &[Label], stage: u64) -> Option<u64>
 impl Labels {
     /// Minutes than which no bound of a state of the stage at the node has more; none where no label of the node's own is sure to fit.
     pub fn most_minutes<R: Ruler>(&self, ruler: &R, node: NodeId, stage: u64) -> Option<u64>
-        ensures { IfSome result (λ most. (k : ℕ) (b : BoundAt) → (R.ruling ruler.now).stage k ≡ stage
-            → label_bound (R.ruling ruler.now) (lists_of self.now.minutes.items)
+        ensures { IfSome result (λ most. (k : ℕ) (b : BoundAt)
+            → (R.ruling ruler.now).stage k ≡ stage → label_bound (R.ruling ruler.now) (lists_of self.now.minutes.items)
             (lists_of self.now.costs.items) node.0 k ≡ Some b → b.minutes ≤ most) }
     {
         sure_value(ruler, labels_of(&self.minutes, node), stage)

@@ -156,10 +156,13 @@ pub fn drives_are_relaxed()
 /// for less. The call does nothing.
 pub fn next_stops_surpass()
     ensures { (s : Setting) (r : Ruler) (base origin goal depart until : ℕ)
-        (bound : ℕ → ℕ → Option Bound) (latest : ℕ → ℕ) (now : Progress) (price : ℕ) (sum : ℕ → ℕ → ℕ)
+        (bound : ℕ → ℕ → Option Bound) (latest : ℕ → ℕ) (now : Progress)
+        (price : ℕ) (sum : ℕ → ℕ → ℕ)
         → IsSimulating r → HasBest r → IsStaged r → IsBase s r base
-        → AreRuledBounds s r goal bound → AreLatest r until bound latest → AreReducedSums s r price sum
-        → (c : Service) (v k t x : ℕ) → slice_get r.services (r.stage k) ≡ Some c → v < base → t ≤ until
-        → IsOutdone r base until bound latest now price sum c v k t x
-        → IsSurpassed (task_by_latest s r base origin goal depart until bound latest) now (point (code base v k) t x) }
+        → AreRuledBounds s r goal bound → AreLatest r until bound latest
+        → AreReducedSums s r price sum
+        → (c : Service) (v k t x : ℕ) → slice_get r.services (r.stage k) ≡ Some c
+        → v < base → t ≤ until → IsOutdone r base until bound latest now price sum c v k t x
+        → IsSurpassed (task_by_latest s r base origin goal depart until bound latest) now
+        (point (code base v k) t x) }
 {}

@@ -16,7 +16,7 @@
 mod laws;
 
 pub use laws::{
-    best_ways_are_known, drives_are_relaxed, drives_are_wide, finished_is_front, next_stops_surpass,
-    no_rule_simulates, offers_are_kept, one_rule_simulates, parts_are_kept, rulers_simulate, servings_simulate,
-    starts_are_first, wide_offers_narrow,
+    best_ways_are_known, drives_are_relaxed, drives_are_wide, finished_is_front,
+    next_stops_surpass, no_rule_simulates, offers_are_kept, one_rule_simulates, parts_are_kept,
+    rulers_simulate, servings_simulate, starts_are_first, wide_offers_narrow,
 };

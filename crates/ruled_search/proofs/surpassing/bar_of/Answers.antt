@@ -63,9 +63,28 @@ returns g c =
     (λ u low high. subst (λ (ps : List Piece). IsChargedWithin c.args.reduced.now.price task.request.until (value_at ps) c.in_ok-known.known u)
     c.pieces.ensures.items (c.in_ok-known.ensures u low high))
     (λ n w at has. c.in_ok-most.ensures n w (at ∙ sym next) has)
-    (λ u begun since way. omega (arith, begun, since, way, c.max.ensures, c.max-2.ensures, c.saturating_add-begun.ensures, c.saturating_add-since.ensures,
-    c.saturating_add.ensures, c.saturating_sub-way.ensures))
-    (λ u closed over late. omega (arith, closed, over, late, c.min.ensures, c.min-2.ensures, c.latest_at.ensures, ap latest best,
-    c.saturating_sub-timely.ensures))
+    (λ u begun since way. omega (
+      arith,
+      begun,
+      since,
+      way,
+      c.max.ensures,
+      c.max-2.ensures,
+      c.saturating_add-begun.ensures,
+      c.saturating_add-since.ensures,
+      c.saturating_add.ensures,
+      c.saturating_sub-way.ensures,
+    ))
+    (λ u closed over late. omega (
+      arith,
+      closed,
+      over,
+      late,
+      c.min.ensures,
+      c.min-2.ensures,
+      c.latest_at.ensures,
+      ap latest best,
+      c.saturating_sub-timely.ensures,
+    ))
     t x from (omega (arith, sum, above))))
     c.raised.ensures

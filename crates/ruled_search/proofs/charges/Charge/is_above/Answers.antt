@@ -14,10 +14,10 @@ returns-then-saturating_add-most c =
     λ is t from to. (
       omega (arith, to, within),
       (let above = ltb-true c.args.most c.saturating_add-then-saturating_add-most.result is in
-      ⊎_elim
-      (λ (le : of_self c.args.piece.lo (line_at c.args.piece c.args.piece.lo) ≤ of_self t (line_at c.args.piece t)).
-      omega (arith, le, first, c.if-saturating_add-most.true, c.saturating_add.ensures, c.of-first.ensures))
-      (λ (le : of_self c.args.piece.hi (line_at c.args.piece c.args.piece.hi) ≤ of_self t (line_at c.args.piece t)).
-      omega (arith, le, last, above, c.saturating_add-then-saturating_add-most.ensures, c.of-last.ensures))
-      (an_end_is_least c.args.self.price c.args.self.until c.args.piece c.args.piece.hi t from to within)),
+          ⊎_elim
+          (λ (le : of_self c.args.piece.lo (line_at c.args.piece c.args.piece.lo) ≤ of_self t (line_at c.args.piece t)).
+          omega (arith, le, first, c.if-saturating_add-most.true, c.saturating_add.ensures, c.of-first.ensures))
+          (λ (le : of_self c.args.piece.hi (line_at c.args.piece c.args.piece.hi) ≤ of_self t (line_at c.args.piece t)).
+          omega (arith, le, last, above, c.saturating_add-then-saturating_add-most.ensures, c.of-last.ensures))
+          (an_end_is_least c.args.self.price c.args.self.until c.args.piece c.args.piece.hi t from to within)),
     )

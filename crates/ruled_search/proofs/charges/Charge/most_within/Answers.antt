@@ -27,22 +27,23 @@ pub pieces-preserved-else-next-piece-2 : goal.pieces-preserved-else-next-piece-2
 pieces-preserved-else-next-piece-2 c =
     let left : List Piece = c.pieces.left.now in
     let rest : List Piece = take (length left - 1) (drop 1 left) in
-    let split = first_and_rest left (record { lo = 0; hi = 0; cost = 0; slope = 0 }) (omega (arith, c.in-len1-up.len_at_least)) in
-    (
+    let split = first_and_rest left (record { lo = 0; hi = 0; cost = 0; slope = 0 }) (omega (arith, c.in-len1-up.len_at_least)) in (
       left_behind c.args.pieces.now left _ rest c.pieces.next split c.pieces.invariant.0 _ (omega (arith, c.if-next-piece.true)) (omega arith),
       omega (arith, c.pieces.invariant.1, c.if-next-piece.true),
       most_behind c.args.pieces.now left _ rest c.pieces.next split c.pieces.invariant.0 c.args.self.price c.args.self.until c.args.lo c.args.hi
           c.pieces.most c.max-most.result c.if-next-piece-2.false c.pieces.invariant.2 (omega (arith, c.max-most.ensures))
-          (λ small u from upto within. omega (arith, c.max-most.ensures,
-          c.most_on.ensures (omega (arith, c.max-most.ensures, small)) u from (omega (arith, c.min.ensures, upto, within)))),
+          (λ small u from upto within. omega (
+            arith,
+            c.max-most.ensures,
+            c.most_on.ensures (omega (arith, c.max-most.ensures, small)) u from (omega (arith, c.min.ensures, upto, within)),
+          )),
     )
 
 pub pieces-preserved : goal.pieces-preserved
 pieces-preserved c =
     let left : List Piece = c.pieces.left.now in
     let rest : List Piece = take (length left - 1) (drop 1 left) in
-    let split = first_and_rest left (record { lo = 0; hi = 0; cost = 0; slope = 0 }) (omega (arith, c.in-len1-up.len_at_least)) in
-    (
+    let split = first_and_rest left (record { lo = 0; hi = 0; cost = 0; slope = 0 }) (omega (arith, c.in-len1-up.len_at_least)) in (
       left_behind c.args.pieces.now left _ rest c.pieces.next split c.pieces.invariant.0 c.pieces.next (omega arith) (omega (arith, c.if-next-piece.false)),
       c.pieces.invariant.1,
       c.pieces.invariant.2,
