@@ -61,8 +61,9 @@ class Places:
         self.nodes = folder.graph().nodes
         self.known: dict[int, Place] = {}
         self.named_zone: Optional[Clock] = named_clock(folder, zone) if zone else None
-        self._clocks: dict[int, list[Clock]] = {}
+        self._clocks: dict[tuple[str, ...], list[Clock]] = {}  # by the names of their zones
         self._zones: Optional[dict[int, dict[str, int]]] = None
+        self._usual: dict[str, int] = {}  # the zones at a node that has none in _ZONES
         self._by_name: Optional[dict[str, list[Place]]] = None
         self._by_latitude: Optional[list[tuple[float, int, Place]]] = None
         rows = folder.columns(NODES, "node", "lat", "lon", "name", "town")
@@ -199,23 +200,22 @@ class Places:
         roads, that of most roads first."""
         if self.named_zone:
             return [self.named_zone]
-        if node not in self._clocks:
-            counts = self.zones_of(node)
-            names = sorted(counts, key=lambda it: (-counts[it], it))
-            self._clocks[node] = [clock_of(self.folder, it) for it in names]
-        return self._clocks[node]
+        counts = self.zones_of(node)
+        names = tuple(sorted(counts, key=lambda it: (-counts[it], it)))
+        if names not in self._clocks:
+            self._clocks[names] = [clock_of(self.folder, it) for it in names]
+        return self._clocks[names]
 
     def clock(self, node: int) -> Clock:
         return self.clocks(node)[0]
 
     def zones_of(self, node: int) -> dict[str, int]:
         """Returns how many roads at a node are in areas of each zone."""
-        zones = zones_of_areas(self.folder)
-        if len(set(zones.values())) == 1:
-            return {next(iter(zones.values())): 1}
         if self._zones is None:
-            self._zones = self.count_zones(zones)
-        return self._zones.get(node) or {next(iter(zones.values())): 1}
+            zones = zones_of_areas(self.folder)
+            self._usual = {next(iter(zones.values())): 1}
+            self._zones = self.count_zones(zones) if len(set(zones.values())) > 1 else {}
+        return self._zones.get(node) or self._usual
 
     def count_zones(self, zones: dict[str, str]) -> dict[int, dict[str, int]]:
         """Returns, for each node with roads that aren't all in areas of the first zone, how many

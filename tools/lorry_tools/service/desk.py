@@ -14,7 +14,7 @@ from lorry_tools.service.answering import (
 )
 from lorry_tools.service.bodies import BansBody, PlanBody, TripBody
 from lorry_tools.service.copies import Copy, Served, Stamp
-from lorry_tools.service.gathering import Gatherer, Planned
+from lorry_tools.service.gathering import BATCHES_AT_ONCE, Gatherer, Planned
 from lorry_tools.service.guards import json_bytes
 from lorry_tools.service.limits import Limits, TooSlow
 from lorry_tools.service.runs import LimitedProgram, Runs, deadline_of
@@ -36,7 +36,8 @@ class Service:
         }
         pool = concurrent.futures.ThreadPoolExecutor
         self.builders, self.workers = pool(BUILDERS), pool(2 * limits.runs)
-        self.planners, self.watcher = pool(2 * len(paths) + 2), pool(1)
+        batches = max(BATCHES_AT_ONCE, limits.runs) * len(paths)
+        self.planners, self.watcher = pool(batches + 2), pool(1)
         self.gatherer = Gatherer(runs, limits, self.planners)
         self._watch: Optional[asyncio.Task[None]] = None
 

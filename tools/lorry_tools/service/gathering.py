@@ -1,15 +1,18 @@
 """Plans that are asked for at about the same time are planned together, by one batch.
 
 A plan that comes alone is planned at once. Otherwise it waits some milliseconds for others, so that
-those who were answered together, and ask again, are planned together again. It waits longer only
-while two batches over its folder are at work, or one that has far more plans than there are
-waiting. Where a batch fails, each of its plans is planned by itself."""
+those who were answered together, and ask again, are planned together again. Few plans are one batch
+with all workers; beside it a second one reads while the first one plans, if it is about as large.
+Many plans are shared by several batches at once, of which each reads the folder and then plans
+with few workers, so that no processor waits for another one's reading. Where a batch fails, each
+of its plans is planned by itself."""
 from __future__ import annotations
 
 import asyncio
 import collections
 import concurrent.futures
 import dataclasses
+import functools
 import itertools
 import os
 import weakref
@@ -26,7 +29,9 @@ from lorry_tools.trips.many import row_of
 from lorry_tools.trips.answer import trip_of
 from lorry_tools.trips.request import Request
 
-BATCHES_AT_ONCE = 2  # over one folder: while one searches the other one reads
+BATCHES_AT_ONCE = 2  # of few plans over one folder: while one searches the other one reads
+MOST_WORKERS = 64  # docs/LIMITS.md: of a batch
+MANY = 16  # plans, which are worth a reading of the folder beside other batches
 LONGEST_WAIT = 0.05  # seconds that a plan waits for others while another batch may begin
 PART_OF_BATCH = 20  # such a wait is up to this part of the time that the last batch took
 
@@ -46,6 +51,16 @@ class Asked:
     finish: Optional[Finish]
 
 
+@dataclasses.dataclass
+class Share:
+    """How those that wait are shared: how many batches begin, and how many plans and workers each
+    of them has at most."""
+
+    batches: int
+    rows: int
+    workers: int
+
+
 class Line:
     """The plans over one copy that wait, and the batches that are at work."""
 
@@ -56,18 +71,38 @@ class Line:
         self.last = 0.0  # when a plan came, or a batch was answered, for the last time
         self.took = 0.0  # the seconds of the last batch
 
+    def share(self, runs: int) -> Optional[Share]:
+        """Returns how those that wait are shared, where at most RUNS batches are at work at once;
+        none where a batch isn't worth its reading of the folder."""
+        free = runs - len(self.at_work)
+        many = min(len(self.waiting) // MANY, free)
+        if many > (0 if self.at_work else 1):
+            rows = -(-len(self.waiting) // many)
+            return Share(many, rows, min(free // many, MOST_WORKERS))
+        return Share(1, self.rows(), min(runs, MOST_WORKERS)) if self.may_begin() else None
+
     def may_begin(self) -> bool:
-        """Whether a batch of those that wait is worth its reading of the folder."""
+        """Whether a batch of few plans may begin."""
         if not self.waiting or len(self.at_work) >= BATCHES_AT_ONCE:
             return False
         return not self.at_work or 4 * len(self.waiting) >= 3 * max(self.at_work)
 
     def rows(self) -> int:
-        """Returns how many of those that wait the next batch takes. Beside another batch it is at
-        most half of all plans, so that the two become alike, and one reads while the other plans.
-        """
+        """Returns how many of those that wait a batch of few plans takes. Beside another batch it
+        is at most half of all plans, so that the two become alike, and one reads while the other
+        plans."""
         waiting, at_work = len(self.waiting), sum(self.at_work)
         return min(waiting, (waiting + at_work + 1) // 2) if at_work else waiting
+
+    def take(self, share: Share, most: int) -> list[list[Asked]]:
+        """Returns the plans of some batches, which wait no longer: those that have waited longest,
+        by lorry and departure, so that each batch makes few nets."""
+        rows = min(share.rows, most)
+        count = min(len(self.waiting), share.batches * rows)
+        taken = [self.waiting.popleft() for _ in range(count)]
+        taken = [it for it in taken if not it.future.done()]
+        taken.sort(key=lambda it: (it.request.vehicle, it.request.depart))
+        return [taken[at : at + rows] for at in range(0, len(taken), rows)]
 
 
 class Gatherer:
@@ -106,19 +141,17 @@ class Gatherer:
             asyncio.get_running_loop().call_later(wait, self.begin, copy, line)
 
     def begin(self, copy: Copy, line: Line) -> None:
-        """Starts a batch of those that wait, unless enough are at work: their ends start it."""
+        """Starts batches of those that wait, unless enough are at work: their ends start them."""
         line.has_timer = False
-        while line.may_begin():
-            most = min(line.rows(), self.limits.batch_rows)
-            batch = [line.waiting.popleft() for _ in range(most)]
-            batch = [it for it in batch if not it.future.done()]
-            if batch:
+        while share := line.share(self.limits.runs):
+            for batch in line.take(share, self.limits.batch_rows):
                 line.at_work.append(len(batch))
-                task = asyncio.get_running_loop().create_task(self.work(copy, line, batch))
+                work = self.work(copy, line, batch, share.workers)
+                task = asyncio.get_running_loop().create_task(work)
                 self._tasks.add(task)
                 task.add_done_callback(self._tasks.discard)
 
-    async def work(self, copy: Copy, line: Line, batch: list[Asked]) -> None:
+    async def work(self, copy: Copy, line: Line, batch: list[Asked], workers: int) -> None:
         loop = asyncio.get_running_loop()
         copy.take()
         failed: BaseException = Stopping()
@@ -126,7 +159,8 @@ class Gatherer:
         try:
             self.batches, self.plans = self.batches + 1, self.plans + len(batch)
             number = next(self._numbers)
-            found = await loop.run_in_executor(self.pool, self.plan_batch, copy, batch, number)
+            plan = functools.partial(self.plan_batch, copy, batch, number, workers)
+            found = await loop.run_in_executor(self.pool, plan)
             # All are answered together, so that those who ask again do so together.
             results = await loop.run_in_executor(self.pool, finish_all, batch, found)
             for asked, result in zip(batch, results):
@@ -143,7 +177,7 @@ class Gatherer:
             copy.release()
 
     def plan_batch(
-        self, copy: Copy, batch: list[Asked], number: int
+        self, copy: Copy, batch: list[Asked], number: int, workers: int
     ) -> list[Union[Planned, BaseException]]:
         """Plans some trips by one run of the program, and each by itself where that fails."""
         deadline = max(it.deadline for it in batch)
@@ -153,7 +187,7 @@ class Gatherer:
         try:
             with open(path, "w", encoding="ascii") as file:
                 file.write("\n".join([*JOBS.headers, *(row_of(it.request) for it in batch), ""]))
-            found = program.batch(copy.folder.path, name, self.limits.runs)
+            found = program.batch(copy.folder.path, name, workers)
             if len(found) == len(batch):
                 return list(found)
         except Stopping as problem:
