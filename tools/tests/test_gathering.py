@@ -115,7 +115,7 @@ class Gathering(unittest.TestCase):
             copy = Copy(folder)
             gatherer = Gatherer(runs, limits, pool)
             deadline = time.monotonic() + SECONDS
-            first = asyncio.ensure_future(gatherer.plan(copy, request_of(1), deadline))
+            first = gatherer.plan(copy, request_of(1), deadline)
             await until(lambda: len(runs.batches) == 1)
             others = [gatherer.plan(copy, request_of(it, "xyz"[it % 3]), deadline) for it in range(2, 66)]
             waiting = asyncio.gather(first, *others)

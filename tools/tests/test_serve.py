@@ -578,6 +578,31 @@ class Load(FaultTest):
 
 
 @needs_service
+class Bodies(unittest.TestCase):
+    """Over the stand-in for the program, which knows no batch: each plan is planned by itself."""
+
+    def test_a_body_alone_is_read_as_one_with_other_words_beside_it(self):
+        quick = {**YARD, "reasons": False}
+        bodies = [quick, {**quick, "zone": "UTC"}, {**quick, "from": 146, "within": 1.5}, {**quick, "speed": 80}, {"from": "Yard"}, {**quick, "from": [1]}]
+        texts = [*map(json.dumps, bodies), "[]", "{", "null", "", '[["from", "Yard"]]', json.dumps(list(quick.items())), "[" * 20_000, b"\xff\xfe"]
+        with tempfile.TemporaryDirectory() as place:
+            served = Served(copy_of_example(place), "--program", beside.STAND_IN)
+            try:
+                for text in texts:
+                    with self.subTest(text=text[:80]):
+                        (status, _, alone), (other, _, beside_it) = (
+                            served.send("POST", f"/api/folders/liechtenstein/plan{query}", text) for query in ("", "?form=json")
+                        )
+                        self.assertEqual((status, alone), (other, beside_it))
+                        self.assertIn(status, (200, 400, 422))
+                self.assertEqual(served.ask("plan", quick)[0], 200)
+            finally:
+                served.close()
+        self.assertNotIn("Traceback", served.errors())
+        served.log.close()
+
+
+@needs_service
 class Words(unittest.TestCase):
     def run_tool(self, *words):
         done = subprocess.run(

@@ -121,6 +121,7 @@ class InWords(TripTest):
         places = self.places()
         self.assertEqual([it.name for it in places.clocks(2)], ["berlin", "lisbon"])
         self.assertEqual([it.name for it in places.clocks(3)], ["berlin"])
+        self.assertIs(places.clock(3), places.clock(4))
         self.refused(
             "the place has roads in the zones berlin and lisbon: expected is 2026-07-10 08:00+02:00 or 2026-07-10 08:00+01:00, or a zone by --zone",
             read_time, "2026-07-10 08:00", places.clocks(2), "--leave",

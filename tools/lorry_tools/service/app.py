@@ -6,7 +6,7 @@ import sys
 import traceback
 from typing import Any, Awaitable, Callable, Literal, Optional, TypeVar
 
-from fastapi import FastAPI, Query, Request
+from fastapi import APIRouter, FastAPI, Query, Request
 from fastapi.exceptions import RequestValidationError
 from fastapi.openapi.utils import get_openapi
 from fastapi.responses import FileResponse, Response
@@ -25,6 +25,7 @@ from lorry_tools.service.desk import Service
 from lorry_tools.service.guards import PROBLEM, json_bytes, problem_of
 from lorry_tools.service.limits import Unavailable
 from lorry_tools.service.roads import Box
+from lorry_tools.service.routes import TripRoute
 from lorry_tools.service.schemas import answers, components
 
 PAGES = os.path.join(TOOLS, "lorry_tools", "desk_page")
@@ -105,8 +106,8 @@ def make_app(service: Service, tiles: Optional[str] = None) -> FastAPI:
     """Returns the application of a service."""
     app = FastAPI(title="lorry_plan", version=VERSION, docs_url=None, redoc_url=None)
     add_problems(app)
+    add_trips(app, service)  # (first, as an address is looked for in this order)
     add_folders(app, service, tiles)
-    add_trips(app, service)
     add_pages(app)
     app.add_event_handler("startup", service.start)
     app.add_event_handler("shutdown", service.stop)
@@ -236,9 +237,10 @@ def box_of(
 
 def add_trips(app: FastAPI, service: Service) -> None:
     """Adds the questions about trips."""
+    router = APIRouter(route_class=TripRoute)
 
     def trip(path: str, about: str, *texts: str) -> Callable[[Handler], Handler]:
-        return app.post(
+        return router.post(
             f"/api/folders/{{folder}}/{path}", summary=about, responses=answers("trip", *texts)
         )
 
@@ -266,6 +268,8 @@ def add_trips(app: FastAPI, service: Service) -> None:
     async def why_empty(folder: str, body: bodies.TripBody) -> Response:
         body.reasons = True
         return reply(*await service.trip(served_of(service, folder), body, "json"))
+
+    app.include_router(router)
 
     @app.post(
         "/api/folders/{folder}/bans", summary="when roads are closed", responses=answers("bans")

@@ -115,11 +115,11 @@ class Gatherer:
         self._numbers = itertools.count(1)
         self._tasks: set[asyncio.Task[None]] = set()
 
-    async def plan(
+    def plan(
         self, copy: Copy, request: Request, deadline: float, finish: Optional[Finish] = None
-    ) -> Result:
-        """Returns the pairs of a plan over a copy that is in use until then, or what FINISH makes
-        of them."""
+    ) -> asyncio.Future[Result]:
+        """Returns what will be the pairs of a plan over a copy that is in use until then, or what
+        FINISH makes of them."""
         loop = asyncio.get_running_loop()
         line = self.lines.setdefault(copy, Line())
         asked = Asked(request, deadline, loop.create_future(), finish)
@@ -127,7 +127,7 @@ class Gatherer:
         is_alone = not line.at_work and loop.time() - line.last > self.wait_of(line)
         self.begin_soon(copy, line, 0.0 if is_alone else self.wait_of(line))
         line.last = loop.time()
-        return await asked.future
+        return asked.future
 
     def wait_of(self, line: Line) -> float:
         """Returns the seconds that a plan waits for others: where batches take long, those who were

@@ -103,6 +103,7 @@ def serve(words: argparse.Namespace, program: str, limits: Limits, place: str) -
         log_level="error",
         access_log=False,
         server_header=False,
+        proxy_headers=False,
         backlog=BACKLOG,
     )
     server = Server(config, guard, runs, said_of(list(paths), address, port))
