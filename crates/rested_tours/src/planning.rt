@@ -3,6 +3,8 @@ ghost use Rattle.std.specs.Prelude.{◌≤◌, IfOk};
 ghost use Rattle.route_base.specs.Net.{IsGoodRequest, setting_of};
 ghost use Rattle.state_dominance.specs.Inside.Product.{IsBase, AreRuledBounds};
 ghost use Rattle.ruled_states.specs.Inside.Codes.{base};
+ghost use Rattle.ruled_states.specs.Inside.Reduced.{HoldsReduced};
+ghost use Rattle.node_arcs.specs.Stars.{AreIncoming};
 ghost use Rattle.ruled_search.specs.Inside.Tasks.{state_bound};
 ghost use Rattle.ruled_search.specs.Routes.{IsPlanned, RuledCostsFit};
 
@@ -10,7 +12,7 @@ use node_arcs::NodeArcs;
 use route_base::{OutOfMemory, Request, TimedNet};
 use ruled_bounds::{Ground, reduced_sums, ruled_labels};
 use ruled_search::{RuledRoute, plan_with_bounds};
-use ruled_states::{Labels, Ruler};
+use ruled_states::{Labels, ReducedSums, Ruler};
 use std::alloc::Global;
 
 // Labels whose bounds hold; none where what is found doesn't, and then the bound of nothing holds.
@@ -24,6 +26,24 @@ fn bounds_of<R: Ruler + Copy>(
 {
     let bounds = ruled_labels(alloc, ground)?;
     Ok(bounds)
+}
+
+// With fewer stops than this the search by arrival takes less time than one stop by stop.
+const MANY_STOPS: u64 = 10;
+
+// Reduced sums to each stop, where there are many.
+fn reduced_of<R: Ruler + Copy>(
+    alloc: Global,
+    ground: &Ground<'_, R>,
+) -> Result<Option<ReducedSums>, OutOfMemory>
+    requires incoming { AreIncoming ground.now.net.now ground.now.incoming.now }
+    ensures { IfOk result (HoldsReduced (setting_of ground.now.net.now)
+        (R.ruling ground.now.ruler.now)) }
+{
+    if ground.ruler.service_count() < MANY_STOPS {
+        return Ok(None);
+    }
+    reduced_sums(alloc, ground)
 }
 
 /// The Pareto front of arrival (Unix minutes) and cost (thousandths) over the states of a ruler, each pair with legs that achieve it. The only
@@ -54,6 +74,6 @@ pub fn plan_ruled<R: Ruler + Copy>(
         until: request.until,
     };
     let bounds = bounds_of(alloc, &ground)?;
-    let reduced = reduced_sums(alloc, &ground)?;
+    let reduced = reduced_of(alloc, &ground)?;
     plan_with_bounds(alloc, net, &incoming, request, ruler, &bounds, &reduced)
 }

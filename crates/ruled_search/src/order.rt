@@ -14,7 +14,8 @@ use ruled_states::{Info, Ruler};
 const STAGE: u64 = 1 << 48;
 
 /// The key of a state whose first pending minute is this. With reduced sums stage comes before stage, so that what is known behind a stop is
-/// final for all that comes later; in a stage the least sum of what is paid above the price comes first.
+/// final for all that comes later. In a stage that leads to a stop the least sum of what is paid above the price comes first, and in the last
+/// one, which has pairs, the earliest arrival.
 #[inline(always)]
 pub fn key_of<R: Ruler + Copy>(
     task: Task<'_, R>,
@@ -22,21 +23,24 @@ pub fn key_of<R: Ruler + Copy>(
     info: Info,
     first: Minute,
 ) -> u64 {
+    let by_arrival = turn_key(task.earliest, first, info.bound);
     let Some(reduced) = task.reduced else {
-        return turn_key(task.earliest, first, info.bound);
-    };
-    let charge = Charge {
-        price: reduced.price,
-        until: task.request.until,
+        return by_arrival;
     };
     let stage = task.ruler.stage(info.state);
-    let cost = costs.at(first).unwrap_or(0);
-    let paid = charge
-        .of(first, cost)
-        .saturating_add(reduced.of(info.node, stage));
-    stage
-        .saturating_mul(STAGE)
-        .saturating_add(paid.min(STAGE - 1))
+    let within = if stage < task.ruler.service_count() {
+        let charge = Charge {
+            price: reduced.price,
+            until: task.request.until,
+        };
+        let cost = costs.at(first).unwrap_or(0);
+        let sum = reduced.of(info.node, stage);
+        charge.of(first, cost).saturating_add(sum)
+    } else {
+        by_arrival
+    };
+    let own = within.min(STAGE - 1);
+    stage.saturating_mul(STAGE).saturating_add(own)
 }
 
 /// The end of what a turn takes of pending minutes: all of them, where there are reduced sums.
