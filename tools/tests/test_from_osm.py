@@ -91,6 +91,44 @@ class Polylines(unittest.TestCase):
                 self.assertEqual([(round(lon * 1e6), round(lat * 1e6)) for lon, lat in found.line(arc)], [tuple(it) for it in json.loads(line.replace("(", "[").replace(")", "]"))])
 
 
+class Kept(unittest.TestCase):
+    @needs_osmium
+    def test_junctions_are_kept_as_one_after_the_other(self):
+        script = (
+            "import sys; sys.path.insert(0, sys.argv[1])\n"
+            "import numpy\n"
+            "from lorry_tools.conversion import coarse, kept\n"
+            "from lorry_tools.conversion.arcs import Arcs\n"
+            "from lorry_tools.conversion.near import reached\n"
+            "kept.FEWEST_AT_ONCE = int(sys.argv[2])\n"
+            "for seed, gap in ((1, 20000), (2, 60000), (3, 100000)):\n"
+            "    draws = numpy.random.RandomState(seed)\n"
+            "    wide = 24\n"
+            "    places = numpy.arange(wide * wide)\n"
+            "    xs, ys = ((it * 10000 + draws.randint(-3000, 3000, len(places))).astype(numpy.int32) for it in (places % wide, places // wide))\n"
+            "    pairs = [(one, one + step) for one in places.tolist() for step in (1, wide) if (one + step) % wide >= one % wide and one + step < len(places)]\n"
+            "    tails, heads = numpy.array(pairs + [it[::-1] for it in pairs])[draws.rand(2 * len(pairs)) < 0.9].T\n"
+            "    metres = numpy.hypot(xs[tails] - xs[heads], ys[tails] - ys[heads]) * 0.0111\n"
+            "    times = numpy.maximum(1, metres / draws.choice([8.3, 13.9, 22.2], len(tails)) * 1000)\n"
+            "    zeros = numpy.zeros(len(tails))\n"
+            "    arcs = Arcs((tails, heads, times, metres, zeros, zeros, zeros, zeros), numpy.arange(len(tails) + 1), numpy.arange(len(tails)))\n"
+            "    stars = coarse.Stars(len(places), arcs, (xs, ys))\n"
+            "    fixed, unfit = (set(draws.randint(0, len(places), count).tolist()) for count in (3, 40))\n"
+            "    nodes = numpy.unique(arcs.tails)\n"
+            "    found = coarse.kept_junctions(nodes, stars, fixed, unfit, gap, lambda *_: None)\n"
+            "    fastest = numpy.rint(stars.speeds() * 3600)\n"
+            "    covered, plain = set(), []\n"
+            "    for node in sorted(nodes.tolist(), key=lambda it: (it not in fixed, it in unfit, -fastest[it], it)):\n"
+            "        if node in fixed or node not in covered:\n"
+            "            plain.append(node)\n"
+            "            for near in (stars.out, stars.into):\n"
+            "                covered.update(reached(node, near, gap))\n"
+            "    print(sorted(plain) == numpy.flatnonzero(found).tolist(), len(plain) > len(fixed))\n"
+        )
+        for fewest in ("1", "1000"):
+            self.assertEqual(run(OSMIUM, "-c", script, TOOLS, fewest).stdout, "True True\n" * 3)
+
+
 class Notation(unittest.TestCase):
     """docs/FORMATS.md says what the program reads."""
 

@@ -13,13 +13,15 @@ import array
 import heapq
 import math
 import multiprocessing
-from typing import Any, Callable, Collection, Iterable, Iterator, Optional, Sequence
+from typing import Any, Callable, Collection, Iterable, Iterator, Mapping, Optional, Sequence
 
 import numpy
 
-from lorry_tools.conversion import access, shortcuts
+from lorry_tools.conversion import access, kept, shortcuts
 from lorry_tools.conversion.arcs import AT_ONCE, Arcs, ranges, stars
 from lorry_tools.conversion.kinds import Kinds, Ruled
+from lorry_tools.conversion.least import Once, lower
+from lorry_tools.conversion.near import Near, reached
 from lorry_tools.conversion.roads import Rules, sums
 from lorry_tools.conversion.shortcuts import Link, Links
 
@@ -43,19 +45,6 @@ KINDS = MOST_KEPT + 1
 FEWEST_FOR_PROCESSES, CHUNK = 500, 50
 # The most nodes whose links are objects, and how many get theirs at once.
 MOST_LINKED, BLOCK = 1 << 13, 32
-# Longer times than searches of few nodes go.
-LONGEST = (1 << 31) - 1
-
-
-class Near:
-    """What leaves each node, or comes into it, in arrays for searches of few nodes."""
-
-    def __init__(self, count: int, ends: Any, others: Any, times: Any) -> None:
-        order, firsts = stars(count, ends)
-        self.firsts, self.others, self.times = (
-            array.array("i", numpy.minimum(it, LONGEST).astype(numpy.int32).tobytes())
-            for it in (firsts, others[order], times[order])
-        )
 
 
 class Star(dict[int, list[Link]]):
@@ -73,7 +62,7 @@ class Star(dict[int, list[Link]]):
         begin = node - node % BLOCK
         firsts = self.firsts[begin : begin + BLOCK + 1].tolist()
         at = self.order[firsts[0] : firsts[-1]]
-        columns = (self.times[at], self.heads[at], self.places[at])
+        columns = (self.times[at] * KINDS, self.heads[at], self.places[at])
         links = list(zip(*(it.tolist() for it in columns)))
         base = firsts[0]
         for number, (first, last) in enumerate(zip(firsts, firsts[1:]), begin):
@@ -85,13 +74,15 @@ class Stars:
     """The arcs that leave each node, and that come into it; and the kinds of arcs, by what they ask
     of vehicles."""
 
-    def __init__(self, count: int, arcs: Arcs) -> None:
+    def __init__(self, count: int, arcs: Arcs, places: tuple[Any, Any]) -> None:
+        """`places` are the coordinates of nodes."""
         self.count, self.arcs, self.kinds = count, arcs, Kinds()
+        self.places = tuple(numpy.asarray(it) for it in places)
         self.kind_of = self.kinds.of_arcs(arcs)
         # An arc that asks something has -1 - its place in the list of arcs.
-        places = numpy.arange(len(arcs), dtype=numpy.int32)
-        places = numpy.where(self.kind_of > 0, -1 - places, places)
-        self.links = Star(count, arcs.tails, arcs.heads, arcs.times, places)
+        own = numpy.arange(len(arcs), dtype=numpy.int32)
+        own = numpy.where(self.kind_of > 0, -1 - own, own)
+        self.links = Star(count, arcs.tails, arcs.heads, arcs.times, own)
         self.out = Near(count, arcs.tails, arcs.heads, arcs.times)
         self.into = Near(count, arcs.heads, arcs.tails, arcs.times)
 
@@ -104,38 +95,23 @@ class Stars:
         return found
 
 
-def reached(start: int, near: Near, most: int) -> dict[int, int]:
-    """The nodes within so many milliseconds of a node."""
-    best, queue, far = {start: 0}, [start], most + 1
-    push, pop, known = heapq.heappush, heapq.heappop, best.get
-    firsts, others, times = near.firsts, near.others, near.times
-    while queue:
-        number = pop(queue)
-        time, node = number >> BITS, number & MOST_LABELS
-        if time > best[node]:
-            continue
-        for at in range(firsts[node], firsts[node + 1]):
-            later, other = time + times[at], others[at]
-            if later < known(other, far):
-                best[other] = later
-                push(queue, later << BITS | other)
-    return best
-
-
-def nearest(start: int, stars: Stars, is_kept: Any, most: int) -> Optional[int]:
+def nearest(start: int, stars: Stars, is_kept: Sequence[int], most: int) -> Optional[int]:
     """The kept node that is nearest to a node there and back, whichever takes longer; None where
     none is within so many milliseconds in either direction."""
     for reach in (most // 8, most // 4, most // 2, most):
-        near, back = (reached(start, it, reach) for it in (stars.out, stars.into))
+        near = kept_of(reached(start, stars.out, reach), is_kept)
+        if not near and reach < most:
+            continue
+        back = kept_of(reached(start, stars.into, reach), is_kept)
         either = near.keys() & back.keys() if reach < most else near.keys() | back.keys()
-        ends = [
-            (max(near.get(it, FOR_EVER), back.get(it, FOR_EVER)), it)
-            for it in either
-            if is_kept[it]
-        ]
+        ends = [(max(near.get(it, FOR_EVER), back.get(it, FOR_EVER)), it) for it in either]
         if ends:
             return min(ends)[1]
     return None
+
+
+def kept_of(nodes: Mapping[int, int], is_kept: Sequence[int]) -> dict[int, int]:
+    return {node: time for node, time in nodes.items() if is_kept[node]}
 
 
 class Distances:
@@ -153,16 +129,15 @@ class Distances:
     def __call__(self, starts: Sequence[int]) -> Any:
         """A row of times by node for each start, FOR_EVER for nodes that can't be reached."""
         best = numpy.full(len(starts) * self.count, FOR_EVER, dtype=numpy.int64)
+        once = Once(len(best))
         left = numpy.arange(len(starts)) * self.count + numpy.array(starts)
         best[left] = 0
         while len(left):
             times = best[left]
             is_near = times < times.min() + self.step
             heads, times = self.nearer(best, left[is_near], times[is_near])
-            # Of several times of a node the last one that is assigned stays: the least.
-            order = numpy.argsort(-times)
-            best[heads[order]] = times[order]
-            left = numpy.unique(numpy.concatenate((left[~is_near], heads)))
+            lower(best, heads, times)
+            left = once(numpy.concatenate((left[~is_near], heads)))
         return best.reshape(len(starts), self.count)
 
     def nearer(self, best: Any, at: Any, times: Any) -> tuple[Any, Any]:
@@ -189,20 +164,10 @@ def kept_junctions(
     fastest = numpy.rint(stars.speeds() * 3600).astype(int)[nodes]
     is_fixed, is_unfit = (numpy.isin(nodes, list(it)) for it in (fixed, unfit))
     order = nodes[numpy.lexsort((nodes, -fastest, is_unfit, ~is_fixed))]
-    kept = numpy.zeros(stars.count, dtype=bool)
-    covered = bytearray(stars.count)
-    count = 0
-    for first in range(0, len(order), AT_ONCE):
-        for node in order[first : first + AT_ONCE].tolist():
-            count += 1
-            progress(count, len(order))
-            if covered[node] and node not in fixed:
-                continue
-            kept[node] = True
-            for star in (stars.out, stars.into):
-                for other in reached(node, star, gap):
-                    covered[other] = 1
-    return kept
+    columns, rows = (it[order] // kept.width(stars.arcs, it, gap) for it in stars.places)
+    cover = kept.Cover(stars.count, (stars.out, stars.into), gap)
+    grid = kept.Grid(order, columns, rows)
+    return kept.kept_junctions(order, numpy.count_nonzero(is_fixed), grid, cover, progress)
 
 
 def ways_from(
@@ -220,22 +185,28 @@ def ways_from(
     toll. Of ways that take as long, those with kept junctions come first, and then those that were
     met first: so a number says the place of a label in the queue. It is the milliseconds, then
     whether the way may still pass a kept junction, and then the number of the label. A strict
-    search returns None where this last one would decide, or where some were given up."""
+    search returns None where this last one would decide, or where some were given up.
+
+    Labels that have passed a kept junction end at the next one. There a strict search only notes
+    their number."""
     push, pop = heapq.heappush, heapq.heappop
     out, kind_of, of, joined = links.out, links.kind_of, kinds.of, kinds.joined
     # The labels: their nodes, arcs, the labels before them, and the kinds that aren't free.
     nodes, places, before = [start], [0], [0]
     of_label: dict[int, int] = {}
-    settled: dict[int, list[Ruled]] = {}
-    # When a node was settled last, to which a second label came.
+    settled: dict[int, tuple[Ruled, ...]] = {}
+    # When a node was settled last.
     last: dict[int, int] = {}
     # The least number of a label without rules and toll at a node: it beats all later ones.
     fresh = MOST_KEPT
     least: dict[int, int] = {start: fresh}
+    known, kind_at, others_at = least.get, of_label.get, settled.get
+    # The number of the last labels without rules that came to a node alike.
+    alike: dict[int, int] = {}
     found: list[Way] = []
     gave_up = False
     queue = [fresh << BITS]
-    direct = 1
+    count = direct = 1
     while queue and direct:
         number = pop(queue)
         label = number & MOST_LABELS
@@ -243,42 +214,51 @@ def ways_from(
         left = number % KINDS
         direct -= left == fresh
         node = nodes[label]
-        kind = of_label.get(label, 0)
-        rules, toll = of[kind]
+        kind = kind_at(label, 0)
         if not kind and number > least[node]:
             # A label without rules and toll came after it, and is earlier.
             continue
-        others = settled.get(node)
+        if kind and is_strict and number >= known(node, FOR_EVER):
+            if number == least[node]:
+                return None
+            continue
+        others = others_at(node)
         if others is None:
-            settled[node] = [(rules, toll)]
+            settled[node] = (of[kind],)
         else:
             if is_strict and last[node] == number:
                 return None
-            if kind and beaten(others, rules, toll):
+            if kind and beaten(others, *of[kind]):
                 continue
             if len(others) >= most:
                 if is_strict:
                     return None
                 gave_up = True
                 continue
-            others.append((rules, toll))
+            settled[node] = (*others, of[kind])
         last[node] = number
         if label and kept[node]:
             if left == fresh:
+                if alike and is_alike(label, nodes, before, alike, least):
+                    return None
                 found.append((path_of(label, places, before), kind))
             if not left:
                 continue
             left -= 1
             number -= 1
         for step, head, place in out[node]:
-            later = number + step * KINDS
-            if later >= least.get(head, FOR_EVER):
+            later = number + step
+            if later >= known(head, FOR_EVER):
                 # (of ways over a kept junction it doesn't matter which one comes first)
                 if is_strict and left and later == least[head]:
-                    return None
+                    if kind or place < 0:
+                        return None
+                    alike[head] = later
                 continue
             if not kind and place >= 0:
                 least[head] = later
+                if is_strict and not left and kept[head]:
+                    continue
             else:
                 if head == start:
                     continue
@@ -288,8 +268,9 @@ def ways_from(
                     own = joined(kind, int(kind_of[place]))
                 if head in settled and beaten(settled[head], *of[own]):
                     continue
-                of_label[len(nodes)] = own
-            push(queue, later << BITS | len(nodes))
+                of_label[count] = own
+            push(queue, later << BITS | count)
+            count += 1
             nodes.append(head)
             places.append(place)
             before.append(label)
@@ -302,6 +283,22 @@ def beaten(others: Iterable[Ruled], rules: frozenset[int], toll: int) -> bool:
     for other, other_toll in others:
         if other_toll <= toll and other <= rules:
             return True
+    return False
+
+
+def is_alike(
+    label: int,
+    nodes: Sequence[int],
+    before: Sequence[int],
+    alike: Mapping[int, int],
+    least: Mapping[int, int],
+) -> bool:
+    """Whether another label came to some node of a label's way as early, and none earlier."""
+    while label:
+        node = nodes[label]
+        if node in alike and alike[node] <= least.get(node, FOR_EVER):
+            return True
+        label = before[label]
     return False
 
 
@@ -344,14 +341,14 @@ class Detours:
         # The fastest arc bounds how far a way may lead away from its end.
         self.fastest = fastest
         self.out: dict[int, list[tuple[int, int, frozenset[int], float]]] = {}
-        # The time of the shortest arc into each node, and the tails of all.
+        # The time of the shortest arc into each node, and of that from each tail.
         self.least: dict[int, int] = {}
-        self.before: dict[int, list[int]] = {}
+        self.into: dict[int, dict[int, int]] = {}
 
     def add(self, tail: int, head: int, time: int, rules: frozenset[int], toll: float) -> None:
         self.out.setdefault(tail, []).append((time, head, rules, toll))
         self.least.setdefault(head, time)
-        self.before.setdefault(head, []).append(tail)
+        self.into.setdefault(head, {}).setdefault(tail, time)
 
     def ends(self, node: int, goal: int, most: int, rules: frozenset[int], toll: float) -> bool:
         """Whether one arc leads from a node to the goal in time, with no further rules."""
@@ -365,12 +362,15 @@ class Detours:
     def replace(self, tail: int, goal: int, time: int, rules: frozenset[int], toll: float) -> bool:
         """Whether some arcs replace one, with the same rules or fewer, within a tenth and ten
         seconds."""
-        most = time + time // 10 + 10_000
-        if goal not in self.before:
+        most, out = time + time // 10 + 10_000, self.out
+        before = self.into.get(goal)
+        if before is None or tail not in out:
             return False
         # Whatever comes to another node first needs one more arc.
-        limit, before = most - self.least[goal], self.before[goal]
-        out, best, queue = self.out, {tail: 0}, [(0.0, 0, tail)]
+        limit, last = most - self.least[goal], before.get
+        if out[tail][0][0] > limit and tail not in before:
+            return False
+        best, queue = {tail: 0}, [(0.0, 0, tail)]
         push, pop, hypot = heapq.heappush, heapq.heappop, math.hypot
         xs, ys = self.xs, self.ys
         x, y = xs[goal], ys[goal]
@@ -386,13 +386,14 @@ class Detours:
                 later = time + step
                 if later > most:
                     break
-                if own_toll > toll or not own <= rules:
+                if own_toll > toll or own and not own <= rules:
                     continue
                 if head == goal:
                     return True
                 if later > limit or later >= best.get(head, FOR_EVER) or head not in out:
                     continue
-                is_near = head in before and self.ends(head, goal, most - later, rules, toll)
+                rest = most - later
+                is_near = last(head, FOR_EVER) <= rest and self.ends(head, goal, rest, rules, toll)
                 if is_near or later + out[head][0][0] <= limit:
                     left = hypot((xs[head] - x) * wide, ys[head] - y) * pace
                     if later + left <= most:
@@ -420,7 +421,8 @@ def without_detours(
     for first in range(0, len(order), AT_ONCE):
         part = order[first : first + AT_ONCE]
         columns = (arcs.tails, arcs.heads, arcs.times, arcs.rules, arcs.tolls)
-        for at, tail, head, time, rules, toll in zip(part, *(it[part].tolist() for it in columns)):
+        rows = zip(part.tolist(), *(it[part].tolist() for it in columns))
+        for at, tail, head, time, rules, toll in rows:
             count += 1
             progress(count, len(order))
             own = (tail, head, time, sets[rules], toll or 0.0)

@@ -402,7 +402,7 @@ class Conversion:
             site.node for site in self.sites if site.rating in sites.EXACT
         }
         unfit = network.numbers(self.extract.barriers) | self.split
-        stars = coarse.Stars(count, self.arcs)
+        stars = coarse.Stars(count, self.arcs, (network.xs, network.ys))
         found = coarse.Coarse(
             stars, fixed, unfit, options.coarse * 1000, self.counted, options.processes
         )
@@ -444,10 +444,11 @@ class Conversion:
         """Parking that isn't at a kept junction moves to the nearest one by driving time."""
         gap = self.options.coarse * 1000
         known: dict[int, Optional[int]] = {}
+        is_kept = nodes.tobytes()
         for site in self.sites:
             if not nodes[site.node]:
                 if site.node not in known:
-                    known[site.node] = coarse.nearest(site.node, stars, nodes, 2 * gap)
+                    known[site.node] = coarse.nearest(site.node, stars, is_kept, 2 * gap)
                 near = known[site.node]
                 site.node = sites.NOWHERE if near is None else near
                 if site.node == sites.NOWHERE:
@@ -858,10 +859,12 @@ class Counted:
     def __init__(self, what: str, progress: Callable[[str], None]) -> None:
         self.what, self.progress = what, progress
         self.start = self.said = time.monotonic()
+        self.told = 0
 
     def __call__(self, done: int, whole: int) -> None:
-        if done % self.EACH:
+        if done // self.EACH == self.told:
             return
+        self.told = done // self.EACH
         now = time.monotonic()
         if now - self.said >= self.SECONDS:
             self.said = now

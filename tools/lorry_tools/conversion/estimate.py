@@ -130,7 +130,7 @@ class Estimate:
         arcs = roads.without_continuations(count, arcs, kept)
         if gap and len(arcs):
             fixed |= roads.at_borders(count, arcs)
-            stars = coarse.Stars(count, arcs)
+            stars = coarse.Stars(count, arcs, (network.xs, network.ys))
             found = coarse.Coarse(stars, fixed, set(), gap * 1000, lambda _: ignore)
             arcs = coarse.usable(found.made, found.sets, rules)
             arcs = coarse.without_detours(arcs, found.sets, network.xs, network.ys, ignore)

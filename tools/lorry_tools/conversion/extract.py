@@ -145,15 +145,22 @@ class Ways:
         self.place_of_name: dict[str, int] = {}
 
     def append(self, number: int, tags: TagPairs, name: str, first: int, last: int) -> None:
+        self.add(number, self.places(tags, name), first, last)
+
+    def places(self, tags: TagPairs, name: str) -> tuple[int, int]:
+        """The places of tags and of a name in the lists, which get those that they haven't."""
         if tags not in self.place_of_tags:
             self.place_of_tags[tags] = len(self.tags)
             self.tags.append(tags)
         if name not in self.place_of_name:
             self.place_of_name[name] = len(self.names)
             self.names.append(name)
+        return self.place_of_tags[tags], self.place_of_name[name]
+
+    def add(self, number: int, places: tuple[int, int], first: int, last: int) -> None:
         self.numbers.append(number)
-        self.tags_of.append(self.place_of_tags[tags])
-        self.names_of.append(self.place_of_name[name])
+        self.tags_of.append(places[0])
+        self.names_of.append(places[1])
         self.firsts.append(first)
         self.lasts.append(last)
 
@@ -270,14 +277,44 @@ class Relations(osmium.SimpleHandler):
             )
 
 
+class WayTags:
+    """What the tags of a way say here: whether it is parking, its country if it is a border, and
+    why it isn't a road that is taken. Of one that is, the places of its tags and name in the list
+    of ways, once it has them, and the keys that aren't kept."""
+
+    __slots__ = ("tags", "is_parking", "country", "highway", "reason", "places", "others")
+
+    def __init__(self, tags: Tags, choice: Choice) -> None:
+        self.tags, self.is_parking = tags, is_parking(tags)
+        is_border = tags.get("boundary") == "administrative"
+        self.country = country_of(tags) if is_border else None
+        self.highway = tags.get("highway")
+        self.reason = choice.leaves_out(self.highway, tags) if self.highway else None
+        self.places: Optional[tuple[int, int]] = None
+        self.others: list[str] = []
+
+
 class NodesAndWays:
     """Takes the nodes and ways of an extract."""
+
+    # What the tags of the last ways say is known of so many.
+    MOST_KNOWN = 10_000
 
     def __init__(self, found: Extract, parts_of_parking: Mapping[int, int], choice: Choice) -> None:
         self.found, self.choice = found, choice
         self.parts_of_parking = parts_of_parking
         self.parts: dict[int, list[tuple[int, int, int]]] = {}
         self.is_relevant: dict[str, bool] = {}
+        # By the identity of tags: ways of a block that have the same share them.
+        self.known: dict[int, WayTags] = {}
+
+    def said(self, tags: Tags) -> WayTags:
+        found = self.known.get(id(tags))
+        if found is None or found.tags is not tags:
+            if len(self.known) >= self.MOST_KNOWN:
+                self.known.clear()
+            found = self.known[id(tags)] = WayTags(tags, self.choice)
+        return found
 
     def node(self, number: int, tags: Tags, x: int, y: int) -> None:
         found = self.found
@@ -313,22 +350,22 @@ class NodesAndWays:
             self.parts.setdefault(number, []).extend(nodes_of(way))
         if WAY_KEYS.isdisjoint(tags):
             return
-        if is_parking(tags):
+        said = self.said(tags)
+        if said.is_parking:
             nodes = nodes_of(way)
             if nodes:
                 found.parking.append(parking_of(tags, way.number, nodes))
-        if tags.get("boundary") == "administrative":
-            country = country_of(tags)
-            if country and len(way.refs) > 3 and way.refs[0] == way.refs[-1]:
-                found.border_ways[way.number] = line_of(way)
-                found.borders.append((country, [way.number]))
-        highway = tags.get("highway")
-        if highway:
-            self.road(way, highway)
+        if said.country and len(way.refs) > 3 and way.refs[0] == way.refs[-1]:
+            found.border_ways[way.number] = line_of(way)
+            found.borders.append((said.country, [way.number]))
+        if said.reason:
+            found.classes[said.reason] += 1
+        elif said.highway:
+            self.line(way, said)
         elif tags.get("route") in FERRIES:
-            self.ferry(way)
+            self.ferry(way, said)
 
-    def ferry(self, way: FoundWay) -> None:
+    def ferry(self, way: FoundWay, said: WayTags) -> None:
         """Takes a ferry for motor vehicles whose duration is known."""
         tags = way.tags
         what = f"{tags['route']} {tags.get('name', '')} (way {way.number})"
@@ -339,54 +376,56 @@ class NodesAndWays:
         elif road_tags.duration_of(tags.get("duration", "")) is None:
             self.found.ferries["ferries and trains for vehicles without a duration"].append(what)
         else:
-            self.line(way)
+            self.line(way, said)
 
-    def road(self, way: FoundWay, highway: str) -> None:
-        reason = self.choice.leaves_out(highway, way.tags)
-        if reason:
-            self.found.classes[reason] += 1
-        else:
-            self.line(way)
-
-    def line(self, way: FoundWay) -> None:
+    def line(self, way: FoundWay, said: WayTags) -> None:
         """Takes a way with its nodes and its relevant tags."""
-        found, tags = self.found, way.tags
+        found = self.found
         if not way.is_whole:
             found.counts["drivable ways with nodes outside the extract"] += 1
-        parts = list(self.taken(way))
+        parts = self.taken(way)
         if not parts:
             found.counts["drivable ways of less than two nodes"] += 1
             return
-        pairs = []
-        for key in tags:
-            if self.is_kept(key):
-                pairs.append((key, tags[key]))
-            elif key == "ref" and self.choice.refs and self.choice.refs & refs_in(tags[key]):
-                pairs.append((key, tags[key]))
-            else:
-                found.other_keys[key] += 1
-        kept = tuple(sorted(pairs))
-        name = " ".join(tags[key] for key in ("ref", "name") if key in tags)
+        if said.places is None:
+            said.places = found.ways.places(*self.line_of_tags(said))
+        for key in said.others:
+            found.other_keys[key] += 1
         found.counts["drivable ways"] += 1
         for first, last in parts:
-            found.ways.append(way.number, kept, name, first, last)
+            found.ways.add(way.number, said.places, first, last)
+
+    def line_of_tags(self, said: WayTags) -> tuple[TagPairs, str]:
+        """The relevant tags and the name of a way; notes which keys aren't kept."""
+        tags, pairs, refs = said.tags, [], self.choice.refs
+        for key in tags:
+            if self.is_kept(key) or key == "ref" and refs and refs & refs_in(tags[key]):
+                pairs.append((key, tags[key]))
+            else:
+                said.others.append(key)
+        return tuple(sorted(pairs)), " ".join(tags[key] for key in ("ref", "name") if key in tags)
 
     def is_kept(self, key: str) -> bool:
         if key not in self.is_relevant:
             self.is_relevant[key] = key in OWN_KEYS or road_tags.is_relevant(key)
         return self.is_relevant[key]
 
-    def taken(self, way: FoundWay) -> Iterator[tuple[int, int]]:
-        """Takes the nodes of a way that are there and within the polygon, and yields the places of
+    def taken(self, way: FoundWay) -> list[tuple[int, int]]:
+        """Takes the nodes of a way that are there and within the polygon, and returns the places of
         its parts in the arrays."""
+        found = self.found
+        if not way.is_whole or self.choice.inside:
+            return list(self.parts_inside(way))
+        first = len(found.refs)
+        if len(way.refs) < 2:
+            return []
+        for column, own in ((found.refs, way.refs), (found.xs, way.xs), (found.ys, way.ys)):
+            column.frombytes(own.tobytes())
+        return [(first, len(found.refs))]
+
+    def parts_inside(self, way: FoundWay) -> Iterator[tuple[int, int]]:
         found, inside = self.found, self.choice.inside
         first = len(found.refs)
-        if way.is_whole and not inside:
-            if len(way.refs) > 1:
-                for column, own in ((found.refs, way.refs), (found.xs, way.xs), (found.ys, way.ys)):
-                    column.frombytes(own.tobytes())
-                yield first, len(found.refs)
-            return
         for ref, x, y in nodes_of(way):
             if inside and not inside(x, y):
                 yield from self.part(first)

@@ -17,6 +17,8 @@ LARGEST_HEADER, LARGEST_BLOB = 64 << 10, 32 << 20
 # The granularity, in nanodegrees, and what a coordinate has of them.
 GRANULARITY, UNIT = 100, 100
 VARINT, DOUBLE, BYTES, FLOAT = 0, 1, 2, 5
+# How a way's number, keys, values and nodes begin.
+ID, KEYS, VALUES, REFS = 8, 18, 26, 66
 
 Tags = dict[str, str]
 # A number, the tags, and the coordinates of a node.
@@ -156,12 +158,19 @@ class Block:
             elif field in (19, 20):
                 self.offsets[field - 19] = signed(value)
         self.known: dict[int, str] = {}
+        # The tags of ways, by their keys and values as they are written; None for others than the
+        # wanted ones.
+        self.way_tags: dict[tuple[bytes, bytes], Optional[Tags]] = {}
 
     def text(self, number: int) -> str:
         found = self.known.get(number)
         if found is None:
             found = self.known[number] = self.texts[number].decode("utf-8")
         return found
+
+    def tags(self, keys: bytes, values: bytes) -> Tags:
+        pairs = zip(places_in(keys), places_in(values))
+        return {self.text(key): self.text(value) for key, value in pairs}
 
     def places_of(self, keys: Iterable[str]) -> set[int]:
         """The numbers of some texts."""
@@ -276,17 +285,22 @@ class File:
         if self.ways // 200_000 > before:
             self.progress(f"{self.ways:,} ways read")
         wanted = block.places_of(self.wanted.way_keys)
+        known = block.way_tags
         found: list[tuple[int, Tags]] = []
         nodes: list[bytes] = []
         for way in ways:
-            own = dict(fields(way))
-            keys = places_in(own.get(2, b""))
-            if wanted.isdisjoint(keys) and not self.wanted.has_way(own[1]):
-                continue
-            values = places_in(own.get(3, b""))
-            tags = {block.text(key): block.text(value) for key, value in zip(keys, values)}
-            found.append((signed(own[1]), tags))
-            nodes.append(own.get(8, b""))
+            number, keys, values, refs = way_parts(way)
+            pair = keys, values
+            if pair not in known:
+                is_wanted = not wanted.isdisjoint(places_in(keys))
+                known[pair] = block.tags(keys, values) if is_wanted else None
+            tags = known[pair]
+            if tags is None:
+                if not self.wanted.has_way(number):
+                    continue
+                tags = block.tags(keys, values)
+            found.append((number, tags))
+            nodes.append(refs)
         yield from self.with_nodes(found, nodes)
 
     def with_nodes(self, ways: list[tuple[int, Tags]], nodes: list[bytes]) -> Iterator[FoundWay]:
@@ -307,6 +321,38 @@ class File:
         is_whole = (gaps[lasts] == gaps[firsts]).tolist()
         for (number, tags), a, b, whole in zip(ways, firsts.tolist(), lasts.tolist(), is_whole):
             yield FoundWay(number, tags, refs[a:b], xs[a:b], ys[a:b], whole)
+
+
+def way_parts(data: bytes) -> tuple[int, bytes, bytes, bytes]:
+    """The number of a way, and its keys, values and nodes as they are written."""
+    number: Optional[int] = None
+    keys = values = refs = b""
+    at, end = 0, len(data)
+    while at < end:
+        tag = data[at]
+        at += 1
+        if tag == ID:
+            number, at = varint(data, at)
+            continue
+        if tag & 7 != BYTES or tag > 127:
+            found = dict(fields(data))
+            return signed(found[1]), found.get(2, b""), found.get(3, b""), found.get(8, b"")
+        size = data[at]
+        at += 1
+        if size > 127:
+            size, at = varint(data, at - 1)
+        if tag == KEYS:
+            keys = data[at : at + size]
+        elif tag == VALUES:
+            values = data[at : at + size]
+        elif tag == REFS:
+            refs = data[at : at + size]
+        at += size
+    if at > end:
+        raise Unusual("a field that ends after its message")
+    if number is None:
+        raise Unusual("a way without a number")
+    return signed(number), keys, values, refs
 
 
 def places_in(data: bytes) -> Any:

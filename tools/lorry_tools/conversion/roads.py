@@ -638,13 +638,16 @@ def within(arcs: Arcs, nodes: Any) -> Arcs:
 
 def joined(one: Arc, other: Arc) -> Arc:
     """The arc over one arc and then another with the same rules and area."""
-    return one._replace(
-        head=other.head,
-        time=one.time + other.time,
-        length=one.length + other.length,
-        toll=one.toll + other.toll,
-        name=one.name if one.length >= other.length else other.name,
-        pieces=one.pieces + other.pieces,
+    return Arc(
+        one.tail,
+        other.head,
+        one.time + other.time,
+        one.length + other.length,
+        one.rules,
+        one.toll + other.toll,
+        one.area,
+        one.name if one.length >= other.length else other.name,
+        one.pieces + other.pieces,
     )
 
 
@@ -674,6 +677,7 @@ class Chains:
     def __init__(self, count: int, arcs: Arcs, kept: Iterable[int]) -> None:
         # What was made, None for what went into a longer one.
         self.arcs, self.made = arcs, list[Optional[Arc]]()
+        self.first_made = len(arcs)
         self.stays_arc = numpy.ones(len(arcs), dtype=bool)
         self.stays = numpy.zeros(count, dtype=bool)
         self.stays[list(kept)] = True
@@ -686,7 +690,8 @@ class Chains:
         self.is_dropped = bytearray(count)
 
     def arc(self, at: int) -> Arc:
-        found = self.made[at - len(self.arcs)] if at >= len(self.arcs) else self.seen.get(at)
+        made = at - self.first_made
+        found = self.made[made] if made >= 0 else self.seen.get(at)
         if found is None:
             found = self.seen[at] = self.arcs[at]
         return found
@@ -760,18 +765,23 @@ class Chains:
             entering, leaving = self.entering(node), self.leaving(node)
             if len(entering) != len(leaving) or len(entering) not in (1, 2):
                 continue
-            arc = self.arc
-            neighbours = {arc(it).tail for it in entering} | {arc(it).head for it in leaving}
+            into, out = ([self.arc(it) for it in own] for own in (entering, leaving))
+            neighbours = {it.tail for it in into} | {it.head for it in out}
             if len(neighbours) != 2 or node in neighbours:
                 continue
-            pairs = [(a, b) for a in entering for b in leaving if arc(a).tail != arc(b).head]
+            pairs = [
+                (a, b)
+                for a in zip(entering, into)
+                for b in zip(leaving, out)
+                if a[1].tail != b[1].head
+            ]
             if (
                 len(pairs) != len(entering)
-                or len({a for a, _ in pairs}) != len(pairs)
-                or len({b for _, b in pairs}) != len(pairs)
+                or len({a[0] for a, _ in pairs}) != len(pairs)
+                or len({b[0] for _, b in pairs}) != len(pairs)
             ):
                 continue
-            if any(differs(arc(a), arc(b)) for a, b in pairs):
+            if any(differs(a[1], b[1]) for a, b in pairs):
                 continue
             for a, b in pairs:
                 self.replace(a, b)
@@ -780,18 +790,18 @@ class Chains:
             del self.out[node], self.into[node]
             work += [it for it in neighbours if not self.stays[it]]
 
-    def replace(self, one: int, other: int) -> None:
+    def replace(self, *pair: tuple[int, Arc]) -> None:
         """Puts the arc over two arcs in their place."""
-        made = joined(self.arc(one), self.arc(other))
-        for old in (one, other):
-            self.leaving(self.arc(old).tail).remove(old)
-            self.entering(self.arc(old).head).remove(old)
-            self.changed.update(self.arc(old)[:2])
-            if old < len(self.arcs):
+        made = joined(pair[0][1], pair[1][1])
+        for old, arc in pair:
+            self.leaving(arc.tail).remove(old)
+            self.entering(arc.head).remove(old)
+            self.changed.update((arc.tail, arc.head))
+            if old < self.first_made:
                 self.stays_arc[old] = False
             else:
-                self.made[old - len(self.arcs)] = None
-        number = len(self.arcs) + len(self.made)
+                self.made[old - self.first_made] = None
+        number = self.first_made + len(self.made)
         self.leaving(made.tail).append(number)
         self.entering(made.head).append(number)
         self.made.append(made)

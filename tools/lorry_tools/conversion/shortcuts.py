@@ -21,9 +21,9 @@ NEIGHBOURS, SHORTCUTS = 3, 12
 # A step that takes out fewer nodes than this share of those that are left is the last one.
 FEWEST = 0.002
 
-# What leaves a node, or comes into it: the milliseconds, the other node, and the place of the arc
-# in the list of arcs, or -1 - place for an arc that asks something. These are tuples since searches
-# look at them millions of times.
+# What leaves a node: what it adds to the number of a label, the other node, and the place of the
+# arc in the list of arcs, or -1 - place for an arc that asks something. These are tuples since
+# searches look at them millions of times.
 Link = tuple[int, int, int]
 
 

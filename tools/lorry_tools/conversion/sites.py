@@ -3,7 +3,7 @@ from __future__ import annotations
 
 import math
 import re
-from typing import Any, Callable, Iterable, Optional
+from typing import AbstractSet, Any, Callable, Iterable, Mapping, Optional
 
 import numpy
 
@@ -12,7 +12,7 @@ from lorry_tools.conversion.borders import CELL, number_of
 from lorry_tools.conversion.extract import Extract, TagPairs
 from lorry_tools.conversion.notation import Unread
 from lorry_tools.conversion.report import Report
-from lorry_tools.conversion.roads import AT_ONCE, Network, metres
+from lorry_tools.conversion.roads import AT_ONCE, Network, is_in, metres
 from lorry_tools.conversion.tags import Tags
 
 # The farthest node that is taken, in metres.
@@ -169,7 +169,7 @@ def nearest_refs(
         return set()
     grid = places_in_cells(extract, usable, numpy.array(sorted(wanted)))
     xs, ys = (numpy.frombuffer(it, dtype=numpy.intc) for it in (extract.xs, extract.ys))
-    refs = numpy.frombuffer(extract.refs, dtype=numpy.int64)
+    on_roads = refs_on_roads(extract, grid, {ref for site in sites for ref in site.refs})
     found: set[int] = set()
     for site in sites:
         cells = [number_of(cell) for cell in cells_around(site.x, site.y)]
@@ -182,9 +182,27 @@ def nearest_refs(
             found.add(
                 extract.refs[nearest_place(site, near[away <= away.min() * 1.01 + 1], extract)]
             )
-            own = near[numpy.isin(refs[near], numpy.array(list(site.refs), dtype=numpy.int64))]
-            if len(own):
-                found.add(int(refs[own[0]]))
+            own = [
+                (cells.index(code), place, ref)
+                for ref in site.refs
+                for code, place in on_roads.get(ref, ())
+                if code in cells
+            ]
+            if own:
+                found.add(min(own)[2])
+    return found
+
+
+def refs_on_roads(
+    extract: Extract, grid: Mapping[int, Any], wanted: AbstractSet[int]
+) -> dict[int, list[tuple[int, int]]]:
+    """Of the nodes that are wanted those on roads, each with the cells and places where it is."""
+    refs = numpy.frombuffer(extract.refs, dtype=numpy.int64)
+    ordered = numpy.array(sorted(wanted), dtype=numpy.int64)
+    found: dict[int, list[tuple[int, int]]] = {}
+    for code, places in grid.items():
+        for place in places[is_in(refs[places], ordered)].tolist():
+            found.setdefault(extract.refs[place], []).append((code, place))
     return found
 
 

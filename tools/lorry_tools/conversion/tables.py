@@ -237,9 +237,12 @@ def way_rows(
     extract: Extract, network: Network, arcs: Arcs
 ) -> Iterator[tuple[int, str, str, int, int, str]]:
     """The rows of ways.csv, with each of the tags of an arc's ways once."""
-    ways = extract.ways
+    ways, number = extract.ways, 0
     texts = [texts_of(tags) for tags in ways.tags]
-    number = 0
+    numbers = numpy.frombuffer(ways.numbers, dtype=numpy.int64)
+    # The place of each way's texts, -1 where it has none.
+    has_texts = numpy.array([len(it) > 0 for it in texts], dtype=bool)
+    tags_of = numpy.frombuffer(ways.tags_of, dtype=numpy.intc)
     for first in range(0, len(arcs), AT_ONCE):
         firsts = arcs.firsts[first : first + AT_ONCE + 1]
         pieces = arcs.pieces[firsts[0] : firsts[-1]]
@@ -249,15 +252,17 @@ def way_rows(
         is_other[1:] = way_of[1:] != way_of[:-1]
         is_other[firsts[:-1] - firsts[0]] = True
         cuts = numpy.concatenate(([0], numpy.cumsum(is_other)))[firsts - firsts[0]].tolist()
-        own_ways = way_of[is_other].tolist()
+        own_ways, tags_here = way_of[is_other], tags_of[way_of[is_other]]
+        own_tags = numpy.where(has_texts[tags_here], tags_here, -1).tolist()
+        own_numbers = list(map(str, numbers[own_ways].tolist()))
+        own_ways = own_ways.tolist()
         columns = (it[first : first + AT_ONCE] for it in (arcs.names, arcs.lengths, arcs.times))
         for a, b, name, length, time in zip(cuts, cuts[1:], *(it.tolist() for it in columns)):
             number += 1
-            own = own_ways[a:b] if b - a == 1 else list(dict.fromkeys(own_ways[a:b]))
-            tags = dict.fromkeys(text for way in own for text in texts[ways.tags_of[way]])
+            tags = dict.fromkeys(text for at in own_tags[a:b] if at >= 0 for text in texts[at])
             yield (
                 number,
-                ";".join([str(ways.numbers[way]) for way in own]),
+                ";".join(dict(zip(own_ways[a:b], own_numbers[a:b])).values()),
                 ways.names[name],
                 round(length),
                 round(time / 1000),
