@@ -20,6 +20,8 @@ from lorry_tools.folder import Folder
 from lorry_tools.places import Place
 from lorry_tools.service.gathering import MANY, Asked, Gatherer, Line
 from lorry_tools.service.limits import Limits
+from lorry_tools.service.runs import Runs as ProgramRuns
+from lorry_tools.service.runs import environment_of
 from lorry_tools.trips.request import PLAN, Request
 
 SECONDS = 60
@@ -130,6 +132,19 @@ class Gathering(unittest.TestCase):
         for _, rows in runs.batches:
             lorries = [it.partition(",")[0] for it in rows]
             self.assertEqual(lorries, sorted(lorries))
+
+
+class LargePages(unittest.TestCase):
+    def test_a_run_asks_for_large_pages_beside_what_is_set(self):
+        with tempfile.TemporaryDirectory() as place:
+            path = os.path.join(place, "program")
+            with open(path, "w", encoding="ascii") as file:
+                file.write('#!/bin/sh\necho "$1 $GLIBC_TUNABLES"\n')
+            os.chmod(path, 0o755)
+            printed = ProgramRuns(path, Limits()).run(["plan"], time.monotonic() + SECONDS)
+        self.assertEqual(printed[0], 0)
+        self.assertRegex(printed[1], r"^plan (.*:)?glibc\.malloc\.hugetlb=1\n$")
+        self.assertEqual(environment_of({"GLIBC_TUNABLES": "a=1", "B": "2"}), {"GLIBC_TUNABLES": "a=1:glibc.malloc.hugetlb=1", "B": "2"})
 
 
 class Copy:

@@ -10,7 +10,7 @@ import subprocess
 import tempfile
 import threading
 import time
-from typing import Optional, Union
+from typing import Mapping, Optional, Union
 
 from lorry_tools.answers import Lawful, Leg, Unlawful
 from lorry_tools.folder import Folder
@@ -24,6 +24,7 @@ NO_MEMORY = 6  # docs/COMMANDS.md: the status where memory is out
 WITH_LIMIT = ("/bin/sh", "-c", 'ulimit -v "$0" && exec "$@"')
 NOT_RUN = (126, 127)  # the statuses of a shell that can't run a program, and of a loader
 CHUNK = 1 << 18
+LARGE_PAGES = "glibc.malloc.hugetlb=1"  # for memory that a run asks for
 
 
 class Missing(Unavailable):
@@ -91,6 +92,7 @@ class Runs:
                 stdout=subprocess.PIPE,
                 stderr=subprocess.DEVNULL,
                 start_new_session=True,
+                env=environment_of(os.environ),
             )
         except OSError as error:
             raise Missing(f"the program can't be run: {error.strerror}") from None
@@ -114,6 +116,12 @@ class Runs:
                 size += len(chunk)
                 if size > most:
                     raise Unavailable(f"the answer is larger than {self.limits.answer_mb} MB")
+
+
+def environment_of(own: Mapping[str, str]) -> dict[str, str]:
+    """Returns the environment of a run: the service's own, with large pages."""
+    given = own.get("GLIBC_TUNABLES")
+    return {**own, "GLIBC_TUNABLES": f"{given}:{LARGE_PAGES}" if given else LARGE_PAGES}
 
 
 def end(process: subprocess.Popen[bytes]) -> None:
