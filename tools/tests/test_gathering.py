@@ -62,7 +62,7 @@ class Sharing(unittest.TestCase):
         self.assertEqual(self.shared(3 * MANY + 1), (3, MANY + 1, 1))
         self.assertEqual(self.shared(4 * MANY), (4, MANY, 1))
         self.assertEqual(self.shared(256), (4, 64, 1))
-        self.assertEqual(self.shared(256, runs=8), (8, 32, 1))
+        self.assertEqual(self.shared(256, runs=8), (8, MANY, 1))
 
     def test_many_plans_begin_beside_other_batches(self):
         self.assertEqual(self.shared(MANY, [MANY] * 3), (1, MANY, 1))
@@ -84,11 +84,11 @@ class Sharing(unittest.TestCase):
         self.assertLessEqual(max(len({it[0] for it in batch}) for batch in keys), 2)
 
     def test_those_that_have_waited_longest_come_first_and_those_that_left_not_at_all(self):
-        line = line_of(100)
+        line = line_of(4 * MANY)
         line.waiting[3].future = types.SimpleNamespace(done=lambda: True)
         taken = line.take(line.share(4), 10)
         self.assertEqual([it.request.origin.node for batch in taken for it in batch], [it for it in range(40) if it != 3])
-        self.assertEqual(len(line.waiting), 60)
+        self.assertEqual(len(line.waiting), 4 * MANY - 40)
 
 
 class Runs:
@@ -119,16 +119,16 @@ class Gathering(unittest.TestCase):
             deadline = time.monotonic() + SECONDS
             first = gatherer.plan(copy, request_of(1), deadline)
             await until(lambda: len(runs.batches) == 1)
-            others = [gatherer.plan(copy, request_of(it, "xyz"[it % 3]), deadline) for it in range(2, 66)]
+            others = [gatherer.plan(copy, request_of(it, "xyz"[it % 3]), deadline) for it in range(2, 98)]
             waiting = asyncio.gather(first, *others)
             await until(lambda: len(runs.batches) == 4)
             runs.go.set()
-            self.assertEqual([it[0].minute for it in await waiting], list(range(1, 66)))
+            self.assertEqual([it[0].minute for it in await waiting], list(range(1, 98)))
 
         with tempfile.TemporaryDirectory() as place, concurrent.futures.ThreadPoolExecutor(8) as pool:
             asyncio.run(ask(place, pool))
             self.assertEqual(os.listdir(place), [])
-        self.assertEqual(sorted((workers, len(rows)) for workers, rows in runs.batches), [(1, 20), (1, 22), (1, 22), (4, 1)])
+        self.assertEqual(sorted((workers, len(rows)) for workers, rows in runs.batches), [(1, 32), (1, 32), (1, 32), (4, 1)])
         for _, rows in runs.batches:
             lorries = [it.partition(",")[0] for it in rows]
             self.assertEqual(lorries, sorted(lorries))

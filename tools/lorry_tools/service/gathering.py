@@ -31,7 +31,7 @@ from lorry_tools.trips.request import Request
 
 BATCHES_AT_ONCE = 2  # of few plans over one folder: while one searches the other one reads
 MOST_WORKERS = 64  # docs/LIMITS.md: of a batch
-MANY = 16  # plans, which are worth a reading of the folder beside other batches
+MANY = 32  # plans, which are worth a reading of the folder beside other batches
 LONGEST_WAIT = 0.05  # seconds that a plan waits for others while another batch may begin
 PART_OF_BATCH = 20  # such a wait is up to this part of the time that the last batch took
 
