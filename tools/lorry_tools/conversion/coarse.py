@@ -465,12 +465,14 @@ class Coarse:
                 self.paths.extend(path)
                 self.counts.append(len(path))
                 self.kinds.append(kind)
-        self.sets, set_of_kind = stars.kinds.sets()
-        paths, firsts = self.over_arcs(search.short)
-        rules = set_of_kind[numpy.array(self.kinds, dtype=int)]
         # What only the search needed.
+        short = search.short
         stars.links.clear()
-        del search, self.paths, self.kinds, self.counts
+        del search, short.links
+        self.sets, set_of_kind = stars.kinds.sets()
+        paths, firsts = self.over_arcs(short)
+        rules = set_of_kind[numpy.array(self.kinds, dtype=int)]
+        del short, self.paths, self.kinds, self.counts
         self.made = self.of_ways(paths, firsts, rules)
 
     def over_arcs(self, short: shortcuts.Graph) -> tuple[Any, Any]:

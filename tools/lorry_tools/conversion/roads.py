@@ -665,9 +665,11 @@ def without_continuations(count: int, arcs: Arcs, kept: Iterable[int]) -> Arcs:
         own = nodes[first : first + CHAINED]
         chains.see(own)
         chains.join(own.tolist())
-    made, stays = of_list(list(filter(None, chains.made))), chains.stays_arc
+    made, stays = list(filter(None, chains.made)), chains.stays_arc
     del chains
-    arcs.keep(stays, made)
+    more = of_list(made)
+    del made
+    arcs.keep(stays, more)
     return arcs
 
 

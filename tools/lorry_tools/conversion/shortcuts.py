@@ -93,6 +93,7 @@ class Graph:
         found = numpy.count_nonzero(taken)
         if found:
             self.replace(taken, kinds_of)
+            self.leave_out_beaten()
         return found > FEWEST * left
 
     def taken(self, most: int) -> tuple[Any, int]:
@@ -136,15 +137,15 @@ class Graph:
         )
         stays = ~(taken[tails] | taken[heads])
         self.own = [numpy.concatenate((it[stays], more)) for it, more in zip(self.own, new)]
-        self.leave_out_beaten()
 
     def leave_out_beaten(self) -> None:
         """Leaves out links that another link of the same ends beats: one that takes less time, and
         asks no more."""
         tails, heads, times, _, kinds = self.own
         ends = tails.astype(numpy.int64) * self.count + heads
-        order = numpy.lexsort((times, ends))
+        order = numpy.lexsort((times, ends)).astype(numpy.int32)
         ends, times, kinds = ends[order], times[order], kinds[order]
+        del tails, heads
         stays = numpy.ones(len(order), dtype=bool)
         apart = 1
         while True:
@@ -156,7 +157,8 @@ class Graph:
             stays[later[beaten]] = False
             apart += 1
         at = order[stays]
-        self.own = [it[at] for it in self.own]
+        for place in range(len(self.own)):
+            self.own[place] = self.own[place][at]
 
     def arcs(self, paths: Any, counts: Any) -> tuple[Any, Any]:
         """The arcs of paths, of which each has so many links, and where each path begins."""

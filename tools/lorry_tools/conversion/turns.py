@@ -178,7 +178,7 @@ class Expansion:
         self.split: set[int] = set()
 
     def arcs(self, arcs: Arcs) -> Arcs:
-        """The arcs between the nodes that there are then."""
+        """The arcs between the nodes that there are then. The arcs given are changed."""
         if not self.turns:
             return arcs
         nodes = numpy.array(sorted(self.turns))
@@ -196,7 +196,8 @@ class Expansion:
         stays = numpy.ones(len(arcs), dtype=bool)
         stays[near] = [id(road) not in gone for road in found]
         new = [road.arc() for road in made if id(road) not in gone]
-        return arcs.take(stays).with_more(of_list(new))
+        arcs.keep(stays, of_list(new))
+        return arcs
 
     def divide(self, node: int, gone: set[int]) -> list[Road]:
         """Gives a node's ways in that differ nodes of their own; the new arcs."""
