@@ -60,8 +60,10 @@ class Star(dict[int, list[Link]]):
         if len(self) >= MOST_LINKED:
             self.clear()
         begin = node - node % BLOCK
-        firsts = self.firsts[begin : begin + BLOCK + 1].tolist()
-        at = self.order[firsts[0] : firsts[-1]]
+        end = begin + BLOCK + 1
+        firsts = self.firsts[begin:end].tolist()
+        low, high = firsts[0], firsts[-1]
+        at = self.order[low:high]
         columns = (self.times[at] * KINDS, self.heads[at], self.places[at])
         links = list(zip(*(it.tolist() for it in columns)))
         base = firsts[0]

@@ -84,8 +84,8 @@ def fields(data: bytes) -> Iterator[tuple[int, Any]]:
             raise Unusual("a field of another kind")
         if at + size > end:
             raise Unusual("a field that ends after its message")
-        yield tag >> 3, data[at : at + size]
-        at += size
+        begin, at = at, at + size
+        yield tag >> 3, data[begin:at]
 
 
 def signed(number: int) -> int:
@@ -341,13 +341,13 @@ def way_parts(data: bytes) -> tuple[int, bytes, bytes, bytes]:
         at += 1
         if size > 127:
             size, at = varint(data, at - 1)
+        begin, at = at, at + size
         if tag == KEYS:
-            keys = data[at : at + size]
+            keys = data[begin:at]
         elif tag == VALUES:
-            values = data[at : at + size]
+            values = data[begin:at]
         elif tag == REFS:
-            refs = data[at : at + size]
-        at += size
+            refs = data[begin:at]
     if at > end:
         raise Unusual("a field that ends after its message")
     if number is None:
